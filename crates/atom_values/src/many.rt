@@ -1,0 +1,90 @@
+ghost use Rattle.std.specs.Prelude.{◌≡◌, ℕ, ◌+◌, ◌-◌, ◌<◌, ◌≤◌, ◌↔◌, [], ◌∷◌, ◌++◌, length, ◌⊎◌, IfErr, OnOk, OnErr, slice_get, option_copied, vec_len, vec_capacity};
+
+use crate::memory::NoMemory;
+use std::alloc::Global;
+use std::marker::Model;
+
+/// A list of at most `MAX` items.
+#[derive(Debug, Drop)]
+pub struct Many<T, const MAX: u32> {
+    items: Vec<T>,
+}
+
+impl<T, const MAX: u32> Model for Many<T, MAX> {
+    ghost use Rattle.std.specs.Prelude.{◌-◌, ◌≤◌, length, vec_len, vec_capacity};
+    ghost use Rattle.atom_values.specs.Listed.{Listed};
+
+    ghost Value = { Listed T };
+
+    ghost view = { λ m. record { items = m.items.items; spare = vec_capacity m.items - vec_len m.items } };
+
+    ghost invariant = { λ m. length m.items.items ≤ MAX };
+}
+
+/// Why an item was not added to a list.
+#[derive(Clone, Copy, Debug, PartialEq, Eq)]
+pub enum ListFault {
+    /// The list has as many items as it may have, which is `count`.
+    TooMany { count: usize },
+    /// Memory ran out.
+    NoMemory,
+}
+
+impl<T, const MAX: u32> Many<T, MAX> {
+    /// The empty list, without memory of its own.
+    pub fn new(alloc: Global) -> Many<T, MAX>
+        ensures { result.items ≡ [] }
+    {
+        Many {
+            items: Vec::new(alloc),
+        }
+    }
+
+    /// How many items there are.
+    pub fn len(&self) -> usize
+        ensures count { result ≡ length self.now.items }
+        ensures within { result ≤ MAX }
+    {
+        self.items.len()
+    }
+
+    /// The item at a place, from 0.
+    pub fn get(&self, at: usize) -> Option<&T>
+        ensures { option_copied result ≡ slice_get self.now.items at }
+    {
+        self.items.get(at)
+    }
+}
+
+impl<T: Drop, const MAX: u32> Many<T, MAX> {
+    /// Adds the item at the end. After a refusal the list is as before and the item is dropped.
+    ///
+    /// `TooMany` comes where the list has `MAX` items, `NoMemory` only where nothing is spare.
+    pub fn push(&mut self, item: T) -> Result<(), ListFault>
+        ensures ok { OnOk result (self.new.items ≡ self.old.items ++ item ∷ []) }
+        ensures full { (result ≡ Err (ListFault.TooMany (length self.old.items))) ↔ (length self.old.items ≡ MAX) }
+        ensures refusals { IfErr result (λ fault. (fault ≡ ListFault.TooMany (length self.old.items)) ⊎ (fault ≡ ListFault.NoMemory)) }
+        ensures spare { result ≡ Err ListFault.NoMemory → self.old.spare ≡ 0 }
+        ensures used { OnOk result (self.old.spare ≤ self.new.spare + 1) }
+        ensures err { OnErr result (self.new.items ≡ self.old.items) }
+    {
+        let count = self.items.len();
+        if count == MAX as usize {
+            return Err(ListFault::TooMany { count });
+        }
+        match self.items.push(item) {
+            Ok(()) => Ok(()),
+            Err(_) => Err(ListFault::NoMemory),
+        }
+    }
+
+    /// Makes room, so that the next `more` pushes don't answer `NoMemory`.
+    pub fn reserve(&mut self, more: usize) -> Result<(), NoMemory>
+        ensures items { self.new.items ≡ self.old.items }
+        ensures ok { OnOk result (more ≤ self.new.spare) }
+        ensures kept { self.old.spare ≤ self.new.spare }
+    {
+        self.items.reserve(more)?;
+        Ok(())
+    }
+}
