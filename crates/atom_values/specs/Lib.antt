@@ -1,1 +1,10 @@
+pub mod Category
+pub mod Counts
+pub mod DateText
+pub mod Entry
+pub mod Escape
+pub mod Link
 pub mod Listed
+pub mod Person
+pub mod Stamp
+pub mod XmlText

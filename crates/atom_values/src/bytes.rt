@@ -1,5 +1,6 @@
 ghost use Rattle.std.specs.Prelude.{◌≡◌, ℕ, List, IfOk};
 
+use crate::copies::Copies;
 use crate::memory::NoMemory;
 use std::alloc::Global;
 use std::marker::Model;
@@ -31,5 +32,11 @@ impl Bytes {
         ensures { result.now ≡ self.now }
     {
         self.bytes.as_slice()
+    }
+}
+
+impl Copies for Bytes {
+    fn copy(&self, alloc: Global) -> Result<Bytes, NoMemory> {
+        Bytes::of(alloc, self.slice())
     }
 }

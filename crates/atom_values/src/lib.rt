@@ -1,10 +1,26 @@
-//! The values that an Atom feed is made of.
+//! The values that an Atom feed is made of: lists with a limit, moments, texts and entries.
+//! Each type keeps its rules, and each printed or escaped form is exactly its definition in specs/.
+//! Stands on `jiff` for the calendar.
 #![tactic(auto)]
 
 mod bytes;
+mod category;
+mod copies;
+mod entry;
+mod link;
 mod many;
 mod memory;
+mod person;
+mod stamp;
+mod text;
 
 pub use bytes::Bytes;
+pub use category::Category;
+pub use copies::Copies;
+pub use entry::{Draft, Entry};
+pub use link::Link;
 pub use many::{ListFault, Many};
 pub use memory::{Failed, NoMemory};
+pub use person::Person;
+pub use stamp::{Stamp, printed_is_read, values_are_stated};
+pub use text::{AtomText, MAX_TEXT, Text, TextFault, TextKind, escape_into, escaped_len, unescape};

@@ -1,5 +1,8 @@
 ghost use Rattle.std.specs.Prelude.{◌≡◌, ℕ, ◌+◌, ◌-◌, ◌<◌, ◌≤◌, ◌↔◌, [], ◌∷◌, ◌++◌, length, ◌⊎◌, IfErr, OnOk, OnErr, slice_get, option_copied, vec_len, vec_capacity};
+ghost use Rattle.std.specs.Fn.{CalledAt};
+ghost use Rattle.std.specs.List.Retain.{IsFiltered};
 
+use crate::copies::Copies;
 use crate::memory::NoMemory;
 use std::alloc::Global;
 use std::marker::Model;
@@ -48,6 +51,14 @@ impl<T, const MAX: u32> Many<T, MAX> {
         self.items.len()
     }
 
+    /// The items.
+    pub fn as_slice(&self) -> &[T]
+        ensures items { result.now ≡ self.now.items }
+        ensures within { length self.now.items ≤ MAX }
+    {
+        self.items.as_slice()
+    }
+
     /// The item at a place, from 0.
     pub fn get(&self, at: usize) -> Option<&T>
         ensures { option_copied result ≡ slice_get self.now.items at }
@@ -85,6 +96,56 @@ impl<T: Drop, const MAX: u32> Many<T, MAX> {
         ensures kept { self.old.spare ≤ self.new.spare }
     {
         self.items.reserve(more)?;
+        Ok(())
+    }
+
+    /// Keeps the items that pass the test, in their order. Takes no memory.
+    pub fn retain<F: FnMut(&T) -> bool>(&mut self, keep: F)
+        requires { F.IsAlwaysCallable keep }
+        ensures { IsFiltered (CalledAt F.FnMut) keep self.old.items self.new.items }
+    {
+        self.items.retain(keep);
+    }
+}
+
+impl<T: Copies + Drop, const MAX: u32> Copies for Many<T, MAX> {
+    ghost use Rattle.std.specs.Prelude.{map};
+
+    ghost kept = { λ many. record { items = map T.kept many.items; spare = 0 } };
+
+    fn copy(&self, alloc: Global) -> Result<Many<T, MAX>, NoMemory> {
+        let mut items = Vec::with_capacity(alloc, self.items.len())?;
+        for item in self.items.as_slice() {
+            items.push(item.copy(alloc)?)?;
+        }
+        Ok(Many { items })
+    }
+}
+
+#[cfg(test)]
+mod tests {
+    use super::*;
+    use crate::bytes::Bytes;
+    use std::test::Fail;
+
+    #[test]
+    fn holds_at_most_its_limit(rt: HostRuntime) -> Result<(), Fail> {
+        let mut numbers: Many<u32, 2> = Many::new(rt.alloc());
+        numbers.reserve(1)?;
+        assert_eq!(rt; numbers.push(7), Ok(()));
+        assert_eq!(rt; numbers.push(8), Ok(()));
+        assert_eq!(rt; numbers.push(9), Err(ListFault::TooMany { count: 2 }));
+        assert_eq!(rt; numbers.len(), 2);
+        assert_eq!(rt; numbers.get(1), Some(&8));
+        assert_eq!(rt; numbers.get(2), None);
+        assert_eq!(rt; numbers.as_slice(), [7, 8].as_slice());
+        Ok(())
+    }
+
+    #[test]
+    fn keeps_bytes(rt: HostRuntime) -> Result<(), Fail> {
+        let bytes = Bytes::of(rt.alloc(), b"a\x00\xff")?;
+        assert_eq!(rt; bytes.slice(), b"a\x00\xff".as_slice());
         Ok(())
     }
 }

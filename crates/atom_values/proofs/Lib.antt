@@ -1,0 +1,10 @@
+pub mod DateTextParts
+pub mod DateTexts
+pub mod Entries
+pub mod Escapes
+pub mod StampDates
+pub mod StampForms
+pub mod StampLaw
+pub mod StampText
+pub mod Unescaped
+pub mod XmlTexts

@@ -1,0 +1,5 @@
+use Rattle.std.proofs.Common.{◌≡◌, map, take}
+use Rattle.atom_values.proofs.many.ManyCopies.copy.Given as goal
+
+abbrev pub invariant-loop-item : goal.invariant-loop-item
+invariant-loop-item g l = map g.T.Copies.kept l.items.items ≡ map g.T.Copies.kept (take l.item-index l.item-items)

@@ -1,0 +1,15 @@
+-- Counters that stay at the greatest u64, and failures that a count explains.
+use Rattle.std.specs.Prelude.{ℕ, ◌+◌, ◌-◌, ◌^◌, ◌≤◌, min, Result, OnErr}
+
+-- a counter after one more
+abbrev pub counted : ℕ → ℕ
+counted before = min (before + 1) (2 ^ 64 - 1)
+
+-- the counter rose; one that stands at its end counts as risen
+abbrev pub Rose : ℕ → ℕ → Type 0
+Rose before after = counted before ≤ after
+
+-- the count of faults never falls, and a failure comes only where it rose
+pub record HasCause {T E : Type 0} (before after : ℕ) (result : Result T E) : Type 0 where
+  pub later : before ≤ after
+  pub failed : OnErr result (Rose before after)

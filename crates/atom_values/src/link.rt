@@ -1,0 +1,41 @@
+ghost use Rattle.std.specs.Prelude.{◌≡◌};
+ghost use Rattle.atom_values.specs.Link.{has_relation};
+
+use crate::copies::Copies;
+use crate::memory::NoMemory;
+use crate::text::AtomText;
+use std::alloc::Global;
+
+/// A link of an entry (RFC 4287 section 4.2.7). An absent `rel` is the text `alternate`, and `media` is the
+/// attribute `type`.
+#[derive(Debug, Drop)]
+pub struct Link {
+    pub href: AtomText,
+    pub rel: AtomText,
+    pub media: Option<AtomText>,
+    pub hreflang: Option<AtomText>,
+    pub title: Option<AtomText>,
+    pub length: Option<AtomText>,
+}
+
+impl Link {
+    /// Whether the link has exactly this relation.
+    pub fn has_relation(&self, relation: &[u8]) -> bool
+        ensures { result ≡ has_relation relation.now self.now }
+    {
+        self.rel.bytes() == relation
+    }
+}
+
+impl Copies for Link {
+    fn copy(&self, alloc: Global) -> Result<Link, NoMemory> {
+        Ok(Link {
+            href: self.href.copy(alloc)?,
+            rel: self.rel.copy(alloc)?,
+            media: self.media.copy(alloc)?,
+            hreflang: self.hreflang.copy(alloc)?,
+            title: self.title.copy(alloc)?,
+            length: self.length.copy(alloc)?,
+        })
+    }
+}

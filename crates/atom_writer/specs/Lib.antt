@@ -1,0 +1,3 @@
+pub mod Doc
+pub mod Parts
+pub mod Pieces

@@ -1,0 +1,38 @@
+ghost use Rattle.std.specs.Prelude.{◌≡◌, ◌≤◌, ◌++◌, length, OnOk, OnErr};
+ghost use Rattle.atom_writer.specs.Parts.{attribute, optional_attribute};
+
+use crate::out::Out;
+use atom_values::{AtomText, NoMemory};
+
+/// Adds an attribute. Its name has at most 16 bytes.
+pub fn push_attribute<W: Out>(out: &mut W, name: &[u8], value: &AtomText) -> Result<(), NoMemory>
+    requires { length name.now ≤ 16 }
+    ensures added { OnOk result (W.adds out.old out.new (attribute name.now value.now)) }
+    ensures failed { OnErr result W.can_fail }
+    ensures bound { OnOk result (length (attribute name.now value.now) ≤ 393_300) }
+{
+    out.push(b" ")?;
+    out.push(name)?;
+    out.push(b"=\"")?;
+    out.push_escaped(value, true)?;
+    out.push(b"\"")?;
+    Ok(())
+}
+
+/// Adds an attribute where there is one.
+#[tactic(auto, unfolding(crate::specs::Parts::optional_attribute))]
+pub fn push_optional_attribute<W: Out>(
+    out: &mut W,
+    name: &[u8],
+    value: &Option<AtomText>,
+) -> Result<(), NoMemory>
+    requires { length name.now ≤ 16 }
+    ensures added { OnOk result (W.adds out.old out.new (optional_attribute name.now value.now)) }
+    ensures failed { OnErr result W.can_fail }
+    ensures bound { OnOk result (length (optional_attribute name.now value.now) ≤ 393_300) }
+{
+    match value {
+        Some(value) => push_attribute(out, name, value),
+        None => Ok(()),
+    }
+}

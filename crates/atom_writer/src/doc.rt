@@ -1,0 +1,176 @@
+ghost use Rattle.std.specs.Prelude.{◌≡◌, ◌≤◌, ◌↔◌, length, map, nat_eq, IsTrue, IsSome, IfSome};
+ghost use Rattle.std.specs.List.{IsDistinct};
+ghost use Rattle.std.specs.List.Sorted.{IsStrictlyIncreasing};
+ghost use Rattle.deleted_entries.specs.Item.{item_number};
+ghost use Rattle.atom_writer.specs.Doc.{is_placed, span_len};
+
+use atom_values::{AtomText, Many, Stamp};
+use chain_links::{Address, Base, Place, Span};
+use deleted_entries::{FeedId, Item};
+use std::marker::Model;
+
+/// How many operations a document covers at most, and so how many items it has at most.
+pub const MAX_ITEMS: u32 = 100;
+
+/// What a feed is called: its base address, identifier, title and author.
+#[derive(Debug, Drop)]
+pub struct FeedName {
+    pub base: Base,
+    pub id: FeedId,
+    pub title: AtomText,
+    pub author: AtomText,
+}
+
+/// Which document of a feed it is (RFC 5005 section 4).
+#[derive(Clone, Copy, Debug, PartialEq, Eq)]
+pub enum Kind {
+    /// The subscription document, which holds the newest operations.
+    Subscription,
+    /// The archive of this number, from 1, whose text never changes.
+    Archive(u32),
+}
+
+/// A feed document. Its items have distinct numbers, newest operation first, at most as many as its span has
+/// operations; the span and `prev` fit its kind.
+#[derive(Debug, Drop)]
+pub struct Doc {
+    pub name: FeedName,
+    pub kind: Kind,
+    pub span: Span,
+    pub prev: u32,
+    pub updated: Stamp,
+    pub items: Many<Item, 100>,
+}
+
+impl Model for Doc {
+    ghost use Rattle.atom_writer.specs.Doc.{DocValue, KeepsRules};
+
+    ghost Value = { DocValue };
+
+    ghost view = { λ d. record { name = d.name; kind = d.kind; span = d.span; prev = d.prev; updated = d.updated; items = d.items.items } };
+
+    ghost invariant = { λ d. KeepsRules record { name = d.name; kind = d.kind; span = d.span; prev = d.prev; updated = d.updated; items = d.items.items } };
+}
+
+impl Kind {
+    ghost use Rattle.atom_writer.specs.Pieces.{own_address};
+
+    /// The address of a document of this kind.
+    pub fn address(self) -> Address
+        ensures { result ≡ own_address self }
+    {
+        match self {
+            Kind::Subscription => Address::Feed,
+            Kind::Archive(number) => Address::Archive(number),
+        }
+    }
+}
+
+impl Doc {
+    ghost use Rattle.atom_writer.specs.Doc.{DocValue, KeepsRules};
+    ghost use Rattle.atom_writer.specs.Pieces.{own_address};
+
+    /// The document of these parts, or `None` where a rule fails. A subscription document has the span from 1 to 0
+    /// or one with `first <= last`, `first` is at least 1, and `prev` is 0 exactly where `first` is 1. An archive has
+    /// a number from 1 to 4294967294, `prev` is one less, `first <= last`, and `first` is 1 exactly in archive 1. The
+    /// span has at most `MAX_ITEMS` operations, there are at most so many items, and the items' numbers are distinct.
+    /// Takes no memory.
+    pub fn new(
+        name: FeedName,
+        kind: Kind,
+        span: Span,
+        prev: u32,
+        updated: Stamp,
+        items: Many<Item, 100>,
+    ) -> Option<Doc>
+        ensures rules { IsSome result ↔ KeepsRules record { name = name; kind = kind; span = span; prev = prev; updated = updated; items = items.items } }
+        ensures parts { IfSome result (λ doc. doc ≡ record { name = name; kind = kind; span = span; prev = prev; updated = updated; items = items.items }) }
+    {
+        if is_placed(kind, span, prev)
+            && has_room(span, items.as_slice())
+            && are_distinct(items.as_slice())
+        {
+            Some(Doc {
+                name,
+                kind,
+                span,
+                prev,
+                updated,
+                items,
+            })
+        } else {
+            None
+        }
+    }
+
+    /// Where the document stands in the chain.
+    pub fn place(&self) -> Place
+        ensures span { result.span ≡ self.now.span }
+        ensures prev { result.prev ≡ self.now.prev }
+        ensures address { result.address ≡ own_address self.now.kind }
+        ensures rules { KeepsRules self.now }
+    {
+        Place {
+            address: self.kind.address(),
+            span: self.span,
+            prev: self.prev,
+        }
+    }
+}
+
+/// Whether a document of this kind may stand there.
+fn is_placed(kind: Kind, span: Span, prev: u32) -> bool
+    ensures { result ≡ is_placed kind span prev }
+{
+    match kind {
+        Kind::Subscription => {
+            (span.first == 1 && span.last == 0 || span.first <= span.last)
+                && span.first >= 1
+                && (prev == 0) == (span.first == 1)
+        }
+        Kind::Archive(number) => {
+            number >= 1
+                && number < u32::MAX
+                && prev == number - 1
+                && span.first <= span.last
+                && (span.first == 1) == (number == 1)
+        }
+    }
+}
+
+/// Whether the span has at most `MAX_ITEMS` operations, and there are at most so many items.
+fn has_room(span: Span, items: &[Item]) -> bool
+    ensures { IsTrue result ↔ (span_len span ≤ MAX_ITEMS) × (length items.now ≤ span_len span) }
+{
+    let operations = (u64::from(span.last) + 1).saturating_sub(u64::from(span.first));
+    operations <= u64::from(MAX_ITEMS) && items.len() as u64 <= operations
+}
+
+/// Whether the items' numbers are distinct. They are sorted beside the items, so that equal ones would be neighbours.
+fn are_distinct(items: &[Item]) -> bool
+    requires { length items.now ≤ 100 }
+    ensures { IsTrue result ↔ IsDistinct nat_eq (map item_number items.now) }
+{
+    let mut room = [0; MAX_ITEMS as usize];
+    let numbers = &mut room[..items.len()];
+    copy_numbers(items, numbers);
+    numbers.sort_unstable();
+    rises(numbers)
+}
+
+/// Writes the items' numbers, in order.
+fn copy_numbers(items: &[Item], numbers: &mut [u32])
+    requires { length numbers.old ≡ length items.now }
+    ensures { numbers.new ≡ map item_number items.now }
+{
+    for (at, item) in items.iter().enumerate() {
+        numbers[at] = item.number();
+    }
+}
+
+/// Whether each number is greater than the one before it.
+fn rises(numbers: &[u32]) -> bool
+    ensures { IsTrue result ↔ IsStrictlyIncreasing numbers.now }
+{
+    numbers.is_sorted_by(|before, after| before < after)
+}

@@ -1,0 +1,22 @@
+//! Feed documents and their one text, byte for byte (RFC 4287, RFC 5005 section 4).
+//! A document keeps the rules of the chain, and what is written is exactly the text that specs/ defines.
+//! Stands on `chain_links` and `deleted_entries`.
+#![tactic(auto)]
+
+mod attribute;
+mod category;
+mod doc;
+mod entry;
+mod link;
+mod member;
+mod out;
+mod person;
+mod write;
+
+pub use doc::{Doc, FeedName, Kind, MAX_ITEMS};
+pub use entry::entry_len;
+pub use member::write_member;
+pub use write::{doc_len, write_doc};
+
+#[cfg(test)]
+mod tests;

@@ -1,0 +1,49 @@
+ghost use Rattle.std.specs.Prelude.{◌≡◌, ◌≤◌, ◌++◌, length, flat_map, OnOk, OnErr};
+ghost use Rattle.atom_writer.specs.Parts.{relation_text, link_text};
+
+use crate::attribute::{push_attribute, push_optional_attribute};
+use crate::out::Out;
+use atom_values::{Link, NoMemory};
+
+/// Adds the relation, which is left out where it is `alternate` (RFC 4287 section 4.2.7.2).
+#[tactic(auto, unfolding(crate::specs::Parts::relation_text))]
+fn push_relation<W: Out>(out: &mut W, link: &Link) -> Result<(), NoMemory>
+    ensures added { OnOk result (W.adds out.old out.new (relation_text link.now)) }
+    ensures failed { OnErr result W.can_fail }
+    ensures bound { OnOk result (length (relation_text link.now) ≤ 393_300) }
+{
+    if link.has_relation(b"alternate") {
+        return Ok(());
+    }
+    push_attribute(out, b"rel", &link.rel)
+}
+
+/// Adds a link of the entry.
+fn push_link<W: Out>(out: &mut W, link: &Link) -> Result<(), NoMemory>
+    ensures added { OnOk result (W.adds out.old out.new (link_text link.now)) }
+    ensures failed { OnErr result W.can_fail }
+    ensures bound { OnOk result (length (link_text link.now) ≤ 2_400_000) }
+{
+    out.push(b"<link")?;
+    push_relation(out, link)?;
+    push_attribute(out, b"href", &link.href)?;
+    push_optional_attribute(out, b"type", &link.media)?;
+    push_optional_attribute(out, b"hreflang", &link.hreflang)?;
+    push_optional_attribute(out, b"title", &link.title)?;
+    push_optional_attribute(out, b"length", &link.length)?;
+    out.push(b"/>")?;
+    Ok(())
+}
+
+/// Adds the links of the entry, in order. There are at most 32.
+pub fn push_links<W: Out>(out: &mut W, links: &[Link]) -> Result<(), NoMemory>
+    requires { length links.now ≤ 32 }
+    ensures added { OnOk result (W.adds out.old out.new (flat_map link_text links.now)) }
+    ensures failed { OnErr result W.can_fail }
+    ensures bound { OnOk result (length (flat_map link_text links.now) ≤ 80_000_000) }
+{
+    for link in links {
+        push_link(out, link)?;
+    }
+    Ok(())
+}

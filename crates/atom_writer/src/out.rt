@@ -1,0 +1,123 @@
+ghost use Rattle.std.specs.Prelude.{◌≡◌, ◌+◌, ◌*◌, ◌^◌, ◌-◌, ◌≤◌, ◌++◌, ℕ, List, [], length, max, min, OnOk, OnErr, decimal};
+ghost use Rattle.atom_values.specs.Escape.{escaped};
+ghost use Rattle.atom_values.specs.Stamp as stamp;
+ghost use Rattle.chain_links.specs.Address as address;
+
+use atom_values::{AtomText, NoMemory, Stamp, escape_into, escaped_len};
+use chain_links::{Address, Base};
+use itoa::Buffer;
+
+/// Where a text goes: into a buffer, or into a count of its bytes. What is written is said once for both.
+pub trait Out {
+    /// The second is the first with these bytes behind it.
+    ghost adds: { Self → Self → List ℕ → Type 0 };
+
+    /// Whether adding may fail.
+    ghost can_fail: { Type 0 };
+
+    /// Adds the bytes.
+    fn push(&mut self, text: &[u8]) -> Result<(), NoMemory>
+        ensures added { OnOk result (adds self.old self.new text.now) }
+        ensures failed { OnErr result can_fail };
+
+    /// Adds the escaped text, for an attribute where `quoted`.
+    fn push_escaped(&mut self, text: &AtomText, quoted: bool) -> Result<(), NoMemory>
+        ensures added { OnOk result (adds self.old self.new (escaped quoted text.now)) }
+        ensures failed { OnErr result can_fail }
+        ensures bound { OnOk result (length (escaped quoted text.now) ≤ 393_216) };
+
+    /// Adds the address of a document below the base.
+    fn push_address(&mut self, base: &Base, to: Address) -> Result<(), NoMemory>
+        ensures added { OnOk result (adds self.old self.new (address.printed base.now to)) }
+        ensures failed { OnErr result can_fail }
+        ensures bound { OnOk result (length (address.printed base.now to) ≤ 218) };
+
+    /// Nothing adds no bytes.
+    ghost starts: { (a : Self) → adds a a [] };
+
+    /// Bytes added one after another are added together.
+    ghost joins: { (a b c : Self) (s t : List ℕ) → adds a b s → adds b c t → adds a c (s ++ t) };
+}
+
+impl Out for Vec<u8> {
+    ghost use Rattle.std.proofs.Common.{append-nil, append_assoc, sym, ◌∙◌, ap};
+
+    ghost adds = { λ a b s. b.items ≡ a.items ++ s };
+
+    ghost can_fail = { Unit {0} };
+
+    ghost starts = { λ a. sym (append-nil a.items) };
+
+    ghost joins = { λ a b c s t p q. q ∙ ap (λ (x : List ℕ). x ++ t) p ∙ append_assoc a.items s t };
+
+    fn push(&mut self, text: &[u8]) -> Result<(), NoMemory> {
+        self.extend_from_slice(text)?;
+        Ok(())
+    }
+
+    fn push_escaped(&mut self, text: &AtomText, quoted: bool) -> Result<(), NoMemory> {
+        let _bounded = escaped_len(text, quoted);
+        escape_into(self, text, quoted)
+    }
+
+    fn push_address(&mut self, base: &Base, to: Address) -> Result<(), NoMemory> {
+        let _bounded = base.printed_len(to);
+        base.print_into(self, to)
+    }
+}
+
+/// How many bytes were added. It stays at the greatest count, which no document reaches.
+#[derive(Clone, Copy, Debug, PartialEq, Eq)]
+pub struct Count {
+    pub bytes: u64,
+}
+
+impl Out for Count {
+    ghost use Rattle.std.proofs.Common.{arith, length-append};
+
+    ghost adds = { λ a b s. b.bytes ≡ max a.bytes (min (a.bytes + length s) (2 ^ 64 - 1)) };
+
+    ghost can_fail = { ⊥ };
+
+    ghost starts = { λ a. Prim.omega arith };
+
+    ghost joins = { λ a b c s t p q. Prim.omega (arith, length-append s t) };
+
+    fn push(&mut self, text: &[u8]) -> Result<(), NoMemory> {
+        self.bytes = self.bytes.saturating_add(text.len() as u64);
+        Ok(())
+    }
+
+    fn push_escaped(&mut self, text: &AtomText, quoted: bool) -> Result<(), NoMemory> {
+        self.bytes = self.bytes.saturating_add(escaped_len(text, quoted) as u64);
+        Ok(())
+    }
+
+    fn push_address(&mut self, base: &Base, to: Address) -> Result<(), NoMemory> {
+        self.bytes = self.bytes.saturating_add(base.printed_len(to) as u64);
+        Ok(())
+    }
+}
+
+/// Adds the number in decimal.
+pub fn push_number<W: Out>(out: &mut W, number: u32) -> Result<(), NoMemory>
+    ensures added { OnOk result (W.adds out.old out.new (decimal number)) }
+    ensures failed { OnErr result W.can_fail }
+    ensures bound { OnOk result (length (decimal number) ≤ 10) }
+{
+    let mut buffer = Buffer::new();
+    out.push(buffer.format(number).as_bytes())?;
+    Ok(())
+}
+
+/// Adds the printed moment.
+pub fn push_stamp<W: Out>(out: &mut W, moment: Stamp) -> Result<(), NoMemory>
+    ensures added { OnOk result (W.adds out.old out.new (stamp.printed moment)) }
+    ensures failed { OnErr result W.can_fail }
+    ensures bound { OnOk result (length (stamp.printed moment) ≤ 24) }
+{
+    let mut buffer = [0u8; 24];
+    let length = moment.print(&mut buffer);
+    out.push(&buffer[..length])?;
+    Ok(())
+}

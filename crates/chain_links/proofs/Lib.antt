@@ -1,0 +1,9 @@
+pub mod Hosts
+pub mod Paths
+pub mod Numbers
+pub mod Bases
+pub mod Addresses
+pub mod Splits
+pub mod Readings
+pub mod Placed
+pub mod Ascii

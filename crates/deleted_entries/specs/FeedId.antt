@@ -1,0 +1,34 @@
+-- Identifiers of a feed and of its members: UUIDs (RFC 9562), as sixteen bytes and as texts.
+use Rattle.std.specs.Prelude.{◌≡◌, ◌≢◌, ℕ, ◌+◌, ◌/◌, ◌%◌, ◌<◌, ◌≤◌, ◌^◌, List, ◌∷◌, ◌++◌, length, take, slice_index, All, codes}
+use Rattle.std.specs.Int.{to_be_bytes, w32}
+use Rattle.uuid.specs.Text.{hyphenated_text, lower}
+
+-- the version nibble (RFC 9562 section 4.2)
+abbrev pub version : List ℕ → ℕ
+version bytes = slice_index bytes 6 / 16
+
+-- a feed's identifier: a UUID of any version but 8, which the members have
+pub record IsFeedId (bytes : List ℕ) : Type 0 where
+  pub size : length bytes ≡ 16
+  pub each : All (λ b. b < 256) bytes
+  pub version : version bytes ≢ 8
+
+-- the UUID of a member, of version 8 (RFC 9562 section 5.8): the first 48 bits and the 12 bits after the version are the
+-- feed's, and the 62 bits after the variant are the number
+unfoldable pub member_bytes : List ℕ → ℕ → List ℕ
+member_bytes feed number =
+    take 6 feed ++ (128 + slice_index feed 6 % 16) ∷ slice_index feed 7 ∷ 128 ∷ 0 ∷ 0 ∷ 0 ∷ to_be_bytes w32 number
+
+-- the UUID in lower case with hyphens
+abbrev pub feed_text : List ℕ → List ℕ
+feed_text bytes = hyphenated_text lower bytes
+
+-- the identifier that stands in documents (RFC 4287 section 4.2.6)
+unfoldable pub member_id : List ℕ → ℕ → List ℕ
+member_id feed number = codes "urn:uuid:" ++ hyphenated_text lower (member_bytes feed number)
+
+-- the text is the identifier of member `number`, counted from 1
+pub record IsMemberId (feed : List ℕ) (number : ℕ) (id : List ℕ) : Type 0 where
+  pub counted : 1 ≤ number
+  pub below : number < 2 ^ 32
+  pub text : id ≡ member_id feed number

@@ -1,0 +1,3 @@
+pub mod FeedId
+pub mod Tombstone
+pub mod Item

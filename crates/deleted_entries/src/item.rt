@@ -1,0 +1,47 @@
+use atom_values::{Entry, Stamp};
+use std::marker::Model;
+
+/// That a member was deleted (RFC 6721 section 3): its number, from 1, and when.
+#[derive(Clone, Copy, Debug, PartialEq, Eq)]
+pub struct Tombstone {
+    pub number: u32,
+    pub when: Stamp,
+}
+
+impl Model for Tombstone {
+    ghost use Rattle.std.specs.Prelude.{◌≤◌};
+    ghost use Rattle.deleted_entries.specs.Tombstone.{TombstoneValue};
+
+    ghost Value = { TombstoneValue };
+
+    ghost view = { λ t. record { number = t.number; when = t.when } };
+
+    ghost invariant = { λ t. 1 ≤ t.number };
+
+    ghost inverse = { λ v. record { number = v.number; when = v.when } };
+}
+
+/// What a document says of a member.
+#[derive(Debug, Drop)]
+pub enum Item {
+    /// The member's entry.
+    Kept(Entry),
+    /// That the member was deleted.
+    Gone(Tombstone),
+}
+
+impl Item {
+    ghost use Rattle.std.specs.Prelude.{◌≡◌, ◌≤◌};
+    ghost use Rattle.deleted_entries.specs.Item.{item_number};
+
+    /// The member's number, from 1.
+    pub fn number(&self) -> u32
+        ensures number { result ≡ item_number self.now }
+        ensures from_one { 1 ≤ result }
+    {
+        match self {
+            Item::Kept(entry) => entry.number,
+            Item::Gone(tombstone) => tombstone.number,
+        }
+    }
+}

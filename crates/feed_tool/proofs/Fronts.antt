@@ -1,0 +1,39 @@
+-- Fronts of texts that an output took.
+use Rattle.std.proofs.Common.{◌≡◌, ℕ, List, ◌++◌, Result, Ok, Err, ap, sym, refl, ◌∙◌, append_assoc, OnOk}
+use Rattle.atom_values.specs.Counts.{HasCause}
+use Rattle.feed_tool.specs.declared.apply.Fault.{Fault}
+use Rattle.feed_tool.specs.declared.apply.Fault.TheVariants.{NoMemory, Input, TooLong, BadLine, Clock, Large}
+use Rattle.feed_tool.specs.Outside.{SinkState}
+use Rattle.feed_tool.specs.Apply.{TakesFront, Prints, Answer, IsRefusal, fault_answer, printed_of}
+
+-- a front of a text is a front of what begins with the text
+pub front_of_more : (before after : SinkState) (text more : List ℕ) → TakesFront before after text → TakesFront before after (text ++ more)
+front_of_more before after text more f = record {
+  sent = f.sent;
+  rest = f.rest ++ more;
+  whole = ap (λ (x : List ℕ). x ++ more) f.whole ∙ append_assoc f.sent f.rest more;
+  taken = f.taken;
+}
+
+-- a whole text, and then a front of the next one
+pub front_after : (before middle after : SinkState) (text next : List ℕ) → middle.taken ≡ before.taken ++ text → TakesFront middle after next → TakesFront before after (text ++ next)
+front_after before middle after text next e f = record {
+  sent = text ++ f.sent;
+  rest = f.rest;
+  whole = ap (λ (x : List ℕ). text ++ x) f.whole ∙ sym (append_assoc text f.sent f.rest);
+  taken = f.taken ∙ ap (λ (x : List ℕ). x ++ f.sent) e ∙ append_assoc before.taken text f.sent;
+}
+
+-- a text that was sent, or a front of it where a call failed
+pub prints-from : {T E : Type 0} (r : Result T E) (before after : SinkState) (text : List ℕ) → TakesFront before after text → OnOk r (after.taken ≡ before.taken ++ text) → HasCause before.faults after.faults r → Prints before after text
+prints-from (Ok x) before after text front whole cause = record { front = front; whole = λ _. whole }
+prints-from (Err e) before after text front whole cause = record { front = front; whole = λ none. absurd (none cause.failed) }
+
+-- what belongs to the status of a fault is the fault's line
+pub printed-fault : (fault : Fault) (whole : Answer) → (IsRefusal fault → whole ≡ fault_answer fault) → printed_of (fault_answer fault).status whole ≡ (fault_answer fault).printed
+printed-fault NoMemory whole h = refl
+printed-fault Input whole h = refl
+printed-fault TooLong whole h = ap (λ (a : Answer). a.printed) (h tt)
+printed-fault (BadLine number) whole h = ap (λ (a : Answer). a.printed) (h tt)
+printed-fault (Clock number) whole h = ap (λ (a : Answer). a.printed) (h tt)
+printed-fault (Large number) whole h = ap (λ (a : Answer). a.printed) (h tt)

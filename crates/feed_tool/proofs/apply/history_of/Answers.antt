@@ -1,0 +1,70 @@
+use Rattle.std.proofs.Common.{◌≡◌, ◌+◌, ◌∷◌, [], length, Ok, Err, ap, ◌∙◌, arith, zero-add, length-append}
+use Rattle.std.proofs.lemmas.Result.{err_from_is_err_and}
+use Rattle.feed_tool.specs.declared.apply.Fault.{Fault}
+use Rattle.feed_tool.specs.declared.apply.Fault.TheVariants.{Input}
+use Rattle.feed_tool.specs.Apply.{applied, lines_fault}
+use Rattle.feed_tool.proofs.FaultLemmas.{refusal-of_lines, input-of_lines}
+use Rattle.feed_tool.proofs.HistoryLemmas.{AreNumbered-push}
+use Rattle.feed_tool.proofs.Progress.{Progress-end, Progress-step, Progress-refused, Progress-long, Progress-amid, line_operation-is}
+use Rattle.feed_tool.proofs.apply.history_of.Goals as goal
+
+pub returns-in_err-next-clause-refused : goal.returns-in_err-next-clause-refused
+returns-in_err-next-clause-refused g c =
+    let p = err_from_is_err_and c.from_residual-in_err-next.result c.from_residual-in_err-next.ensures.1 in
+    let moments = g.C.Clock.coming c.args.clock.now in
+    let start = g.I.Source.state c.args.input.now in
+    rw (p.1, p.2) (λ refusal source clock.
+    refusal-of_lines (λ (fault : Fault). applied c.args.head.now moments start.left ≡ Err fault) c.in_err-next.field-0.0
+    (λ e. Progress-long c.args.head.now moments start.left c.loop-history.lines (g.I.Source.state c.loop-history.input) c.loop-history.history.items
+    (c.loop-history.invariant.progress source clock) (c.in_err-next.ensures.too_long (ap Err e) source))
+    refusal)
+
+pub returns-in_err-next-clause-unrefused : goal.returns-in_err-next-clause-unrefused
+returns-in_err-next-clause-unrefused g c =
+    let p = err_from_is_err_and c.from_residual-in_err-next.result c.from_residual-in_err-next.ensures.1 in
+    rw (p.1, p.2) (λ e source clock.
+    let same : lines_fault c.in_err-next.field-0.0 ≡ Input = cc in
+    Progress-amid c.args.head.now (g.C.Clock.coming c.args.clock.now) (g.I.Source.state c.args.input.now) c.loop-history.lines (g.I.Source.state c.loop-history.input)
+    (g.I.Source.state c.next.new.input) c.loop-history.history.items
+    (c.loop-history.invariant.progress source clock) (c.in_err-next.ensures.amid (ap Err (input-of_lines c.in_err-next.field-0.0 same)) source))
+
+pub returns-in_err-operation-clause-refused : goal.returns-in_err-operation-clause-refused
+returns-in_err-operation-clause-refused g c =
+    let p = err_from_is_err_and c.from_residual-in_err-operation.result c.from_residual-in_err-operation.ensures.1 in
+    let moments = g.C.Clock.coming c.args.clock.now in
+    let history = c.loop-history.history.items in
+    let held = c.loop-history.invariant in
+    rw (p.1, p.2) (λ refusal source clock.
+    Progress-refused c.args.head.now moments (g.I.Source.state c.args.input.now).left c.loop-history.lines (g.I.Source.state c.loop-history.input) c.next.new.self
+    (g.I.Source.state c.next.new.input) history c.in_err-operation.field-0.0 (held.progress source clock) (c.in_ok-next.ensures.found (ap Ok c.if-branch.true) source)
+    (line_operation-is c.args.head.now moments history _ c.next.new.self.line _ _ (Err c.in_err-operation.field-0.0) c.as_slice.ensures.value c.line.ensures
+    (held.moments clock 0 ∙ ap moments (zero-add (length history))) (c.in_err-operation.ensures.refused refusal clock)))
+
+pub loop-history-preserved : goal.loop-history-preserved
+loop-history-preserved g c =
+    let head = c.args.head.now in
+    let whole = (g.I.Source.state c.args.input.now).left in
+    let input = g.I.Source.state c.loop-history.input in
+    let rest = g.I.Source.state c.next.new.input in
+    let history = c.loop-history.history.items in
+    let held = c.loop-history.invariant in
+    let pushed = c.in_ok-push.ensures.items in
+    record {
+      progress = λ source clock. rw pushed
+          (Progress-step head (g.C.Clock.coming c.args.clock.now) whole c.loop-history.lines input c.next.new.self rest history c.in_ok-operation.operation (held.progress source clock)
+          (c.in_ok-next.ensures.found (ap Ok c.if-branch.true) source)
+          (line_operation-is head (g.C.Clock.coming c.args.clock.now) history _ c.next.new.self.line _ _ (Ok c.in_ok-operation.operation) c.as_slice.ensures.value c.line.ensures
+          (held.moments clock 0 ∙ ap (g.C.Clock.coming c.args.clock.now) (zero-add (length history))) (c.in_ok-operation.ensures.operation clock)));
+      moments = λ clock k.
+          let later : k + 1 + length history ≡ k + length c.push.new.self.items = omega (arith, ap length pushed, length-append history (c.in_ok-operation.operation ∷ [])) in
+          c.in_ok-operation.ensures.moment clock k ∙ held.moments clock (k + 1) ∙ ap (g.C.Clock.coming c.args.clock.now) later;
+      knows = c.in_ok-next.ensures.knows;
+      numbered = rw pushed (AreNumbered-push 0 history c.in_ok-operation.operation held.numbered (omega (arith, c.in_ok-operation.ensures.numbered, ap length c.as_slice.ensures.value)));
+      few = omega (arith, held.few, ap length pushed, length-append history (c.in_ok-operation.operation ∷ []), c.in_ok-next.ensures.progress (ap Ok c.if-branch.true));
+      faults = omega (arith, held.faults, c.in_ok-next.ensures.faults);
+    }
+
+pub returns-clause-history : goal.returns-clause-history
+returns-clause-history g c = λ source clock.
+    Progress-end c.args.head.now (g.C.Clock.coming c.args.clock.now) (g.I.Source.state c.args.input.now).left c.loop-history.lines (g.I.Source.state c.loop-history.input) c.loop-history.history.items
+    (c.loop-history.invariant.progress source clock) (c.in_ok-next.ensures.none (ap Ok c.if-branch.false) source)

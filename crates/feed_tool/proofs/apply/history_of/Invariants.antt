@@ -1,0 +1,22 @@
+use Rattle.std.proofs.Common.{◌≡◌, ℕ, ◌+◌, ◌≤◌, length}
+use Rattle.feed_tool.specs.History.{AreNumbered}
+use Rattle.feed_tool.specs.Lines.{KnowsEnd, allowance}
+use Rattle.feed_tool.specs.Apply.{input_limit}
+use Rattle.feed_tool.proofs.Progress.{Progress}
+use Rattle.feed_tool.proofs.apply.history_of.Given as goal
+
+abbrev pub invariant-loop-history : goal.invariant-loop-history
+invariant-loop-history g l =
+    let before = g.I.Source.state l.fn.input in
+    let input = g.I.Source.state l.input in
+    record {
+      progress : g.I.Source.told → g.C.Clock.told → Progress l.head (g.C.Clock.coming l.fn.clock) before.left l.lines input l.history.items;
+      moments : g.C.Clock.told → (k : ℕ) → g.C.Clock.coming l.clock k ≡ g.C.Clock.coming l.fn.clock (k + length l.history.items);
+      knows : g.I.Source.told → KnowsEnd l.lines input;
+      numbered : AreNumbered 0 l.history.items;
+      few : length l.history.items + allowance l.lines ≤ input_limit;
+      faults : before.faults ≤ input.faults;
+    }
+
+abbrev pub decreases-loop-history : goal.decreases-loop-history
+decreases-loop-history g l = allowance l.lines

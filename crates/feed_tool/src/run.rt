@@ -1,0 +1,145 @@
+ghost use Rattle.std.specs.Prelude.{◌≡◌, ◌↔◌, ◌≤◌, ◌++◌, None, map, decimal, string_bytes, IfSome, OnOk};
+ghost use Rattle.atom_values.specs.Counts.{Rose, HasCause};
+ghost use Rattle.feed_tool.specs.Words.{window_of};
+ghost use Rattle.feed_tool.specs.Apply.{answer, fault_answer, test_head, usage_line, printed_at, IsStatus, IsDetermined, IsUnrefused, Prints, TakesFront, IsComplete};
+
+use crate::apply::{Fault, apply};
+use crate::outside::{Clock, Sink, Source};
+use crate::words::window_of;
+use atom_values::Failed;
+use itoa::Buffer;
+use std::alloc::Global;
+
+/// How the program ends.
+#[derive(Debug, Drop)]
+pub struct Ended {
+    /// The exit status.
+    pub status: u8,
+}
+
+/// Runs the command that the words name, and ends with its status: 0 at the defined end, 2 for words that are no
+/// command's, 5 for want of memory, 8 and 9 for a failure of the output and of the input, 10 for an input that is not in
+/// the command's grammar or too long, 12 for a line that is refused.
+///
+/// `apply W` applies the lines of the input to an empty history, each with one moment of the clock, and prints the
+/// subscription document. Any other end prints its line, and a failure in printing that line changes nothing.
+pub fn run<C: Clock, I: Source, O: Sink>(
+    alloc: Global,
+    words: &[String],
+    clock: &mut C,
+    input: &mut I,
+    output: &mut O,
+) -> Ended
+    // The ways to end, and which words are no command's.
+    ensures statuses { IsStatus result.status }
+    ensures usage { (result.status ≡ 2) ↔ (window_of (map string_bytes words.now) ≡ None) }
+
+    // Where the input and the clock tell their content, they determine the status that is 0, 10 or 12.
+    ensures determined { I.told → C.told → IfSome (window_of (map string_bytes words.now)) (λ window.
+        IsDetermined result.status
+        → result.status ≡ (answer (test_head window) (C.coming clock.old) (I.state input.old).left).status) }
+
+    // At status 0 the output took the subscription document of the history that the lines make.
+    ensures document { I.told → C.told → O.told → IfSome (window_of (map string_bytes words.now)) (λ window.
+        result.status ≡ 0
+        → (O.state output.new).taken ≡ (O.state output.old).taken
+        ++ (answer (test_head window) (C.coming clock.old) (I.state input.old).left).printed) }
+
+    // At every status the output took what belongs to it, or a front of that where one of its calls failed.
+    ensures printed { I.told → C.told → O.told → Prints (O.state output.old) (O.state output.new)
+        (printed_at result.status (window_of (map string_bytes words.now)) (C.coming clock.old) (I.state input.old).left) }
+
+    // A failure comes only where the object's count rose, and no line before it is refused.
+    ensures input_fault { result.status ≡ 9 → Rose (I.state input.old).faults (I.state input.new).faults }
+    ensures output_fault { result.status ≡ 8 → Rose (O.state output.old).faults (O.state output.new).faults }
+    ensures first_fault { I.told → C.told → IfSome (window_of (map string_bytes words.now)) (λ window.
+        result.status ≡ 9 → IsUnrefused (test_head window) (C.coming clock.old) (I.state input.old) (I.state input.new)) }
+    ensures whole_document { I.told → C.told → IfSome (window_of (map string_bytes words.now)) (λ window.
+        result.status ≡ 8 → (answer (test_head window) (C.coming clock.old) (I.state input.old).left).status ≡ 0) }
+
+    // With a command's words, an input that is refused nowhere and no failure, the end is the defined one or want of
+    // memory.
+    ensures complete { I.told → C.told → IfSome (window_of (map string_bytes words.now)) (λ window.
+        (answer (test_head window) (C.coming clock.old) (I.state input.old).left).status ≡ 0
+        → IsComplete (I.state input.old) (I.state input.new) (O.state output.old) (O.state output.new) result.status) }
+{
+    let Some(window) = window_of(words) else {
+        let _ = write_all(output, USAGE);
+        return Ended { status: 2 };
+    };
+    match apply(alloc, window, clock, input) {
+        Ok(text) => match write_all(output, text.as_slice()) {
+            Ok(()) => Ended { status: 0 },
+            Err(Failed) => Ended { status: 8 },
+        },
+        Err(fault) => {
+            let _ = write_fault(output, fault);
+            Ended {
+                status: status_of(fault),
+            }
+        }
+    }
+}
+
+/// The line of words that are no command's.
+const USAGE: &[u8] = b"usage: feed_tool init, apply, show, serve, mirror, audit, drill\n";
+
+/// The status of a fault.
+fn status_of(fault: Fault) -> u8
+    ensures { result ≡ (fault_answer fault).status }
+{
+    match fault {
+        Fault::NoMemory => 5,
+        Fault::Input => 9,
+        Fault::TooLong | Fault::BadLine(_) => 10,
+        Fault::Clock(_) | Fault::Large(_) => 12,
+    }
+}
+
+/// Writes the line of a fault.
+fn write_fault<O: Sink>(output: &mut O, fault: Fault) -> Result<(), Failed>
+    ensures front { O.told → TakesFront (O.state output.old) (O.state output.new) (fault_answer fault).printed }
+    ensures whole { OnOk result (O.told → (O.state output.new).taken ≡ (O.state output.old).taken ++ (fault_answer fault).printed) }
+    ensures counts { HasCause (O.state output.old).faults (O.state output.new).faults result }
+{
+    match fault {
+        Fault::NoMemory => write_all(output, b"no memory\n"),
+        Fault::Input => write_all(output, b"input fault\n"),
+        Fault::TooLong => write_all(output, b"input too long\n"),
+        Fault::BadLine(number) => write_numbered(output, b"bad line ", number, b"\n"),
+        Fault::Clock(number) => write_numbered(output, b"line ", number, b" clock\n"),
+        Fault::Large(number) => write_numbered(output, b"line ", number, b" too large\n"),
+    }
+}
+
+/// Writes a number between two texts.
+fn write_numbered<O: Sink>(
+    output: &mut O,
+    front: &[u8],
+    number: u64,
+    back: &[u8],
+) -> Result<(), Failed>
+    ensures front { O.told → TakesFront (O.state output.old) (O.state output.new) (front.now ++ decimal number ++ back.now) }
+    ensures whole { OnOk result (O.told → (O.state output.new).taken ≡ (O.state output.old).taken ++ (front.now ++ decimal number ++ back.now)) }
+    ensures counts { HasCause (O.state output.old).faults (O.state output.new).faults result }
+{
+    write_all(output, front)?;
+    let mut buffer = Buffer::new();
+    write_all(output, buffer.format(number).as_bytes())?;
+    write_all(output, back)?;
+    Ok(())
+}
+
+/// Writes all the bytes.
+fn write_all<O: Sink>(output: &mut O, bytes: &[u8]) -> Result<(), Failed>
+    ensures front { O.told → TakesFront (O.state output.old) (O.state output.new) bytes.now }
+    ensures whole { OnOk result (O.told → (O.state output.new).taken ≡ (O.state output.old).taken ++ bytes.now) }
+    ensures counts { HasCause (O.state output.old).faults (O.state output.new).faults result }
+{
+    let mut sent = 0;
+    while sent < bytes.len() {
+        let (_, rest) = bytes.split_at(sent);
+        sent += output.write(rest)?;
+    }
+    Ok(())
+}

@@ -1,0 +1,68 @@
+ghost use Rattle.std.specs.Prelude.{◌≡◌, ◌≤◌, ◌+◌, ◌*◌, map, min, IfSome, string_bytes, bytes_eq, codes};
+ghost use Rattle.std.specs.List.{list_all};
+ghost use Rattle.std.specs.Char.{is_ascii_digit};
+ghost use Rattle.feed_tool.specs.Words.{is_number, number_value, window_of, window_word};
+
+/// The window of the words `apply W`, with W from 1 to 100 in decimal digits; `None` where the words are no command's.
+pub fn window_of(words: &[String]) -> Option<u32>
+    ensures window { result ≡ window_of (map string_bytes words.now) }
+    ensures range { IfSome result (λ window. (1 ≤ window) × (window ≤ 100)) }
+{
+    let [command, window] = words else {
+        return None;
+    };
+    if !is_apply(command.as_str()) {
+        return None;
+    }
+    window_word(window.as_bytes())
+}
+
+/// Whether the word is the command's name.
+fn is_apply(word: &str) -> bool
+    ensures { result ≡ bytes_eq word.now (codes "apply") }
+{
+    word == "apply"
+}
+
+/// The window that the word names, where it names one.
+fn window_word(word: &[u8]) -> Option<u32>
+    ensures window { result ≡ window_word word.now }
+    ensures range { IfSome result (λ window. (1 ≤ window) × (window ≤ 100)) }
+{
+    if !is_number(word) {
+        return None;
+    }
+    let value = capped_value(word);
+    if value == 0 {
+        return None;
+    }
+    if value > 100 {
+        return None;
+    }
+    Some(value)
+}
+
+/// Whether the word is one or more decimal digits.
+fn is_number(word: &[u8]) -> bool
+    ensures { result ≡ is_number word.now }
+{
+    !word.is_empty() && are_digits(word)
+}
+
+/// Whether each byte is a decimal digit.
+fn are_digits(word: &[u8]) -> bool
+    ensures { result ≡ list_all is_ascii_digit word.now }
+{
+    word.iter().all(|byte| byte.is_ascii_digit())
+}
+
+/// The number that the digits stand for, or 101 where it is greater.
+fn capped_value(digits: &[u8]) -> u32
+    ensures { result ≡ min (number_value digits.now) 101 }
+{
+    let mut value = 0u32;
+    for digit in digits {
+        value = (value * 10 + u32::from(digit.saturating_sub(b'0'))).min(101);
+    }
+    value
+}
