@@ -80,6 +80,22 @@ fn reads_lines_across_pieces(rt: HostRuntime) -> Result<(), Fail> {
 }
 
 #[test]
+fn reads_a_line_cut_at_every_place(rt: HostRuntime) -> Result<(), Fail> {
+    let alloc = rt.alloc();
+    let mut want = runs(alloc, &[(b'x', 1_029), (b'|', 1)])?;
+    want.extend_from_slice(b"add Hello|add b|")?;
+    for front in 0..11 {
+        let mut input = runs(alloc, &[(b'x', 65_535 - front), (b'\n', 1)])?;
+        input.extend_from_slice(b"add Hello\nadd b")?;
+        assert_eq!(rt;
+            joined(alloc, input.as_slice())?.as_slice(),
+            want.as_slice()
+        );
+    }
+    Ok(())
+}
+
+#[test]
 fn tells_of_a_failing_call(rt: HostRuntime) -> Result<(), Fail> {
     let mut failing = Many::new(rt.alloc());
     failing.push(2)?;
