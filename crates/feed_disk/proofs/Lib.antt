@@ -1,0 +1,10 @@
+pub mod Clock
+pub mod Cut
+pub mod Fills
+pub mod Images
+pub mod Moments
+pub mod Reached
+pub mod Split
+pub mod Steps
+pub mod Stops
+pub mod Torn

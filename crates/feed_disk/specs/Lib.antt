@@ -1,0 +1,10 @@
+pub mod Counts
+pub mod Disk
+pub mod History
+pub mod HistoryLaws
+pub mod Image
+pub mod ImageOf
+pub mod Memory
+pub mod MemoryLaws
+pub mod Moments
+pub mod Pending

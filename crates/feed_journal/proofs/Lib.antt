@@ -1,0 +1,9 @@
+pub mod Appends
+pub mod Listed
+pub mod Loads
+pub mod Places
+pub mod Reading
+pub mod Run
+pub mod Scans
+pub mod Settles
+pub mod Standing

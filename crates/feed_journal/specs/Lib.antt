@@ -1,0 +1,4 @@
+pub mod Framed
+pub mod Log
+pub mod Records
+pub mod Scan

@@ -1,0 +1,40 @@
+ghost use Rattle.std.specs.Prelude.{◌≡◌, ◌≢◌, ◌-◌, ◌^◌, ◌<◌, ◌≤◌, ℕ, List, [], ◌∷◌, length, OnOk};
+ghost use Rattle.atom_values.specs.Counts.{HasCause};
+ghost use Rattle.feed_disk.specs.Disk.{written};
+ghost use Rattle.feed_disk.specs.Moments.{AlwaysLeaves, LeavesAlone, NowOnly};
+ghost use Rattle.feed_disk.specs.declared.area.Area.{Area as AreaValue};
+ghost use Rattle.feed_journal.specs.Log.{MakesCalls, MakesUpTo};
+ghost use Rattle.feed_journal.specs.Records.{records, size_of, tail_of, Begins, IsStep};
+
+use crate::framed::Framed;
+use crate::put::put;
+use atom_values::Failed;
+use feed_disk::{Area, Disk};
+
+/// Writes a payload behind the closed gate of an area and then opens the gate, each for certain, and counts
+/// these four device calls. The gate is the last of the first `size` bytes.
+pub fn write_frame<D: Disk>(
+    disk: &mut D,
+    area: Area,
+    size: u64,
+    framed: &Framed,
+    calls: &mut u64,
+) -> Result<(), Failed>
+    requires gate { 0 < size }
+    requires fits { size < 2 ^ 63 }
+    requires place { D.told → size ≤ length ((D.state disk.old).content area) }
+    ensures content { OnOk result (D.told → (D.state disk.new).content area ≡ written (written ((D.state disk.old).content area) size (tail_of framed.now)) (size - 1) (1 ∷ [])) }
+    ensures certain { OnOk result (D.told → (i : List ℕ) → (D.state disk.new).image_now area i → i ≡ (D.state disk.new).content area) }
+    ensures moments { D.told → size ≡ size_of (records ((D.state disk.old).content area)) → length (records ((D.state disk.old).content area)) < 4294967294
+        → NowOnly (D.state disk.old) area (Begins (records ((D.state disk.old).content area)))
+        → AlwaysLeaves (D.state disk.old) (D.state disk.new) area (IsStep (records ((D.state disk.old).content area)) framed.now) }
+    ensures others { (a : AreaValue) → a ≢ area → LeavesAlone (D.state disk.old) (D.state disk.new) a }
+    ensures ok { OnOk result (MakesCalls (D.state disk.old) (D.state disk.new) calls.old calls.new 4) }
+    ensures calls { MakesUpTo (D.state disk.old) (D.state disk.new) calls.old calls.new 4 }
+    ensures cause { HasCause (D.state disk.old).faults (D.state disk.new).faults result }
+    ensures worked { OnOk result ((D.state disk.new).faults ≡ (D.state disk.old).faults) }
+{
+    put(disk, area, size, framed.tail(), calls)?;
+    put(disk, area, size - 1, &[1], calls)?;
+    Ok(())
+}

@@ -1,0 +1,80 @@
+ghost use Rattle.std.specs.Prelude.{◌≡◌};
+ghost use Rattle.feed_journal.specs.declared.fault.LogFault.TheVariants.{DiskFault as LogDiskFault, NoMemory as LogNoMemory};
+
+use atom_values::{Failed, NoMemory};
+use std::alloc::{AllocError, AllocFailed};
+use std::error::Error;
+use std::fmt;
+
+/// A call of the disk failed. The log that made it is spent: it is dropped and loaded again.
+#[derive(Clone, Copy, Debug, PartialEq, Eq, Hash)]
+pub struct DiskFault;
+
+impl fmt::Display for DiskFault {
+    fn fmt<W: fmt::Write>(&self, f: &mut fmt::Formatter<W>) -> fmt::Result {
+        write!(f, "disk fault")
+    }
+}
+
+impl Error for DiskFault {}
+
+impl From<Failed> for DiskFault {
+    fn from(_failed: Failed) -> DiskFault {
+        DiskFault
+    }
+}
+
+/// Why a log was not loaded, or a payload not read.
+#[derive(Clone, Copy, Debug, PartialEq, Eq, Hash)]
+pub enum LogFault {
+    /// A call of the disk failed.
+    DiskFault,
+    /// The payload of this index, from 0, is shorter than it was.
+    Changed { index: u32 },
+    /// Memory ran out.
+    NoMemory,
+}
+
+impl fmt::Display for LogFault {
+    fn fmt<W: fmt::Write>(&self, f: &mut fmt::Formatter<W>) -> fmt::Result {
+        match self {
+            LogFault::DiskFault => write!(f, "disk fault"),
+            LogFault::Changed { index } => write!(f, "changed {index}"),
+            LogFault::NoMemory => write!(f, "no memory"),
+        }
+    }
+}
+
+impl Error for LogFault {}
+
+impl From<Failed> for LogFault {
+    ghost from_gives = { λ _ fault. fault ≡ LogDiskFault };
+
+    fn from(_failed: Failed) -> LogFault {
+        LogFault::DiskFault
+    }
+}
+
+impl From<NoMemory> for LogFault {
+    ghost from_gives = { λ _ fault. fault ≡ LogNoMemory };
+
+    fn from(_error: NoMemory) -> LogFault {
+        LogFault::NoMemory
+    }
+}
+
+impl From<AllocError> for LogFault {
+    ghost from_gives = { λ _ fault. fault ≡ LogNoMemory };
+
+    fn from(_error: AllocError) -> LogFault {
+        LogFault::NoMemory
+    }
+}
+
+impl<T: Drop> From<AllocFailed<T>> for LogFault {
+    ghost from_gives = { λ _ fault. fault ≡ LogNoMemory };
+
+    fn from(_error: AllocFailed<T>) -> LogFault {
+        LogFault::NoMemory
+    }
+}
