@@ -201,6 +201,7 @@ fn escape_of(byte: u8, quoted: bool) -> Option<&'static str>
 pub fn escape_into(out: &mut Vec<u8>, text: &AtomText, quoted: bool) -> Result<(), NoMemory>
     ensures ok { OnOk result (out.new.items ≡ out.old.items ++ escaped quoted text.now) }
     ensures err { OnErr result (out.new.items ≡ out.old.items) }
+    ensures bound { length (escaped quoted text.now) ≤ 6 * MAX_TEXT }
 {
     out.reserve(escaped_len(text, quoted))?;
     let bytes = text.bytes();

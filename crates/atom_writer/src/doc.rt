@@ -4,9 +4,10 @@ ghost use Rattle.std.specs.List.Sorted.{IsStrictlyIncreasing};
 ghost use Rattle.deleted_entries.specs.Item.{item_number};
 ghost use Rattle.atom_writer.specs.Doc.{is_placed, span_len};
 
-use atom_values::{AtomText, Many, Stamp};
+use atom_values::{AtomText, Copies, Many, NoMemory, Stamp};
 use chain_links::{Address, Base, Place, Span};
 use deleted_entries::{FeedId, Item};
+use std::alloc::Global;
 use std::marker::Model;
 
 /// How many operations a document covers at most, and so how many items it has at most.
@@ -19,6 +20,17 @@ pub struct FeedName {
     pub id: FeedId,
     pub title: AtomText,
     pub author: AtomText,
+}
+
+impl Copies for FeedName {
+    fn copy(&self, alloc: Global) -> Result<FeedName, NoMemory> {
+        Ok(FeedName {
+            base: self.base.copy(alloc)?,
+            id: self.id,
+            title: self.title.copy(alloc)?,
+            author: self.author.copy(alloc)?,
+        })
+    }
 }
 
 /// Which document of a feed it is (RFC 5005 section 4).

@@ -56,12 +56,10 @@ impl Out for Vec<u8> {
     }
 
     fn push_escaped(&mut self, text: &AtomText, quoted: bool) -> Result<(), NoMemory> {
-        let _bounded = escaped_len(text, quoted);
         escape_into(self, text, quoted)
     }
 
     fn push_address(&mut self, base: &Base, to: Address) -> Result<(), NoMemory> {
-        let _bounded = base.printed_len(to);
         base.print_into(self, to)
     }
 }

@@ -7,7 +7,7 @@ ghost use Rattle.chain_links.specs.declared.address.Address.{Address};
 
 use crate::address::{Address, place_len, put, put_place, read_place};
 use crate::front::{after, after_host, is_path, port};
-use atom_values::NoMemory;
+use atom_values::{Copies, NoMemory};
 use std::alloc::{AllocError, Global};
 use std::error::Error;
 use std::marker::Model;
@@ -183,6 +183,7 @@ impl Base {
     pub fn print_into(&self, out: &mut Vec<u8>, address: Address) -> Result<(), NoMemory>
         ensures ok { OnOk result (out.new.items ≡ out.old.items ++ printed self.now address) }
         ensures err { OnErr result (out.new.items ≡ out.old.items) }
+        ensures bound { length (printed self.now address) ≤ MAX_BASE + 18 }
     {
         out.reserve(self.printed_len(address))?;
         put(out, &self.text);
@@ -196,5 +197,14 @@ impl Base {
         ensures bound { result ≤ MAX_BASE + 18 }
     {
         self.text.len() + place_len(address)
+    }
+}
+
+impl Copies for Base {
+    fn copy(&self, alloc: Global) -> Result<Base, NoMemory> {
+        Ok(Base {
+            text: Vec::from_slice(alloc, &self.text)?,
+            places: self.places,
+        })
     }
 }

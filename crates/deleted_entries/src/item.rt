@@ -1,4 +1,5 @@
-use atom_values::{Entry, Stamp};
+use atom_values::{Copies, Entry, NoMemory, Stamp};
+use std::alloc::Global;
 use std::marker::Model;
 
 /// That a member was deleted (RFC 6721 section 3): its number, from 1, and when.
@@ -42,6 +43,15 @@ impl Item {
         match self {
             Item::Kept(entry) => entry.number,
             Item::Gone(tombstone) => tombstone.number,
+        }
+    }
+}
+
+impl Copies for Item {
+    fn copy(&self, alloc: Global) -> Result<Item, NoMemory> {
+        match self {
+            Item::Kept(entry) => Ok(Item::Kept(entry.copy(alloc)?)),
+            Item::Gone(tombstone) => Ok(Item::Gone(*tombstone)),
         }
     }
 }
