@@ -1,0 +1,13 @@
+pub mod ItemsLemmas
+pub mod DocumentsLemmas
+pub mod DocumentsRules
+pub mod ChainShows
+pub mod ChainLinks
+pub mod ChainStays
+pub mod Folds
+pub mod Standings
+pub mod Counts
+pub mod Tables
+pub mod Decisions
+pub mod Lawful
+pub mod Plains

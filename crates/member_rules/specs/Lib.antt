@@ -1,0 +1,12 @@
+pub mod Removal
+pub mod Head
+pub mod Operation
+pub mod Fold
+pub mod History
+pub mod Decide
+pub mod Table
+pub mod Items
+pub mod Documents
+pub mod Shows
+pub mod Served
+pub mod Chain

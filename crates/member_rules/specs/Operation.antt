@@ -1,0 +1,42 @@
+-- What contracts see of an operation (RFC 5023 sections 9.2 to 9.4). An operation names a member, or none; what is said
+-- of lists of operations goes by that alone.
+use Rattle.std.specs.Prelude.{ℕ, ℤ, Option, Some, None, option_map, Bool, true, false, ◌==◌}
+use Rattle.atom_values.specs.Entry.{IsEntry}
+use Rattle.deleted_entries.specs.Item.{item_number}
+use Rattle.deleted_entries.specs.declared.item.Item.{Item}
+use Rattle.deleted_entries.specs.declared.item.Item.TheVariants.{Kept, Gone}
+use Rattle.member_rules.specs.Removal.{IsRemoval}
+use Rattle.member_rules.specs.declared.operation.Op.{Op}
+use Rattle.member_rules.specs.declared.operation.Op.TheVariants.{Add, Change, Remove}
+
+-- what stands of the member that it names
+abbrev pub item_of : Op → Option Item
+item_of (Add entry) = Some (Kept entry)
+item_of (Change entry) = Some (Kept entry)
+item_of (Remove removal) = Some (Gone removal.tombstone)
+
+-- the member that it names
+abbrev pub named : Op → Option ℕ
+named operation = option_map item_number (item_of operation)
+
+-- when it was accepted
+abbrev pub moment_of : Op → ℤ
+moment_of (Add entry) = entry.edited
+moment_of (Change entry) = entry.edited
+moment_of (Remove removal) = removal.moment
+
+-- whether it makes a member
+abbrev pub makes : Op → Bool
+makes (Add entry) = true
+makes (Change entry) = false
+makes (Remove removal) = false
+
+-- whether it names this member
+abbrev pub names : ℕ → Op → Bool
+names number operation = elim (named operation) as (λ _. Bool) [ None ↦ false | Some other ↦ other == number ]
+
+-- what its types keep
+abbrev pub IsOperation : Op → Type 0
+IsOperation (Add entry) = IsEntry entry
+IsOperation (Change entry) = IsEntry entry
+IsOperation (Remove removal) = IsRemoval removal

@@ -1,0 +1,129 @@
+ghost use Rattle.std.specs.Prelude.{◌≡◌, ◌≢◌, ℕ, ◌+◌, ◌<◌, ◌≤◌, [], ◌∷◌, ◌++◌, List, ℤ, OnOk};
+ghost use Rattle.member_rules.specs.declared.operation.Op.{Op};
+ghost use Rattle.member_rules.specs.Fold.{made, last_moment, live_count, state_of};
+ghost use Rattle.member_rules.specs.History.{history_limit};
+ghost use Rattle.member_rules.specs.Table.{IsTableOf, MayCommit};
+
+use crate::operation::Op;
+use crate::state::State;
+use atom_values::{NoMemory, Stamp};
+use std::alloc::Global;
+use std::marker::Model;
+
+/// The table of all members after a list of operations, which is changed in place. Members are numbered from 1, in the
+/// order in which they were made.
+#[derive(Debug, Drop)]
+pub struct Members {
+    states: Vec<State>,
+    last: Stamp,
+    live: u32,
+    operations: u32,
+}
+
+impl Model for Members {
+    ghost use Rattle.std.specs.Prelude.{◌-◌, vec_len, vec_capacity};
+    ghost use Rattle.member_rules.specs.Table.{Table, AreCounts};
+
+    ghost Value = { Table };
+
+    ghost view = { λ m. record {
+      states = m.states.items;
+      last = m.last;
+      live = m.live;
+      operations = m.operations;
+      spare = vec_capacity m.states - vec_len m.states;
+    } };
+
+    ghost invariant = { λ m. AreCounts (vec_len m.states) m.live m.operations };
+}
+
+impl Members {
+    /// The table of no operation, in a feed that was made at this moment.
+    pub fn new(alloc: Global, created: Stamp) -> Members
+        ensures table { IsTableOf result created [] }
+        ensures empty { result.operations ≡ 0 }
+    {
+        Members {
+            states: Vec::new(alloc),
+            last: created,
+            live: 0,
+            operations: 0,
+        }
+    }
+
+    /// What the member of this number is.
+    pub fn state(&self, number: u32) -> State
+        ensures state { (created : ℤ) (history : List Op) → IsTableOf self.now created history → result ≡ state_of history number }
+        ensures from_one { result ≢ State.Never → 1 ≤ number }
+    {
+        match number.checked_sub(1) {
+            Some(at) => match self.states.get(at as usize) {
+                Some(state) => *state,
+                None => State::Never,
+            },
+            None => State::Never,
+        }
+    }
+
+    /// The moment of the last operation, or when the feed was made.
+    pub fn last_moment(&self) -> Stamp
+        ensures last { (created : ℤ) (history : List Op) → IsTableOf self.now created history → result ≡ last_moment created history }
+        ensures value { result ≡ self.now.last }
+    {
+        self.last
+    }
+
+    /// How many members were ever made.
+    pub fn count(&self) -> u32
+        ensures made { (created : ℤ) (history : List Op) → IsTableOf self.now created history → result ≡ made history }
+        ensures few { result ≤ self.now.operations }
+    {
+        self.states.len() as u32
+    }
+
+    /// How many members are live.
+    pub fn live_count(&self) -> u32
+        ensures { (created : ℤ) (history : List Op) → IsTableOf self.now created history → result ≡ live_count history }
+    {
+        self.live
+    }
+
+    /// Makes room for one more operation.
+    pub fn prepare(&mut self) -> Result<(), NoMemory>
+        ensures room { OnOk result (1 ≤ self.new.spare) }
+        ensures same { self.new ≡ record self.old { spare = self.new.spare } }
+    {
+        self.states.reserve(1)?;
+        Ok(())
+    }
+
+    /// Takes one more operation, in the room that `prepare` made. It takes no memory, and the same time however many
+    /// members there are.
+    pub fn commit(&mut self, operation: &Op)
+        requires room { 1 ≤ self.old.spare }
+        requires few { self.old.operations < history_limit }
+        requires follows { MayCommit self.old operation.now }
+        ensures table { (created : ℤ) (history : List Op) → IsTableOf self.old created history → IsTableOf self.new created (history ++ operation.now ∷ []) }
+        ensures counted { self.new.operations ≡ self.old.operations + 1 }
+    {
+        self.last = operation.moment();
+        self.operations += 1;
+        let version = self.operations;
+        match operation {
+            Op::Add(entry) => {
+                self.live += 1;
+                let updated = entry.updated;
+                self.states.push(State::Live { updated, version }).unwrap();
+            }
+            Op::Change(entry) => {
+                let updated = entry.updated;
+                self.states[entry.number as usize - 1] = State::Live { updated, version };
+            }
+            Op::Remove(removal) => {
+                self.live -= 1;
+                let when = removal.tombstone.when;
+                self.states[removal.tombstone.number as usize - 1] = State::Gone { when };
+            }
+        }
+    }
+}
