@@ -130,8 +130,9 @@ impl Doc {
     }
 }
 
-/// Whether a document of this kind may stand there.
-fn is_placed(kind: Kind, span: Span, prev: u32) -> bool
+/// Whether a document of this kind may have that span and that newest archive before it, by the rules of
+/// [`Doc::new`]. Takes no memory.
+pub fn is_placed(kind: Kind, span: Span, prev: u32) -> bool
     ensures { result ≡ is_placed kind span prev }
 {
     match kind {

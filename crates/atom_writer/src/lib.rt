@@ -13,7 +13,7 @@ mod out;
 mod person;
 mod write;
 
-pub use doc::{Doc, FeedName, Kind, MAX_ITEMS};
+pub use doc::{Doc, FeedName, Kind, MAX_ITEMS, is_placed};
 pub use entry::entry_len;
 pub use member::write_member;
 pub use write::{doc_len, write_doc};

@@ -75,8 +75,8 @@ pub(crate) fn number(text: &[u8]) -> Option<(u32, &[u8])>
     Some((value, &[]))
 }
 
-/// The decimal number from 1 without leading zeros that the whole text is.
-pub(crate) fn whole_number(text: &[u8]) -> Option<u32>
+/// The decimal number from 1 to 4294967295, without leading zeros, that the whole text is. Takes no memory.
+pub fn whole_number(text: &[u8]) -> Option<u32>
     ensures found { IfSome result (λ n. (1 ≤ n) × (n < 2 ^ 32) × (text.now ≡ decimal n)) }
     ensures only { (n : ℕ) → 1 ≤ n → n < 2 ^ 32 → text.now ≡ decimal n → result ≡ Some n }
 {

@@ -10,6 +10,7 @@ mod place;
 
 pub use address::Address;
 pub use base::{Base, BaseFault, MAX_BASE};
+pub use front::whole_number;
 pub use place::{Place, Span, follows};
 
 #[cfg(test)]

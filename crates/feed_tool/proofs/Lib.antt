@@ -1,8 +1,7 @@
 pub mod FaultLemmas
 pub mod Fronts
-pub mod HistoryLemmas
+pub mod Histories
 pub mod LineLemmas
 pub mod LineSteps
 pub mod Progress
-pub mod SubscriptionLemmas
 pub mod WordLemmas

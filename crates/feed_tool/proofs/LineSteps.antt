@@ -4,7 +4,7 @@ use Rattle.std.proofs.lemmas.List.{append-nil, append_assoc, drop-take, drop-dro
 use Rattle.std.proofs.lemmas.Bool.{both_ways, eq-eqb, not-true}
 use Rattle.std.proofs.lemmas.List.Elements.{All-append, All-nil}
 use Rattle.feed_tool.specs.Outside.{SourceState}
-use Rattle.feed_tool.specs.Lines.{FindsLine, HasNoLf, IsFirstLf, IsSpent, IsTooLong, KnowsEnd, LinesState, ReadsMore, StopsAmid, TakesAll, TakesEnd, allowance, kept, stream, with_kept}
+use Rattle.feed_tool.specs.Lines.{FindsLine, HasNoLf, IsFirst, IsSpent, IsTooLong, KnowsEnd, LinesState, ReadsMore, StopsAmid, TakesAll, TakesEnd, allowance, kept, stream, with_kept}
 
 -- what is ahead after a line that ended
 pub ahead-rest : (piece : List ℕ) (start end at : ℕ) → start + (at + 1) ≤ end → drop (at + 1) (take (end - start) (drop start piece)) ≡ take (end - (start + (at + 1))) (drop (start + (at + 1)) piece)
@@ -13,12 +13,12 @@ ahead-rest piece start end at h =
     rw (e, drop-take (at + 1) (end - (start + (at + 1))) (drop start piece), drop-drop (at + 1) start piece) refl
 
 -- a line that ends in the piece
-pub TakesEnd-met : (piece : List ℕ) (start end at : ℕ) (line after : List ℕ) (allowed : ℕ) (ended : Bool) → IsFirstLf (take (end - start) (drop start piece)) at → after ≡ with_kept line (take at (take (end - start) (drop start piece))) → TakesEnd record { ahead = take (end - start) (drop start piece); line = line; allowed = allowed; ended = ended } record { ahead = take (end - (start + (at + 1))) (drop (start + (at + 1)) piece); line = after; allowed = allowed; ended = ended }
+pub TakesEnd-met : (piece : List ℕ) (start end at : ℕ) (line after : List ℕ) (allowed : ℕ) (ended : Bool) → IsFirst 10 (take (end - start) (drop start piece)) at → after ≡ with_kept line (take at (take (end - start) (drop start piece))) → TakesEnd record { ahead = take (end - start) (drop start piece); line = line; allowed = allowed; ended = ended } record { ahead = take (end - (start + (at + 1))) (drop (start + (at + 1)) piece); line = after; allowed = allowed; ended = ended }
 TakesEnd-met piece start end at line after allowed ended f kept =
     let within : start + (at + 1) ≤ end = omega (arith, f.within, length-take (end - start) (drop start piece)) in
     record {
       part = take at (take (end - start) (drop start piece));
-      no_lf = f.no_lf;
+      no_lf = f.none_before;
       split = rw (← ahead-rest piece start end at within) f.split;
       line = kept;
     }

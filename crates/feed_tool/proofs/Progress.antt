@@ -7,8 +7,8 @@ use Rattle.std.proofs.lemmas.Bool.{cases_lt}
 use Rattle.std.proofs.lemmas.List.Concat.{flat_map-append}
 use Rattle.feed_tool.specs.declared.apply.Fault.{Fault}
 use Rattle.feed_tool.specs.declared.apply.Fault.TheVariants.{TooLong}
-use Rattle.feed_tool.specs.declared.history.Head.{Head}
-use Rattle.feed_tool.specs.declared.history.Op.{Op}
+use Rattle.member_rules.specs.declared.operation.Op.{Op}
+use Rattle.member_rules.specs.Head.{HeadValue}
 use Rattle.feed_tool.specs.Outside.{SourceState}
 use Rattle.feed_tool.specs.Lines.{lines, ended_lines, line_ask, kept, LinesState, stream, allowance, HasNoLf, FindsLine, FindsEnded, FindsLast, IsTooLong, StopsAmid}
 use Rattle.feed_tool.specs.Apply.{applied, asked, after_lines, line_operation, input_limit, IsUnrefused, ◌>>=◌}
@@ -19,7 +19,7 @@ bind-bind (Ok x) f g k h = h x
 bind-bind (Err e) f g k h = refl
 
 -- more lines go on from the history that the first ones make
-pub after_lines-append : (head : Head) (moments : ℕ → ℕ) (history : List Op) (before : ℕ) (first more : List (List ℕ)) →
+pub after_lines-append : (head : HeadValue) (moments : ℕ → ℕ) (history : List Op) (before : ℕ) (first more : List (List ℕ)) →
     after_lines head moments history before (first ++ more) ≡ (after_lines head moments history before first >>= λ made. after_lines head moments made (before + length first) more)
 after_lines-append head moments history before [] more = rw add-zero refl
 after_lines-append head moments history before (line ∷ first) more =
@@ -38,7 +38,7 @@ nothing-found reader input after rest none f =
     (λ l. absurd (omega (arith, ap length (sym none ∙ l.whole), l.some))) f.found
 
 -- the lines so far, each with its LF, made the history
-pub record Going (head : Head) (moments : ℕ → ℕ) (whole : List ℕ) (reader : LinesState) (input : SourceState) (history : List Op) : Type 0 where
+pub record Going (head : HeadValue) (moments : ℕ → ℕ) (whole : List ℕ) (reader : LinesState) (input : SourceState) (history : List Op) : Type 0 where
   pub ended : List (List ℕ)
   pub no_lf : All HasNoLf ended
   pub split : whole ≡ with_lf ended ++ stream reader input
@@ -47,16 +47,16 @@ pub record Going (head : Head) (moments : ℕ → ℕ) (whole : List ℕ) (reade
   pub used : length (with_lf ended) + allowance reader ≡ input_limit
 
 -- the input was used up by a last line without LF
-pub record Spent (head : Head) (moments : ℕ → ℕ) (whole : List ℕ) (reader : LinesState) (input : SourceState) (history : List Op) : Type 0 where
+pub record Spent (head : HeadValue) (moments : ℕ → ℕ) (whole : List ℕ) (reader : LinesState) (input : SourceState) (history : List Op) : Type 0 where
   pub nothing : stream reader input ≡ []
   pub within : length whole ≤ input_limit
   pub made : after_lines head moments [] 0 (lines whole) ≡ Ok history
   pub before : IsOk (after_lines head moments [] 0 (ended_lines whole))
 
-abbrev pub Progress : Head → (ℕ → ℕ) → List ℕ → LinesState → SourceState → List Op → Type 0
+abbrev pub Progress : HeadValue → (ℕ → ℕ) → List ℕ → LinesState → SourceState → List Op → Type 0
 Progress head moments whole reader input history = Going head moments whole reader input history ⊎ Spent head moments whole reader input history
 
-module _ (head : Head) (moments : ℕ → ℕ) where
+module _ (head : HeadValue) (moments : ℕ → ℕ) where
   -- an input within the limit
   applied-within : (whole : List ℕ) → length whole ≤ input_limit → applied head moments whole ≡ after_lines head moments [] 0 (lines whole)
   unfolding applied
@@ -235,7 +235,7 @@ module _ (head : Head) (moments : ℕ → ℕ) where
       }
 
 -- what a line makes, by what was asked of it
-pub line_operation-is : (head : Head) (moments : ℕ → ℕ) (history given : List Op) (line read : List ℕ) (now : ℕ) (made : Result Op Fault) →
-    given ≡ history → read ≡ line → now ≡ moments (length history) → asked head given (length given + 1) now (line_ask read) ≡ made → line_operation head moments history (length history) line ≡ made
+pub line_operation-is : (head : HeadValue) (moments : ℕ → ℕ) (history : List Op) (line read : List ℕ) (number now : ℕ) (made : Result Op Fault) →
+    read ≡ line → number ≡ length history + 1 → now ≡ moments (length history) → asked head history number now (line_ask read) ≡ made → line_operation head moments history (length history) line ≡ made
 unfolding line_operation
-line_operation-is head moments history given line read now made eh el en e = rw (← en, ← el) (rw eh at e)
+line_operation-is head moments history line read number now made el es en e = rw (← en, ← el, ← es) e

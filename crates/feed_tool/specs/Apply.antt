@@ -3,21 +3,21 @@ use Rattle.std.specs.Prelude.{◌≡◌, ◌⊎◌, ℕ, ◌+◌, ◌≤◌, Lis
 use Rattle.atom_values.specs.Counts.{Rose}
 use Rattle.atom_writer.specs.Pieces.{text}
 use Rattle.feed_tool.specs.declared.apply.Fault.{Fault}
-use Rattle.feed_tool.specs.declared.apply.Fault.TheVariants.{NoMemory, Input, TooLong, BadLine, Clock, Large}
+use Rattle.feed_tool.specs.declared.apply.Fault.TheVariants.{NoMemory, Input, TooLong, BadLine, NotFound, Deleted, Clock, Large}
 use Rattle.feed_tool.specs.declared.lines.LinesFault.{LinesFault}
 use Rattle.feed_tool.specs.declared.lines.LinesFault.TheVariants as lines
-use Rattle.feed_tool.specs.declared.history.Head.{Head}
-use Rattle.feed_tool.specs.declared.history.Op.{Op}
-use Rattle.feed_tool.specs.declared.history.Ask.{Ask}
-use Rattle.feed_tool.specs.declared.history.Refusal.{Refusal}
-use Rattle.feed_tool.specs.declared.history.Refusal.TheVariants.{ClockSpent, TooLarge}
-use Rattle.feed_tool.specs.History.{decide}
-use Rattle.feed_tool.specs.Documents.{subscription}
+use Rattle.member_rules.specs.declared.operation.Op.{Op}
+use Rattle.member_rules.specs.declared.ask.Ask.{Ask}
+use Rattle.member_rules.specs.declared.fault.RuleFault.{RuleFault}
+use Rattle.member_rules.specs.declared.fault.RuleFault.TheVariants as rules
+use Rattle.member_rules.specs.Head.{HeadValue}
+use Rattle.member_rules.specs.Decide.{decide}
+use Rattle.member_rules.specs.Documents.{subscription}
 use Rattle.feed_tool.specs.Lines.{lines as lines_of, ended_lines, line_ask}
 use Rattle.feed_tool.specs.Outside.{SourceState, SinkState}
 
 -- the head that `apply W` uses
-unfoldable pub test_head : ℕ → Head
+unfoldable pub test_head : ℕ → HeadValue
 test_head window = record {
   name = record {
     base = codes "http://feed.example/";
@@ -26,6 +26,7 @@ test_head window = record {
     author = codes "Editor";
   };
   window = window;
+  capacity = 1_073_741_824;
   created = pos 0;
 }
 
@@ -33,19 +34,26 @@ test_head window = record {
 abbrev pub input_limit : ℕ
 input_limit = 1_073_741_824
 
--- the fault of a line's refusal; lines are numbered from 1
-abbrev pub refused_line : ℕ → Result Op Refusal → Result Op Fault
+-- the fault of a line's refusal; lines are numbered from 1. No line gives a draft with an identifier
+abbrev pub rule_fault : ℕ → RuleFault → Fault
+rule_fault number (rules.NotFound member) = NotFound number member
+rule_fault number (rules.Deleted member when) = Deleted number member
+rule_fault number (rules.OtherId member given) = BadLine number
+rule_fault number (rules.ClockSpent last now) = Clock number
+rule_fault number (rules.TooLarge size) = Large number
+rule_fault number rules.NoMemory = NoMemory
+
+abbrev pub refused_line : ℕ → Result Op RuleFault → Result Op Fault
 refused_line number (Ok operation) = Ok operation
-refused_line number (Err (ClockSpent last now)) = Err (Clock number)
-refused_line number (Err (TooLarge size)) = Err (Large number)
+refused_line number (Err fault) = Err (rule_fault number fault)
 
 -- the operation of a line asked for, with the clock at `now`
-abbrev pub asked : Head → List Op → ℕ → ℕ → Option Ask → Result Op Fault
+abbrev pub asked : HeadValue → List Op → ℕ → ℕ → Option Ask → Result Op Fault
 asked head history number now None = Err (BadLine number)
-asked head history number now (Some ask) = refused_line number (decide head history ask now)
+asked head history number now (Some ask) = refused_line number (decide head.name head.created history ask now)
 
 -- the operation of the line behind so many lines, each of which took one moment of the clock
-unfoldable pub line_operation : Head → (ℕ → ℕ) → List Op → ℕ → List ℕ → Result Op Fault
+unfoldable pub line_operation : HeadValue → (ℕ → ℕ) → List Op → ℕ → List ℕ → Result Op Fault
 line_operation head moments history before line = asked head history (before + 1) (moments before) (line_ask line)
 
 infixl 10 ◌>>=◌
@@ -54,14 +62,14 @@ abbrev pub ◌>>=◌ : {A B : Type 0} → Result A Fault → (A → Result B Fau
 (Err e) >>= f = Err e
 
 -- the history that the lines make, or the first fault
-abbrev pub after_lines : Head → (ℕ → ℕ) → List Op → ℕ → List (List ℕ) → Result (List Op) Fault
+abbrev pub after_lines : HeadValue → (ℕ → ℕ) → List Op → ℕ → List (List ℕ) → Result (List Op) Fault
 after_lines head moments history before [] = Ok history
 after_lines head moments history before (line ∷ later) =
     line_operation head moments history before line
     >>= λ operation. after_lines head moments (history ++ operation ∷ []) (before + 1) later
 
 -- the history that an input makes. Past the limit the lines that lie wholly within it come first
-unfoldable pub applied : Head → (ℕ → ℕ) → List ℕ → Result (List Op) Fault
+unfoldable pub applied : HeadValue → (ℕ → ℕ) → List ℕ → Result (List Op) Fault
 applied head moments input =
     if nat_le (length input) input_limit
     then after_lines head moments [] 0 (lines_of input)
@@ -76,12 +84,21 @@ abbrev pub numbered : ℕ → List ℕ → ℕ → List ℕ → Answer
 numbered status front number back =
     record { status = status; printed = front ++ decimal number ++ back }
 
+-- the line of a refusal that names a member
+abbrev pub of_member : ℕ → List ℕ → ℕ → Answer
+of_member number why member = record {
+  status = 12;
+  printed = codes "line " ++ decimal number ++ why ++ decimal member ++ codes "\n";
+}
+
 -- the status of a fault, and its line
 abbrev pub fault_answer : Fault → Answer
 fault_answer NoMemory = record { status = 5; printed = codes "no memory\n" }
 fault_answer Input = record { status = 9; printed = codes "input fault\n" }
 fault_answer TooLong = record { status = 10; printed = codes "input too long\n" }
 fault_answer (BadLine number) = numbered 10 (codes "bad line ") number (codes "\n")
+fault_answer (NotFound number member) = of_member number (codes " not found ") member
+fault_answer (Deleted number member) = of_member number (codes " deleted ") member
 fault_answer (Clock number) = numbered 12 (codes "line ") number (codes " clock\n")
 fault_answer (Large number) = numbered 12 (codes "line ") number (codes " too large\n")
 
@@ -91,6 +108,8 @@ IsRefusal NoMemory = ⊥
 IsRefusal Input = ⊥
 IsRefusal TooLong = Unit {0}
 IsRefusal (BadLine number) = Unit {0}
+IsRefusal (NotFound number member) = Unit {0}
+IsRefusal (Deleted number member) = Unit {0}
 IsRefusal (Clock number) = Unit {0}
 IsRefusal (Large number) = Unit {0}
 
@@ -100,6 +119,8 @@ IsLineFault NoMemory = Unit {0}
 IsLineFault Input = ⊥
 IsLineFault TooLong = ⊥
 IsLineFault (BadLine number) = Unit {0}
+IsLineFault (NotFound number member) = Unit {0}
+IsLineFault (Deleted number member) = Unit {0}
 IsLineFault (Clock number) = Unit {0}
 IsLineFault (Large number) = Unit {0}
 
@@ -110,11 +131,11 @@ lines_fault lines.Input = Input
 lines_fault lines.NoMemory = NoMemory
 
 -- the text of the subscription document, or the fault's line
-abbrev pub answer_of : Head → Result (List Op) Fault → Answer
+abbrev pub answer_of : HeadValue → Result (List Op) Fault → Answer
 answer_of head (Ok history) = record { status = 0; printed = text (subscription head history) }
 answer_of head (Err fault) = fault_answer fault
 
-unfoldable pub answer : Head → (ℕ → ℕ) → List ℕ → Answer
+unfoldable pub answer : HeadValue → (ℕ → ℕ) → List ℕ → Answer
 answer head moments input = answer_of head (applied head moments input)
 
 -- the line of words that are no command's
@@ -122,7 +143,7 @@ abbrev pub usage_line : List ℕ
 usage_line = codes "usage: feed_tool init, apply, show, serve, mirror, audit, drill\n"
 
 -- of the bytes read before a failure, no line is refused, and they are within the limit
-pub record IsUnrefused (head : Head) (moments : ℕ → ℕ) (before after : SourceState) : Type 0 where
+pub record IsUnrefused (head : HeadValue) (moments : ℕ → ℕ) (before after : SourceState) : Type 0 where
   pub read : List ℕ
   pub from : before.left ≡ read ++ after.left
   pub within : length read ≤ input_limit
@@ -162,3 +183,13 @@ printed_at status (Some window) moments input = printed_of status (answer (test_
 abbrev pub IsComplete : SourceState → SourceState → SinkState → SinkState → ℕ → Type 0
 IsComplete input rest output after status =
     ¬ Rose input.faults rest.faults → ¬ Rose output.faults after.faults → (status ≡ 0) ⊎ (status ≡ 5)
+
+-- the ways to end whose line says nothing of the input
+abbrev pub IsAlone : ℕ → Type 0
+IsAlone status = (status ≡ 2) ⊎ (status ≡ 5) ⊎ (status ≡ 9)
+
+-- and these lines
+abbrev pub alone_line : ℕ → List ℕ
+alone_line status =
+    if status == 2 then usage_line
+    else (if status == 5 then (fault_answer NoMemory).printed else (fault_answer Input).printed)

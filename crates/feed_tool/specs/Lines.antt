@@ -1,11 +1,13 @@
 -- The lines of an input, and what a line asks for.
-use Rattle.std.specs.Prelude.{◌≡◌, ◌≢◌, ◌⊎◌, ℕ, ◌+◌, ◌-◌, ◌<◌, ◌≤◌, List, [], ◌∷◌, ◌++◌, Bool, ◌==◌, ◌&&◌, if◌then◌else◌, nat_le, length, take, drop, codes, Option, Some, None, nat_eq, IsTrue, All}
+use Rattle.std.specs.Prelude.{◌≡◌, ◌≢◌, ◌⊎◌, ℕ, ◌+◌, ◌-◌, ◌<◌, ◌≤◌, ◌^◌, List, [], ◌∷◌, ◌++◌, Bool, ◌==◌, ◌&&◌, if◌then◌else◌, nat_le, nat_lt, length, take, drop, codes, decimal, Option, Some, None, option_map, option_and_then, nat_eq, IsTrue, All}
 use Rattle.std.specs.List.{starts_with}
+use Rattle.std.specs.Str.{bytes_eq}
+use Rattle.std.specs.Str.Parse.{digits_value}
 use Rattle.atom_values.specs.declared.text.TextKind.TheVariants.{Plain}
 use Rattle.atom_values.specs.Entry.{DraftValue}
 use Rattle.atom_values.specs.XmlText.{is_xml_text}
-use Rattle.feed_tool.specs.declared.history.Ask.{Ask}
-use Rattle.feed_tool.specs.declared.history.Ask.TheVariants.{Create}
+use Rattle.member_rules.specs.declared.ask.Ask.{Ask}
+use Rattle.member_rules.specs.declared.ask.Ask.TheVariants.{Create, Replace, Delete}
 use Rattle.feed_tool.specs.Outside.{SourceState}
 
 -- a byte in front of the first line
@@ -48,17 +50,40 @@ title_draft title = record {
   content = None;
 }
 
--- what the line asks for: `add `, and a title of at most 1,024 bytes of XML characters. Any other line is a bad one
+-- the draft of a title, which has at most 1,024 bytes of XML characters
+unfoldable pub draft_of : List ℕ → Option DraftValue
+draft_of title = if nat_le (length title) title_limit && is_xml_text title then Some (title_draft title) else None
+
+-- a member's number: decimal, from 1 to 4294967295, without leading zeros
+unfoldable pub member_number : List ℕ → Option ℕ
+member_number digits =
+    let number = digits_value 10 digits in
+    if bytes_eq digits (decimal number) && nat_le 1 number && nat_lt number (2 ^ 32) then Some number else None
+
+-- what stands before the first space, and what behind it
+abbrev pub parted : List ℕ → Option (List ℕ × List ℕ)
+parted [] = None
+parted (b ∷ words) = if b == 32 then Some ([], words) else option_map (λ parts. (b ∷ parts.0, parts.1)) (parted words)
+
+-- the change that a member's number and a title ask for
+abbrev pub change_by : List ℕ × List ℕ → Option Ask
+change_by parts =
+    option_and_then (λ number. option_map (Replace number) (draft_of parts.1)) (member_number parts.0)
+
+-- a number and a title, with one space between
+unfoldable pub change_of : List ℕ → Option Ask
+change_of words = option_and_then change_by (parted words)
+
+-- what the line asks for: `add TITLE`, `change N TITLE` or `remove N`. Any other line is a bad one
 unfoldable pub line_ask : List ℕ → Option Ask
 line_ask line =
-    let title = drop 4 line in
-    if starts_with nat_eq line (codes "add ") && nat_le (length title) title_limit && is_xml_text title
-    then Some (Create (title_draft title))
-    else None
+    if starts_with nat_eq line (codes "add ") then option_map Create (draft_of (drop 4 line))
+    else (if starts_with nat_eq line (codes "change ") then change_of (drop 7 line)
+    else (if starts_with nat_eq line (codes "remove ") then option_map Delete (member_number (drop 7 line)) else None))
 
 -- how many bytes of a line are kept: one more than the longest good line has
 abbrev pub kept : ℕ
-kept = title_limit + 5
+kept = title_limit + 19
 
 -- a reader of lines: the bytes that were read and not used, the front of the line that was found, how many more bytes may
 -- be read, and whether the input's end was met
@@ -79,8 +104,11 @@ allowance lines = length lines.ahead + lines.allowed
 abbrev pub KnowsEnd : LinesState → SourceState → Type 0
 KnowsEnd lines input = IsTrue lines.ended → input.left ≡ []
 
+abbrev pub HasNo : ℕ → List ℕ → Type 0
+HasNo byte bytes = All (λ b. b ≢ byte) bytes
+
 abbrev pub HasNoLf : List ℕ → Type 0
-HasNoLf bytes = All (λ b. b ≢ 10) bytes
+HasNoLf bytes = HasNo 10 bytes
 
 -- a line was found that ends with LF
 pub record FindsEnded (before : LinesState) (input : SourceState) (after : LinesState) (rest : SourceState) (line : List ℕ) : Type 0 where
@@ -113,11 +141,11 @@ pub record StopsAmid (before : LinesState) (input : SourceState) (rest : SourceS
   pub no_lf : HasNoLf (before.ahead ++ read)
   pub within : length (before.ahead ++ read) ≤ allowance before
 
--- the first LF is there
-pub record IsFirstLf (bytes : List ℕ) (at : ℕ) : Type 0 where
+-- the first such byte is there
+pub record IsFirst (byte : ℕ) (bytes : List ℕ) (at : ℕ) : Type 0 where
   pub within : at < length bytes
-  pub no_lf : HasNoLf (take at bytes)
-  pub split : bytes ≡ take at bytes ++ 10 ∷ drop (at + 1) bytes
+  pub none_before : HasNo byte (take at bytes)
+  pub split : bytes ≡ take at bytes ++ byte ∷ drop (at + 1) bytes
 
 -- what is kept of a line that goes on by these bytes
 abbrev pub with_kept : List ℕ → List ℕ → List ℕ

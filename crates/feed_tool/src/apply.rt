@@ -1,16 +1,19 @@
-ghost use Rattle.std.specs.Prelude.{◌≡◌, ◌≤◌, ◌<◌, ◌^◌, ℕ, ◌+◌, ◌-◌, length, Ok, Err, IfOk, IfErr, OnOk};
+ghost use Rattle.std.specs.Prelude.{◌≡◌, ℕ, ◌≤◌, ◌<◌, ◌+◌, ◌∷◌, [], ◌++◌, List, length, Ok, Err, IfOk, IfErr, OnOk};
 ghost use Rattle.atom_values.specs.Counts.{Rose};
-ghost use Rattle.feed_tool.specs.History.{AreNumbered, number_of};
+ghost use Rattle.member_rules.specs.declared.operation.Op.{Op};
+ghost use Rattle.member_rules.specs.History.{IsLawful, MayFollow, history_limit};
+ghost use Rattle.member_rules.specs.Table.{IsTableOf};
 ghost use Rattle.feed_tool.specs.Lines.{line_ask};
-ghost use Rattle.feed_tool.specs.Apply.{applied, asked, IsLineFault, answer, fault_answer, test_head, IsRefusal, IsUnrefused};
+ghost use Rattle.feed_tool.specs.Apply.{applied, asked, rule_fault, IsLineFault, answer, fault_answer, test_head, IsRefusal, IsUnrefused};
 
-use crate::history::{Head, Op, Refusal, decide, subscription};
 use crate::lines::{Lines, LinesFault, line_ask};
 use crate::outside::{Clock, Source};
+use archive_sealer::subscription;
 use atom_values::{AtomText, NoMemory, Stamp};
 use atom_writer::{FeedName, write_doc};
 use chain_links::Base;
 use deleted_entries::FeedId;
+use member_rules::{Head, Members, Op, RuleFault, decide};
 use std::alloc::{AllocFailed, Global};
 
 /// Why a command ends before its defined end.
@@ -24,6 +27,10 @@ pub enum Fault {
     TooLong,
     /// The line of this number, from 1, is none of the command's.
     BadLine(u64),
+    /// The line of the first number names the member of the second, which was never made.
+    NotFound(u64, u32),
+    /// The line of the first number names the member of the second, which was deleted.
+    Deleted(u64, u32),
     /// The moment of this line is past the greatest stamp.
     Clock(u64),
     /// The entry of this line is too large.
@@ -68,7 +75,8 @@ impl From<LinesFault> for Fault {
 }
 
 /// The head that `apply W` uses.
-fn test_head(alloc: Global, window: u32) -> Result<Head, NoMemory>
+pub fn test_head(alloc: Global, window: u32) -> Result<Head, NoMemory>
+    requires { (1 ≤ window) × (window ≤ 100) }
     ensures { IfOk result (λ head. head ≡ test_head window) }
 {
     let Ok(base) = Base::parse(alloc, b"http://feed.example/") else {
@@ -93,59 +101,83 @@ fn test_head(alloc: Global, window: u32) -> Result<Head, NoMemory>
     Ok(Head {
         name,
         window,
+        capacity: CAPACITY,
         created,
     })
 }
 
+/// How many bytes an area of a store of the head that `apply W` uses may have.
+const CAPACITY: u64 = 1_073_741_824;
+
 /// The history that the lines of the input make, from the empty one, each with one moment of the clock.
-fn history_of<C: Clock, I: Source>(
+pub fn history_of<C: Clock, I: Source>(
     alloc: Global,
     head: &Head,
     clock: &mut C,
     input: &mut I,
 ) -> Result<Vec<Op>, Fault>
     ensures history { IfOk result (λ history. I.told → C.told → applied head.now (C.coming clock.old) (I.state input.old).left ≡ Ok history.items) }
-    ensures numbered { IfOk result (λ history. AreNumbered 0 history.items) }
-    ensures few { IfOk result (λ history. length history.items < 2 ^ 32) }
+    ensures lawful { IfOk result (λ history. IsLawful head.now history.items) }
     ensures refused { IfErr result (λ fault. IsRefusal fault → I.told → C.told → applied head.now (C.coming clock.old) (I.state input.old).left ≡ Err fault) }
     ensures input { result ≡ Err Fault.Input → Rose (I.state input.old).faults (I.state input.new).faults }
     ensures unrefused { result ≡ Err Fault.Input → I.told → C.told → IsUnrefused head.now (C.coming clock.old) (I.state input.old) (I.state input.new) }
     ensures faults { (I.state input.old).faults ≤ (I.state input.new).faults }
 {
     let mut lines = Lines::new(alloc)?;
+    let mut members = Members::new(alloc, head.created);
     let mut history = Vec::new(alloc);
     while lines.next(input)? {
-        let operation = operation_of(alloc, head, history.as_slice(), clock, lines.line())?;
+        let number = history.len() as u64 + 1;
+        let operation = operation_of(alloc, head, &members, number, clock, lines.line())?;
+        members.prepare()?;
+        members.commit(&operation);
         history.push(operation)?;
     }
     Ok(history)
 }
 
-/// The operation of the next line, with the next moment of the clock. Of a long line it is given the front that is kept.
+/// The operation of the line of this number, with the next moment of the clock, after the operations that the table is
+/// of. Of a long line it is given the front that is kept.
 fn operation_of<C: Clock>(
     alloc: Global,
     head: &Head,
-    history: &[Op],
+    members: &Members,
+    number: u64,
     clock: &mut C,
     line: &[u8],
 ) -> Result<Op, Fault>
-    requires { length history.now < 2 ^ 32 - 1 }
-    ensures operation { IfOk result (λ operation. C.told
-        → asked head.now history.now (length history.now + 1) (C.coming clock.old 0) (line_ask line.now) ≡ Ok operation) }
-    ensures refused { IfErr result (λ fault. IsRefusal fault → C.told
-        → asked head.now history.now (length history.now + 1) (C.coming clock.old 0) (line_ask line.now) ≡ Err fault) }
+    requires { members.now.operations < history_limit }
+    ensures operation { IfOk result (λ operation. C.told → (history : List Op) → IsTableOf members.now head.now.created history
+        → asked head.now history number (C.coming clock.old 0) (line_ask line.now) ≡ Ok operation) }
+    ensures refused { IfErr result (λ fault. IsRefusal fault → C.told → (history : List Op) → IsTableOf members.now head.now.created history
+        → asked head.now history number (C.coming clock.old 0) (line_ask line.now) ≡ Err fault) }
     ensures own { IfErr result IsLineFault }
-    ensures numbered { IfOk result (λ operation. number_of operation ≡ length history.now + 1) }
+    ensures follows { IfOk result (λ operation. (history : List Op) → IsTableOf members.now head.now.created history
+        → MayFollow head.now.created history operation) }
+    ensures lawful { IfOk result (λ operation. (history : List Op) → IsTableOf members.now head.now.created history
+        → IsLawful head.now history → IsLawful head.now (history ++ operation ∷ [])) }
     ensures moment { OnOk result (C.told → (k : ℕ) → C.coming clock.new k ≡ C.coming clock.old (k + 1)) }
 {
-    let number = history.len() as u64 + 1;
     let Some(ask) = line_ask(alloc, line)? else {
         return Err(Fault::BadLine(number));
     };
-    match decide(head, history, ask, clock.now()) {
+    match decide(members, &head.name, ask, clock.now()) {
         Ok(operation) => Ok(operation),
-        Err(Refusal::ClockSpent { .. }) => Err(Fault::Clock(number)),
-        Err(Refusal::TooLarge { .. }) => Err(Fault::Large(number)),
+        Err(fault) => Err(line_fault(number, fault)),
+    }
+}
+
+/// The fault of a line that is refused. No line gives a draft with an identifier.
+fn line_fault(number: u64, fault: RuleFault) -> Fault
+    ensures { result ≡ rule_fault number fault }
+{
+    match fault {
+        RuleFault::NotFound { number: member } => Fault::NotFound(number, member),
+        RuleFault::Deleted { number: member, .. } => Fault::Deleted(number, member),
+        RuleFault::OtherId { .. } => Fault::BadLine(number),
+        RuleFault::ClockSpent { .. } => Fault::Clock(number),
+        RuleFault::TooLarge { .. } => Fault::Large(number),
+        RuleFault::NoMemory => Fault::NoMemory,
     }
 }
 
@@ -165,6 +197,6 @@ pub fn apply<C: Clock, I: Source>(
 {
     let head = test_head(alloc, window)?;
     let history = history_of(alloc, &head, clock, input)?;
-    let doc = subscription(alloc, head, history)?;
+    let doc = subscription(alloc, &head, history.as_slice())?;
     Ok(write_doc(alloc, &doc)?)
 }

@@ -1,11 +1,15 @@
-ghost use Rattle.std.specs.Prelude.{◌≡◌, ◌+◌, ◌<◌, ◌≤◌, ◌++◌, [], length, take, min, false, true, OnOk, OnErr, IfOk, MatchOption};
+ghost use Rattle.std.specs.Prelude.{◌≡◌, ◌+◌, ◌<◌, ◌≤◌, ◌++◌, [], length, take, drop, min, false, true, OnOk, OnErr, IfOk, IfSome, MatchOption, None, Some, option_map, ◌==◌, ℕ};
 ghost use Rattle.atom_values.specs.Counts.{HasCause, Rose};
+ghost use Rattle.atom_values.specs.Entry.{IsDraft};
+ghost use Rattle.member_rules.specs.Decide.{IsAsk};
+ghost use Rattle.member_rules.specs.declared.ask.Ask.TheVariants.{Delete};
 ghost use Rattle.feed_tool.specs.Lines as lines;
-ghost use Rattle.feed_tool.specs.Lines.{KnowsEnd, FindsLine, HasNoLf, IsTooLong, StopsAmid, IsFirstLf, TakesEnd, TakesAll, ReadsMore, IsSpent, allowance, stream, with_kept};
+ghost use Rattle.feed_tool.specs.Lines.{KnowsEnd, FindsLine, HasNo, HasNoLf, IsTooLong, StopsAmid, IsFirst, TakesEnd, TakesAll, ReadsMore, IsSpent, allowance, stream, with_kept};
 
-use crate::history::Ask;
 use crate::outside::Source;
 use atom_values::{AtomText, Draft, Failed, Many, NoMemory, Text, TextFault, TextKind};
+use chain_links::whole_number;
+use member_rules::Ask;
 use std::alloc::{AllocError, Global};
 use std::marker::Model;
 
@@ -19,7 +23,7 @@ const PIECE: usize = 65_536;
 const TITLE_LIMIT: usize = 1_024;
 
 /// How many bytes of a line are kept: one more than the longest good line has.
-const KEPT: usize = TITLE_LIMIT + 5;
+const KEPT: usize = TITLE_LIMIT + 19;
 
 /// Why there is no next line.
 #[derive(Clone, Copy, Debug, PartialEq, Eq)]
@@ -217,7 +221,7 @@ fn probe<I: Source>(input: &mut I) -> Result<(), LinesFault>
 
 /// Where the first LF is, if there is one.
 fn first_lf(bytes: &[u8]) -> Option<usize>
-    ensures { MatchOption result (HasNoLf bytes.now) (λ at. IsFirstLf bytes.now at) }
+    ensures { MatchOption result (HasNoLf bytes.now) (λ at. IsFirst 10 bytes.now at) }
 {
     bytes.iter().position(|b| *b == b'\n')
 }
@@ -253,24 +257,83 @@ fn title_draft(alloc: Global, title: AtomText) -> Draft
     }
 }
 
-/// What the line asks for: `add `, and a title of at most `TITLE_LIMIT` bytes of XML characters. Any other line is a
-/// bad one, which is `None`.
-pub fn line_ask(alloc: Global, line: &[u8]) -> Result<Option<Ask>, NoMemory>
-    ensures { IfOk result (λ ask. ask ≡ lines.line_ask line.now) }
+/// The draft with this plain title alone; `None` where it has more than `TITLE_LIMIT` bytes or they are no XML characters.
+fn draft_of(alloc: Global, title: &[u8]) -> Result<Option<Draft>, NoMemory>
+    ensures draft { IfOk result (λ draft. draft ≡ lines.draft_of title.now) }
+    ensures rules { IfOk result (λ draft. IfSome draft IsDraft) }
 {
-    let Some(title) = line.strip_prefix(b"add ") else {
-        return Ok(None);
-    };
     if title.len() > TITLE_LIMIT {
         return Ok(None);
     }
     match AtomText::of(alloc, title) {
-        Ok(title) => Ok(Some(Ask::Create(title_draft(alloc, title)))),
+        Ok(title) => Ok(Some(title_draft(alloc, title))),
         Err(fault) => match fault {
             TextFault::TooLong { .. } | TextFault::NotXmlChar { .. } => Ok(None),
             TextFault::NoMemory => Err(NoMemory),
         },
     }
+}
+
+/// Where the first space is, if there is one.
+fn first_space(bytes: &[u8]) -> Option<usize>
+    ensures { MatchOption result (HasNo 32 bytes.now) (λ at. IsFirst 32 bytes.now at) }
+{
+    bytes.iter().position(|b| *b == b' ')
+}
+
+/// What stands before the first space, and what behind it.
+fn parted(words: &[u8]) -> Option<(&[u8], &[u8])>
+    ensures { MatchOption result (lines.parted words.now ≡ None) (λ parts. lines.parted words.now ≡ Some (parts.0.now, parts.1.now)) }
+{
+    let at = first_space(words)?;
+    Some((&words[..at], &words[at + 1..]))
+}
+
+/// The change that these words ask for: a member's number and a title, with one space between.
+fn change_of(alloc: Global, words: &[u8]) -> Result<Option<Ask>, NoMemory>
+    ensures ask { IfOk result (λ ask. ask ≡ lines.change_of words.now) }
+    ensures rules { IfOk result (λ ask. IfSome ask IsAsk) }
+{
+    let Some((digits, title)) = parted(words) else {
+        return Ok(None);
+    };
+    let Some(number) = whole_number(digits) else {
+        return Ok(None);
+    };
+    match draft_of(alloc, title)? {
+        Some(draft) => Ok(Some(Ask::Replace { number, draft })),
+        None => Ok(None),
+    }
+}
+
+/// What the line asks for: `add TITLE`, `change N TITLE` or `remove N`, with N from 1 to 4294967295 and a title of at most
+/// `TITLE_LIMIT` bytes of XML characters. Any other line is a bad one, which is `None`.
+pub fn line_ask(alloc: Global, line: &[u8]) -> Result<Option<Ask>, NoMemory>
+    ensures ask { IfOk result (λ ask. ask ≡ lines.line_ask line.now) }
+    ensures rules { IfOk result (λ ask. IfSome ask IsAsk) }
+{
+    if let Some(title) = line.strip_prefix(b"add ") {
+        return match draft_of(alloc, title)? {
+            Some(draft) => Ok(Some(Ask::Create(draft))),
+            None => Ok(None),
+        };
+    }
+    if let Some(words) = line.strip_prefix(b"change ") {
+        return change_of(alloc, words);
+    }
+    match line.strip_prefix(b"remove ") {
+        Some(digits) => Ok(removal_of(digits)),
+        None => Ok(None),
+    }
+}
+
+/// The removal that these digits, a member's number, ask for.
+fn removal_of(digits: &[u8]) -> Option<Ask>
+    ensures ask { result ≡ option_map Delete (lines.member_number digits.now) }
+    ensures rules { IfSome result IsAsk }
+{
+    let number = whole_number(digits)?;
+    Some(Ask::Delete { number })
 }
 
 #[cfg(test)]

@@ -4,7 +4,8 @@
 #![tactic(auto)]
 
 mod apply;
-mod history;
+#[cfg(test)]
+mod chain_tests;
 mod lines;
 mod memory;
 mod outside;

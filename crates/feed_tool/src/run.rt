@@ -1,7 +1,7 @@
 ghost use Rattle.std.specs.Prelude.{◌≡◌, ◌↔◌, ◌≤◌, ◌++◌, None, map, decimal, string_bytes, IfSome, OnOk};
 ghost use Rattle.atom_values.specs.Counts.{Rose, HasCause};
 ghost use Rattle.feed_tool.specs.Words.{window_of};
-ghost use Rattle.feed_tool.specs.Apply.{answer, fault_answer, test_head, usage_line, printed_at, IsStatus, IsDetermined, IsUnrefused, Prints, TakesFront, IsComplete};
+ghost use Rattle.feed_tool.specs.Apply.{answer, fault_answer, test_head, usage_line, printed_at, IsStatus, IsDetermined, IsUnrefused, IsAlone, alone_line, of_member, Prints, TakesFront, IsComplete};
 
 use crate::apply::{Fault, apply};
 use crate::outside::{Clock, Sink, Source};
@@ -49,6 +49,9 @@ pub fn run<C: Clock, I: Source, O: Sink>(
     ensures printed { I.told → C.told → O.told → Prints (O.state output.old) (O.state output.new)
         (printed_at result.status (window_of (map string_bytes words.now)) (C.coming clock.old) (I.state input.old).left) }
 
+    // The lines that say nothing of the input need not be told it.
+    ensures alone { O.told → IsAlone result.status → Prints (O.state output.old) (O.state output.new) (alone_line result.status) }
+
     // A failure comes only where the object's count rose, and no line before it is refused.
     ensures input_fault { result.status ≡ 9 → Rose (I.state input.old).faults (I.state input.new).faults }
     ensures output_fault { result.status ≡ 8 → Rose (O.state output.old).faults (O.state output.new).faults }
@@ -92,7 +95,7 @@ fn status_of(fault: Fault) -> u8
         Fault::NoMemory => 5,
         Fault::Input => 9,
         Fault::TooLong | Fault::BadLine(_) => 10,
-        Fault::Clock(_) | Fault::Large(_) => 12,
+        Fault::NotFound(..) | Fault::Deleted(..) | Fault::Clock(_) | Fault::Large(_) => 12,
     }
 }
 
@@ -107,9 +110,32 @@ fn write_fault<O: Sink>(output: &mut O, fault: Fault) -> Result<(), Failed>
         Fault::Input => write_all(output, b"input fault\n"),
         Fault::TooLong => write_all(output, b"input too long\n"),
         Fault::BadLine(number) => write_numbered(output, b"bad line ", number, b"\n"),
+        Fault::NotFound(number, member) => write_member_fault(
+            output,
+            number,
+            b" not found ",
+            member,
+        ),
+        Fault::Deleted(number, member) => write_member_fault(output, number, b" deleted ", member),
         Fault::Clock(number) => write_numbered(output, b"line ", number, b" clock\n"),
         Fault::Large(number) => write_numbered(output, b"line ", number, b" too large\n"),
     }
+}
+
+/// Writes the line of a refusal that names a member.
+fn write_member_fault<O: Sink>(
+    output: &mut O,
+    number: u64,
+    why: &[u8],
+    member: u32,
+) -> Result<(), Failed>
+    ensures front { O.told → TakesFront (O.state output.old) (O.state output.new) (of_member number why.now member).printed }
+    ensures whole { OnOk result (O.told → (O.state output.new).taken ≡ (O.state output.old).taken ++ (of_member number why.now member).printed) }
+    ensures counts { HasCause (O.state output.old).faults (O.state output.new).faults result }
+{
+    write_numbered(output, b"line ", number, why)?;
+    write_numbered(output, b"", u64::from(member), b"\n")?;
+    Ok(())
 }
 
 /// Writes a number between two texts.

@@ -2,6 +2,7 @@ use crate::memory::{ListSink, ListSource, SetClock};
 use crate::run::run;
 use atom_values::{Bytes, Many};
 use std::alloc::Global;
+use std::process::Abort;
 use std::test::Fail;
 
 /// The moment that most tests stand at: 2023-11-14T22:13:20Z.
@@ -277,6 +278,226 @@ fn shows_the_lines_after_the_last_full_window(rt: HostRuntime) -> Result<(), Fai
         assert_eq!(rt; status, 0);
         assert!(rt; printed.as_slice().ends_with(back));
         assert!(rt; printed.windows(front.len()).any(|part| part == front));
+    }
+    Ok(())
+}
+
+/// The entry of a member with this title, made or changed at this moment.
+fn entry(
+    alloc: Global,
+    id: &[u8],
+    title: &[u8],
+    moment: &[u8],
+    number: &[u8],
+) -> Result<Vec<u8>, Fail> {
+    joined(
+        alloc,
+        &[
+            b"<entry><id>urn:uuid:6d1f0c5a-93be-8c27-8000-",
+            id,
+            b"</id><title>",
+            title,
+            b"</title><updated>",
+            moment,
+            b"</updated><app:edited>",
+            moment,
+            b"</app:edited><link rel=\"edit\" href=\"http://feed.example/member/",
+            number,
+            b"\"/><content></content></entry>\n",
+        ],
+    )
+}
+
+/// The tombstone of member 1.
+fn tombstone(alloc: Global, when: &[u8]) -> Result<Vec<u8>, Fail> {
+    joined(
+        alloc,
+        &[
+            b"<at:deleted-entry ref=\"urn:uuid:6d1f0c5a-93be-8c27-8000-000000000001\" when=\"",
+            when,
+            b"\"/>\n",
+        ],
+    )
+}
+
+/// The document of four lines of `apply 10`, by its span line's `last`, its moment and its items.
+fn expect_items(
+    rt: &impl Abort,
+    alloc: Global,
+    input: &[u8],
+    last: &[u8],
+    moment: &[u8],
+    items: &[u8],
+) -> Result<(), Fail> {
+    let (status, printed) = ran_with(alloc, &["apply", "10"], (NOW, NOW), input, (0, 0))?;
+    assert_eq!(rt; status, 0);
+    let span = joined(alloc, &[b"<sp:span first=\"1\" last=\"", last, b"\"/>\n"])?;
+    let want = document(alloc, moment, span.as_slice(), items)?;
+    assert_eq!(rt; printed.as_slice(), want.as_slice());
+    Ok(())
+}
+
+#[test]
+fn shows_what_stands_of_a_removed_member(rt: HostRuntime) -> Result<(), Fail> {
+    let alloc = rt.alloc();
+    let input = b"add a\nchange 1 b\nchange 1 c\nremove 1\n";
+    let when = b"2023-11-14T22:13:20.003Z";
+    let items = tombstone(alloc, when)?;
+    expect_items(&rt, alloc, input, b"4", when, items.as_slice())
+}
+
+#[test]
+fn shows_the_last_change_of_each_member(rt: HostRuntime) -> Result<(), Fail> {
+    let alloc = rt.alloc();
+    let input = b"add a\nadd b\nchange 1 c d\n";
+    let first = entry(
+        alloc,
+        b"000000000001",
+        b"c d",
+        b"2023-11-14T22:13:20.002Z",
+        b"1",
+    )?;
+    let second = entry(
+        alloc,
+        b"000000000002",
+        b"b",
+        b"2023-11-14T22:13:20.001Z",
+        b"2",
+    )?;
+    let items = joined(alloc, &[first.as_slice(), second.as_slice()])?;
+    expect_items(
+        &rt,
+        alloc,
+        input,
+        b"3",
+        b"2023-11-14T22:13:20.002Z",
+        items.as_slice(),
+    )
+}
+
+#[test]
+fn tombstones_stand_among_entries(rt: HostRuntime) -> Result<(), Fail> {
+    let alloc = rt.alloc();
+    let input = b"add a\nadd b\nremove 1\nchange 2 ";
+    let second = entry(
+        alloc,
+        b"000000000002",
+        b"",
+        b"2023-11-14T22:13:20.003Z",
+        b"2",
+    )?;
+    let first = tombstone(alloc, b"2023-11-14T22:13:20.002Z")?;
+    let items = joined(alloc, &[second.as_slice(), first.as_slice()])?;
+    expect_items(
+        &rt,
+        alloc,
+        input,
+        b"4",
+        b"2023-11-14T22:13:20.003Z",
+        items.as_slice(),
+    )
+}
+
+#[test]
+fn refuses_members_that_are_not_live(rt: HostRuntime) -> Result<(), Fail> {
+    let cases: [(&[u8], &[u8]); 9] = [
+        (b"remove 1\n", b"line 1 not found 1\n"),
+        (b"change 1 x", b"line 1 not found 1\n"),
+        (b"add a\nchange 2 x\n", b"line 2 not found 2\n"),
+        (
+            b"add a\nremove 4294967295\n",
+            b"line 2 not found 4294967295\n",
+        ),
+        (b"add a\nremove 1\nremove 1\n", b"line 3 deleted 1\n"),
+        (b"add a\nremove 1\nchange 1 b\n", b"line 3 deleted 1\n"),
+        (
+            b"add a\nremove 1\nadd b\nremove 3\n",
+            b"line 4 not found 3\n",
+        ),
+        (b"add a\nremove 1\nremove 1\nadd\n", b"line 3 deleted 1\n"),
+        (
+            b"add a\nchange 1 b\nchange 1 c\nremove 1\nremove 1\n",
+            b"line 5 deleted 1\n",
+        ),
+    ];
+    for (input, want) in cases {
+        let (status, printed) = ran(rt.alloc(), input)?;
+        assert_eq!(rt; status, 12);
+        assert_eq!(rt; printed.as_slice(), want);
+    }
+    Ok(())
+}
+
+#[test]
+fn refuses_lines_of_another_form(rt: HostRuntime) -> Result<(), Fail> {
+    let cases: [&[u8]; 14] = [
+        b"change 1",
+        b"change  1 x",
+        b"change 0 x",
+        b"change 01 x",
+        b"change +1 x",
+        b"change 4294967296 x",
+        b"change x 1",
+        b"change 1 \x0B",
+        b"remove",
+        b"remove ",
+        b"remove 1 ",
+        b"remove 0",
+        b"remove 01",
+        b"Remove 1",
+    ];
+    for line in cases {
+        let input = joined(rt.alloc(), &[b"add a\n", line, b"\n"])?;
+        let (status, printed) = ran(rt.alloc(), input.as_slice())?;
+        assert_eq!(rt; status, 10, "{line:?}");
+        assert_eq!(rt; printed.as_slice(), b"bad line 2\n".as_slice(), "{line:?}");
+    }
+    Ok(())
+}
+
+#[test]
+fn takes_the_longest_line(rt: HostRuntime) -> Result<(), Fail> {
+    let mut input = Vec::from_slice(rt.alloc(), b"change 4294967295 ")?;
+    input.extend_from_slice(vec![in rt.alloc(); b'a'; 1_024]?.as_slice())?;
+    let (status, printed) = ran(rt.alloc(), input.as_slice())?;
+    assert_eq!(rt; status, 12);
+    assert_eq!(rt;
+        printed.as_slice(),
+        b"line 1 not found 4294967295\n".as_slice()
+    );
+    input.push(b'a')?;
+    let (status, _) = ran(rt.alloc(), input.as_slice())?;
+    assert_eq!(rt; status, 10);
+    Ok(())
+}
+
+#[test]
+fn cuts_at_each_size_of_windows(rt: HostRuntime) -> Result<(), Fail> {
+    let cases: [(&[&str], usize, &[u8]); 3] = [
+        (
+            &["apply", "1"],
+            3,
+            b"archive/2\"/>\n<sp:span first=\"3\" last=\"3\"/>\n<entry><id>urn:uuid:6d1f0c5a-93be-8c27-8000-000000000003<",
+        ),
+        (
+            &["apply", "100"],
+            100,
+            b"/feed\"/>\n<sp:span first=\"1\" last=\"100\"/>\n<entry><id>urn:uuid:6d1f0c5a-93be-8c27-8000-000000000064<",
+        ),
+        (
+            &["apply", "100"],
+            101,
+            b"archive/1\"/>\n<sp:span first=\"101\" last=\"101\"/>\n<entry><id>urn:uuid:6d1f0c5a-93be-8c27-8000-000000000065<",
+        ),
+    ];
+    for (words, count, part) in cases {
+        let mut input = Vec::new(rt.alloc());
+        for _ in 0..count {
+            input.extend_from_slice(b"add a\n")?;
+        }
+        let (status, printed) = ran_with(rt.alloc(), words, (NOW, NOW), input.as_slice(), (0, 0))?;
+        assert_eq!(rt; status, 0);
+        assert!(rt; printed.windows(part.len()).any(|found| found == part));
     }
     Ok(())
 }

@@ -58,7 +58,7 @@ fn reads_lines_across_pieces(rt: HostRuntime) -> Result<(), Fail> {
     let kept = runs(
         alloc,
         &[
-            (b'a', 1_029),
+            (b'a', 1_043),
             (b'|', 1),
             (b'b', 20),
             (b'|', 1),
@@ -74,7 +74,7 @@ fn reads_lines_across_pieces(rt: HostRuntime) -> Result<(), Fail> {
         alloc,
         &[(b'a', 65_535), (b'\n', 2), (b'b', 140_000), (b'\n', 1)],
     )?;
-    let kept = runs(alloc, &[(b'a', 1_029), (b'|', 2), (b'b', 1_029), (b'|', 1)])?;
+    let kept = runs(alloc, &[(b'a', 1_043), (b'|', 2), (b'b', 1_043), (b'|', 1)])?;
     assert_eq!(rt; joined(alloc, ends.as_slice())?.as_slice(), kept.as_slice());
     Ok(())
 }
@@ -82,7 +82,7 @@ fn reads_lines_across_pieces(rt: HostRuntime) -> Result<(), Fail> {
 #[test]
 fn reads_a_line_cut_at_every_place(rt: HostRuntime) -> Result<(), Fail> {
     let alloc = rt.alloc();
-    let mut want = runs(alloc, &[(b'x', 1_029), (b'|', 1)])?;
+    let mut want = runs(alloc, &[(b'x', 1_043), (b'|', 1)])?;
     want.extend_from_slice(b"add Hello|add b|")?;
     for front in 0..11 {
         let mut input = runs(alloc, &[(b'x', 65_535 - front), (b'\n', 1)])?;
@@ -128,9 +128,54 @@ fn asks_for_titles(rt: HostRuntime) -> Result<(), Fail> {
         let ask = line_ask(rt.alloc(), line)?;
         let title = match &ask {
             Some(Ask::Create(draft)) => Some(draft.title.value.bytes()),
-            None => None,
+            _ => None,
         };
         assert_eq!(rt; title, want, "{line:?}");
+    }
+    Ok(())
+}
+
+#[test]
+fn asks_for_changes(rt: HostRuntime) -> Result<(), Fail> {
+    let cases: [(&[u8], Option<(u32, &[u8])>); 9] = [
+        (b"change 1 x", Some((1, b"x"))),
+        (b"change 4294967295 x y", Some((4_294_967_295, b"x y"))),
+        (b"change 10 ", Some((10, b""))),
+        (b"change 1  x", Some((1, b" x"))),
+        (b"change 1", None),
+        (b"change  1 x", None),
+        (b"change 0 x", None),
+        (b"change 01 x", None),
+        (b"change 4294967296 x", None),
+    ];
+    for (line, want) in cases {
+        let ask = line_ask(rt.alloc(), line)?;
+        let change = match &ask {
+            Some(Ask::Replace { number, draft }) => Some((*number, draft.title.value.bytes())),
+            _ => None,
+        };
+        assert_eq!(rt; change, want, "{line:?}");
+    }
+    Ok(())
+}
+
+#[test]
+fn asks_for_removals(rt: HostRuntime) -> Result<(), Fail> {
+    let cases: [(&[u8], Option<u32>); 6] = [
+        (b"remove 1", Some(1)),
+        (b"remove 4294967295", Some(4_294_967_295)),
+        (b"remove 4294967296", None),
+        (b"remove 01", None),
+        (b"remove 1 ", None),
+        (b"remove ", None),
+    ];
+    for (line, want) in cases {
+        let ask = line_ask(rt.alloc(), line)?;
+        let removal = match &ask {
+            Some(Ask::Delete { number }) => Some(*number),
+            _ => None,
+        };
+        assert_eq!(rt; removal, want, "{line:?}");
     }
     Ok(())
 }

@@ -1,6 +1,6 @@
 use Rattle.std.proofs.Common.{refl}
 use Rattle.std.proofs.lemmas.Result.{err_from_is_err_and}
-use Rattle.feed_tool.specs.Apply.{answer, test_head}
+use Rattle.feed_tool.specs.Apply.{answer}
 use Rattle.feed_tool.proofs.apply.apply.Goals as goal
 
 pub returns-in_err-history-clause-refused : goal.returns-in_err-history-clause-refused
@@ -9,11 +9,7 @@ returns-in_err-history-clause-refused g c =
     let p = err_from_is_err_and c.from_residual-in_err-history.result c.from_residual-in_err-history.ensures.1 in
     rw (p.1, p.2) (λ refusal source clock. rw (← c.in_ok-head.ensures, c.in_err-history.ensures.refused refusal source clock) refl)
 
-pub subscription-requires-clause-window : goal.subscription-requires-clause-window
-unfolding test_head
-subscription-requires-clause-window g c = rw c.in_ok-head.ensures c.requires
-
 pub returns-clause-answer : goal.returns-clause-answer
 unfolding answer
 returns-clause-answer g c = λ source clock.
-    rw (c.in_ok-write_doc.ensures, c.in_ok-doc.ensures, ← c.in_ok-head.ensures, c.in_ok-history.ensures.history source clock) refl
+    rw (c.in_ok-write_doc.ensures, c.in_ok-doc.ensures, c.as_slice.ensures.value, ← c.in_ok-head.ensures, c.in_ok-history.ensures.history source clock) refl

@@ -1,11 +1,13 @@
-use Rattle.std.proofs.Common.{◌≡◌, ◌+◌, ◌∷◌, [], length, Ok, Err, ap, ◌∙◌, arith, zero-add, length-append}
+use Rattle.std.proofs.Common.{◌≡◌, ℕ, ◌+◌, ◌∷◌, [], length, Ok, Err, refl, ap, ◌∙◌, arith, rules, vec_len, add-zero, zero-add, length-append, sym}
+use Rattle.std.proofs.lemmas.Bool.{false≢true}
 use Rattle.std.proofs.lemmas.Result.{err_from_is_err_and}
 use Rattle.feed_tool.specs.declared.apply.Fault.{Fault}
 use Rattle.feed_tool.specs.declared.apply.Fault.TheVariants.{Input}
+use Rattle.member_rules.specs.Table.{IsTableOf}
 use Rattle.feed_tool.specs.Apply.{applied, lines_fault}
 use Rattle.feed_tool.proofs.FaultLemmas.{refusal-of_lines, input-of_lines}
-use Rattle.feed_tool.proofs.HistoryLemmas.{AreNumbered-push}
-use Rattle.feed_tool.proofs.Progress.{Progress-end, Progress-step, Progress-refused, Progress-long, Progress-amid, line_operation-is}
+use Rattle.feed_tool.proofs.Histories.{IsTableOf-with_room, lawful-none}
+use Rattle.feed_tool.proofs.Progress.{Progress-start, Progress-end, Progress-step, Progress-refused, Progress-long, Progress-amid, line_operation-is}
 use Rattle.feed_tool.proofs.apply.history_of.Goals as goal
 
 pub returns-in_err-next-clause-refused : goal.returns-in_err-next-clause-refused
@@ -34,33 +36,66 @@ returns-in_err-operation-clause-refused g c =
     let moments = g.C.Clock.coming c.args.clock.now in
     let history = c.loop-history.history.items in
     let held = c.loop-history.invariant in
+    let len : vec_len c.loop-history.history ≡ length history = search rules in
     rw (p.1, p.2) (λ refusal source clock.
     Progress-refused c.args.head.now moments (g.I.Source.state c.args.input.now).left c.loop-history.lines (g.I.Source.state c.loop-history.input) c.next.new.self
     (g.I.Source.state c.next.new.input) history c.in_err-operation.field-0.0 (held.progress source clock) (c.in_ok-next.ensures.found (ap Ok c.if-branch.true) source)
-    (line_operation-is c.args.head.now moments history _ c.next.new.self.line _ _ (Err c.in_err-operation.field-0.0) c.as_slice.ensures.value c.line.ensures
-    (held.moments clock 0 ∙ ap moments (zero-add (length history))) (c.in_err-operation.ensures.refused refusal clock)))
+    (line_operation-is c.args.head.now moments history c.next.new.self.line _ _ _ (Err c.in_err-operation.field-0.0) c.line.ensures (ap (λ (n : ℕ). n + 1) (c.len.ensures ∙ len))
+    (held.moments clock 0 ∙ ap moments (zero-add (length history))) (c.in_err-operation.ensures.refused refusal clock history held.table)))
+
+pub commit-requires-clause-follows : goal.commit-requires-clause-follows
+commit-requires-clause-follows g c =
+    let head = c.args.head.now in
+    let history = c.loop-history.history.items in
+    let held = c.loop-history.invariant in
+    record {
+      created = head.created;
+      history = history;
+      table_of = rw c.in_ok-prepare.ensures.same (IsTableOf-with_room c.loop-history.members c.prepare.new.self.spare head.created history held.table);
+      follows = c.in_ok-operation.ensures.follows history held.table;
+    }
+
+pub loop-history-init : goal.loop-history-init
+loop-history-init g c =
+    let head = c.args.head.now in
+    let moments = g.C.Clock.coming c.args.clock.now in
+    let start = g.I.Source.state c.args.input.now in
+    let table : IsTableOf c.new-members.result head.created [] = rw (← c.head.view_is) c.new-members.ensures.table in
+    record {
+      progress = λ source clock. rw c.new-history.ensures.items (Progress-start head moments start.left c.in_ok-lines.lines start c.in_ok-lines.ensures.0 c.in_ok-lines.ensures.1 refl);
+      moments = λ clock k. rw c.new-history.ensures.items (ap moments (sym (add-zero k)));
+      knows = λ source ended. absurd (false≢true (rw c.in_ok-lines.ensures.2 at ended));
+      table = rw c.new-history.ensures.items table;
+      lawful = rw c.new-history.ensures.items (lawful-none head table.following);
+      few = omega (arith, ap length c.in_ok-lines.ensures.0, c.in_ok-lines.ensures.1, ap length c.new-history.ensures.items);
+      faults = omega arith;
+    }
 
 pub loop-history-preserved : goal.loop-history-preserved
 loop-history-preserved g c =
     let head = c.args.head.now in
+    let moments = g.C.Clock.coming c.args.clock.now in
     let whole = (g.I.Source.state c.args.input.now).left in
     let input = g.I.Source.state c.loop-history.input in
     let rest = g.I.Source.state c.next.new.input in
     let history = c.loop-history.history.items in
+    let operation = c.in_ok-operation.operation in
     let held = c.loop-history.invariant in
     let pushed = c.in_ok-push.ensures.items in
+    let len : vec_len c.loop-history.history ≡ length history = search rules in
     record {
       progress = λ source clock. rw pushed
-          (Progress-step head (g.C.Clock.coming c.args.clock.now) whole c.loop-history.lines input c.next.new.self rest history c.in_ok-operation.operation (held.progress source clock)
+          (Progress-step head moments whole c.loop-history.lines input c.next.new.self rest history operation (held.progress source clock)
           (c.in_ok-next.ensures.found (ap Ok c.if-branch.true) source)
-          (line_operation-is head (g.C.Clock.coming c.args.clock.now) history _ c.next.new.self.line _ _ (Ok c.in_ok-operation.operation) c.as_slice.ensures.value c.line.ensures
-          (held.moments clock 0 ∙ ap (g.C.Clock.coming c.args.clock.now) (zero-add (length history))) (c.in_ok-operation.ensures.operation clock)));
+          (line_operation-is head moments history c.next.new.self.line _ _ _ (Ok operation) c.line.ensures (ap (λ (n : ℕ). n + 1) (c.len.ensures ∙ len))
+          (held.moments clock 0 ∙ ap moments (zero-add (length history))) (c.in_ok-operation.ensures.operation clock history held.table)));
       moments = λ clock k.
-          let later : k + 1 + length history ≡ k + length c.push.new.self.items = omega (arith, ap length pushed, length-append history (c.in_ok-operation.operation ∷ [])) in
-          c.in_ok-operation.ensures.moment clock k ∙ held.moments clock (k + 1) ∙ ap (g.C.Clock.coming c.args.clock.now) later;
+          let later : k + 1 + length history ≡ k + length c.push.new.self.items = omega (arith, ap length pushed, length-append history (operation ∷ [])) in
+          c.in_ok-operation.ensures.moment clock k ∙ held.moments clock (k + 1) ∙ ap moments later;
       knows = c.in_ok-next.ensures.knows;
-      numbered = rw pushed (AreNumbered-push 0 history c.in_ok-operation.operation held.numbered (omega (arith, c.in_ok-operation.ensures.numbered, ap length c.as_slice.ensures.value)));
-      few = omega (arith, held.few, ap length pushed, length-append history (c.in_ok-operation.operation ∷ []), c.in_ok-next.ensures.progress (ap Ok c.if-branch.true));
+      table = rw pushed (c.commit.ensures.table head.created history (rw c.in_ok-prepare.ensures.same (IsTableOf-with_room c.loop-history.members c.prepare.new.self.spare head.created history held.table)));
+      lawful = rw pushed (c.in_ok-operation.ensures.lawful history held.table held.lawful);
+      few = omega (arith, held.few, ap length pushed, length-append history (operation ∷ []), c.in_ok-next.ensures.progress (ap Ok c.if-branch.true));
       faults = omega (arith, held.faults, c.in_ok-next.ensures.faults);
     }
 

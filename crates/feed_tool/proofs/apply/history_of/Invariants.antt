@@ -1,5 +1,6 @@
 use Rattle.std.proofs.Common.{◌≡◌, ℕ, ◌+◌, ◌≤◌, length}
-use Rattle.feed_tool.specs.History.{AreNumbered}
+use Rattle.member_rules.specs.History.{IsLawful}
+use Rattle.member_rules.specs.Table.{IsTableOf}
 use Rattle.feed_tool.specs.Lines.{KnowsEnd, allowance}
 use Rattle.feed_tool.specs.Apply.{input_limit}
 use Rattle.feed_tool.proofs.Progress.{Progress}
@@ -13,9 +14,10 @@ invariant-loop-history g l =
       progress : g.I.Source.told → g.C.Clock.told → Progress l.head (g.C.Clock.coming l.fn.clock) before.left l.lines input l.history.items;
       moments : g.C.Clock.told → (k : ℕ) → g.C.Clock.coming l.clock k ≡ g.C.Clock.coming l.fn.clock (k + length l.history.items);
       knows : g.I.Source.told → KnowsEnd l.lines input;
-      numbered : AreNumbered 0 l.history.items;
+      table : IsTableOf l.members l.head.created l.history.items;
+      lawful : IsLawful l.head l.history.items;
       few : length l.history.items + allowance l.lines ≤ input_limit;
-      faults : before.faults ≤ input.faults;
+      faults : before.faults ≤ (g.I.Source.state l.input).faults;
     }
 
 abbrev pub decreases-loop-history : goal.decreases-loop-history

@@ -1,0 +1,2 @@
+pub mod ItemsStep
+pub mod DocumentForm

@@ -1,0 +1,39 @@
+ghost use Rattle.std.specs.Prelude.{◌≡◌, ◌≤◌, Some, length, IfOk};
+ghost use Rattle.member_rules.specs.Items.{items_of};
+ghost use Rattle.member_rules.specs.Operation as operations;
+
+use atom_values::{Copies, Many, NoMemory};
+use deleted_entries::Item;
+use member_rules::Op;
+use std::alloc::Global;
+use std::collections::BTreeSet;
+
+/// What the operations leave of the members that they name, the member that was named last first. A member that several
+/// operations name stands where the last of them does, and as it left it. Each operation is looked at once.
+pub(crate) fn items(alloc: Global, span: &[Op]) -> Result<Many<Item, 100>, NoMemory>
+    requires { length span.now ≤ 100 }
+    ensures { IfOk result (λ items. items.items ≡ items_of span.now) }
+{
+    let mut items = Many::new(alloc);
+    items.reserve(span.len())?;
+    let mut met = BTreeSet::new(alloc);
+    for operation in span.iter().rev() {
+        if met.insert(operation.number())? {
+            let item = item(alloc, operation)?;
+            if items.push(item).is_err() {
+                return Err(NoMemory);
+            }
+        }
+    }
+    Ok(items)
+}
+
+/// What the operation leaves of the member that it names.
+fn item(alloc: Global, operation: &Op) -> Result<Item, NoMemory>
+    ensures { IfOk result (λ item. operations.item_of operation.now ≡ Some item) }
+{
+    match operation {
+        Op::Add(entry) | Op::Change(entry) => Ok(Item::Kept(entry.copy(alloc)?)),
+        Op::Remove(removal) => Ok(Item::Gone(removal.tombstone)),
+    }
+}
