@@ -2,9 +2,10 @@
 use Rattle.std.proofs.Common.{◌≡◌, ⊎_elim, arith, ℕ, List, ◌++◌, Result, Ok, Err, ap, sym, refl, ◌∙◌, append_assoc, OnOk, codes, decimal}
 use Rattle.atom_values.specs.Counts.{HasCause}
 use Rattle.feed_tool.specs.declared.apply.Fault.{Fault}
-use Rattle.feed_tool.specs.declared.apply.Fault.TheVariants.{NoMemory, Input, TooLong, BadLine, NotFound, Deleted, Clock, Large}
+use Rattle.feed_tool.specs.declared.apply.Fault.TheVariants.{NoMemory, Input, TooLong, BadDocument, BadLine, NotFound, Deleted, Clock, Large}
 use Rattle.feed_tool.specs.Outside.{SinkState}
-use Rattle.feed_tool.specs.Apply.{TakesFront, Prints, Answer, IsAlone, IsRefusal, alone_line, fault_answer, of_member, printed_of}
+use Rattle.feed_tool.specs.Apply.{TakesFront, Prints, fault_answer, of_member}
+use Rattle.feed_tool.specs.Run.{IsAlone, alone_line}
 
 -- a front of a text is a front of what begins with the text
 pub front_of_more : (before after : SinkState) (text more : List ℕ) → TakesFront before after text → TakesFront before after (text ++ more)
@@ -33,17 +34,6 @@ pub prints-from : {T E : Type 0} (r : Result T E) (before after : SinkState) (te
 prints-from (Ok x) before after text front whole cause = record { front = front; whole = λ _. whole }
 prints-from (Err e) before after text front whole cause = record { front = front; whole = λ none. absurd (none cause.failed) }
 
--- what belongs to the status of a fault is the fault's line
-pub printed-fault : (fault : Fault) (whole : Answer) → (IsRefusal fault → whole ≡ fault_answer fault) → printed_of (fault_answer fault).status whole ≡ (fault_answer fault).printed
-printed-fault NoMemory whole h = refl
-printed-fault Input whole h = refl
-printed-fault TooLong whole h = ap (λ (a : Answer). a.printed) (h tt)
-printed-fault (BadLine number) whole h = ap (λ (a : Answer). a.printed) (h tt)
-printed-fault (NotFound number member) whole h = ap (λ (a : Answer). a.printed) (h tt)
-printed-fault (Deleted number member) whole h = ap (λ (a : Answer). a.printed) (h tt)
-printed-fault (Clock number) whole h = ap (λ (a : Answer). a.printed) (h tt)
-printed-fault (Large number) whole h = ap (λ (a : Answer). a.printed) (h tt)
-
 no_ten : IsAlone 10 → ⊥
 no_ten h = ⊎_elim (λ e. omega arith) (λ later. ⊎_elim (λ e. omega arith) (λ e. omega arith) later) h
 
@@ -55,6 +45,7 @@ pub alone-fault : (fault : Fault) → IsAlone (fault_answer fault).status → al
 alone-fault NoMemory h = refl
 alone-fault Input h = refl
 alone-fault TooLong h = absurd (no_ten h)
+alone-fault (BadDocument at) h = absurd (no_ten h)
 alone-fault (BadLine number) h = absurd (no_ten h)
 alone-fault (NotFound number member) h = absurd (no_twelve h)
 alone-fault (Deleted number member) h = absurd (no_twelve h)

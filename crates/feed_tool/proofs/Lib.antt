@@ -3,5 +3,8 @@ pub mod Fronts
 pub mod Histories
 pub mod LineLemmas
 pub mod LineSteps
+pub mod OneAnswer
 pub mod Progress
+pub mod ShowLemmas
+pub mod SummaryLemmas
 pub mod WordLemmas

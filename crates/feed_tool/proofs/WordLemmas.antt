@@ -1,6 +1,7 @@
 -- The words of the command line, as the code reads them.
 use Rattle.std.proofs.Common.{◌≡◌, ◌≢◌, ℕ, ◌<◌, ◌≤◌, min, Bool, true, false, ◌&&◌, nat_le, if◌then◌else◌, Some, None, List, [], ◌∷◌, length, get_or, refl, arith, rules, tests}
-use Rattle.feed_tool.specs.Words.{window_of}
+use Rattle.feed_tool.specs.declared.words.Command.TheVariants.{Apply, Show}
+use Rattle.feed_tool.specs.Words.{command_of, is_show, window_of}
 
 pub window_some : (b : Bool) (v value : ℕ) → b ≡ true → value ≡ min v 101 → value ≢ 0 → value ≤ 100 → (if b && nat_le 1 v && nat_le v 100 then Some v else None) ≡ Some value
 window_some b v value hb hv low high =
@@ -31,3 +32,16 @@ window_not b v e = rw e refl
 pub two_items : {X : Type 0} (items : List X) (a b : X) → length items ≡ 2 → a ≡ get_or items 0 a → b ≡ get_or items 1 b → items ≡ a ∷ b ∷ []
 two_items (x ∷ y ∷ []) a b h ea eb = cc
 two_items _ a b h ea eb = absurd (omega (arith, h))
+
+-- the command of the words, by what they are
+pub command_of-show : (words : List (List ℕ)) → is_show words ≡ true → command_of words ≡ Some Show
+unfolding command_of
+command_of-show words show = rw show refl
+
+pub command_of-apply : (words : List (List ℕ)) (window : ℕ) → is_show words ≡ false → window_of words ≡ Some window → command_of words ≡ Some (Apply window)
+unfolding command_of
+command_of-apply words window other found = rw (other, found) refl
+
+pub command_of-none : (words : List (List ℕ)) → is_show words ≡ false → window_of words ≡ None → command_of words ≡ None
+unfolding command_of
+command_of-none words other none = rw (other, none) refl

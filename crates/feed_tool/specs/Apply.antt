@@ -1,9 +1,9 @@
--- What the command `apply W` answers: a status and what it prints.
-use Rattle.std.specs.Prelude.{◌≡◌, ◌⊎◌, ℕ, ◌+◌, ◌≤◌, List, [], ◌∷◌, ◌++◌, pos, length, take, nat_le, ◌==◌, if◌then◌else◌, Option, Some, None, Result, Ok, Err, IsOk, codes, decimal}
+-- What the command `apply W` answers: a status and what it prints. And the answers of all faults.
+use Rattle.std.specs.Prelude.{◌≡◌, ℕ, ◌+◌, ◌≤◌, List, [], ◌∷◌, ◌++◌, pos, length, take, nat_le, if◌then◌else◌, Option, Some, None, Result, Ok, Err, IsOk, codes, decimal}
 use Rattle.atom_values.specs.Counts.{Rose}
 use Rattle.atom_writer.specs.Pieces.{text}
 use Rattle.feed_tool.specs.declared.apply.Fault.{Fault}
-use Rattle.feed_tool.specs.declared.apply.Fault.TheVariants.{NoMemory, Input, TooLong, BadLine, NotFound, Deleted, Clock, Large}
+use Rattle.feed_tool.specs.declared.apply.Fault.TheVariants.{NoMemory, Input, TooLong, BadDocument, BadLine, NotFound, Deleted, Clock, Large}
 use Rattle.feed_tool.specs.declared.lines.LinesFault.{LinesFault}
 use Rattle.feed_tool.specs.declared.lines.LinesFault.TheVariants as lines
 use Rattle.member_rules.specs.declared.operation.Op.{Op}
@@ -96,6 +96,7 @@ abbrev pub fault_answer : Fault → Answer
 fault_answer NoMemory = record { status = 5; printed = codes "no memory\n" }
 fault_answer Input = record { status = 9; printed = codes "input fault\n" }
 fault_answer TooLong = record { status = 10; printed = codes "input too long\n" }
+fault_answer (BadDocument at) = numbered 10 (codes "bad document ") at (codes "\n")
 fault_answer (BadLine number) = numbered 10 (codes "bad line ") number (codes "\n")
 fault_answer (NotFound number member) = of_member number (codes " not found ") member
 fault_answer (Deleted number member) = of_member number (codes " deleted ") member
@@ -107,6 +108,7 @@ abbrev pub IsRefusal : Fault → Type 0
 IsRefusal NoMemory = ⊥
 IsRefusal Input = ⊥
 IsRefusal TooLong = Unit {0}
+IsRefusal (BadDocument at) = Unit {0}
 IsRefusal (BadLine number) = Unit {0}
 IsRefusal (NotFound number member) = Unit {0}
 IsRefusal (Deleted number member) = Unit {0}
@@ -118,6 +120,7 @@ abbrev pub IsLineFault : Fault → Type 0
 IsLineFault NoMemory = Unit {0}
 IsLineFault Input = ⊥
 IsLineFault TooLong = ⊥
+IsLineFault (BadDocument at) = ⊥
 IsLineFault (BadLine number) = Unit {0}
 IsLineFault (NotFound number member) = Unit {0}
 IsLineFault (Deleted number member) = Unit {0}
@@ -160,36 +163,3 @@ pub record TakesFront (before after : SinkState) (text : List ℕ) : Type 0 wher
 pub record Prints (before after : SinkState) (text : List ℕ) : Type 0 where
   pub front : TakesFront before after text
   pub whole : ¬ Rose before.faults after.faults → after.taken ≡ before.taken ++ text
-
--- the ways to end that the input determines: the defined end and the refusals
-abbrev pub IsDetermined : ℕ → Type 0
-IsDetermined status = (status ≡ 0) ⊎ (status ≡ 10) ⊎ (status ≡ 12)
-
--- the ways to end
-abbrev pub IsStatus : ℕ → Type 0
-IsStatus status = IsDetermined status ⊎ (status ≡ 2) ⊎ (status ≡ 5) ⊎ (status ≡ 8) ⊎ (status ≡ 9)
-
--- what belongs to a status: the line of words that are no command's, the line of a failure, or the answer
-abbrev pub printed_of : ℕ → Answer → List ℕ
-printed_of status whole =
-    if status == 5 then (fault_answer NoMemory).printed
-    else (if status == 9 then (fault_answer Input).printed else whole.printed)
-
-unfoldable pub printed_at : ℕ → Option ℕ → (ℕ → ℕ) → List ℕ → List ℕ
-printed_at status None moments input = usage_line
-printed_at status (Some window) moments input = printed_of status (answer (test_head window) moments input)
-
--- where no call of the input and of the output failed, the end is the defined one or want of memory
-abbrev pub IsComplete : SourceState → SourceState → SinkState → SinkState → ℕ → Type 0
-IsComplete input rest output after status =
-    ¬ Rose input.faults rest.faults → ¬ Rose output.faults after.faults → (status ≡ 0) ⊎ (status ≡ 5)
-
--- the ways to end whose line says nothing of the input
-abbrev pub IsAlone : ℕ → Type 0
-IsAlone status = (status ≡ 2) ⊎ (status ≡ 5) ⊎ (status ≡ 9)
-
--- and these lines
-abbrev pub alone_line : ℕ → List ℕ
-alone_line status =
-    if status == 2 then usage_line
-    else (if status == 5 then (fault_answer NoMemory).printed else (fault_answer Input).printed)

@@ -2,3 +2,5 @@ pub mod Outside
 pub mod Words
 pub mod Lines
 pub mod Apply
+pub mod Show
+pub mod Run

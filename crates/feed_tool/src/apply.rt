@@ -9,12 +9,12 @@ ghost use Rattle.feed_tool.specs.Apply.{applied, asked, rule_fault, IsLineFault,
 use crate::lines::{Lines, LinesFault, line_ask};
 use crate::outside::{Clock, Source};
 use archive_sealer::subscription;
-use atom_values::{AtomText, NoMemory, Stamp};
+use atom_values::{AtomText, Failed, NoMemory, Stamp};
 use atom_writer::{FeedName, write_doc};
 use chain_links::Base;
 use deleted_entries::FeedId;
 use member_rules::{Head, Members, Op, RuleFault, decide};
-use std::alloc::{AllocFailed, Global};
+use std::alloc::{AllocError, AllocFailed, Global};
 
 /// Why a command ends before its defined end.
 #[derive(Clone, Copy, Debug, PartialEq, Eq)]
@@ -25,6 +25,8 @@ pub enum Fault {
     Input,
     /// The input has too many bytes.
     TooLong,
+    /// The input is no document's text. It is refused at this byte.
+    BadDocument(u64),
     /// The line of this number, from 1, is none of the command's.
     BadLine(u64),
     /// The line of the first number names the member of the second, which was never made.
@@ -56,6 +58,28 @@ impl<T: Drop> From<AllocFailed<T>> for Fault {
 
     fn from(_error: AllocFailed<T>) -> Fault {
         Fault::NoMemory
+    }
+}
+
+impl From<AllocError> for Fault {
+    ghost use Rattle.std.specs.Prelude.{◌≡◌};
+    ghost use Rattle.feed_tool.specs.declared.apply.Fault.TheVariants.{NoMemory};
+
+    ghost from_gives = { λ _ e. e ≡ NoMemory };
+
+    fn from(_error: AllocError) -> Fault {
+        Fault::NoMemory
+    }
+}
+
+impl From<Failed> for Fault {
+    ghost use Rattle.std.specs.Prelude.{◌≡◌};
+    ghost use Rattle.feed_tool.specs.declared.apply.Fault.TheVariants.{Input};
+
+    ghost from_gives = { λ _ e. e ≡ Input };
+
+    fn from(_error: Failed) -> Fault {
+        Fault::Input
     }
 }
 

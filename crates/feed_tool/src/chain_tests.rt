@@ -3,9 +3,10 @@ ghost use Rattle.member_rules.specs.History.{IsLawful};
 
 use crate::apply::{history_of, test_head};
 use crate::memory::{ListSource, SetClock};
+use crate::tests::{FRONT, joined};
 use archive_sealer::{archive, subscription};
 use atom_values::{Bytes, Many, Stamp};
-use atom_writer::Doc;
+use atom_writer::{Doc, write_doc};
 use chain_links::follows;
 use deleted_entries::Item;
 use member_rules::{Head, Op, State, plain_count, plain_state};
@@ -124,5 +125,22 @@ fn the_chain_of_every_prefix_shows_the_fold(rt: HostRuntime) -> Result<(), Fail>
             expect_chain(&rt, rt.alloc(), &head, history.as_slice())?;
         }
     }
+    Ok(())
+}
+
+/// Archive 2 of three members that are made one after another, in windows of one operation.
+const ARCHIVE: &[u8] =
+    b"2023-11-14T22:13:20.002Z</updated>\n<author><name>Editor</name></author>\n<link rel=\"self\" href=\"http://feed.example/archive/2\"/>\n<link rel=\"current\" href=\"http://feed.example/feed\"/>\n<link rel=\"prev-archive\" href=\"http://feed.example/archive/1\"/>\n<link rel=\"next-archive\" href=\"http://feed.example/archive/3\"/>\n<fh:archive/>\n<sp:span first=\"2\" last=\"2\"/>\n<entry><id>urn:uuid:6d1f0c5a-93be-8c27-8000-000000000002</id><title>b</title><updated>2023-11-14T22:13:20.002Z</updated><app:edited>2023-11-14T22:13:20.002Z</app:edited><link rel=\"edit\" href=\"http://feed.example/member/2\"/><content></content></entry>\n</feed>\n";
+
+#[test]
+fn writes_an_archive(rt: HostRuntime) -> Result<(), Fail> {
+    let mut head = test_head(rt.alloc(), 1)?;
+    head.created = Stamp::new(1_700_000_000_000).unwrap();
+    let history = history(rt.alloc(), &head, b"add a\nadd b\nadd c\n")?;
+    assert!(rt; 2 * head.window as usize <= history.len());
+    let doc = archive(rt.alloc(), &head, history.as_slice(), 2)?;
+    let written = write_doc(rt.alloc(), &doc)?;
+    let want = joined(rt.alloc(), &[FRONT, ARCHIVE])?;
+    assert_eq!(rt; written.as_slice(), want.as_slice());
     Ok(())
 }

@@ -6,11 +6,16 @@
 mod apply;
 #[cfg(test)]
 mod chain_tests;
+mod laws;
 mod lines;
 mod memory;
 mod outside;
 mod real;
 mod run;
+mod show;
+#[cfg(test)]
+mod show_tests;
+mod summary;
 #[cfg(test)]
 mod tests;
 mod words;

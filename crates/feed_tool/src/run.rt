@@ -1,11 +1,13 @@
-ghost use Rattle.std.specs.Prelude.{◌≡◌, ◌↔◌, ◌≤◌, ◌++◌, None, map, decimal, string_bytes, IfSome, OnOk};
+ghost use Rattle.std.specs.Prelude.{◌≡◌, ◌↔◌, ◌≤◌, ◌++◌, None, Err, map, decimal, string_bytes, IfSome, IfOk, IfErr, OnOk};
 ghost use Rattle.atom_values.specs.Counts.{Rose, HasCause};
-ghost use Rattle.feed_tool.specs.Words.{window_of};
-ghost use Rattle.feed_tool.specs.Apply.{answer, fault_answer, test_head, usage_line, printed_at, IsStatus, IsDetermined, IsUnrefused, IsAlone, alone_line, of_member, Prints, TakesFront, IsComplete};
+ghost use Rattle.feed_tool.specs.Words.{command_of, HasRange};
+ghost use Rattle.feed_tool.specs.Apply.{Answer, fault_answer, of_member, IsRefusal, Prints, TakesFront};
+ghost use Rattle.feed_tool.specs.Run.{IsAnswer, IsUnrefusedBy, IsStatus, IsAnswered, EndsWith, IsComplete, IsAlone, alone_line};
 
 use crate::apply::{Fault, apply};
 use crate::outside::{Clock, Sink, Source};
-use crate::words::window_of;
+use crate::show::show;
+use crate::words::{Command, command_of};
 use atom_values::Failed;
 use itoa::Buffer;
 use std::alloc::Global;
@@ -22,7 +24,8 @@ pub struct Ended {
 /// the command's grammar or too long, 12 for a line that is refused.
 ///
 /// `apply W` applies the lines of the input to an empty history, each with one moment of the clock, and prints the
-/// subscription document. Any other end prints its line, and a failure in printing that line changes nothing.
+/// subscription document. `show` reads the input as one document and prints its summary. Any other end prints its line,
+/// and a failure in printing that line changes nothing.
 pub fn run<C: Clock, I: Source, O: Sink>(
     alloc: Global,
     words: &[String],
@@ -32,45 +35,33 @@ pub fn run<C: Clock, I: Source, O: Sink>(
 ) -> Ended
     // The ways to end, and which words are no command's.
     ensures statuses { IsStatus result.status }
-    ensures usage { (result.status ≡ 2) ↔ (window_of (map string_bytes words.now) ≡ None) }
+    ensures usage { (result.status ≡ 2) ↔ (command_of (map string_bytes words.now) ≡ None) }
 
-    // Where the input and the clock tell their content, they determine the status that is 0, 10 or 12.
-    ensures determined { I.told → C.told → IfSome (window_of (map string_bytes words.now)) (λ window.
-        IsDetermined result.status
-        → result.status ≡ (answer (test_head window) (C.coming clock.old) (I.state input.old).left).status) }
+    // Where the input and the clock tell their content, the command has the answer that the end goes by: its status, and
+    // what the output took.
+    ensures answered { I.told → C.told → IfSome (command_of (map string_bytes words.now)) (λ command.
+        IsAnswered result.status
+        → EndsWith command (C.coming clock.old) (I.state input.old).left O.told (O.state output.old) (O.state output.new) result.status) }
 
-    // At status 0 the output took the subscription document of the history that the lines make.
-    ensures document { I.told → C.told → O.told → IfSome (window_of (map string_bytes words.now)) (λ window.
-        result.status ≡ 0
-        → (O.state output.new).taken ≡ (O.state output.old).taken
-        ++ (answer (test_head window) (C.coming clock.old) (I.state input.old).left).printed) }
-
-    // At every status the output took what belongs to it, or a front of that where one of its calls failed.
-    ensures printed { I.told → C.told → O.told → Prints (O.state output.old) (O.state output.new)
-        (printed_at result.status (window_of (map string_bytes words.now)) (C.coming clock.old) (I.state input.old).left) }
-
-    // The lines that say nothing of the input need not be told it.
+    // The other ends print their line, which says nothing of the input.
     ensures alone { O.told → IsAlone result.status → Prints (O.state output.old) (O.state output.new) (alone_line result.status) }
 
-    // A failure comes only where the object's count rose, and no line before it is refused.
+    // A failure comes only where the object's count rose, and nothing that was read before it is refused.
     ensures input_fault { result.status ≡ 9 → Rose (I.state input.old).faults (I.state input.new).faults }
     ensures output_fault { result.status ≡ 8 → Rose (O.state output.old).faults (O.state output.new).faults }
-    ensures first_fault { I.told → C.told → IfSome (window_of (map string_bytes words.now)) (λ window.
-        result.status ≡ 9 → IsUnrefused (test_head window) (C.coming clock.old) (I.state input.old) (I.state input.new)) }
-    ensures whole_document { I.told → C.told → IfSome (window_of (map string_bytes words.now)) (λ window.
-        result.status ≡ 8 → (answer (test_head window) (C.coming clock.old) (I.state input.old).left).status ≡ 0) }
+    ensures first_fault { I.told → C.told → IfSome (command_of (map string_bytes words.now)) (λ command.
+        result.status ≡ 9 → IsUnrefusedBy command (C.coming clock.old) (I.state input.old) (I.state input.new)) }
 
-    // With a command's words, an input that is refused nowhere and no failure, the end is the defined one or want of
-    // memory.
-    ensures complete { I.told → C.told → IfSome (window_of (map string_bytes words.now)) (λ window.
-        (answer (test_head window) (C.coming clock.old) (I.state input.old).left).status ≡ 0
-        → IsComplete (I.state input.old) (I.state input.new) (O.state output.old) (O.state output.new) result.status) }
+    // With a command's words and no failure, the end is the answer's or want of memory.
+    ensures complete { I.told → C.told → IfSome (command_of (map string_bytes words.now)) (λ command.
+        (given : Answer) → IsAnswer command (C.coming clock.old) (I.state input.old).left given
+        → IsComplete (I.state input.old) (I.state input.new) (O.state output.old) (O.state output.new) given.status result.status) }
 {
-    let Some(window) = window_of(words) else {
+    let Some(command) = command_of(words) else {
         let _ = write_all(output, USAGE);
         return Ended { status: 2 };
     };
-    match apply(alloc, window, clock, input) {
+    match answer(alloc, command, clock, input) {
         Ok(text) => match write_all(output, text.as_slice()) {
             Ok(()) => Ended { status: 0 },
             Err(Failed) => Ended { status: 8 },
@@ -84,6 +75,26 @@ pub fn run<C: Clock, I: Source, O: Sink>(
     }
 }
 
+/// What the command prints at its defined end.
+fn answer<C: Clock, I: Source>(
+    alloc: Global,
+    command: Command,
+    clock: &mut C,
+    input: &mut I,
+) -> Result<Vec<u8>, Fault>
+    requires { HasRange command }
+    ensures answer { IfOk result (λ written. I.told → C.told → IsAnswer command (C.coming clock.old) (I.state input.old).left record { status = 0; printed = written.items }) }
+    ensures refused { IfErr result (λ fault. IsRefusal fault → I.told → C.told → IsAnswer command (C.coming clock.old) (I.state input.old).left (fault_answer fault)) }
+    ensures input { result ≡ Err Fault.Input → Rose (I.state input.old).faults (I.state input.new).faults }
+    ensures unrefused { result ≡ Err Fault.Input → I.told → C.told → IsUnrefusedBy command (C.coming clock.old) (I.state input.old) (I.state input.new) }
+    ensures faults { (I.state input.old).faults ≤ (I.state input.new).faults }
+{
+    match command {
+        Command::Apply { window } => apply(alloc, window, clock, input),
+        Command::Show => show(alloc, input),
+    }
+}
+
 /// The line of words that are no command's.
 const USAGE: &[u8] = b"usage: feed_tool init, apply, show, serve, mirror, audit, drill\n";
 
@@ -94,7 +105,7 @@ fn status_of(fault: Fault) -> u8
     match fault {
         Fault::NoMemory => 5,
         Fault::Input => 9,
-        Fault::TooLong | Fault::BadLine(_) => 10,
+        Fault::TooLong | Fault::BadDocument(_) | Fault::BadLine(_) => 10,
         Fault::NotFound(..) | Fault::Deleted(..) | Fault::Clock(_) | Fault::Large(_) => 12,
     }
 }
@@ -109,6 +120,7 @@ fn write_fault<O: Sink>(output: &mut O, fault: Fault) -> Result<(), Failed>
         Fault::NoMemory => write_all(output, b"no memory\n"),
         Fault::Input => write_all(output, b"input fault\n"),
         Fault::TooLong => write_all(output, b"input too long\n"),
+        Fault::BadDocument(at) => write_numbered(output, b"bad document ", at, b"\n"),
         Fault::BadLine(number) => write_numbered(output, b"bad line ", number, b"\n"),
         Fault::NotFound(number, member) => write_member_fault(
             output,

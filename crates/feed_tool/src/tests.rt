@@ -6,7 +6,7 @@ use std::process::Abort;
 use std::test::Fail;
 
 /// The moment that most tests stand at: 2023-11-14T22:13:20Z.
-const NOW: u64 = 1_700_000_000_000;
+pub(crate) const NOW: u64 = 1_700_000_000_000;
 
 /// The last moment that there is: 9999-12-31T23:59:59.999Z.
 const LAST: u64 = 253_402_300_799_999;
@@ -14,7 +14,7 @@ const LAST: u64 = 253_402_300_799_999;
 const APPLY_4: &[&str] = &["apply", "4"];
 
 /// A list of one call, or of none where it is 0.
-fn calls(alloc: Global, failing: u64) -> Result<Many<u64, 64>, Fail> {
+pub(crate) fn calls(alloc: Global, failing: u64) -> Result<Many<u64, 64>, Fail> {
     let mut calls = Many::new(alloc);
     if failing != 0 {
         calls.push(failing)?;
@@ -23,7 +23,7 @@ fn calls(alloc: Global, failing: u64) -> Result<Many<u64, 64>, Fail> {
 }
 
 /// A clock that gives the first moment once, and then the other.
-fn clock_of(alloc: Global, moments: (u64, u64)) -> Result<SetClock, Fail> {
+pub(crate) fn clock_of(alloc: Global, moments: (u64, u64)) -> Result<SetClock, Fail> {
     let (first, later) = moments;
     let mut list = Many::new(alloc);
     list.push(first)?;
@@ -32,7 +32,7 @@ fn clock_of(alloc: Global, moments: (u64, u64)) -> Result<SetClock, Fail> {
 }
 
 /// The words as the program is given them.
-fn owned(alloc: Global, words: &[&str]) -> Result<Vec<String>, Fail> {
+pub(crate) fn owned(alloc: Global, words: &[&str]) -> Result<Vec<String>, Fail> {
     let mut list = Vec::new(alloc);
     for word in words {
         list.push(String::from_str(alloc, word)?)?;
@@ -42,7 +42,7 @@ fn owned(alloc: Global, words: &[&str]) -> Result<Vec<String>, Fail> {
 
 /// The status and the output of a run whose calls of these numbers fail, of the input and of the output; none where the
 /// number is 0.
-fn ran_with(
+pub(crate) fn ran_with(
     alloc: Global,
     words: &[&str],
     moments: (u64, u64),
@@ -64,7 +64,7 @@ fn ran(alloc: Global, input: &[u8]) -> Result<(u8, Vec<u8>), Fail> {
 }
 
 /// These texts, one after the other.
-fn joined(alloc: Global, parts: &[&[u8]]) -> Result<Vec<u8>, Fail> {
+pub(crate) fn joined(alloc: Global, parts: &[&[u8]]) -> Result<Vec<u8>, Fail> {
     let mut text = Vec::new(alloc);
     for part in parts {
         text.extend_from_slice(part)?;
@@ -72,13 +72,13 @@ fn joined(alloc: Global, parts: &[&[u8]]) -> Result<Vec<u8>, Fail> {
     Ok(text)
 }
 
-const FRONT: &[u8] =
+pub(crate) const FRONT: &[u8] =
     b"<?xml version=\"1.0\" encoding=\"utf-8\"?>\n<feed xmlns=\"http://www.w3.org/2005/Atom\" xmlns:fh=\"http://purl.org/syndication/history/1.0\" xmlns:at=\"http://purl.org/atompub/tombstones/1.0\" xmlns:app=\"http://www.w3.org/2007/app\" xmlns:sp=\"urn:archived-feed:span:1\">\n<id>urn:uuid:6d1f0c5a-93be-4c27-8d10-2b7f9e4a5c36</id>\n<title>Feed</title>\n<updated>";
 
 const SELF: &[u8] =
     b"</updated>\n<author><name>Editor</name></author>\n<link rel=\"self\" href=\"http://feed.example/feed\"/>\n";
 
-const HELLO: &[u8] =
+pub(crate) const HELLO: &[u8] =
     b"<entry><id>urn:uuid:6d1f0c5a-93be-8c27-8000-000000000001</id><title>Hello</title><updated>2023-11-14T22:13:20Z</updated><app:edited>2023-11-14T22:13:20Z</app:edited><link rel=\"edit\" href=\"http://feed.example/member/1\"/><content></content></entry>\n";
 
 const ESCAPED: &[u8] =
@@ -128,7 +128,8 @@ fn prints_the_document(rt: HostRuntime) -> Result<(), Fail> {
     Ok(())
 }
 
-const USAGE: &[u8] = b"usage: feed_tool init, apply, show, serve, mirror, audit, drill\n";
+pub(crate) const USAGE: &[u8] =
+    b"usage: feed_tool init, apply, show, serve, mirror, audit, drill\n";
 
 #[test]
 fn refuses_other_words(rt: HostRuntime) -> Result<(), Fail> {

@@ -1,10 +1,41 @@
 ghost use Rattle.std.specs.Prelude.{◌≡◌, ◌≤◌, ◌+◌, ◌*◌, map, min, IfSome, string_bytes, bytes_eq, codes};
 ghost use Rattle.std.specs.List.{list_all};
 ghost use Rattle.std.specs.Char.{is_ascii_digit};
-ghost use Rattle.feed_tool.specs.Words.{is_number, number_value, window_of, window_word};
+ghost use Rattle.feed_tool.specs.Words.{is_number, number_value, command_of, is_show, window_of, window_word, HasRange};
 
-/// The window of the words `apply W`, with W from 1 to 100 in decimal digits; `None` where the words are no command's.
-pub fn window_of(words: &[String]) -> Option<u32>
+/// A command, with its values.
+#[derive(Clone, Copy, Debug, PartialEq, Eq)]
+pub enum Command {
+    /// `apply W`, with W from 1 to 100.
+    Apply { window: u32 },
+    /// `show`.
+    Show,
+}
+
+/// The command that the words name; `None` where they are no command's.
+pub fn command_of(words: &[String]) -> Option<Command>
+    ensures command { result ≡ command_of (map string_bytes words.now) }
+    ensures range { IfSome result HasRange }
+{
+    if is_show(words) {
+        return Some(Command::Show);
+    }
+    let window = window_of(words)?;
+    Some(Command::Apply { window })
+}
+
+/// Whether the words are `show` alone.
+fn is_show(words: &[String]) -> bool
+    ensures { result ≡ is_show (map string_bytes words.now) }
+{
+    match words {
+        [word] => word.as_str() == "show",
+        _ => false,
+    }
+}
+
+/// The window of the words `apply W`, with W from 1 to 100 in decimal digits; `None` for other words.
+fn window_of(words: &[String]) -> Option<u32>
     ensures window { result ≡ window_of (map string_bytes words.now) }
     ensures range { IfSome result (λ window. (1 ≤ window) × (window ≤ 100)) }
 {

@@ -1,0 +1,126 @@
+-- The parts of an item's piece.
+use Rattle.std.specs.Prelude.{◌≡◌, ℕ, ◌≤◌, ◌<◌, ◌^◌, List, [], false, if◌then◌else◌, bytes_eq, Option, ℤ, codes}
+use Rattle.atom_values.specs.declared.category.Category.{Category}
+use Rattle.atom_values.specs.declared.link.Link.{Link}
+use Rattle.atom_values.specs.declared.person.Person.{Person}
+use Rattle.atom_values.specs.declared.text.Text.{Text}
+use Rattle.atom_values.specs.declared.text.TextKind.{TextKind}
+use Rattle.atom_values.specs.Category.{IsCategory}
+use Rattle.atom_values.specs.Entry.{EntryValue, IsEntry, IsText}
+use Rattle.atom_values.specs.Link.{IsLink}
+use Rattle.atom_values.specs.Person.{IsPerson}
+use Rattle.atom_values.specs.XmlText.{IsAtomText}
+use Rattle.deleted_entries.specs.Item.{IsItem}
+use Rattle.deleted_entries.specs.Tombstone.{TombstoneValue, IsTombstone}
+use Rattle.deleted_entries.specs.declared.item.Item.{Item}
+use Rattle.atom_writer.specs.declared.doc.FeedName.{FeedName}
+use Rattle.atom_writer.specs.Parts.{link_text, category_text}
+use Rattle.atom_writer.specs.Pieces.{open_attributes, edit_link, entry_piece, tombstone_piece, item_piece}
+use Rattle.atom_grammar.specs.Parts.{Part, Anything, starts, content, quoted, moment, member, both, behind, ended, optional, many, alone}
+
+-- a text between these tags
+abbrev pub element : List ℕ → List ℕ → Part (List ℕ)
+element start end = alone (ended (behind start content) end)
+
+-- a text behind these bytes and before a quote
+abbrev pub attribute : List ℕ → Part (List ℕ)
+attribute start = alone (ended (behind start quoted) (codes "\""))
+
+-- a moment between these tags
+abbrev pub date : List ℕ → List ℕ → Part ℤ
+date start end = alone (ended (behind start moment) end)
+
+-- what the kind of a text adds to its open tag
+unfoldable pub kind : Part TextKind
+kind = record { Is = λ _. Unit {0}; text = open_attributes; Before = λ rest. starts (codes " type=\"html\"") rest ≡ false }
+
+abbrev pub construct_parts : List ℕ → List ℕ → Part (TextKind × List ℕ)
+construct_parts start end = ended (both (ended (behind start kind) (codes ">")) content) end
+
+-- a text construct, whose open tag begins so
+unfoldable pub construct : List ℕ → List ℕ → Part Text
+construct start end = record {
+  Is = IsText;
+  text = λ t. (construct_parts start end).text (t.kind, t.value);
+  Before = Anything;
+}
+
+abbrev pub person_parts : List ℕ → List ℕ → Part ((List ℕ × Option (List ℕ)) × Option (List ℕ))
+person_parts start end =
+    ended (both (both (behind start (element (codes "<name>") (codes "</name>")))
+    (optional (codes "<uri>") (element (codes "<uri>") (codes "</uri>"))))
+    (optional (codes "<email>") (element (codes "<email>") (codes "</email>")))) end
+
+unfoldable pub person : List ℕ → List ℕ → Part Person
+person start end = record {
+  Is = IsPerson;
+  text = λ p. (person_parts start end).text ((p.name, p.uri), p.email);
+  Before = Anything;
+}
+
+abbrev pub persons : List ℕ → List ℕ → Part (List Person)
+persons start end = many 16 start (person start end)
+
+-- the relation of a link, which is written where it isn't `alternate`
+abbrev pub relation_text : List ℕ → List ℕ
+relation_text rel = if bytes_eq rel (codes "alternate") then [] else (attribute (codes " rel=\"")).text rel
+
+unfoldable pub relation : Part (List ℕ)
+relation = record { Is = IsAtomText; text = relation_text; Before = λ rest. starts (codes " rel=\"") rest ≡ false }
+
+abbrev pub optional_attribute : List ℕ → Part (Option (List ℕ))
+optional_attribute start = optional start (attribute start)
+
+abbrev pub link_parts : Part (((((List ℕ × List ℕ) × Option (List ℕ)) × Option (List ℕ)) × Option (List ℕ)) × Option (List ℕ))
+link_parts =
+    ended (both (both (both (both (both (behind (codes "<link") relation) (attribute (codes " href=\"")))
+    (optional_attribute (codes " type=\""))) (optional_attribute (codes " hreflang=\"")))
+    (optional_attribute (codes " title=\""))) (optional_attribute (codes " length=\""))) (codes "/>")
+
+unfoldable pub link : Part Link
+link = record { Is = IsLink; text = link_text; Before = Anything }
+
+abbrev pub category_parts : Part ((List ℕ × Option (List ℕ)) × Option (List ℕ))
+category_parts =
+    ended (both (both (behind (codes "<category") (attribute (codes " term=\"")))
+    (optional_attribute (codes " scheme=\""))) (optional_attribute (codes " label=\""))) (codes "/>")
+
+unfoldable pub category : Part Category
+category = record { Is = IsCategory; text = category_text; Before = Anything }
+
+unfoldable pub tombstone : FeedName → Part TombstoneValue
+tombstone name = record { Is = IsTombstone; text = tombstone_piece name; Before = Anything }
+
+abbrev pub links : Part (List Link)
+links = many 32 (codes "<link") link
+
+abbrev pub categories : Part (List Category)
+categories = many 64 (codes "<category") category
+
+-- the number of the member that the link names for editing
+unfoldable pub editing : FeedName → Part ℕ
+editing name = record { Is = λ n. (1 ≤ n) × (n < 2 ^ 32); text = edit_link name; Before = Anything }
+
+abbrev pub whole_construct : List ℕ → List ℕ → Part (Option Text)
+whole_construct start end = optional start (construct start end)
+
+-- what stands before the authors of an entry
+abbrev pub front : FeedName → Part ((((ℕ × Text) × ℤ) × Option ℤ) × ℤ)
+front name =
+    both (both (both (both (ended (behind (codes "<id>") (member name.id)) (codes "</id>"))
+    (construct (codes "<title") (codes "</title>"))) (date (codes "<updated>") (codes "</updated>")))
+    (optional (codes "<published>") (date (codes "<published>") (codes "</published>"))))
+    (date (codes "<app:edited>") (codes "</app:edited>"))
+
+-- and behind them
+abbrev pub back : FeedName → Part ((((((List Person × ℕ) × List Link) × List Category) × Option Text) × Option Text) × Option Text)
+back name =
+    both (both (both (both (both (both (persons (codes "<contributor>") (codes "</contributor>")) (editing name)) links) categories)
+    (whole_construct (codes "<rights") (codes "</rights>"))) (whole_construct (codes "<summary") (codes "</summary>")))
+    (whole_construct (codes "<content") (codes "</content>"))
+
+unfoldable pub entry : FeedName → Part EntryValue
+entry name = record { Is = IsEntry; text = entry_piece name; Before = Anything }
+
+unfoldable pub item : FeedName → Part Item
+item name = record { Is = IsItem; text = item_piece name; Before = Anything }

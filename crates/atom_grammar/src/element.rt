@@ -1,0 +1,131 @@
+ghost use Rattle.std.specs.Prelude.{IsTrue, codes};
+ghost use Rattle.atom_grammar.specs.Items.{element, attribute, date, kind, construct};
+ghost use Rattle.atom_grammar.specs.Parts.{Reads, starts, optional};
+
+use crate::reader::Reader;
+use crate::stop::Stop;
+use atom_values::{AtomText, Stamp, Text, TextKind};
+use std::alloc::Global;
+
+impl Reader<'_> {
+    /// The text between these tags.
+    pub(crate) fn element(
+        &mut self,
+        alloc: Global,
+        start: &[u8],
+        end: &[u8],
+    ) -> Result<AtomText, Stop>
+        requires { IsTrue (starts (codes "</") end.now) }
+        ensures { Reads (element start.now end.now) self.old.rest.now result self.new.rest.now }
+    {
+        self.literal(start)?;
+        let text = self.content(alloc)?;
+        self.literal(end)?;
+        Ok(text)
+    }
+
+    /// The text between these tags, where the open tag stands next.
+    pub(crate) fn optional_element(
+        &mut self,
+        alloc: Global,
+        start: &[u8],
+        end: &[u8],
+    ) -> Result<Option<AtomText>, Stop>
+        requires { IsTrue (starts (codes "</") end.now) }
+        ensures { Reads (optional start.now (element start.now end.now)) self.old.rest.now result self.new.rest.now }
+    {
+        if !self.at(start) {
+            return Ok(None);
+        }
+        Ok(Some(self.element(alloc, start, end)?))
+    }
+
+    /// The value of an attribute, whose name and opening quote are `start`.
+    pub(crate) fn attribute(&mut self, alloc: Global, start: &[u8]) -> Result<AtomText, Stop>
+        ensures { Reads (attribute start.now) self.old.rest.now result self.new.rest.now }
+    {
+        self.literal(start)?;
+        let value = self.quoted(alloc)?;
+        self.literal(b"\"")?;
+        Ok(value)
+    }
+
+    /// The value of an attribute, where its name stands next.
+    pub(crate) fn optional_attribute(
+        &mut self,
+        alloc: Global,
+        start: &[u8],
+    ) -> Result<Option<AtomText>, Stop>
+        ensures { Reads (optional start.now (attribute start.now)) self.old.rest.now result self.new.rest.now }
+    {
+        if !self.at(start) {
+            return Ok(None);
+        }
+        Ok(Some(self.attribute(alloc, start)?))
+    }
+
+    /// The moment between these tags.
+    pub(crate) fn date(&mut self, start: &[u8], end: &[u8]) -> Result<Stamp, Stop>
+        ensures { Reads (date start.now end.now) self.old.rest.now result self.new.rest.now }
+    {
+        self.literal(start)?;
+        let moment = self.moment()?;
+        self.literal(end)?;
+        Ok(moment)
+    }
+
+    /// The moment between these tags, where the open tag stands next.
+    pub(crate) fn optional_date(&mut self, start: &[u8], end: &[u8]) -> Result<Option<Stamp>, Stop>
+        ensures { Reads (optional start.now (date start.now end.now)) self.old.rest.now result self.new.rest.now }
+    {
+        if !self.at(start) {
+            return Ok(None);
+        }
+        Ok(Some(self.date(start, end)?))
+    }
+
+    /// What a text is to be read as (RFC 4287 section 3.1.1).
+    fn kind(&mut self) -> Result<TextKind, Stop>
+        ensures { Reads kind self.old.rest.now result self.new.rest.now }
+    {
+        if !self.at(b" type=\"html\"") {
+            return Ok(TextKind::Plain);
+        }
+        self.literal(b" type=\"html\"")?;
+        Ok(TextKind::Html)
+    }
+
+    /// A text construct (RFC 4287 section 3.1), whose open tag begins so.
+    pub(crate) fn construct(
+        &mut self,
+        alloc: Global,
+        start: &[u8],
+        end: &[u8],
+    ) -> Result<Text, Stop>
+        requires { IsTrue (starts (codes "</") end.now) }
+        ensures { Reads (construct start.now end.now) self.old.rest.now result self.new.rest.now }
+    {
+        self.literal(start)?;
+        let kind = self.kind()?;
+        self.literal(b">")?;
+        let value = self.content(alloc)?;
+        self.literal(end)?;
+        Ok(Text { kind, value })
+    }
+
+    /// A text construct, where its open tag stands next.
+    pub(crate) fn optional_construct(
+        &mut self,
+        alloc: Global,
+        start: &[u8],
+        end: &[u8],
+    ) -> Result<Option<Text>, Stop>
+        requires { IsTrue (starts (codes "</") end.now) }
+        ensures { Reads (optional start.now (construct start.now end.now)) self.old.rest.now result self.new.rest.now }
+    {
+        if !self.at(start) {
+            return Ok(None);
+        }
+        Ok(Some(self.construct(alloc, start, end)?))
+    }
+}

@@ -1,0 +1,71 @@
+ghost use Rattle.std.specs.Prelude.{◌≡◌, codes, IfOk};
+ghost use Rattle.atom_values.specs.Listed.{Listed};
+ghost use Rattle.atom_values.specs.declared.link.Link.{Link};
+ghost use Rattle.atom_grammar.specs.Items.{relation, link, links};
+ghost use Rattle.atom_grammar.specs.Parts.{Reads, ReadsAs};
+
+use crate::reader::Reader;
+use crate::stop::Stop;
+use atom_values::{AtomText, Link, Many, NoMemory};
+use std::alloc::Global;
+
+/// The relation of a link that names none (RFC 4287 section 4.2.7.2).
+const ALTERNATE: &[u8] = b"alternate";
+
+impl Reader<'_> {
+    /// The relation of a link. `alternate` is never written.
+    fn relation(&mut self, alloc: Global) -> Result<AtomText, Stop>
+        ensures { Reads relation self.old.rest.now result self.new.rest.now }
+    {
+        let Some(relation) = self.optional_attribute(alloc, b" rel=\"")? else {
+            return Ok(alternate(alloc)?);
+        };
+        if relation.bytes() == ALTERNATE {
+            return Err(Stop::Unlike);
+        }
+        Ok(relation)
+    }
+
+    /// A link of an entry (RFC 4287 section 4.2.7).
+    fn link(&mut self, alloc: Global) -> Result<Link, Stop>
+        ensures { Reads link self.old.rest.now result self.new.rest.now }
+    {
+        self.literal(b"<link")?;
+        let rel = self.relation(alloc)?;
+        let href = self.attribute(alloc, b" href=\"")?;
+        let media = self.optional_attribute(alloc, b" type=\"")?;
+        let hreflang = self.optional_attribute(alloc, b" hreflang=\"")?;
+        let title = self.optional_attribute(alloc, b" title=\"")?;
+        let length = self.optional_attribute(alloc, b" length=\"")?;
+        self.literal(b"/>")?;
+        Ok(Link {
+            href,
+            rel,
+            media,
+            hreflang,
+            title,
+            length,
+        })
+    }
+
+    /// As many links as stand next, at most 32.
+    pub(crate) fn links(&mut self, alloc: Global) -> Result<Many<Link, 32>, Stop>
+        ensures { ReadsAs (λ (m : Listed Link). m.items) links self.old.rest.now result self.new.rest.now }
+    {
+        let mut links = Many::new(alloc);
+        while self.at(b"<link") {
+            links.push(self.link(alloc)?)?;
+        }
+        Ok(links)
+    }
+}
+
+/// The relation of a link that names none. Only memory can be wanting for this text.
+fn alternate(alloc: Global) -> Result<AtomText, NoMemory>
+    ensures { IfOk result (λ text. text ≡ codes "alternate") }
+{
+    match AtomText::of(alloc, ALTERNATE) {
+        Ok(text) => Ok(text),
+        Err(_) => Err(NoMemory),
+    }
+}

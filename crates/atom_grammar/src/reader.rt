@@ -1,0 +1,175 @@
+ghost use Rattle.std.specs.Prelude.{◌≡◌, ◌==◌, if◌then◌else◌, position, slice_index, ℕ, ◌<◌, ◌^◌, ℤ, length, decimal, IfSome, Some, MatchOption, true};
+ghost use Rattle.atom_values.specs.Stamp.{IsStamp, printed};
+ghost use Rattle.atom_grammar.specs.Parts.{Reads, starts, literal, content, quoted, moment, number, address, member, lacks, IsCutAt};
+
+use crate::stop::Stop;
+use atom_values::{AtomText, Stamp, unescape};
+use chain_links::{Address, Base};
+use deleted_entries::{FeedId, ID_LEN, number_of};
+use std::alloc::Global;
+
+/// The input from here on. It is read forward, once; after an `Err` it stands anywhere.
+#[derive(Drop)]
+pub(crate) struct Reader<'a> {
+    pub(crate) rest: &'a [u8],
+}
+
+impl<'a> Reader<'a> {
+    /// The whole input.
+    pub(crate) fn new(input: &'a [u8]) -> Reader<'a>
+        ensures { result.rest.now ≡ input.now }
+    {
+        Reader { rest: input }
+    }
+
+    /// How many bytes are left.
+    pub(crate) fn left(&self) -> usize
+        ensures { result ≡ length self.now.rest.now }
+    {
+        self.rest.len()
+    }
+
+    /// Whether these bytes stand next.
+    pub(crate) fn at(&self, bytes: &[u8]) -> bool
+        ensures { result ≡ starts bytes.now self.now.rest.now }
+    {
+        self.rest.starts_with(bytes)
+    }
+
+    /// Goes over these bytes.
+    pub(crate) fn literal(&mut self, bytes: &[u8]) -> Result<(), Stop>
+        ensures { Reads (literal bytes.now) self.old.rest.now result self.new.rest.now }
+    {
+        match self.rest.strip_prefix(bytes) {
+            Some(rest) => {
+                self.rest = rest;
+                Ok(())
+            }
+            None => Err(Stop::Unlike),
+        }
+    }
+
+    /// What stands before the next such byte.
+    pub(crate) fn up_to(&mut self, byte: u8) -> Option<&'a [u8]>
+        ensures { MatchOption result (lacks byte self.old.rest.now ≡ true) (λ front. IsCutAt byte self.old.rest.now front.now self.new.rest.now) }
+    {
+        let at = first(self.rest, byte)?;
+        let (front, rest) = self.rest.split_at(at);
+        self.rest = rest;
+        Some(front)
+    }
+
+    /// A text as it is written in an element, up to the next tag.
+    pub(crate) fn content(&mut self, alloc: Global) -> Result<AtomText, Stop>
+        ensures { Reads content self.old.rest.now result self.new.rest.now }
+    {
+        let Some(written) = self.up_to(b'<') else {
+            return Err(Stop::Unlike);
+        };
+        let Some(text) = unescape(alloc, written, false)? else {
+            return Err(Stop::Unlike);
+        };
+        Ok(text)
+    }
+
+    /// A text as it is written in an attribute, up to the quote.
+    pub(crate) fn quoted(&mut self, alloc: Global) -> Result<AtomText, Stop>
+        ensures { Reads quoted self.old.rest.now result self.new.rest.now }
+    {
+        let Some(written) = self.up_to(b'"') else {
+            return Err(Stop::Unlike);
+        };
+        let Some(text) = unescape(alloc, written, true)? else {
+            return Err(Stop::Unlike);
+        };
+        Ok(text)
+    }
+
+    /// A moment in its printed form (RFC 3339 section 5.6).
+    pub(crate) fn moment(&mut self) -> Result<Stamp, Stop>
+        ensures { Reads moment self.old.rest.now result self.new.rest.now }
+    {
+        let Some((written, rest)) = self.rest.split_at_checked(moment_len(self.rest)) else {
+            return Err(Stop::Unlike);
+        };
+        let Some(moment) = printed_moment(written) else {
+            return Err(Stop::Unlike);
+        };
+        self.rest = rest;
+        Ok(moment)
+    }
+
+    /// A decimal number below 2 ^ 32 without leading zeros, up to the quote.
+    pub(crate) fn number(&mut self) -> Result<u32, Stop>
+        ensures { Reads number self.old.rest.now result self.new.rest.now }
+    {
+        let Some(digits) = self.up_to(b'"') else {
+            return Err(Stop::Unlike);
+        };
+        whole_number(digits).ok_or(Stop::Unlike)
+    }
+
+    /// The address of a document below the base, up to the quote.
+    pub(crate) fn address(&mut self, base: &Base) -> Result<Address, Stop>
+        ensures { Reads (address base.now) self.old.rest.now result self.new.rest.now }
+    {
+        if !self.at(base.text()) {
+            return Err(Stop::Unlike);
+        }
+        let Some(written) = self.up_to(b'"') else {
+            return Err(Stop::Unlike);
+        };
+        base.read(written).ok_or(Stop::Unlike)
+    }
+
+    /// The identifier of a member of the feed, which is its number (RFC 4287 section 4.2.6).
+    pub(crate) fn member(&mut self, feed: &FeedId) -> Result<u32, Stop>
+        ensures { Reads (member feed.now) self.old.rest.now result self.new.rest.now }
+    {
+        let Some((id, rest)) = self.rest.split_at_checked(ID_LEN) else {
+            return Err(Stop::Unlike);
+        };
+        self.rest = rest;
+        number_of(feed, id).ok_or(Stop::Unlike)
+    }
+}
+
+/// The place of the first such byte.
+fn first(text: &[u8], byte: u8) -> Option<usize>
+    ensures { result ≡ position (λ x. x == byte) text.now }
+{
+    text.iter().position(|next| *next == byte)
+}
+
+/// How many bytes the moment has that the text begins with: the fraction is three digits or none.
+fn moment_len(text: &[u8]) -> usize
+    ensures { result ≡ (if slice_index text.now 19 == 90 then 20 else 24) }
+{
+    if text.get(19) == Some(&b'Z') { 20 } else { 24 }
+}
+
+/// The moment whose printed form the whole text is.
+fn printed_moment(text: &[u8]) -> Option<Stamp>
+    ensures found { IfSome result (λ z. IsStamp z × (text.now ≡ printed z)) }
+    ensures only { (z : ℤ) → IsStamp z → text.now ≡ printed z → result ≡ Some z }
+{
+    let moment = Stamp::parse(text)?;
+    let mut room = [0; 24];
+    let length = moment.print(&mut room);
+    if &room[..length] == text {
+        Some(moment)
+    } else {
+        None
+    }
+}
+
+/// The decimal number without leading zeros that the whole text is.
+pub(crate) fn whole_number(text: &[u8]) -> Option<u32>
+    ensures found { IfSome result (λ n. (n < 2 ^ 32) × (text.now ≡ decimal n)) }
+    ensures only { (n : ℕ) → n < 2 ^ 32 → text.now ≡ decimal n → result ≡ Some n }
+{
+    if text == b"0".as_slice() {
+        return Some(0);
+    }
+    chain_links::whole_number(text)
+}

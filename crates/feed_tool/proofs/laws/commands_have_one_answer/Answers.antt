@@ -1,0 +1,5 @@
+use Rattle.feed_tool.proofs.OneAnswer.{answer_once}
+use Rattle.feed_tool.proofs.laws.commands_have_one_answer.Goals as goal
+
+pub returns : goal.returns
+returns c = answer_once
