@@ -1,3 +1,4 @@
+pub mod Ends
 pub mod FaultLemmas
 pub mod Fronts
 pub mod Histories

@@ -13,6 +13,11 @@ abbrev pub IsAnswer : Command → (ℕ → ℕ) → List ℕ → Answer → Type
 IsAnswer (Apply window) moments input given = answer (test_head window) moments input ≡ given
 IsAnswer Show moments input given = IsShown input given
 
+-- a command that asks the clock
+abbrev pub AsksClock : Command → Type 0
+AsksClock (Apply window) = Unit {0}
+AsksClock Show = ⊥
+
 abbrev pub OneAnswer : Type 0
 OneAnswer = (command : Command) (moments : ℕ → ℕ) (input : List ℕ) (one other : Answer) → IsAnswer command moments input one
     → IsAnswer command moments input other → one ≡ other

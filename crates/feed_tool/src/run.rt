@@ -2,7 +2,7 @@ ghost use Rattle.std.specs.Prelude.{◌≡◌, ◌↔◌, ◌≤◌, ◌++◌, N
 ghost use Rattle.atom_values.specs.Counts.{Rose, HasCause};
 ghost use Rattle.feed_tool.specs.Words.{command_of, HasRange};
 ghost use Rattle.feed_tool.specs.Apply.{Answer, fault_answer, of_member, IsRefusal, Prints, TakesFront};
-ghost use Rattle.feed_tool.specs.Run.{IsAnswer, IsUnrefusedBy, IsStatus, IsAnswered, EndsWith, IsComplete, IsAlone, alone_line};
+ghost use Rattle.feed_tool.specs.Run.{AsksClock, IsAnswer, IsUnrefusedBy, IsStatus, IsAnswered, EndsWith, IsComplete, IsAlone, alone_line};
 
 use crate::apply::{Fault, apply};
 use crate::outside::{Clock, Sink, Source};
@@ -37,10 +37,10 @@ pub fn run<C: Clock, I: Source, O: Sink>(
     ensures statuses { IsStatus result.status }
     ensures usage { (result.status ≡ 2) ↔ (command_of (map string_bytes words.now) ≡ None) }
 
-    // Where the input and the clock tell their content, the command has the answer that the end goes by: its status, and
-    // what the output took.
-    ensures answered { I.told → C.told → IfSome (command_of (map string_bytes words.now)) (λ command.
-        IsAnswered result.status
+    // Where the input and a clock that is asked tell their content, the command has the answer that the end goes by: its
+    // status, and what the output took.
+    ensures answered { I.told → IfSome (command_of (map string_bytes words.now)) (λ command.
+        (AsksClock command → C.told) → IsAnswered result.status
         → EndsWith command (C.coming clock.old) (I.state input.old).left O.told (O.state output.old) (O.state output.new) result.status) }
 
     // The other ends print their line, which says nothing of the input.
@@ -49,12 +49,12 @@ pub fn run<C: Clock, I: Source, O: Sink>(
     // A failure comes only where the object's count rose, and nothing that was read before it is refused.
     ensures input_fault { result.status ≡ 9 → Rose (I.state input.old).faults (I.state input.new).faults }
     ensures output_fault { result.status ≡ 8 → Rose (O.state output.old).faults (O.state output.new).faults }
-    ensures first_fault { I.told → C.told → IfSome (command_of (map string_bytes words.now)) (λ command.
-        result.status ≡ 9 → IsUnrefusedBy command (C.coming clock.old) (I.state input.old) (I.state input.new)) }
+    ensures first_fault { I.told → IfSome (command_of (map string_bytes words.now)) (λ command.
+        (AsksClock command → C.told) → result.status ≡ 9 → IsUnrefusedBy command (C.coming clock.old) (I.state input.old) (I.state input.new)) }
 
     // With a command's words and no failure, the end is the answer's or want of memory.
-    ensures complete { I.told → C.told → IfSome (command_of (map string_bytes words.now)) (λ command.
-        (given : Answer) → IsAnswer command (C.coming clock.old) (I.state input.old).left given
+    ensures complete { I.told → IfSome (command_of (map string_bytes words.now)) (λ command.
+        (AsksClock command → C.told) → (given : Answer) → IsAnswer command (C.coming clock.old) (I.state input.old).left given
         → IsComplete (I.state input.old) (I.state input.new) (O.state output.old) (O.state output.new) given.status result.status) }
 {
     let Some(command) = command_of(words) else {
@@ -83,10 +83,10 @@ fn answer<C: Clock, I: Source>(
     input: &mut I,
 ) -> Result<Vec<u8>, Fault>
     requires { HasRange command }
-    ensures answer { IfOk result (λ written. I.told → C.told → IsAnswer command (C.coming clock.old) (I.state input.old).left record { status = 0; printed = written.items }) }
-    ensures refused { IfErr result (λ fault. IsRefusal fault → I.told → C.told → IsAnswer command (C.coming clock.old) (I.state input.old).left (fault_answer fault)) }
+    ensures answer { IfOk result (λ written. I.told → (AsksClock command → C.told) → IsAnswer command (C.coming clock.old) (I.state input.old).left record { status = 0; printed = written.items }) }
+    ensures refused { IfErr result (λ fault. IsRefusal fault → I.told → (AsksClock command → C.told) → IsAnswer command (C.coming clock.old) (I.state input.old).left (fault_answer fault)) }
     ensures input { result ≡ Err Fault.Input → Rose (I.state input.old).faults (I.state input.new).faults }
-    ensures unrefused { result ≡ Err Fault.Input → I.told → C.told → IsUnrefusedBy command (C.coming clock.old) (I.state input.old) (I.state input.new) }
+    ensures unrefused { result ≡ Err Fault.Input → I.told → (AsksClock command → C.told) → IsUnrefusedBy command (C.coming clock.old) (I.state input.old) (I.state input.new) }
     ensures faults { (I.state input.old).faults ≤ (I.state input.new).faults }
 {
     match command {
