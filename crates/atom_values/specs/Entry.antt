@@ -1,5 +1,5 @@
 -- What contracts see of entries (RFC 4287 section 4.1.2) and drafts, and what makes an entry of a draft.
-use Rattle.std.specs.Prelude.{◌≡◌, ℕ, ◌<◌, ◌≤◌, ◌^◌, Option, Some, List, [], ℤ, ◌||◌, false, IsTrue, IfSome, is_some, unwrap_or, int_lt, if◌then◌else◌}
+use Rattle.std.specs.Prelude.{◌≡◌, ℕ, ◌<◌, ◌≤◌, ◌^◌, Option, Some, None, List, [], ℤ, ◌||◌, false, IsTrue, IfSome, is_some, unwrap_or, int_lt, if◌then◌else◌}
 use Rattle.atom_values.specs.declared.text.Text.{Text}
 use Rattle.atom_values.specs.declared.text.TextKind.TheVariants.{Plain}
 use Rattle.atom_values.specs.declared.person.Person.{Person}
@@ -80,6 +80,22 @@ pub record IsDraft (d : DraftValue) : Type 0 where
   pub rights : IfSome d.rights IsText
   pub summary : IfSome d.summary IsText
   pub content : IfSome d.content IsText
+
+-- a draft with this plain title and nothing else
+abbrev pub titled : List ℕ → DraftValue
+titled title = record {
+  id = None;
+  title = record { kind = Plain; value = title };
+  updated = None;
+  published = None;
+  authors = [];
+  contributors = [];
+  links = [];
+  categories = [];
+  rights = None;
+  summary = None;
+  content = None;
+}
 
 -- the empty plain text
 abbrev pub empty_text : Text

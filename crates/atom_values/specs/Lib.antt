@@ -1,3 +1,4 @@
+pub mod Ascii
 pub mod Category
 pub mod Counts
 pub mod DateText
@@ -5,6 +6,7 @@ pub mod Entry
 pub mod Escape
 pub mod Link
 pub mod Listed
+pub mod ListedCalls
 pub mod Person
 pub mod Stamp
 pub mod XmlText

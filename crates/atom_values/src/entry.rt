@@ -120,7 +120,29 @@ fn shown(content: Option<Text>, links: &[Link], alloc: Global) -> Option<Text>
 
 impl Draft {
     ghost use Rattle.std.specs.Prelude.{◌≤◌};
-    ghost use Rattle.atom_values.specs.Entry.{normal};
+    ghost use Rattle.atom_values.specs.Entry.{normal, titled};
+
+    /// A draft with this plain title and nothing else. Takes no memory.
+    pub fn titled(alloc: Global, title: AtomText) -> Draft
+        ensures { result ≡ titled title }
+    {
+        Draft {
+            id: None,
+            title: Text {
+                kind: TextKind::Plain,
+                value: title,
+            },
+            updated: None,
+            published: None,
+            authors: Many::new(alloc),
+            contributors: Many::new(alloc),
+            links: Many::new(alloc),
+            categories: Many::new(alloc),
+            rights: None,
+            summary: None,
+            content: None,
+        }
+    }
 
     /// The entry that the server makes of the draft for member `number` at this moment. `stored` is the
     /// stored entry's `updated`, where one is replaced. Takes no memory.

@@ -1,6 +1,6 @@
 ghost use Rattle.std.specs.Prelude.{◌≡◌, ℕ, ◌<◌, ◌≤◌, ◌*◌, ◌++◌, [], ◌∷◌, length, OnOk, OnErr, IfOk, IfErr, MatchOption, slice_index};
 ghost use Rattle.atom_values.specs.Escape.{escaped, escaped_byte, IsNotWritten, IsReadBack};
-ghost use Rattle.atom_values.specs.XmlText.{IsXmlText, is_xml_char, xml_text_len};
+ghost use Rattle.atom_values.specs.XmlText.{IsAtomText, IsXmlText, is_xml_char, xml_text_len};
 
 use crate::copies::Copies;
 use crate::memory::NoMemory;
@@ -88,7 +88,7 @@ fn first_fault(bytes: &[u8]) -> Option<usize>
 }
 
 impl AtomText {
-    ghost use Rattle.atom_values.specs.XmlText.{IsAtomText, IsTextFault};
+    ghost use Rattle.atom_values.specs.XmlText.{IsTextFault};
 
     /// The text with these bytes. `TooLong` comes past `MAX_TEXT` bytes, whatever they are; `NotXmlChar` where they
     /// aren't UTF-8 (RFC 3629) of XML characters, with the place of the first sequence that isn't one.
@@ -202,6 +202,7 @@ pub fn escape_into(out: &mut Vec<u8>, text: &AtomText, quoted: bool) -> Result<(
     ensures ok { OnOk result (out.new.items ≡ out.old.items ++ escaped quoted text.now) }
     ensures err { OnErr result (out.new.items ≡ out.old.items) }
     ensures bound { length (escaped quoted text.now) ≤ 6 * MAX_TEXT }
+    ensures rules { IsAtomText text.now }
 {
     out.reserve(escaped_len(text, quoted))?;
     let bytes = text.bytes();
@@ -221,6 +222,7 @@ pub fn escape_into(out: &mut Vec<u8>, text: &AtomText, quoted: bool) -> Result<(
 pub fn escaped_len(text: &AtomText, quoted: bool) -> usize
     ensures length { result ≡ length (escaped quoted text.now) }
     ensures bound { result ≤ 6 * MAX_TEXT }
+    ensures rules { IsAtomText text.now }
 {
     let mut total = 0;
     for byte in text.bytes() {
