@@ -1,13 +1,16 @@
 -- The faults that end the lines, as faults of the command.
 use Rattle.std.proofs.Common.{◌≡◌, refl}
-use Rattle.feed_tool.specs.declared.lines.LinesFault.{LinesFault}
-use Rattle.feed_tool.specs.declared.lines.LinesFault.TheVariants as lines
-use Rattle.feed_tool.specs.declared.apply.Fault.{Fault}
-use Rattle.feed_tool.specs.declared.apply.Fault.TheVariants.{TooLong, Input}
-use Rattle.feed_tool.specs.Apply.{IsRefusal, lines_fault}
+use Rattle.feed_tool.specs.declared.commands.lines.LinesFault.{LinesFault}
+use Rattle.feed_tool.specs.declared.commands.lines.LinesFault.TheVariants as lines
+use Rattle.feed_tool.specs.declared.fault.Fault.{Fault}
+use Rattle.feed_tool.specs.declared.fault.Fault.TheVariants.{Input, Refused}
+use Rattle.feed_tool.specs.declared.fault.Refusal.TheVariants.{TooLong}
+use Rattle.feed_tool.specs.Apply.{lines_fault}
+use Rattle.feed_tool.specs.Fault.{IsRefusal}
 
--- of the faults that end the lines, one is a refusal
-pub refusal-of_lines : (P : Fault → Type 0) (fault : LinesFault) → (fault ≡ lines.TooLong → P TooLong) → IsRefusal (lines_fault fault) → P (lines_fault fault)
+-- one of the faults that end the lines is a refusal
+pub refusal-of_lines : (P : Fault → Type 0) (fault : LinesFault) → (fault ≡ lines.TooLong → P (Refused TooLong))
+    → IsRefusal (lines_fault fault) → P (lines_fault fault)
 refusal-of_lines P lines.TooLong h r = h refl
 refusal-of_lines P lines.Input h r = absurd r
 refusal-of_lines P lines.NoMemory h r = absurd r

@@ -13,13 +13,15 @@ use Rattle.std.proofs.lemmas.Str.Parse.{numerals_by_value, tells_digits}
 use Rattle.atom_values.specs.declared.text.TextFault.{TextFault}
 use Rattle.atom_values.specs.declared.text.TextFault.TheVariants.{TooLong, NotXmlChar, NoMemory}
 use Rattle.atom_values.specs.Category.{IsCategory}
-use Rattle.atom_values.specs.Entry.{DraftValue, IsDraft}
+use Rattle.atom_values.specs.Entry.{DraftValue, IsDraft, titled}
 use Rattle.atom_values.specs.Link.{IsLink}
 use Rattle.atom_values.specs.Person.{IsPerson}
 use Rattle.atom_values.specs.XmlText.{is_xml_text, xml_text_len, xml_len_up_to, IsAtomText, IsTextFault}
 use Rattle.member_rules.specs.declared.ask.Ask.{Ask}
 use Rattle.member_rules.specs.declared.ask.Ask.TheVariants.{Create, Replace, Delete}
-use Rattle.feed_tool.specs.Lines.{HasNo, HasNoLf, IsFirst, change_by, change_of, draft_of, ended_lines, kept, line_ask, lines, member_number, onto_ended, onto_first, parted, title_draft, title_limit}
+use Rattle.atom_values.specs.Ascii.{lf, space}
+use Rattle.feed_tool.specs.Line.{change_by, change_of, draft_of, line_ask, member_number, parted, prefix_limit, title_limit}
+use Rattle.feed_tool.specs.Lines.{HasNo, HasNoLf, IsFirst, ended_lines, lines, onto_ended, onto_first}
 
 -- a byte that is no LF goes on with a line
 goes_on : (b : ℕ) (x y : List (List ℕ)) → b ≢ 10 → cond (eqb b 10) x y ≡ y
@@ -82,15 +84,15 @@ draft_of-long title h = let long : nat_le (length title) title_limit ≡ false =
 
 pub draft_of-no_text : (title : List ℕ) → is_xml_text title ≡ false → draft_of title ≡ None
 unfolding draft_of
-draft_of-no_text title h = elim (nat_le (length title) title_limit) as (λ b. (if b && is_xml_text title then Some (title_draft title) else None) ≡ None) [ true ↦ rw h refl | false ↦ refl ]
+draft_of-no_text title h = elim (nat_le (length title) title_limit) as (λ b. (if b && is_xml_text title then Some (titled title) else None) ≡ None) [ true ↦ rw h refl | false ↦ refl ]
 
-pub draft_of-text : (title : List ℕ) → length title ≤ title_limit → IsAtomText title → draft_of title ≡ Some (title_draft title)
+pub draft_of-text : (title : List ℕ) → length title ≤ title_limit → IsAtomText title → draft_of title ≡ Some (titled title)
 unfolding draft_of
 draft_of-text title short h = let few : nat_le (length title) title_limit ≡ true = le-leb (length title) title_limit short in rw (few, h.xml) refl
 
 -- what a title's draft keeps
-pub title_draft-rules : (title : List ℕ) → IsAtomText title → IsDraft (title_draft title)
-title_draft-rules title h = record {
+pub titled-rules : (title : List ℕ) → IsAtomText title → IsDraft (titled title)
+titled-rules title h = record {
   id = tt;
   title = h;
   updated = tt;
@@ -225,14 +227,14 @@ line_ask-long line h =
     same_choice false false true = refl
     same_choice false false false = refl
 
--- a line asks what its kept front asks
-pub line_ask-kept : (line : List ℕ) → line_ask (take kept line) ≡ line_ask line
-line_ask-kept line = ⊎_elim
+-- a line asks what its kept prefix asks
+pub line_ask-prefix : (line : List ℕ) → line_ask (take prefix_limit line) ≡ line_ask line
+line_ask-prefix line = ⊎_elim
     (λ long.
-    let front : length (take kept line) ≡ kept = length-take-le kept line (omega arith) in
-    line_ask-long (take kept line) (omega arith) ∙ sym (line_ask-long line (omega arith)))
-    (λ short. ap line_ask (take_all kept line short))
-    (cases_lt kept (length line))
+    let front : length (take prefix_limit line) ≡ prefix_limit = length-take-le prefix_limit line (omega arith) in
+    line_ask-long (take prefix_limit line) (omega arith) ∙ sym (line_ask-long line (omega arith)))
+    (λ short. ap line_ask (take_all prefix_limit line short))
+    (cases_lt prefix_limit (length line))
 
 swapped : (xs ys : List ℕ) → bytes_eq xs ys ≡ true → bytes_eq ys xs ≡ true
 swapped xs ys h = (bytes_eq-Decides ys xs).1 (sym ((bytes_eq-Decides xs ys).0 h))

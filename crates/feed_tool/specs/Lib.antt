@@ -1,6 +1,10 @@
+pub mod Status
 pub mod Outside
+pub mod Answer
 pub mod Words
+pub mod Line
 pub mod Lines
+pub mod Fault
 pub mod Apply
 pub mod Show
 pub mod Run

@@ -13,10 +13,12 @@ use Rattle.atom_writer.specs.Doc.{DocValue, IsDoc}
 use Rattle.atom_writer.specs.Pieces.{text}
 use Rattle.atom_grammar.specs.Refusal.{IsNoDocument, IsPlaceOfRefusal}
 use Rattle.feed_tool.specs.Outside.{SourceState}
-use Rattle.feed_tool.specs.declared.apply.Fault.TheVariants.{TooLong, BadDocument}
-use Rattle.feed_tool.specs.Apply.{Answer, fault_answer}
+use Rattle.feed_tool.specs.declared.fault.Refusal.TheVariants.{TooLong, BadDocument}
+use Rattle.feed_tool.specs.declared.status.Status.TheVariants.{Done}
+use Rattle.feed_tool.specs.Answer.{Answer}
+use Rattle.feed_tool.specs.Fault.{refusal_answer}
 
--- the most bytes of a document
+-- how many bytes a document may have
 abbrev pub document_limit : ℕ
 document_limit = 67_108_864
 
@@ -62,7 +64,7 @@ summary d = head_lines d ++ flat_map item_line d.items
 -- the input has more bytes than any document
 pub record IsPast (input : List ℕ) (answer : Answer) : Type 0 where
   pub past : document_limit < length input
-  pub is : answer ≡ fault_answer TooLong
+  pub is : answer ≡ refusal_answer TooLong
 
 -- the input is the text of a document
 pub record IsSummary (input : List ℕ) (answer : Answer) : Type 0 where
@@ -70,22 +72,22 @@ pub record IsSummary (input : List ℕ) (answer : Answer) : Type 0 where
   pub document : DocValue
   pub lawful : IsDoc document
   pub split : input ≡ text document
-  pub is : answer ≡ record { status = 0; printed = summary document }
+  pub is : answer ≡ record { status = Done; printed = summary document }
 
--- the input is no document's, and is refused at this place
+-- the input isn't the text of a document, and is refused at this offset
 pub record IsBadDocument (input : List ℕ) (answer : Answer) : Type 0 where
   pub within : length input ≤ document_limit
   pub none : IsNoDocument input
-  pub at : ℕ
-  pub place : IsPlaceOfRefusal input at
-  pub is : answer ≡ fault_answer (BadDocument at)
+  pub offset : ℕ
+  pub place : IsPlaceOfRefusal input offset
+  pub is : answer ≡ refusal_answer (BadDocument offset)
 
 -- how `show` ends by its input
 abbrev pub IsShown : List ℕ → Answer → Type 0
 IsShown input answer = IsPast input answer ⊎ IsSummary input answer ⊎ IsBadDocument input answer
 
--- no more than a document's bytes were read before a failure
-pub record StopsWithin (before after : SourceState) : Type 0 where
+-- the bytes that were read before a call failed are within the limit
+pub record ReadsWithinLimit (before after : SourceState) : Type 0 where
   pub read : List ℕ
   pub from : before.left ≡ read ++ after.left
   pub within : length read ≤ document_limit

@@ -1,37 +1,42 @@
-//! The program: one command for each thing that a feed needs.
-//! `run` ends with the status and prints the text that its clauses define, for every input.
-//! Stands on the crates of the workspace; the objects outside are traits, whose real ones are thin adapters.
+//! The program `feed_tool`: one command for each thing that a feed needs.
+//!
+//! Begin with [`run::run`], which does all the work: for every input, clock and failure its contract says which exit status
+//! the program ends with and which bytes it prints. A test calls it as `main` does, with objects in memory:
+//!
+//! ```text
+//! let mut clock = SetClock::new(moments);
+//! let mut input = ListSource::new(Bytes::of(alloc, b"add Hello\n")?, Many::new(alloc));
+//! let mut output = ListSink::new(alloc, Many::new(alloc));
+//! let ended = run(alloc, &words, &mut clock, &mut input, &mut output);
+//! assert_eq!(rt; ended.status, 0);
+//! ```
+//!
+//! The commands are in `commands`. The objects outside the program are traits in `outside`: those of the system are thin
+//! adapters, and those in memory are for tests.
+//!
+//! Stands on `archive_sealer` and `atom_grammar` for the documents, and on the crates below them.
 #![tactic(auto)]
 
-mod apply;
-#[cfg(test)]
-mod chain_tests;
+mod commands;
+mod fault;
 mod laws;
-mod lines;
-mod memory;
 mod outside;
-mod real;
+mod print;
 mod run;
-mod show;
-#[cfg(test)]
-mod show_tests;
-mod summary;
+mod status;
 #[cfg(test)]
 mod tests;
 mod words;
 
-use crate::real::{InputSource, OutputSink, SystemClock};
+use crate::fault::Fault;
+use crate::outside::system::{InputSource, OutputSink, SystemClock};
+use crate::run::{end_with, run};
+use crate::words::given_words;
+use std::io;
 use std::process::ExitCode;
-use std::{env, io};
 
-fn main(rt: HostRuntime) -> io::Result<ExitCode> {
-    let mut words = Vec::new(rt.alloc());
-    for word in env::args(&rt)?.skip(1) {
-        words.push(word)?;
-    }
-    let mut clock = SystemClock {
-        runtime: rt.clone()?,
-    };
+fn main(rt: HostRuntime) -> ExitCode {
+    let mut clock = SystemClock { runtime: &rt };
     let mut input = InputSource {
         reader: rt.reader(),
         faults: 0,
@@ -40,12 +45,15 @@ fn main(rt: HostRuntime) -> io::Result<ExitCode> {
         writer: io::writer(&rt),
         faults: 0,
     };
-    let ended = run::run(
-        rt.alloc(),
-        words.as_slice(),
-        &mut clock,
-        &mut input,
-        &mut output,
-    );
-    Ok(ExitCode::from(ended.status))
+    let ended = match given_words(&rt) {
+        Ok(words) => run(
+            rt.alloc(),
+            words.as_slice(),
+            &mut clock,
+            &mut input,
+            &mut output,
+        ),
+        Err(error) => end_with(&mut output, Fault::from(error)),
+    };
+    ExitCode::from(ended.status)
 }

@@ -1,18 +1,23 @@
-ghost use Rattle.std.specs.Prelude.{◌≡◌, ℕ, ◌+◌, ◌≤◌, ◌<◌, ◌++◌, [], length, take, drop, IfOk, OnErr, OnOk};
+//! The objects outside the program: a clock, an input and an output, as traits.
+
+ghost use Rattle.std.specs.Prelude.{◌≡◌, ℕ, ◌+◌, ◌≤◌, ◌<◌, ◌++◌, [], length, take, drop, IfOk, OnErr};
 ghost use Rattle.atom_values.specs.Counts.{HasCause};
 ghost use Rattle.feed_tool.specs.Outside.{SourceState, SinkState};
+
+pub mod memory;
+pub mod system;
 
 use atom_values::Failed;
 
 /// A clock, in milliseconds since 1970-01-01T00:00:00Z. It may go back, and never fails.
 pub trait Clock {
-    /// Whether the clock tells its moments.
+    /// Whether contracts can see the moments of the clock.
     ghost told: { Type 0 };
 
-    /// The moments that the coming calls give, in order.
+    /// The moments that the coming calls return, in order.
     ghost coming: { Self → ℕ → ℕ };
 
-    /// The moment.
+    /// Returns the moment.
     fn now(&mut self) -> u64
         ensures moment { told → result ≡ coming self.old 0 }
         ensures later { told → (k : ℕ) → coming self.new k ≡ coming self.old (k + 1) };
@@ -20,16 +25,19 @@ pub trait Clock {
 
 /// An input that is read once, from its beginning.
 pub trait Source {
-    /// Whether the input tells what it has left.
+    /// Whether contracts can see the bytes that are left.
     ghost told: { Type 0 };
 
+    /// The bytes that are left, and the count of faults.
     ghost state: { Self → SourceState };
 
-    /// Reads some bytes to the front of `into`, and answers how many. A buffer that isn't empty gets none only at the
-    /// end. A failure is counted, and takes no byte.
+    /// Reads bytes into the start of `into` and returns how many. A buffer that isn't empty gets none only at the end.
+    ///
+    /// `Failed`: the call failed. It is counted as a fault, and no byte is taken.
     fn read(&mut self, into: &mut [u8]) -> Result<usize, Failed>
         ensures within { IfOk result (λ count. count ≤ length into.old) }
-        ensures bytes { IfOk result (λ count. told → (state self.old).left ≡ take count into.new ++ (state self.new).left) }
+        ensures bytes { IfOk result (λ count. told
+            → (state self.old).left ≡ take count into.new ++ (state self.new).left) }
         ensures end { IfOk result (λ count. told → count ≡ 0 → 0 < length into.old → (state self.old).left ≡ []) }
         ensures err { OnErr result (told → (state self.new).left ≡ (state self.old).left) }
         ensures counts { HasCause (state self.old).faults (state self.new).faults result };
@@ -37,17 +45,20 @@ pub trait Source {
 
 /// An output.
 pub trait Sink {
-    /// Whether the output tells what it took.
+    /// Whether contracts can see the bytes that were taken.
     ghost told: { Type 0 };
 
+    /// The bytes that were taken, and the count of faults.
     ghost state: { Self → SinkState };
 
-    /// Takes some bytes from the front, and answers how many: at least one where there is one. A failure is counted,
-    /// and nothing is taken.
+    /// Takes bytes from the start of `from` and returns how many: at least one unless `from` is empty.
+    ///
+    /// `Failed`: the call failed. It is counted as a fault, and no byte is taken.
     fn write(&mut self, from: &[u8]) -> Result<usize, Failed>
         ensures within { IfOk result (λ count. count ≤ length from.now) }
         ensures some { IfOk result (λ count. 0 < length from.now → 0 < count) }
-        ensures bytes { IfOk result (λ count. told → (state self.new).taken ≡ (state self.old).taken ++ take count from.now) }
+        ensures bytes { IfOk result (λ count. told
+            → (state self.new).taken ≡ (state self.old).taken ++ take count from.now) }
         ensures err { OnErr result (told → (state self.new).taken ≡ (state self.old).taken) }
         ensures counts { HasCause (state self.old).faults (state self.new).faults result };
 }

@@ -3,6 +3,27 @@ ghost use Rattle.std.specs.List.{list_all};
 ghost use Rattle.std.specs.Char.{is_ascii_digit};
 ghost use Rattle.feed_tool.specs.Words.{is_number, number_value, command_of, is_show, window_of, window_word, HasRange};
 
+use atom_values::NoMemory;
+use std::env;
+use std::io::ErrorKind;
+use std::alloc::{AllocGlobal, Global};
+use std::rt::Env;
+
+/// Returns the words behind the program's name. If one of them, or the program's own name, isn't UTF-8, the list is empty,
+/// which names no command.
+pub fn given_words<R: Env + AllocGlobal>(rt: &R) -> Result<Vec<String>, NoMemory> {
+    let args = match env::args(rt) {
+        Ok(args) => args,
+        Err(error) if error.kind() == ErrorKind::OutOfMemory => return Err(NoMemory),
+        Err(_) => return Ok(Vec::new(rt.alloc())),
+    };
+    let mut words = Vec::new(rt.alloc());
+    for word in args.skip(1) {
+        words.push(word)?;
+    }
+    Ok(words)
+}
+
 /// A command, with its values.
 #[derive(Clone, Copy, Debug, PartialEq, Eq)]
 pub enum Command {
@@ -12,7 +33,7 @@ pub enum Command {
     Show,
 }
 
-/// The command that the words name; `None` where they are no command's.
+/// Returns the command that the words name. `None`: they name no command.
 pub fn command_of(words: &[String]) -> Option<Command>
     ensures command { result ≡ command_of (map string_bytes words.now) }
     ensures range { IfSome result HasRange }

@@ -1,4 +1,4 @@
-use Rattle.feed_tool.proofs.OneAnswer.{answer_once}
+use Rattle.feed_tool.proofs.AnswerLemmas.{answer_once}
 use Rattle.feed_tool.proofs.laws.commands_have_one_answer.Goals as goal
 
 pub returns : goal.returns

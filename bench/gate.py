@@ -1,0 +1,73 @@
+#!/usr/bin/env python3
+"""Measures what the gate costs: runs `rt ci --anew` and adds up the processor seconds of each crate.
+
+Usage: bench/gate.py. It prints a line for each crate with the seconds of its check, its tests and its must-fail edits, and
+their sums. The seconds are read from /proc every quarter of a second, so a process loses at most its last quarter.
+"""
+
+import os
+import re
+import subprocess
+import time
+
+TICKS = os.sysconf("SC_CLK_TCK")
+
+
+def processes():
+    """Yields the number, the words, the folder and the processor seconds of each of the prover's processes."""
+    for name in os.listdir("/proc"):
+        if not name.isdigit():
+            continue
+        try:
+            with open(f"/proc/{name}/cmdline", "rb") as file:
+                words = file.read().decode(errors="replace").split("\0")
+            if not words[0].endswith("/rattle"):
+                continue
+            with open(f"/proc/{name}/stat") as file:
+                fields = file.read().rsplit(")", 1)[1].split()
+            folder = os.readlink(f"/proc/{name}/cwd")
+        except (OSError, IndexError):
+            continue
+        yield (name, fields[19]), words, folder, (int(fields[11]) + int(fields[12])) / TICKS
+
+
+def kind_of(words, folder):
+    text = " ".join(words) + folder
+    if "rt-edits" in text:
+        return "edits"
+    return "tests" if "--test" in words else "check"
+
+
+def main():
+    seen = {}
+    began = time.time()
+    gate = subprocess.Popen(["rt", "ci", "--anew"], stdout=subprocess.PIPE, stderr=subprocess.STDOUT, text=True)
+    os.set_blocking(gate.stdout.fileno(), False)
+    last = ""
+    while gate.poll() is None:
+        for key, words, folder, seconds in processes():
+            crate = words[words.index("--crate-name") + 1] if "--crate-name" in words else "other"
+            seen[key] = (crate, kind_of(words, folder), seconds)
+        for line in gate.stdout:
+            if re.match(r"\d+ passed, \d+ failed", line):
+                last = line.strip()
+        time.sleep(0.25)
+    for line in gate.stdout:
+        if re.match(r"\d+ passed, \d+ failed", line):
+            last = line.strip()
+    kinds = ["check", "tests", "edits"]
+    table = {}
+    for crate, kind, seconds in seen.values():
+        table.setdefault(crate, dict.fromkeys(kinds, 0.0))[kind] += seconds
+    print("| Crate | Check | Tests | Edits | Sum |")
+    print("|---|---|---|---|---|")
+    for crate, row in sorted(table.items()):
+        print(f"| `{crate}` | " + " | ".join(f"{row[kind]:.0f}" for kind in kinds) + f" | {sum(row.values()):.0f} |")
+    sums = {kind: sum(row[kind] for row in table.values()) for kind in kinds}
+    print("| all | " + " | ".join(f"{sums[kind]:.0f}" for kind in kinds) + f" | {sum(sums.values()):.0f} |")
+    print(f"{sum(sums.values()) / 60:.0f} processor minutes in {(time.time() - began) / 60:.0f} minutes; {last}")
+    raise SystemExit(gate.returncode)
+
+
+if __name__ == "__main__":
+    main()

@@ -1,0 +1,163 @@
+#!/bin/sh
+# Runs the built program over real files and pipes, and compares its exit statuses and its output with expected texts.
+# Usage: checks/end_to_end.sh. It ends with 0 if all agree. Timestamps of the clock are masked as NOW.
+top=$(CDPATH='' cd -- "$(dirname -- "$0")/.." && pwd) || exit 1
+tool=$top/feed_tool
+work=$(mktemp -d) || exit 1
+trap 'rm -rf "$work"' EXIT
+passed=0
+failed=0
+
+"$tool" apply 4 </dev/null >/dev/null || exit 1
+
+masked() { sed -E 's/[0-9]{4}-[0-9]{2}-[0-9]{2}T[0-9]{2}:[0-9]{2}:[0-9]{2}(\.[0-9]{3})?Z/NOW/g'; }
+
+# compares what stands in $work/status and $work/output with an expected status, and the expected text on standard input
+compare() {
+    cat >"$work/expected"
+    masked <"$work/output" >"$work/masked"
+    if [ "$(cat "$work/status")" = "$2" ] && cmp -s "$work/masked" "$work/expected"; then
+        passed=$((passed + 1))
+    else
+        failed=$((failed + 1))
+        printf 'FAILED: %s: status %s, expected %s\n' "$1" "$(cat "$work/status")" "$2"
+        diff "$work/expected" "$work/masked" | head -n 20
+    fi
+}
+
+# runs the program with the words given, on $work/input
+ran() {
+    "$tool" "$@" <"$work/input" >"$work/output" 2>"$work/errors"
+    echo $? >"$work/status"
+}
+
+feed() {
+    cat <<'TEXT'
+<?xml version="1.0" encoding="utf-8"?>
+<feed xmlns="http://www.w3.org/2005/Atom" xmlns:fh="http://purl.org/syndication/history/1.0" xmlns:at="http://purl.org/atompub/tombstones/1.0" xmlns:app="http://www.w3.org/2007/app" xmlns:sp="urn:archived-feed:span:1">
+<id>urn:uuid:6d1f0c5a-93be-4c27-8d10-2b7f9e4a5c36</id>
+<title>Feed</title>
+<updated>NOW</updated>
+<author><name>Editor</name></author>
+<link rel="self" href="http://feed.example/feed"/>
+TEXT
+    cat
+    echo '</feed>'
+}
+
+usage='usage: feed_tool init, apply, show, serve, mirror, audit, drill'
+
+# the example of the README, and what show prints of its document
+printf 'add Signed kernel images\nadd Mirror list\nchange 2 Mirror list <updated> & signed\nremove 1\n' >"$work/input"
+ran apply 4
+feed >"$work/text" <<'TEXT'
+<sp:span first="1" last="4"/>
+<at:deleted-entry ref="urn:uuid:6d1f0c5a-93be-8c27-8000-000000000001" when="NOW"/>
+<entry><id>urn:uuid:6d1f0c5a-93be-8c27-8000-000000000002</id><title>Mirror list &lt;updated&gt; &amp; signed</title><updated>NOW</updated><app:edited>NOW</app:edited><link rel="edit" href="http://feed.example/member/2"/><content></content></entry>
+TEXT
+compare 'apply 4 of the example' 0 <"$work/text"
+cp "$work/output" "$work/document"
+
+cp "$work/document" "$work/input"
+ran show
+compare 'show of the example' 0 <<'TEXT'
+subscription
+feed 6d1f0c5a-93be-4c27-8d10-2b7f9e4a5c36
+span 1 4
+prev 0
+updated NOW
+gone 1 NOW
+entry 2 NOW Mirror list &lt;updated&gt; &amp; signed
+TEXT
+
+# a document of which one quote is changed is refused where that line begins
+sed "7s/\"self\"/'self'/" "$work/document" >"$work/input"
+ran show
+echo "bad document $(head -n 6 "$work/document" | wc -c)" | compare 'show of another quote' 10
+
+printf 'add a\nadd b\nadd c\n' >"$work/input"
+ran apply 1
+feed >"$work/text" <<'TEXT'
+<link rel="prev-archive" href="http://feed.example/archive/2"/>
+<sp:span first="3" last="3"/>
+<entry><id>urn:uuid:6d1f0c5a-93be-8c27-8000-000000000003</id><title>c</title><updated>NOW</updated><app:edited>NOW</app:edited><link rel="edit" href="http://feed.example/member/3"/><content></content></entry>
+TEXT
+compare 'apply 1' 0 <"$work/text"
+
+: >"$work/input"
+ran apply 4
+feed >"$work/text" <<'TEXT'
+<sp:span first="1" last="0"/>
+TEXT
+compare 'apply 4 of nothing' 0 <"$work/text"
+ran show
+echo 'bad document 0' | compare 'show of nothing' 10
+
+# refusals
+printf 'add a\nsubtract\n' >"$work/input"
+ran apply 4
+echo 'bad line 2' | compare 'a bad line' 10
+printf 'add a\nremove 2\n' >"$work/input"
+ran apply 4
+echo 'line 2 not found 2' | compare 'a member that was never made' 12
+printf 'add a\nremove 1\nchange 1 b\n' >"$work/input"
+ran apply 4
+echo 'line 3 deleted 1' | compare 'a deleted member' 12
+head -c 67108865 /dev/zero >"$work/input"
+ran show
+echo 'input too long' | compare 'show of too much' 10
+
+# words that name no command, with a byte that isn't UTF-8 too
+: >"$work/input"
+ran
+echo "$usage" | compare 'no words' 2
+ran apply 101
+echo "$usage" | compare 'a window of 101' 2
+ran "$(printf '\377')"
+echo "$usage" | compare 'a word that is not UTF-8' 2
+ran show "$(printf 'x\377')"
+echo "$usage" | compare 'a word behind a command that is not UTF-8' 2
+cp "$top/out/feed_tool" "$work/$(printf 'tool\377')"
+"$work/$(printf 'tool\377')" show <"$work/document" >"$work/output" 2>"$work/errors"
+echo $? >"$work/status"
+echo "$usage" | compare 'a path of the program that is not UTF-8' 2
+
+# failing calls
+"$tool" apply 4 <"$work" >"$work/output" 2>"$work/errors"
+echo $? >"$work/status"
+echo 'input fault' | compare 'a folder as input' 9
+printf 'add a\n' >"$work/input"
+"$tool" apply 4 <"$work/input" >&- 2>"$work/errors"
+echo $? >"$work/status"
+: >"$work/output"
+compare 'a closed output' 8 </dev/null
+if [ -e /dev/full ]; then
+    "$tool" apply 4 <"$work/input" >/dev/full 2>"$work/errors"
+    echo $? >"$work/status"
+    compare 'a full device as output' 8 </dev/null
+fi
+# memory runs out where the shell can limit it: the program ends with a status that the table has
+: >"$work/input"
+(ulimit -v 200000 && head -c 60000000 /dev/zero | "$tool" show >"$work/output" 2>"$work/errors"; echo $? >"$work/status") 2>/dev/null
+case $(cat "$work/status") in
+    5) echo 'no memory' | compare 'out of memory' 5 ;;
+    *) echo 'bad document 0' | compare 'with little memory' 10 ;;
+esac
+
+# the launcher through a symbolic link, from another folder
+ln -s "$tool" "$work/linked"
+(cd / && printf 'add a\n' | "$work/linked" apply 101 >"$work/output" 2>"$work/errors"; echo $? >"$work/status")
+echo "$usage" | compare 'a symbolic link' 2
+(cd / && PATH=/usr/bin:/bin && export PATH && "$work/linked" show <"$work/document" >"$work/output" 2>"$work/errors"; echo $? >"$work/status")
+compare 'the built program without rt' 0 <<'TEXT'
+subscription
+feed 6d1f0c5a-93be-4c27-8d10-2b7f9e4a5c36
+span 1 4
+prev 0
+updated NOW
+gone 1 NOW
+entry 2 NOW Mirror list &lt;updated&gt; &amp; signed
+TEXT
+
+echo "$passed passed, $failed failed"
+[ "$failed" -eq 0 ]

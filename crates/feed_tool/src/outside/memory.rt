@@ -1,0 +1,127 @@
+//! A clock, an input and an output in memory, for tests. Contracts can see their content, and listed calls of them fail.
+
+ghost use Rattle.std.specs.Prelude.{◌≡◌, ◌+◌, ◌-◌, ◌<◌, ◌≤◌, [], length, drop, min, slice_index};
+ghost use Rattle.feed_tool.specs.Outside.{SourceState, SinkState};
+
+use crate::outside::{Clock, Sink, Source};
+use atom_values::{Bytes, Failed, ListedCalls, Many};
+use std::alloc::Global;
+
+/// A clock that returns the given moments, and then the last one again and again.
+#[derive(Debug, Drop)]
+pub struct SetClock {
+    moments: Many<u64, 1_000_000>,
+    given: usize,
+    ghost in_range: { given < length moments.items },
+}
+
+impl SetClock {
+    /// A clock of at least one moment.
+    pub fn new(moments: Many<u64, 1_000_000>) -> SetClock
+        requires { 0 < length moments.items }
+        ensures { ⟦<SetClock as Clock>⟧.coming result
+            ≡ λ k. slice_index moments.items (min (0 + k) (length moments.items - 1)) }
+    {
+        SetClock { moments, given: 0 }
+    }
+}
+
+impl Clock for SetClock {
+    ghost told = { Unit {0} };
+
+    ghost coming = { λ c k. slice_index c.moments.items (min (c.given + k) (length c.moments.items - 1)) };
+
+    fn now(&mut self) -> u64 {
+        let moment = self.moments.as_slice()[self.given];
+        if self.given + 1 < self.moments.len() {
+            self.given += 1;
+        }
+        moment
+    }
+}
+
+/// An input of given bytes, whose listed calls fail.
+#[derive(Debug, Drop)]
+pub struct ListSource {
+    bytes: Bytes,
+    at: usize,
+    calls: ListedCalls,
+    ghost in_range: { at ≤ length bytes },
+}
+
+impl ListSource {
+    /// The input before its first call. Calls are numbered from 1.
+    pub fn new(bytes: Bytes, failing: Many<u64, 64>) -> ListSource
+        ensures { ⟦<ListSource as Source>⟧.state result ≡ record { left = bytes; faults = 0 } }
+    {
+        ListSource {
+            bytes,
+            at: 0,
+            calls: ListedCalls::new(failing),
+        }
+    }
+}
+
+impl Source for ListSource {
+    ghost told = { Unit {0} };
+
+    ghost state = { λ s. record { left = drop s.at s.bytes; faults = s.calls.faults } };
+
+    fn read(&mut self, into: &mut [u8]) -> Result<usize, Failed> {
+        if self.calls.next_fails() {
+            return Err(Failed);
+        }
+        let (_, left) = self.bytes.slice().split_at(self.at);
+        let count = left.len().min(into.len());
+        let (given, _) = left.split_at(count);
+        into[..count].copy_from_slice(given);
+        self.at += count;
+        Ok(count)
+    }
+}
+
+/// An output that keeps what it takes, and whose listed calls fail.
+#[derive(Debug, Drop)]
+pub struct ListSink {
+    taken: Vec<u8>,
+    calls: ListedCalls,
+}
+
+impl ListSink {
+    /// The output before its first call. Calls are numbered from 1.
+    pub fn new(alloc: Global, failing: Many<u64, 64>) -> ListSink
+        ensures { ⟦<ListSink as Sink>⟧.state result ≡ record { taken = []; faults = 0 } }
+    {
+        ListSink {
+            taken: Vec::new(alloc),
+            calls: ListedCalls::new(failing),
+        }
+    }
+
+    /// The bytes that were taken.
+    pub fn bytes(&self) -> &[u8]
+        ensures { result.now ≡ (⟦<ListSink as Sink>⟧.state self.now).taken }
+    {
+        self.taken.as_slice()
+    }
+}
+
+impl Sink for ListSink {
+    ghost told = { Unit {0} };
+
+    ghost state = { λ s. record { taken = s.taken.items; faults = s.calls.faults } };
+
+    // Out of memory is counted as a failed call, since the trait has no answer for it.
+    fn write(&mut self, from: &[u8]) -> Result<usize, Failed> {
+        if self.calls.next_fails() {
+            return Err(Failed);
+        }
+        match self.taken.extend_from_slice(from) {
+            Ok(()) => Ok(from.len()),
+            Err(_) => {
+                self.calls.count_failure();
+                Err(Failed)
+            }
+        }
+    }
+}

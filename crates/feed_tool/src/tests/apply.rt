@@ -1,0 +1,258 @@
+use super::{APPLY, Expected, NOW, Run, Shown, expect, expect_document};
+use std::test::Fail;
+
+/// The last moment that a stamp has: 9999-12-31T23:59:59.999Z.
+const LAST: u64 = 253_402_300_799_999;
+
+const DAY: &str = "2023-11-14T22:13:20Z";
+
+fn entry<'a>(number: u32, title: &'a str, updated: &'a str) -> Shown<'a> {
+    Shown::Entry {
+        number,
+        title,
+        updated,
+    }
+}
+
+#[test]
+fn prints_the_document_of_the_lines(rt: HostRuntime) -> Result<(), Fail> {
+    let hello: [Shown; 1] = [entry(1, "Hello", DAY)];
+    let escaped: [Shown; 1] = [entry(1, "a&amp;b&lt;c&gt;d\"e&#13;\u{10FFFF}", DAY)];
+    let cases: [(&[u8], &str, u32, &[Shown]); 4] = [
+        (b"", "1970-01-01T00:00:00Z", 0, &[]),
+        (b"add Hello\n", DAY, 1, &hello),
+        (b"add Hello", DAY, 1, &hello),
+        (b"add a&b<c>d\"e\r\xF4\x8F\xBF\xBF\n", DAY, 1, &escaped),
+    ];
+    for (input, updated, last, items) in cases {
+        let document = Expected {
+            updated,
+            prev: 0,
+            first: 1,
+            last,
+            items,
+        };
+        expect_document(&rt, rt.alloc(), Run { input, ..APPLY }, &document)?;
+    }
+    Ok(())
+}
+
+#[test]
+fn cuts_the_history_into_windows(rt: HostRuntime) -> Result<(), Fail> {
+    let fifth = "2023-11-14T22:13:20.004Z";
+    let all: [Shown; 5] = [
+        entry(5, "e", fifth),
+        entry(4, "d", "2023-11-14T22:13:20.003Z"),
+        entry(3, "c", "2023-11-14T22:13:20.002Z"),
+        entry(2, "b", "2023-11-14T22:13:20.001Z"),
+        entry(1, "a", DAY),
+    ];
+    let cases: [(&'static [&'static str], u32, u32, usize); 7] = [
+        (&["apply", "1"], 4, 5, 1),
+        (&["apply", "2"], 2, 5, 1),
+        (&["apply", "3"], 1, 4, 2),
+        (&["apply", "4"], 1, 5, 1),
+        (&["apply", "5"], 0, 1, 5),
+        (&["apply", "007"], 0, 1, 5),
+        (&["apply", "100"], 0, 1, 5),
+    ];
+    for (words, prev, first, count) in cases {
+        let (items, _) = all.split_at(count.min(5));
+        let run_of = Run {
+            words,
+            input: b"add a\nadd b\nadd c\nadd d\nadd e\n",
+            ..APPLY
+        };
+        let document = Expected {
+            updated: fifth,
+            prev,
+            first,
+            last: 5,
+            items,
+        };
+        expect_document(&rt, rt.alloc(), run_of, &document)?;
+    }
+    Ok(())
+}
+
+#[test]
+fn shows_the_last_operation_of_each_member(rt: HostRuntime) -> Result<(), Fail> {
+    let third = "2023-11-14T22:13:20.002Z";
+    let fourth = "2023-11-14T22:13:20.003Z";
+    let gone = |when| Shown::Gone { number: 1, when };
+    let removed: [Shown; 1] = [gone(fourth)];
+    let changed: [Shown; 2] = [
+        entry(1, "c d", third),
+        entry(2, "b", "2023-11-14T22:13:20.001Z"),
+    ];
+    let mixed: [Shown; 2] = [entry(2, "", fourth), gone(third)];
+    let cases: [(&[u8], &str, u32, &[Shown]); 3] = [
+        (
+            b"add a\nchange 1 b\nchange 1 c\nremove 1\n",
+            fourth,
+            4,
+            &removed,
+        ),
+        (b"add a\nadd b\nchange 1 c d\n", third, 3, &changed),
+        (b"add a\nadd b\nremove 1\nchange 2 ", fourth, 4, &mixed),
+    ];
+    for (input, updated, last, items) in cases {
+        let document = Expected {
+            updated,
+            prev: 0,
+            first: 1,
+            last,
+            items,
+        };
+        expect_document(&rt, rt.alloc(), Run { input, ..APPLY }, &document)?;
+    }
+    Ok(())
+}
+
+#[test]
+fn moments_rise(rt: HostRuntime) -> Result<(), Fail> {
+    let cases: [(u64, &str); 4] = [
+        (NOW + 1_000, "2023-11-14T22:13:21Z"),
+        (NOW, "2023-11-14T22:13:20.001Z"),
+        (NOW - 3_600_000, "2023-11-14T22:13:20.001Z"),
+        (LAST, "9999-12-31T23:59:59.999Z"),
+    ];
+    for (later, second) in cases {
+        let run_of = Run {
+            moments: (NOW, later),
+            input: b"add a\nadd b\n",
+            ..APPLY
+        };
+        let items: [Shown; 2] = [entry(2, "b", second), entry(1, "a", DAY)];
+        let document = Expected {
+            updated: second,
+            prev: 0,
+            first: 1,
+            last: 2,
+            items: &items,
+        };
+        expect_document(&rt, rt.alloc(), run_of, &document)?;
+    }
+    Ok(())
+}
+
+#[test]
+fn refuses_a_moment_after_the_last(rt: HostRuntime) -> Result<(), Fail> {
+    let cases: [((u64, u64), &[u8], u8, &[u8]); 4] = [
+        ((LAST, LAST), b"add a\nadd b\n", 12, b"line 2 clock\n"),
+        ((LAST + 1, NOW), b"add a\n", 12, b"line 1 clock\n"),
+        ((NOW, u64::MAX), b"add a\nadd b\n", 12, b"line 2 clock\n"),
+        ((LAST, LAST), b"add a\nadd\n", 10, b"bad line 2\n"),
+    ];
+    for (moments, input, status, line) in cases {
+        let run_of = Run {
+            moments,
+            input,
+            ..APPLY
+        };
+        expect(&rt, rt.alloc(), run_of, status, line)?;
+    }
+    Ok(())
+}
+
+#[test]
+fn names_the_line_that_it_refuses(rt: HostRuntime) -> Result<(), Fail> {
+    let cases: [(&[u8], u8, &[u8]); 31] = [
+        (b"\n", 10, b"bad line 1\n"),
+        (b"add\n", 10, b"bad line 1\n"),
+        (b"Add a\n", 10, b"bad line 1\n"),
+        (b"add\ta\n", 10, b"bad line 1\n"),
+        (b"adda\n", 10, b"bad line 1\n"),
+        (b"add a\n\nadd b\n", 10, b"bad line 2\n"),
+        (b"add a\nadd b\n add c", 10, b"bad line 3\n"),
+        (b"add \x0B\nadd\n", 10, b"bad line 1\n"),
+        (b"add a\nadd \xFF\n", 10, b"bad line 2\n"),
+        (b"add a\nadd a\xC3", 10, b"bad line 2\n"),
+        (b"add a\nchange 1", 10, b"bad line 2\n"),
+        (b"add a\nchange  1 x", 10, b"bad line 2\n"),
+        (b"add a\nchange 0 x", 10, b"bad line 2\n"),
+        (b"add a\nchange 01 x", 10, b"bad line 2\n"),
+        (b"add a\nchange +1 x", 10, b"bad line 2\n"),
+        (b"add a\nchange 4294967296 x", 10, b"bad line 2\n"),
+        (b"add a\nchange x 1", 10, b"bad line 2\n"),
+        (b"add a\nchange 1 \x0B", 10, b"bad line 2\n"),
+        (b"add a\nremove", 10, b"bad line 2\n"),
+        (b"add a\nremove ", 10, b"bad line 2\n"),
+        (b"add a\nremove 1 ", 10, b"bad line 2\n"),
+        (b"add a\nremove 01\n", 10, b"bad line 2\n"),
+        (b"add a\nRemove 1\n", 10, b"bad line 2\n"),
+        (b"remove 1\n", 12, b"line 1 not found 1\n"),
+        (b"change 1 x", 12, b"line 1 not found 1\n"),
+        (
+            b"add a\nremove 4294967295\n",
+            12,
+            b"line 2 not found 4294967295\n",
+        ),
+        (b"add a\nremove 1\nremove 1\n", 12, b"line 3 deleted 1\n"),
+        (b"add a\nremove 1\nchange 1 b\n", 12, b"line 3 deleted 1\n"),
+        (
+            b"add a\nremove 1\nadd b\nremove 3\n",
+            12,
+            b"line 4 not found 3\n",
+        ),
+        (
+            b"add a\nremove 1\nremove 1\nadd\n",
+            12,
+            b"line 3 deleted 1\n",
+        ),
+        (
+            b"add a\nchange 1 b\nchange 1 c\nremove 1\nremove 1\n",
+            12,
+            b"line 5 deleted 1\n",
+        ),
+    ];
+    for (input, status, line) in cases {
+        expect(&rt, rt.alloc(), Run { input, ..APPLY }, status, line)?;
+    }
+    Ok(())
+}
+
+#[test]
+fn bounds_titles_by_their_bytes(rt: HostRuntime) -> Result<(), Fail> {
+    let alloc = rt.alloc();
+    let good: (u8, &[u8]) = (12, b"line 1 not found 4294967295\n");
+    let bad: (u8, &[u8]) = (10, b"bad line 1\n");
+    let cases: [(&[u8], usize, &[u8], (u8, &[u8])); 7] = [
+        (b"a", 1_024, b"", good),
+        (b"a", 1_025, b"", bad),
+        (b"\xC3\xA9", 512, b"", good),
+        (b"\xC3\xA9", 512, b"a", bad),
+        (b"\xC3\xA9", 513, b"", bad),
+        (b"\xF0\x9F\x98\x80", 256, b"", good),
+        (b"\xF0\x9F\x98\x80", 256, b"a", bad),
+    ];
+    for (character, count, rest, (status, printed)) in cases {
+        let mut line = Vec::from_slice(alloc, b"change 4294967295 ")?;
+        for _ in 0..count {
+            line.extend_from_slice(character)?;
+        }
+        line.extend_from_slice(rest)?;
+        let run_of = Run {
+            input: line.as_slice(),
+            ..APPLY
+        };
+        expect(&rt, alloc, run_of, status, printed)?;
+    }
+    Ok(())
+}
+
+#[test]
+fn reads_lines_that_a_buffer_cuts_at_every_byte(rt: HostRuntime) -> Result<(), Fail> {
+    let alloc = rt.alloc();
+    // The ends of seven buffers of 65,536 bytes meet a line of 7 bytes at each of its bytes.
+    let mut input = Vec::new(alloc);
+    for _ in 0..65_537 {
+        input.extend_from_slice(b"add ab\n")?;
+    }
+    input.extend_from_slice(b"remove 65537\nremove 65539")?;
+    let run_of = Run {
+        input: input.as_slice(),
+        ..APPLY
+    };
+    expect(&rt, alloc, run_of, 12, b"line 65539 not found 65539\n")
+}

@@ -1,0 +1,58 @@
+use super::{APPLY, Run, SHOW, expect};
+use std::test::Fail;
+
+const USAGE: &[u8] = b"usage: feed_tool init, apply, show, serve, mirror, audit, drill\n";
+
+#[test]
+fn refuses_words_that_name_no_command(rt: HostRuntime) -> Result<(), Fail> {
+    let cases: [&'static [&'static str]; 17] = [
+        &[],
+        &["apply"],
+        &["apply", "4", "4"],
+        &["apply", ""],
+        &["apply", "0"],
+        &["apply", "101"],
+        &["apply", "4294967300"],
+        &["apply", "+4"],
+        &["apply", "4 "],
+        &["Apply", "4"],
+        &["4", "apply"],
+        &["drill", "7"],
+        &["Show"],
+        &["show "],
+        &["show", ""],
+        &["show", "4"],
+        &["apply", "show"],
+    ];
+    for words in cases {
+        expect(&rt, rt.alloc(), Run { words, ..APPLY }, 2, USAGE)?;
+    }
+    Ok(())
+}
+
+#[test]
+fn reports_each_failing_call(rt: HostRuntime) -> Result<(), Fail> {
+    let fault: &[u8] = b"input fault\n";
+    let cases: [(Run, &[u8], (u64, u64), u8, &[u8]); 10] = [
+        (APPLY, b"add a\n", (1, 0), 9, fault),
+        (APPLY, b"add a\n", (2, 0), 9, fault),
+        (APPLY, b"subtract\n", (2, 0), 10, b"bad line 1\n"),
+        (APPLY, b"add a\n", (1, 1), 9, b""),
+        (APPLY, b"add a\n", (0, 1), 8, b""),
+        (APPLY, b"add\n", (0, 1), 10, b""),
+        (APPLY, b"add\n", (0, 2), 10, b"bad line 1\n"),
+        (SHOW, b"<feed>", (1, 0), 9, fault),
+        (SHOW, b"<feed>", (2, 0), 9, fault),
+        (SHOW, b"<feed>", (3, 1), 10, b""),
+    ];
+    for (command, input, (failing_read, failing_write), status, printed) in cases {
+        let run_of = Run {
+            input,
+            failing_read,
+            failing_write,
+            ..command
+        };
+        expect(&rt, rt.alloc(), run_of, status, printed)?;
+    }
+    Ok(())
+}
