@@ -12,6 +12,16 @@ use Rattle.atom_values.specs.Person.{IsPerson}
 use Rattle.atom_values.specs.Stamp.{IsStamp}
 use Rattle.atom_values.specs.XmlText.{IsAtomText}
 
+-- the greatest number of authors, and of contributors
+abbrev pub person_limit : ℕ
+person_limit = 16
+
+abbrev pub link_limit : ℕ
+link_limit = 32
+
+abbrev pub category_limit : ℕ
+category_limit = 64
+
 -- what a client sends for an entry
 pub record DraftValue : Type 0 where
   pub id : Option (List ℕ)
@@ -59,10 +69,10 @@ pub record IsEntry (e : EntryValue) : Type 0 where
   pub title : IsText e.title
   pub updated : IsStamp e.updated
   pub published : IfSome e.published IsStamp
-  pub authors : IsListOf 16 IsPerson e.authors
-  pub contributors : IsListOf 16 IsPerson e.contributors
-  pub links : IsListOf 32 IsLink e.links
-  pub categories : IsListOf 64 IsCategory e.categories
+  pub authors : IsListOf person_limit IsPerson e.authors
+  pub contributors : IsListOf person_limit IsPerson e.contributors
+  pub links : IsListOf link_limit IsLink e.links
+  pub categories : IsListOf category_limit IsCategory e.categories
   pub rights : IfSome e.rights IsText
   pub summary : IfSome e.summary IsText
   pub content : IfSome e.content IsText
@@ -73,10 +83,10 @@ pub record IsDraft (d : DraftValue) : Type 0 where
   pub title : IsText d.title
   pub updated : IfSome d.updated IsStamp
   pub published : IfSome d.published IsStamp
-  pub authors : IsListOf 16 IsPerson d.authors
-  pub contributors : IsListOf 16 IsPerson d.contributors
-  pub links : IsListOf 32 IsLink d.links
-  pub categories : IsListOf 64 IsCategory d.categories
+  pub authors : IsListOf person_limit IsPerson d.authors
+  pub contributors : IsListOf person_limit IsPerson d.contributors
+  pub links : IsListOf link_limit IsLink d.links
+  pub categories : IsListOf category_limit IsCategory d.categories
   pub rights : IfSome d.rights IsText
   pub summary : IfSome d.summary IsText
   pub content : IfSome d.content IsText

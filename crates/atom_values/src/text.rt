@@ -1,6 +1,6 @@
 ghost use Rattle.std.specs.Prelude.{◌≡◌, ℕ, ◌<◌, ◌≤◌, ◌*◌, ◌++◌, [], ◌∷◌, length, OnOk, OnErr, IfOk, IfErr, MatchOption, slice_index};
-ghost use Rattle.atom_values.specs.Escape.{escaped, escaped_byte, IsNotWritten, IsReadBack};
-ghost use Rattle.atom_values.specs.XmlText.{IsAtomText, IsXmlText, is_xml_char, xml_text_len};
+ghost use Rattle.atom_values.specs.Escape.{escaped, escaped_byte, escaped_limit, IsNotWritten, IsReadBack};
+ghost use Rattle.atom_values.specs.XmlText.{IsAtomText, IsXmlText, IsLongestXmlPrefix, is_xml_char};
 
 use crate::copies::Copies;
 use crate::memory::NoMemory;
@@ -44,9 +44,14 @@ pub enum TextFault {
 impl fmt::Display for TextFault {
     fn fmt<W: fmt::Write>(&self, f: &mut fmt::Formatter<W>) -> fmt::Result {
         match self {
-            TextFault::TooLong { length } => write!(f, "{length} bytes are too long a text"),
-            TextFault::NotXmlChar { at } => write!(f, "no XML character at byte {at}"),
-            TextFault::NoMemory => write!(f, "no memory"),
+            TextFault::TooLong { length } => {
+                write!(
+                    f,
+                    "the text has {length} bytes, and the limit is {MAX_TEXT}"
+                )
+            }
+            TextFault::NotXmlChar { at } => write!(f, "no XML character begins at byte {at}"),
+            TextFault::NoMemory => write!(f, "out of memory"),
         }
     }
 }
@@ -76,7 +81,7 @@ fn is_xml_char(c: char) -> bool
 
 /// Where the first sequence stands that is no XML character in UTF-8, if there is one.
 fn first_fault(bytes: &[u8]) -> Option<usize>
-    ensures { MatchOption result (IsXmlText bytes.now) (λ at. (at < length bytes.now) × (at ≡ xml_text_len bytes.now)) }
+    ensures { MatchOption result (IsXmlText bytes.now) (IsLongestXmlPrefix bytes.now) }
 {
     let chunk = bytes.utf8_chunks().next()?;
     let text = chunk.valid();
@@ -201,7 +206,7 @@ fn escape_of(byte: u8, quoted: bool) -> Option<&'static str>
 pub fn escape_into(out: &mut Vec<u8>, text: &AtomText, quoted: bool) -> Result<(), NoMemory>
     ensures ok { OnOk result (out.new.items ≡ out.old.items ++ escaped quoted text.now) }
     ensures err { OnErr result (out.new.items ≡ out.old.items) }
-    ensures bound { length (escaped quoted text.now) ≤ 6 * MAX_TEXT }
+    ensures bound { length (escaped quoted text.now) ≤ escaped_limit }
     ensures rules { IsAtomText text.now }
 {
     out.reserve(escaped_len(text, quoted))?;
@@ -221,7 +226,7 @@ pub fn escape_into(out: &mut Vec<u8>, text: &AtomText, quoted: bool) -> Result<(
 /// How many bytes `escape_into` appends. Takes no memory.
 pub fn escaped_len(text: &AtomText, quoted: bool) -> usize
     ensures length { result ≡ length (escaped quoted text.now) }
-    ensures bound { result ≤ 6 * MAX_TEXT }
+    ensures bound { result ≤ escaped_limit }
     ensures rules { IsAtomText text.now }
 {
     let mut total = 0;
