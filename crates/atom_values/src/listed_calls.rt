@@ -1,4 +1,4 @@
-ghost use Rattle.std.specs.Prelude.{◌≡◌, ◌<◌, ◌^◌, ◌↔◌, IsTrue, Contains};
+ghost use Rattle.std.specs.Prelude.{◌≡◌, ◌<◌, ◌≤◌, ◌^◌, ◌↔◌, IsTrue, Contains};
 ghost use Rattle.atom_values.specs.Counts.{counted};
 ghost use Rattle.atom_values.specs.ListedCalls.{next_call_fails, after_call};
 
@@ -41,6 +41,7 @@ impl ListedCalls {
         ensures state { self.new ≡ after_call self.old }
         ensures fails { result ≡ next_call_fails self.old }
         ensures listed { IsTrue result ↔ Contains self.old.failing (counted self.old.made) }
+        ensures later { self.old.faults ≤ self.new.faults }
     {
         self.made = self.made.saturating_add(1);
         let fails = self.failing.as_slice().contains(&self.made);
@@ -52,7 +53,8 @@ impl ListedCalls {
 
     /// Counts a failure of another cause, as of an object whose growth found no memory.
     pub fn count_failure(&mut self)
-        ensures { self.new ≡ record self.old { faults = counted self.old.faults } }
+        ensures state { self.new ≡ record self.old { faults = counted self.old.faults } }
+        ensures later { self.old.faults ≤ self.new.faults }
     {
         self.faults = self.faults.saturating_add(1);
     }
