@@ -1,4 +1,6 @@
 ghost use Rattle.std.specs.Prelude.{◌≡◌, ℕ, ◌+◌, ◌-◌, ◌<◌, ◌≤◌, ◌↔◌, [], ◌∷◌, ◌++◌, length, ◌⊎◌, IfErr, OnOk, OnErr, slice_get, option_copied, vec_len, vec_capacity};
+ghost use Rattle.std.specs.Cmp.{on_per};
+ghost use Rattle.std.specs.Cmp.Lexicographic.{lists_per, pointwise};
 ghost use Rattle.std.specs.Fn.{CalledAt};
 ghost use Rattle.std.specs.List.Retain.{IsFiltered};
 
@@ -120,6 +122,16 @@ impl<T: Drop, const MAX: u32> Many<T, MAX> {
         ensures { IsFiltered (CalledAt F.FnMut) keep self.old.items self.new.items }
     {
         self.items.retain(keep);
+    }
+}
+
+impl<T: PartialEq, const MAX: u32> PartialEq for Many<T, MAX> {
+    ghost eq = { λ one other. pointwise T.eq one.items other.items };
+
+    ghost laws = { on_per (λ many. many.items) (lists_per T.laws) };
+
+    fn eq(&self, other: &Many<T, MAX>) -> bool {
+        self.as_slice() == other.as_slice()
     }
 }
 

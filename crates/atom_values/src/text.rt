@@ -1,4 +1,6 @@
-ghost use Rattle.std.specs.Prelude.{◌≡◌, ℕ, ◌<◌, ◌≤◌, ◌*◌, ◌++◌, [], ◌∷◌, length, OnOk, OnErr, IfOk, IfErr, MatchOption, slice_index};
+ghost use Rattle.std.specs.Prelude.{◌≡◌, ℕ, ◌<◌, ◌≤◌, ◌*◌, ◌++◌, [], ◌∷◌, length, OnOk, OnErr, IfOk, IfErr, MatchOption, slice_index, nat_eq};
+ghost use Rattle.std.specs.Cmp.{partial_equiv_from_equiv};
+ghost use Rattle.std.specs.Cmp.Lexicographic.{nat_list_eq_equiv, pointwise};
 ghost use Rattle.atom_values.specs.Escape.{escaped, escaped_byte, escaped_limit, IsNotWritten, IsReadBack};
 ghost use Rattle.atom_values.specs.XmlText.{IsAtomText, IsXmlText, IsLongestXmlPrefix, is_xml_char};
 
@@ -151,6 +153,20 @@ impl AtomText {
     }
 }
 
+impl PartialEq for AtomText {
+    ghost eq = { pointwise nat_eq };
+
+    ghost laws = { partial_equiv_from_equiv nat_list_eq_equiv };
+
+    fn eq(&self, other: &AtomText) -> bool {
+        self.bytes() == other.bytes()
+    }
+}
+
+impl Eq for AtomText {
+    ghost laws = { nat_list_eq_equiv };
+}
+
 impl Copies for AtomText {
     fn copy(&self, alloc: Global) -> Result<AtomText, NoMemory> {
         Ok(AtomText {
@@ -169,7 +185,7 @@ pub enum TextKind {
 }
 
 /// A text construct (RFC 4287 section 3.1).
-#[derive(Debug, Drop)]
+#[derive(Debug, Drop, PartialEq, Eq)]
 pub struct Text {
     pub kind: TextKind,
     pub value: AtomText,
