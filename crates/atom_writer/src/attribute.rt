@@ -1,4 +1,5 @@
-ghost use Rattle.std.specs.Prelude.{◌≡◌, ◌≤◌, ◌++◌, length, OnOk, OnErr};
+ghost use Rattle.std.specs.Prelude.{◌≡◌, ◌≤◌, ◌++◌, length, OnOk, OnErr, IfSome};
+ghost use Rattle.atom_values.specs.XmlText.{IsAtomText};
 ghost use Rattle.atom_writer.specs.Parts.{attribute, optional_attribute};
 
 use crate::out::Out;
@@ -10,6 +11,7 @@ pub fn push_attribute<W: Out>(out: &mut W, name: &[u8], value: &AtomText) -> Res
     ensures added { OnOk result (W.adds out.old out.new (attribute name.now value.now)) }
     ensures failed { OnErr result W.can_fail }
     ensures bound { OnOk result (length (attribute name.now value.now) ≤ 393_300) }
+    ensures rules { OnOk result (IsAtomText value.now) }
 {
     out.push(b" ")?;
     out.push(name)?;
@@ -30,6 +32,7 @@ pub fn push_optional_attribute<W: Out>(
     ensures added { OnOk result (W.adds out.old out.new (optional_attribute name.now value.now)) }
     ensures failed { OnErr result W.can_fail }
     ensures bound { OnOk result (length (optional_attribute name.now value.now) ≤ 393_300) }
+    ensures rules { OnOk result (IfSome value.now IsAtomText) }
 {
     match value {
         Some(value) => push_attribute(out, name, value),

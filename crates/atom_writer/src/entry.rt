@@ -1,5 +1,11 @@
-ghost use Rattle.std.specs.Prelude.{◌≡◌, ◌+◌, ◌≤◌, ◌++◌, length, OnOk, OnErr, codes};
+ghost use Rattle.std.specs.Prelude.{◌≡◌, ◌+◌, ◌≤◌, ◌++◌, length, OnOk, OnErr, codes, ◌<◌, ◌^◌, IfSome};
 ghost use Rattle.deleted_entries.specs.FeedId.{member_id};
+ghost use Rattle.atom_values.specs.Category.{IsCategory};
+ghost use Rattle.atom_values.specs.Entry.{IsEntry, IsText, IsWhole};
+ghost use Rattle.atom_values.specs.Link.{IsLink};
+ghost use Rattle.atom_values.specs.Listed.{IsListOf};
+ghost use Rattle.atom_values.specs.Person.{IsPerson};
+ghost use Rattle.atom_values.specs.Stamp.{IsStamp};
 ghost use Rattle.atom_writer.specs.Pieces.{open_attributes, construct, optional_construct, edit_link, published_text, front_text, back_text, inner_text, entry_piece, tombstone_piece};
 
 use crate::category::push_categories;
@@ -28,6 +34,7 @@ fn push_construct<W: Out>(out: &mut W, tag: &[u8], text: &Text) -> Result<(), No
     ensures added { OnOk result (W.adds out.old out.new (construct tag.now text.now)) }
     ensures failed { OnErr result W.can_fail }
     ensures bound { OnOk result (length (construct tag.now text.now) ≤ 393_300) }
+    ensures rules { OnOk result (IsText text.now) }
 {
     out.push(b"<")?;
     out.push(tag)?;
@@ -47,6 +54,7 @@ fn push_optional<W: Out>(out: &mut W, tag: &[u8], text: &Option<Text>) -> Result
     ensures added { OnOk result (W.adds out.old out.new (optional_construct tag.now text.now)) }
     ensures failed { OnErr result W.can_fail }
     ensures bound { OnOk result (length (optional_construct tag.now text.now) ≤ 393_300) }
+    ensures rules { OnOk result (IfSome text.now IsText) }
 {
     match text {
         Some(text) => push_construct(out, tag, text),
@@ -84,6 +92,7 @@ fn push_published<W: Out>(out: &mut W, published: Option<Stamp>) -> Result<(), N
     ensures added { OnOk result (W.adds out.old out.new (published_text published)) }
     ensures failed { OnErr result W.can_fail }
     ensures bound { OnOk result (length (published_text published) ≤ 100) }
+    ensures rules { OnOk result (IfSome published IsStamp) }
 {
     let Some(moment) = published else {
         return Ok(());
@@ -99,6 +108,12 @@ pub fn push_front<W: Out>(out: &mut W, name: &FeedName, entry: &Entry) -> Result
     ensures added { OnOk result (W.adds out.old out.new (front_text name.now entry.now)) }
     ensures failed { OnErr result W.can_fail }
     ensures bound { OnOk result (length (front_text name.now entry.now) ≤ 400_000) }
+    ensures whole { OnOk result (IsWhole entry.now.number entry.now.links entry.now.content) }
+    ensures number { OnOk result (entry.now.number < 2 ^ 32) }
+    ensures title { OnOk result (IsText entry.now.title) }
+    ensures edited { OnOk result (IsStamp entry.now.edited) }
+    ensures updated { OnOk result (IsStamp entry.now.updated) }
+    ensures published { OnOk result (IfSome entry.now.published IsStamp) }
 {
     out.push(b"<id>")?;
     push_id(out, &name.id, entry.number)?;
@@ -119,6 +134,12 @@ pub fn push_back<W: Out>(out: &mut W, name: &FeedName, entry: &Entry) -> Result<
     ensures added { OnOk result (W.adds out.old out.new (back_text name.now entry.now)) }
     ensures failed { OnErr result W.can_fail }
     ensures bound { OnOk result (length (back_text name.now entry.now) ≤ 190_000_000) }
+    ensures contributors { OnOk result (IsListOf 16 IsPerson entry.now.contributors) }
+    ensures links { OnOk result (IsListOf 32 IsLink entry.now.links) }
+    ensures categories { OnOk result (IsListOf 64 IsCategory entry.now.categories) }
+    ensures rights { OnOk result (IfSome entry.now.rights IsText) }
+    ensures summary { OnOk result (IfSome entry.now.summary IsText) }
+    ensures content { OnOk result (IfSome entry.now.content IsText) }
 {
     push_persons(out, b"contributor", entry.contributors.as_slice())?;
     push_edit_link(out, name, entry.number)?;
@@ -135,6 +156,7 @@ fn push_inner<W: Out>(out: &mut W, name: &FeedName, entry: &Entry) -> Result<(),
     ensures added { OnOk result (W.adds out.old out.new (inner_text name.now entry.now)) }
     ensures failed { OnErr result W.can_fail }
     ensures bound { OnOk result (length (inner_text name.now entry.now) ≤ 220_000_000) }
+    ensures rules { OnOk result (IsEntry entry.now) }
 {
     push_front(out, name, entry)?;
     push_persons(out, b"author", entry.authors.as_slice())?;
@@ -165,6 +187,7 @@ pub fn push_entry<W: Out>(out: &mut W, name: &FeedName, entry: &Entry) -> Result
     ensures added { OnOk result (W.adds out.old out.new (entry_piece name.now entry.now)) }
     ensures failed { OnErr result W.can_fail }
     ensures bound { OnOk result (length (entry_piece name.now entry.now) ≤ 230_000_000) }
+    ensures rules { OnOk result (IsEntry entry.now) }
 {
     out.push(b"<entry>")?;
     push_inner(out, name, entry)?;
@@ -174,7 +197,8 @@ pub fn push_entry<W: Out>(out: &mut W, name: &FeedName, entry: &Entry) -> Result
 
 /// How many bytes the entry's piece of a feed document has. Takes no memory.
 pub fn entry_len(name: &FeedName, entry: &Entry) -> u64
-    ensures { result ≡ length (entry_piece name.now entry.now) }
+    ensures length { result ≡ length (entry_piece name.now entry.now) }
+    ensures rules { IsEntry entry.now }
 {
     let mut count = Count { bytes: 0 };
     let _ = push_entry(&mut count, name, entry);

@@ -1,6 +1,8 @@
 ghost use Rattle.std.specs.Prelude.{◌≡◌, ◌+◌, ◌*◌, ◌^◌, ◌-◌, ◌≤◌, ◌++◌, ℕ, List, [], length, max, min, OnOk, OnErr, decimal};
 ghost use Rattle.atom_values.specs.Escape.{escaped};
 ghost use Rattle.atom_values.specs.Stamp as stamp;
+ghost use Rattle.atom_values.specs.Stamp.{IsStamp};
+ghost use Rattle.atom_values.specs.XmlText.{IsAtomText};
 ghost use Rattle.chain_links.specs.Address as address;
 
 use atom_values::{AtomText, NoMemory, Stamp, escape_into, escaped_len};
@@ -24,7 +26,8 @@ pub trait Out {
     fn push_escaped(&mut self, text: &AtomText, quoted: bool) -> Result<(), NoMemory>
         ensures added { OnOk result (adds self.old self.new (escaped quoted text.now)) }
         ensures failed { OnErr result can_fail }
-        ensures bound { OnOk result (length (escaped quoted text.now) ≤ 393_216) };
+        ensures bound { OnOk result (length (escaped quoted text.now) ≤ 393_216) }
+        ensures rules { IsAtomText text.now };
 
     /// Adds the address of a document below the base.
     fn push_address(&mut self, base: &Base, to: Address) -> Result<(), NoMemory>
@@ -56,6 +59,8 @@ impl Out for Vec<u8> {
     }
 
     fn push_escaped(&mut self, text: &AtomText, quoted: bool) -> Result<(), NoMemory> {
+        // `bytes` states the text's rules.
+        let _rules = text.bytes();
         escape_into(self, text, quoted)
     }
 
@@ -87,6 +92,8 @@ impl Out for Count {
     }
 
     fn push_escaped(&mut self, text: &AtomText, quoted: bool) -> Result<(), NoMemory> {
+        // `bytes` states the text's rules.
+        let _rules = text.bytes();
         self.bytes = self.bytes.saturating_add(escaped_len(text, quoted) as u64);
         Ok(())
     }
@@ -113,7 +120,10 @@ pub fn push_stamp<W: Out>(out: &mut W, moment: Stamp) -> Result<(), NoMemory>
     ensures added { OnOk result (W.adds out.old out.new (stamp.printed moment)) }
     ensures failed { OnErr result W.can_fail }
     ensures bound { OnOk result (length (stamp.printed moment) ≤ 24) }
+    ensures rules { OnOk result (IsStamp moment) }
 {
+    // `millis` states the timestamp's range.
+    let _rules = moment.millis();
     let mut buffer = [0u8; 24];
     let length = moment.print(&mut buffer);
     out.push(&buffer[..length])?;

@@ -1,4 +1,6 @@
-ghost use Rattle.std.specs.Prelude.{◌≡◌, ◌≤◌, ◌++◌, length, OnOk, OnErr};
+ghost use Rattle.std.specs.Prelude.{◌≡◌, ◌≤◌, ◌++◌, length, OnOk, OnErr, All, IfSome};
+ghost use Rattle.atom_values.specs.Person.{IsPerson};
+ghost use Rattle.atom_values.specs.XmlText.{IsAtomText};
 ghost use Rattle.atom_writer.specs.Parts.{element, optional_element, person_text, persons_text};
 
 use crate::out::Out;
@@ -10,6 +12,7 @@ fn push_element<W: Out>(out: &mut W, tag: &[u8], value: &AtomText) -> Result<(),
     ensures added { OnOk result (W.adds out.old out.new (element tag.now value.now)) }
     ensures failed { OnErr result W.can_fail }
     ensures bound { OnOk result (length (element tag.now value.now) ≤ 393_300) }
+    ensures rules { OnOk result (IsAtomText value.now) }
 {
     out.push(b"<")?;
     out.push(tag)?;
@@ -32,6 +35,7 @@ fn push_optional_element<W: Out>(
     ensures added { OnOk result (W.adds out.old out.new (optional_element tag.now value.now)) }
     ensures failed { OnErr result W.can_fail }
     ensures bound { OnOk result (length (optional_element tag.now value.now) ≤ 393_300) }
+    ensures rules { OnOk result (IfSome value.now IsAtomText) }
 {
     match value {
         Some(value) => push_element(out, tag, value),
@@ -45,6 +49,7 @@ fn push_person<W: Out>(out: &mut W, tag: &[u8], person: &Person) -> Result<(), N
     ensures added { OnOk result (W.adds out.old out.new (person_text tag.now person.now)) }
     ensures failed { OnErr result W.can_fail }
     ensures bound { OnOk result (length (person_text tag.now person.now) ≤ 1_200_000) }
+    ensures rules { OnOk result (IsPerson person.now) }
 {
     out.push(b"<")?;
     out.push(tag)?;
@@ -65,6 +70,7 @@ pub fn push_persons<W: Out>(out: &mut W, tag: &[u8], persons: &[Person]) -> Resu
     ensures added { OnOk result (W.adds out.old out.new (persons_text tag.now persons.now)) }
     ensures failed { OnErr result W.can_fail }
     ensures bound { OnOk result (length (persons_text tag.now persons.now) ≤ 20_000_000) }
+    ensures rules { OnOk result (All IsPerson persons.now) }
 {
     for person in persons {
         push_person(out, tag, person)?;
