@@ -10,7 +10,7 @@ use Rattle.deleted_entries.specs.declared.item.Item.TheVariants.{Kept, Gone}
 use Rattle.member_rules.specs.declared.operation.Op.{Op}
 use Rattle.member_rules.specs.Operation.{item_of}
 use Rattle.member_rules.specs.Fold.{Fold, with_item, no_members, after_operation, fold_of}
-use Rattle.member_rules.specs.Items.{without, in_place, newest_items}
+use Rattle.member_rules.proofs.NewestItemsLemmas.{without, in_place, newest_items}
 
 -- the item where it is the member's, and else the older one
 abbrev pub or_older : ℕ → Option Item → Option Item → Option Item
@@ -108,3 +108,8 @@ live-folded number members (operation ∷ later) =
 pub live-is : (number : ℕ) (operations : List Op) → (fold_of operations).live number ≡ entry_or (newest_of number (reverse operations)) None
 unfolding fold_of
 live-is number operations = live-folded number no_members operations
+
+pub entry_or-kept : (item : Option Item) (entry : EntryValue) → entry_or item None ≡ Some entry → item ≡ Some (Kept entry)
+entry_or-kept None entry e = absurd (cc)
+entry_or-kept (Some (Kept other)) entry e = let same : other ≡ entry = cc in ap (λ (x : EntryValue). Some (Kept x)) same
+entry_or-kept (Some (Gone tombstone)) entry e = absurd (cc)

@@ -1,7 +1,7 @@
 -- What a client's ask becomes after a history: an operation, or the first refusal that fits (RFC 5023 sections 9.2 to 9.4).
-use Rattle.std.specs.Prelude.{ℕ, ◌+◌, ◌<◌, ◌^◌, List, ℤ, pos, ◌+ℤ◌, int_lt, nat_lt, nat_le, ◌&&◌, if◌then◌else◌, Option, Some, None, Result, Ok, Err, length}
+use Rattle.std.specs.Prelude.{ℕ, ◌+◌, List, ℤ, pos, ◌+ℤ◌, int_lt, nat_lt, nat_le, ◌&&◌, if◌then◌else◌, Option, Some, None, Result, Ok, Err, length}
 use Rattle.std.specs.Str.{bytes_eq}
-use Rattle.atom_values.specs.Entry.{EntryValue, IsDraft, normal}
+use Rattle.atom_values.specs.Entry.{EntryValue, normal}
 use Rattle.atom_writer.specs.declared.doc.FeedName.{FeedName}
 use Rattle.atom_writer.specs.Pieces.{entry_piece}
 use Rattle.deleted_entries.specs.FeedId.{member_id}
@@ -77,9 +77,3 @@ decide name created history (Delete number) now =
       tombstone = record { number = number; when = later_of moment stored.updated };
       moment = moment;
     })
-
--- what the types of an ask keep
-abbrev pub IsAsk : Ask → Type 0
-IsAsk (Create draft) = IsDraft draft
-IsAsk (Replace number draft) = (number < 2 ^ 32) × IsDraft draft
-IsAsk (Delete number) = number < 2 ^ 32

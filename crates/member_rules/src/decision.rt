@@ -1,8 +1,10 @@
 ghost use Rattle.std.specs.Prelude.{◌≡◌, ℕ, ◌<◌, ◌≤◌, [], ◌∷◌, ◌++◌, List, ℤ, length, nat_lt, int_lt, if◌then◌else◌, IfOk, OnOk, IsOkAnd, MatchResult};
 ghost use Rattle.atom_writer.specs.declared.doc.FeedName.{FeedName};
+ghost use Rattle.atom_values.specs.Entry.{IsEntry};
 ghost use Rattle.atom_writer.specs.Pieces.{entry_piece};
 ghost use Rattle.member_rules.specs.declared.operation.Op.{Op};
 ghost use Rattle.member_rules.specs.Head.{HeadValue};
+ghost use Rattle.member_rules.specs.Operation.{KeepsEntry};
 ghost use Rattle.member_rules.specs.History.{IsLawful, MayFollow, entry_limit, history_limit};
 ghost use Rattle.member_rules.specs.Decide as decision;
 ghost use Rattle.member_rules.specs.Table.{IsTableOf};
@@ -34,7 +36,7 @@ pub fn decide(members: &Members, name: &FeedName, ask: Ask, now: u64) -> Result<
     ensures follows { IfOk result (λ operation. (created : ℤ) (history : List Op)
         → IsTableOf members.now created history → MayFollow created history operation) }
     ensures lawful { IfOk result (λ operation. (head : HeadValue) (history : List Op) → head.name ≡ name.now
-        → IsTableOf members.now head.created history → IsLawful head history → decision.IsAsk ask
+        → IsTableOf members.now head.created history → IsLawful head history
         → IsLawful head (history ++ operation ∷ [])) }
 {
     match ask {
@@ -47,8 +49,9 @@ pub fn decide(members: &Members, name: &FeedName, ask: Ask, now: u64) -> Result<
 /// The operation that makes the next member.
 fn create(members: &Members, name: &FeedName, draft: Draft, now: u64) -> Result<Op, RuleFault>
     requires { members.now.operations < history_limit }
-    ensures { (created : ℤ) (history : List Op) → IsTableOf members.now created history
+    ensures decision { (created : ℤ) (history : List Op) → IsTableOf members.now created history
         → result ≡ decision.decide name.now created history (Ask.Create draft) now }
+    ensures entry { IfOk result KeepsEntry }
 {
     let moment = next_moment(members.last_moment(), now)?;
     let entry = draft.normal(members.count() + 1, moment, None);
@@ -64,8 +67,9 @@ fn replace(
     mut draft: Draft,
     now: u64,
 ) -> Result<Op, RuleFault>
-    ensures { (created : ℤ) (history : List Op) → IsTableOf members.now created history
+    ensures decision { (created : ℤ) (history : List Op) → IsTableOf members.now created history
         → result ≡ decision.decide name.now created history (Ask.Replace number draft) now }
+    ensures entry { IfOk result KeepsEntry }
 {
     let stored = live_updated(members, number)?;
     refuse_other(name, number, draft.id.take())?;
@@ -77,8 +81,9 @@ fn replace(
 
 /// The operation that removes the member.
 fn delete(members: &Members, number: u32, now: u64) -> Result<Op, RuleFault>
-    ensures { (name : FeedName) (created : ℤ) (history : List Op) → IsTableOf members.now created history
+    ensures decision { (name : FeedName) (created : ℤ) (history : List Op) → IsTableOf members.now created history
         → result ≡ decision.decide name created history (Ask.Delete number) now }
+    ensures entry { IfOk result KeepsEntry }
 {
     let stored = live_updated(members, number)?;
     let moment = next_moment(members.last_moment(), now)?;
@@ -131,8 +136,10 @@ fn next_moment(last: Stamp, now: u64) -> Result<Stamp, RuleFault>
 
 /// Refuses an entry whose piece of a document is too long.
 fn refuse_large(name: &FeedName, entry: &Entry) -> Result<(), RuleFault>
-    ensures { let size = length (entry_piece name.now entry.now) in
+    ensures size { let size = length (entry_piece name.now entry.now) in
         result ≡ (if nat_lt entry_limit size then Err (RuleFault.TooLarge size) else Ok tt) }
+    // `entry_len` walks the entry, and so knows what its type keeps.
+    ensures rules { IsEntry entry.now }
 {
     let length = entry_len(name, entry);
     if length > ENTRY_LIMIT {

@@ -3,8 +3,21 @@ use atom_writer::FeedName;
 use std::alloc::Global;
 use std::marker::Model;
 
-/// What stays of a feed: its name, how many operations a window has (1 to 100), how many bytes an area of its store may
-/// have (4,096 to 2^36), and when it was made, not before 1970. Title and author have at most 1,024 bytes each.
+/// The most operations of a window.
+pub const WINDOW_LIMIT: u32 = 100;
+
+/// The most bytes of a feed's title, and of its author.
+pub const TITLE_LIMIT: usize = 1_024;
+
+/// The fewest bytes that an area of a store may be limited to.
+pub const CAPACITY_FLOOR: u64 = 4_096;
+
+/// The most bytes that an area of a store may be limited to.
+pub const CAPACITY_LIMIT: u64 = 1 << 36;
+
+/// The head of a feed: what is chosen when the feed is made. It keeps the feed's name, how many operations a window has
+/// (1 to `WINDOW_LIMIT`), how many bytes an area of its store may have (`CAPACITY_FLOOR` to `CAPACITY_LIMIT`), and when
+/// the feed was made, which isn't before 1970. Title and author have at most `TITLE_LIMIT` bytes each.
 #[derive(Debug, Drop)]
 pub struct Head {
     pub name: FeedName,

@@ -1,7 +1,7 @@
-ghost use Rattle.std.specs.Prelude.{◌≡◌, ◌≢◌, ℕ, ◌+◌, ◌<◌, ◌≤◌, [], ◌∷◌, ◌++◌, List, ℤ, OnOk};
+ghost use Rattle.std.specs.Prelude.{◌≡◌, ◌≢◌, ◌↔◌, ℕ, ◌+◌, ◌<◌, ◌≤◌, [], ◌∷◌, ◌++◌, List, ℤ, IsTrue, OnOk};
 ghost use Rattle.member_rules.specs.declared.operation.Op.{Op};
 ghost use Rattle.member_rules.specs.Fold.{made, last_moment, live_count, state_of};
-ghost use Rattle.member_rules.specs.History.{history_limit};
+ghost use Rattle.member_rules.specs.History.{Fits, MayFollow, history_limit};
 ghost use Rattle.member_rules.specs.Table.{IsTableOf, MayCommit};
 
 use crate::operation::Op;
@@ -53,7 +53,8 @@ impl Members {
 
     /// What the member of this number is.
     pub fn state(&self, number: u32) -> State
-        ensures state { (created : ℤ) (history : List Op) → IsTableOf self.now created history → result ≡ state_of history number }
+        ensures state { (created : ℤ) (history : List Op) → IsTableOf self.now created history
+            → result ≡ state_of history number }
         ensures from_one { result ≢ State.Never → 1 ≤ number }
     {
         match number.checked_sub(1) {
@@ -67,7 +68,8 @@ impl Members {
 
     /// The moment of the last operation, or when the feed was made.
     pub fn last_moment(&self) -> Stamp
-        ensures last { (created : ℤ) (history : List Op) → IsTableOf self.now created history → result ≡ last_moment created history }
+        ensures last { (created : ℤ) (history : List Op) → IsTableOf self.now created history
+            → result ≡ last_moment created history }
         ensures value { result ≡ self.now.last }
     {
         self.last
@@ -75,7 +77,8 @@ impl Members {
 
     /// How many members were ever made.
     pub fn count(&self) -> u32
-        ensures made { (created : ℤ) (history : List Op) → IsTableOf self.now created history → result ≡ made history }
+        ensures made { (created : ℤ) (history : List Op) → IsTableOf self.now created history
+            → result ≡ made history }
         ensures few { result ≤ self.now.operations }
     {
         self.states.len() as u32
@@ -83,9 +86,41 @@ impl Members {
 
     /// How many members are live.
     pub fn live_count(&self) -> u32
-        ensures { (created : ℤ) (history : List Op) → IsTableOf self.now created history → result ≡ live_count history }
+        ensures { (created : ℤ) (history : List Op) → IsTableOf self.now created history
+            → result ≡ live_count history }
     {
         self.live
+    }
+
+    /// Whether the operation may follow those that the table is of: it is later than all of them, a new member has the
+    /// next number, a changed or removed one is live, and neither `updated` nor a tombstone goes back. `commit` asks for
+    /// this.
+    pub fn may_follow(&self, operation: &Op) -> bool
+        ensures exact { (created : ℤ) (history : List Op) → IsTableOf self.now created history
+            → (IsTrue result ↔ MayFollow created history operation.now) }
+        ensures commits { IsTrue result → (created : ℤ) (history : List Op)
+            → IsTableOf self.now created history → MayCommit self.now operation.now }
+    {
+        operation.moment() > self.last && self.fits(operation)
+    }
+
+    /// Whether the operation's member is as the operation needs it.
+    fn fits(&self, operation: &Op) -> bool
+        ensures { (created : ℤ) (history : List Op) → IsTableOf self.now created history
+            → (IsTrue result ↔ Fits history operation.now) }
+    {
+        match operation {
+            Op::Add(entry) => entry.number - 1 == self.count(),
+            Op::Change(entry) => match self.state(entry.number) {
+                State::Live { updated, .. } => updated <= entry.updated,
+                State::Never | State::Gone { .. } => false,
+            },
+            Op::Remove(removal) => match self.state(removal.tombstone.number) {
+                State::Live { updated, .. } => removal.tombstone.when
+                    == removal.moment.max(updated),
+                State::Never | State::Gone { .. } => false,
+            },
+        }
     }
 
     /// Makes room for one more operation.
@@ -103,7 +138,8 @@ impl Members {
         requires room { 1 ≤ self.old.spare }
         requires few { self.old.operations < history_limit }
         requires follows { MayCommit self.old operation.now }
-        ensures table { (created : ℤ) (history : List Op) → IsTableOf self.old created history → IsTableOf self.new created (history ++ operation.now ∷ []) }
+        ensures table { (created : ℤ) (history : List Op) → IsTableOf self.old created history
+            → IsTableOf self.new created (history ++ operation.now ∷ []) }
         ensures counted { self.new.operations ≡ self.old.operations + 1 }
     {
         self.last = operation.moment();

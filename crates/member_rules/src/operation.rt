@@ -3,7 +3,7 @@ use deleted_entries::Tombstone;
 use std::alloc::Global;
 use std::marker::Model;
 
-/// That a member is removed: its tombstone, which isn't before the moment, and when the removal was accepted.
+/// The removal of a member: the member's tombstone, and when the removal was accepted. The tombstone isn't before that.
 #[derive(Clone, Copy, Debug, PartialEq, Eq)]
 pub struct Removal {
     pub tombstone: Tombstone,
@@ -35,12 +35,13 @@ pub enum Op {
 }
 
 impl Op {
-    ghost use Rattle.std.specs.Prelude.{◌≡◌, Some};
-    ghost use Rattle.member_rules.specs.Operation.{moment_of, named};
+    ghost use Rattle.std.specs.Prelude.{◌≡◌};
+    ghost use Rattle.member_rules.specs.Operation.{moment_of, number_of};
 
-    /// The member that the operation names.
+    /// The number of the member that the operation names. It would be 0 for an operation that names none; each of
+    /// today's names one.
     pub fn number(&self) -> u32
-        ensures { named self.now ≡ Some result }
+        ensures { result ≡ number_of self.now }
     {
         match self {
             Op::Add(entry) | Op::Change(entry) => entry.number,

@@ -1,5 +1,5 @@
 use Rattle.std.proofs.Common.{sym}
-use Rattle.member_rules.proofs.Decisions.{live_entry-never, live_entry-live, live_entry-gone}
+use Rattle.member_rules.proofs.DecisionLemmas.{live_entry-never, live_entry-live, live_entry-gone}
 use Rattle.member_rules.proofs.decision.live_updated.Goals as goal
 
 pub returns-in-Never-clause-entry : goal.returns-in-Never-clause-entry

@@ -1,6 +1,6 @@
 use Rattle.std.proofs.Common.{take, refl, sym, ap, ◌∙◌}
 use Rattle.member_rules.specs.Fold.{Fold, fold_of, updated_of}
-use Rattle.member_rules.proofs.Plains.{fold_of-more}
+use Rattle.member_rules.proofs.PlainLemmas.{fold_of-more}
 use Rattle.member_rules.proofs.plain.plain_live.Goals as goal
 
 pub loop-operation-init : goal.loop-operation-init

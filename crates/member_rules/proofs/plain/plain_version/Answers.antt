@@ -1,7 +1,7 @@
 use Rattle.std.proofs.Common.{◌≡◌, ℕ, ◌+◌, Bool, true, false, if◌then◌else◌, take, sym, ap, ◌∙◌}
 use Rattle.member_rules.specs.Fold.{last_naming}
 use Rattle.member_rules.specs.Operation.{names}
-use Rattle.member_rules.proofs.Plains.{last_naming-more, names-same, names-other}
+use Rattle.member_rules.proofs.PlainLemmas.{last_naming-more, names-same, names-other}
 use Rattle.member_rules.proofs.plain.plain_version.Goals.{then-number, else-number}
 use Rattle.member_rules.proofs.plain.plain_version.Goals as goal
 

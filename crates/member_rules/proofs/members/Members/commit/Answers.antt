@@ -5,7 +5,7 @@ use Rattle.member_rules.specs.Removal.{RemovalValue}
 use Rattle.member_rules.specs.Table.{Table}
 use Rattle.member_rules.specs.declared.operation.Removal.TheInside.{Inside}
 use Rattle.member_rules.specs.declared.state.State.TheVariants.{Live, Gone as Deleted}
-use Rattle.member_rules.proofs.Tables.{commit-add, commit-change, commit-remove, change-place, remove-place}
+use Rattle.member_rules.proofs.TableLemmas.{commit-add, commit-change, commit-remove, change-place, remove-place}
 use Rattle.member_rules.proofs.members.Members.commit.Goals as goal
 
 pub index_mut-requires : goal.index_mut-requires

@@ -3,7 +3,7 @@ use Rattle.std.proofs.lemmas.Bool.Decides.{nat_tests}
 use Rattle.member_rules.specs.declared.state.State.{State}
 use Rattle.member_rules.specs.Table.{Table}
 use Rattle.member_rules.specs.Fold.{made, state_of}
-use Rattle.member_rules.proofs.Standings.{state_of-zero, state_of-past}
+use Rattle.member_rules.proofs.StateLemmas.{state_of-zero, state_of-past}
 use Rattle.member_rules.proofs.members.Members.state.Goals as goal
 
 pub returns-in-None-get-clause-state : goal.returns-in-None-get-clause-state

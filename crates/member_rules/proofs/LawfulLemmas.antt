@@ -1,16 +1,11 @@
 -- What is decided may follow its history, and keeps it lawful.
-use Rattle.std.proofs.Common.{◌≡◌, ℕ, suc, ◌+◌, ◌<◌, ◌≤◌, ◌^◌, ℤ, ◌≤ℤ◌, ◌<ℤ◌, int_lt, nat_lt, nat_le, Bool, true, false, ◌&&◌, ◌||◌, ◌==◌, if◌then◌else◌, Option, Some, None, IfSome, Result, Ok, Err, IfOk, IsSomeAnd, List, [], ◌∷◌, ◌++◌, fold, filter, length, All, length-append, refl, sym, ap, subst, ◌∙◌, arith}
+use Rattle.std.proofs.Common.{◌≡◌, ℕ, suc, ◌+◌, ◌<◌, ◌≤◌, ℤ, ◌≤ℤ◌, ◌<ℤ◌, int_lt, nat_lt, nat_le, Bool, true, false, ◌&&◌, ◌==◌, if◌then◌else◌, Option, Some, None, IfSome, Result, Ok, Err, IfOk, IsSomeAnd, List, [], ◌∷◌, ◌++◌, fold, length, All, length-append, refl, sym, ap, subst, ◌∙◌, arith}
 use Rattle.std.specs.Prelude.{is_some, unwrap_or}
 use Rattle.std.proofs.lemmas.Bool.Decides.{nat_tests}
 use Rattle.std.proofs.lemmas.Int.{ints}
-use Rattle.std.proofs.lemmas.List.Elements.{All-push, All-filter}
-use Rattle.std.proofs.lemmas.List.Sums.{length-filter, count_by-le-length}
-use Rattle.atom_values.proofs.XmlTexts.{IsXmlText-nil}
-use Rattle.atom_values.specs.Entry.{DraftValue, EntryValue, IsText, IsEntry, IsDraft, normal, not_before, shown_content, empty_text}
-use Rattle.atom_values.specs.Link.{IsLink, without_edit, has_alternate}
+use Rattle.std.proofs.lemmas.List.Elements.{All-push}
+use Rattle.atom_values.specs.Entry.{DraftValue, EntryValue, IsEntry, normal, not_before}
 use Rattle.atom_values.specs.Stamp.{IsStamp}
-use Rattle.atom_values.specs.declared.text.Text.{Text}
-use Rattle.atom_values.proofs.Entries.{IsWhole-normal}
 use Rattle.atom_writer.specs.declared.doc.FeedName.{FeedName}
 use Rattle.atom_writer.specs.Pieces.{entry_piece}
 use Rattle.member_rules.specs.declared.operation.Op.{Op}
@@ -20,12 +15,13 @@ use Rattle.member_rules.specs.declared.ask.Ask.TheVariants.{Create, Replace, Del
 use Rattle.member_rules.specs.declared.fault.RuleFault.{RuleFault}
 use Rattle.member_rules.specs.declared.fault.RuleFault.TheVariants.{NotFound, ClockSpent, TooLarge}
 use Rattle.member_rules.specs.Head.{HeadValue}
-use Rattle.member_rules.specs.Operation.{IsOperation}
+use Rattle.member_rules.specs.Operation.{IsOperation, KeepsEntry}
 use Rattle.member_rules.specs.Fold.{Fold, set, no_members, after_operation, fold_of, made, last_moment}
-use Rattle.member_rules.specs.History.{MayFollow, IsLawful, IsSmall, later_of, entry_limit, history_limit}
+use Rattle.member_rules.specs.History.{MayFollow, AreFollowing, IsLawful, IsSmall, later_of, entry_limit, history_limit}
 use Rattle.member_rules.specs.Table.{Table, IsTableOf}
-use Rattle.member_rules.specs.Decide.{◌>>=◌, live_or_gone, live_entry, unless_other, greatest_moment, later_moment, next_moment, unless_large, decide, IsAsk}
-use Rattle.member_rules.proofs.Folds.{AreFollowing-push, made-le-length}
+use Rattle.member_rules.specs.Decide.{◌>>=◌, live_or_gone, live_entry, unless_other, greatest_moment, later_moment, next_moment, unless_large, decide}
+use Rattle.member_rules.proofs.FoldLemmas.{AreFollowing-push, made-le-length}
+use Rattle.member_rules.proofs.StateLemmas.{AreMembers-of, live_within}
 
 -- of two steps that both go through
 split_ok : {A : Type 0} (r : Result A RuleFault) (f : A → Result Op RuleFault) (operation : Op) → (r >>= f) ≡ Ok operation → (x : A) × (r ≡ Ok x) × (f x ≡ Ok operation)
@@ -164,43 +160,6 @@ decide-follows name created history (Delete number) now operation e =
       fits = some_and ((fold_of history).live number) g.stored _ g.live.1 refl;
     })
 
--- the limits of an entry that is made of a draft
-
-IsText-empty : IsText empty_text
-IsText-empty = record { short = omega arith; xml = IsXmlText-nil [] refl }
-
-shown-text : (content : Option Text) (shown : Bool) → IfSome content IsText → IfSome (if is_some content || shown then content else Some empty_text) IsText
-shown-text (Some text) shown h = h
-shown-text None true h = h
-shown-text None false h = IsText-empty
-
-updated-stamp : (moment : ℤ) (asked stored : Option ℤ) → IsStamp moment → IfSome asked IsStamp → IfSome stored IsStamp → IsStamp (not_before (unwrap_or asked moment) stored)
-updated-stamp moment None None m a s = later_stamp moment moment m m
-updated-stamp moment (Some asked) None m a s = later_stamp asked asked a a
-updated-stamp moment None (Some stored) m a s = later_stamp moment stored m s
-updated-stamp moment (Some asked) (Some stored) m a s = later_stamp asked stored a s
-
-few-left : {T : Type 0} (p : T → Bool) (items : List T) (most : ℕ) → length items ≤ most → length (filter p items) ≤ most
-few-left p items most h = omega (arith, length-filter p items, count_by-le-length p items)
-
-pub IsEntry-normal : (draft : DraftValue) (number : ℕ) (moment : ℤ) (stored : Option ℤ) → IsDraft draft → 1 ≤ number → number < 2 ^ 32 → IsStamp moment → IfSome stored IsStamp → IsEntry (normal draft number moment stored)
-unfolding normal
-IsEntry-normal draft number moment stored d from below m s = record {
-  whole = IsWhole-normal number draft.links (without_edit draft.links) draft.content (shown_content draft.content (without_edit draft.links)) from refl refl;
-  number = below;
-  edited = m;
-  title = d.title;
-  updated = updated-stamp moment draft.updated stored m d.updated s;
-  published = d.published;
-  authors = d.authors;
-  contributors = d.contributors;
-  links = (few-left _ draft.links 32 d.links.0, All-filter _ IsLink draft.links d.links.1);
-  categories = d.categories;
-  rights = d.rights;
-  summary = d.summary;
-  content = shown-text draft.content (has_alternate (without_edit draft.links)) d.content;
-}
-
 -- live entries keep what the operations do
 abbrev AllEntries : Fold → Type 0
 AllEntries members = (number : ℕ) (entry : EntryValue) → members.live number ≡ Some entry → IsEntry entry
@@ -233,27 +192,25 @@ removal-stamp moment updated m u = (later_stamp moment updated m u, grind (arith
 
 -- the operation keeps what its types keep, and is small
 decide-keeps : (name : FeedName) (created : ℤ) (history : List Op) (ask : Ask) (now : ℕ) (operation : Op) → decide name created history ask now ≡ Ok operation
-    → All IsOperation history → length history < history_limit → IsAsk ask → IsOperation operation × IsSmall name operation
-decide-keeps name created history (Create draft) now operation e all few ask =
+    → AreFollowing created history → All IsOperation history → length history < history_limit → KeepsEntry operation → IsOperation operation × IsSmall name operation
+decide-keeps name created history (Create draft) now operation e following all few entry =
     let g = create-gives name created history draft now operation e in
-    subst (λ (o : Op). IsOperation o × IsSmall name o) g.is
-    (IsEntry-normal draft (made history + 1) g.moment None ask (omega arith) (omega (arith, made-le-length history)) g.later.1 tt, g.small)
-decide-keeps name created history (Replace number draft) now operation e all few ask =
+    subst (λ (o : Op). IsOperation o × IsSmall name o) g.is (subst KeepsEntry (sym g.is) entry, g.small)
+decide-keeps name created history (Replace number draft) now operation e following all few entry =
     let g = replace-gives name created history number draft now operation e in
-    let stored = live-entries history all number g.stored g.live.1 in
-    subst (λ (o : Op). IsOperation o × IsSmall name o) g.is
-    (IsEntry-normal draft number g.moment (Some g.stored.updated) ask.1 g.live.0 ask.0 g.later.1 stored.updated, g.small)
-decide-keeps name created history (Delete number) now operation e all few ask =
+    subst (λ (o : Op). IsOperation o × IsSmall name o) g.is (subst KeepsEntry (sym g.is) entry, g.small)
+decide-keeps name created history (Delete number) now operation e following all few entry =
     let g = delete-gives name created history number now operation e in
     let stored = live-entries history all number g.stored g.live.1 in
     let range = removal-stamp g.moment g.stored.updated g.later.1 stored.updated in
+    let within = live_within (fold_of history) (made history) number (AreMembers-of created history following) (ap is_some g.live.1) in
     subst (λ (o : Op). IsOperation o × IsSmall name o) g.is
-    (record { tombstone = record { number = (g.live.0, ask); when = range.0 }; moment = g.later.1; in_order = range.1 }, tt)
+    (record { tombstone = record { number = (g.live.0, omega (arith, within.1, made-le-length history, few)); when = range.0 }; moment = g.later.1; in_order = range.1 }, tt)
 
 pub decide-lawful : (head : HeadValue) (history : List Op) (ask : Ask) (now : ℕ) (operation : Op) → decide head.name head.created history ask now ≡ Ok operation
-    → length history < history_limit → IsLawful head history → IsAsk ask → IsLawful head (history ++ operation ∷ [])
-decide-lawful head history ask now operation e few lawful of =
-    let keeps = decide-keeps head.name head.created history ask now operation e lawful.operations few of in
+    → length history < history_limit → IsLawful head history → KeepsEntry operation → IsLawful head (history ++ operation ∷ [])
+decide-lawful head history ask now operation e few lawful entry =
+    let keeps = decide-keeps head.name head.created history ask now operation e lawful.following lawful.operations few entry in
     record {
       few = omega (arith, length-append history (operation ∷ []));
       following = AreFollowing-push head.created history operation lawful.following (decide-follows head.name head.created history ask now operation e);
@@ -270,8 +227,9 @@ decided-follows (Err fault) name ask now table is = tt
 
 pub decided-lawful : (r : Result Op RuleFault) (name : FeedName) (ask : Ask) (now : ℕ) (table : Table) → table.operations < history_limit
     → ((created : ℤ) (history : List Op) → IsTableOf table created history → r ≡ decide name created history ask now)
-    → IfOk r (λ operation. (head : HeadValue) (history : List Op) → head.name ≡ name → IsTableOf table head.created history → IsLawful head history → IsAsk ask → IsLawful head (history ++ operation ∷ []))
-decided-lawful (Ok operation) name ask now table few is = λ head history named of lawful asked.
+    → IfOk r KeepsEntry
+    → IfOk r (λ operation. (head : HeadValue) (history : List Op) → head.name ≡ name → IsTableOf table head.created history → IsLawful head history → IsLawful head (history ++ operation ∷ []))
+decided-lawful (Ok operation) name ask now table few is entry = λ head history named of lawful.
     decide-lawful head history ask now operation (ap (λ (n : FeedName). decide n head.created history ask now) named ∙ sym (is head.created history of))
-    (omega (arith, of.operations, few)) lawful asked
-decided-lawful (Err fault) name ask now table few is = tt
+    (omega (arith, of.operations, few)) lawful entry
+decided-lawful (Err fault) name ask now table few is entry = tt

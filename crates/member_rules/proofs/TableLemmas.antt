@@ -15,9 +15,9 @@ use Rattle.member_rules.specs.Operation.{item_of, names, moment_of}
 use Rattle.member_rules.specs.Fold.{Fold, with_item, fold_of, made, last_moment, last_naming, live_count, state_by, state_of, count_up_to}
 use Rattle.member_rules.specs.History.{MayFollow, Fits, later_of}
 use Rattle.member_rules.specs.Table.{Table, IsTableOf, MayCommit}
-use Rattle.member_rules.proofs.Folds.{fold_of-push, made-push, last_moment-push, AreFollowing-push, get-push, get-push-other}
-use Rattle.member_rules.proofs.Standings.{AreMembers-of, live_within, state_with, state_of-push-item, state_of-push-other, unnamed, is_there, differ, set-same, set-other}
-use Rattle.member_rules.proofs.Counts.{count-same, count-more, count-less}
+use Rattle.member_rules.proofs.FoldLemmas.{fold_of-push, made-push, last_moment-push, AreFollowing-push, get-push, get-push-other}
+use Rattle.member_rules.proofs.StateLemmas.{AreMembers-of, live_within, state_with, state_of-push-item, state_of-push-other, unnamed, is_there, differ, set-same, set-other}
+use Rattle.member_rules.proofs.LiveCountLemmas.{count-same, count-more, count-less}
 
 -- what a member is tells whether it is live
 state_live : (gone : Option ℤ) (live : Option EntryValue) (version version' : ℕ) (updated : ℤ) → state_by gone live version ≡ Live updated version' → (stored : EntryValue) × (live ≡ Some stored) × (stored.updated ≡ updated) × (gone ≡ None)

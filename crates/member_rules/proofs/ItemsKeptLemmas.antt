@@ -14,7 +14,8 @@ use Rattle.member_rules.specs.declared.operation.Op.{Op}
 use Rattle.member_rules.specs.declared.operation.Op.TheVariants.{Add, Change, Remove}
 use Rattle.member_rules.specs.Operation.{item_of, moment_of, IsOperation}
 use Rattle.member_rules.specs.Fold.{last_moment}
-use Rattle.member_rules.specs.Items.{without, in_place, newest_items, items_of}
+use Rattle.member_rules.specs.Items.{items_of}
+use Rattle.member_rules.proofs.NewestItemsLemmas.{without, in_place, newest_items, items_of-newest}
 
 -- how many
 
@@ -35,8 +36,7 @@ newest-length [] = omega arith
 newest-length (operation ∷ older) = omega (arith, in_place-length (item_of operation) (newest_items older) (length older) (newest-length older))
 
 pub items-length : (operations : List Op) → length (items_of operations) ≤ length operations
-unfolding items_of
-items-length operations = omega (arith, newest-length (reverse operations), length-reverse operations)
+items-length operations = rw (items_of-newest operations) (omega (arith, newest-length (reverse operations), length-reverse operations))
 
 -- distinct members
 
@@ -77,8 +77,7 @@ newest-distinct [] = tt
 newest-distinct (operation ∷ older) = in_place-distinct (item_of operation) (newest_items older) (newest-distinct older)
 
 pub items-distinct : (operations : List Op) → IsDistinct nat_eq (map item_number (items_of operations))
-unfolding items_of
-items-distinct operations = newest-distinct (reverse operations)
+items-distinct operations = rw (items_of-newest operations) (newest-distinct (reverse operations))
 
 -- what the types keep
 
@@ -102,8 +101,7 @@ All-reverse P (x ∷ xs) h =
     rw (reverse-append (x ∷ []) xs) (All-append P (reverse xs) (x ∷ []) (All-reverse P xs (All-tail P x xs h)) (All-cons P x [] (All-head P x xs h) (All-nil P)))
 
 pub items-keep : (operations : List Op) → All IsOperation operations → All IsItem (items_of operations)
-unfolding items_of
-items-keep operations h = newest-keeps (reverse operations) (All-reverse IsOperation operations h)
+items-keep operations h = rw (items_of-newest operations) (newest-keeps (reverse operations) (All-reverse IsOperation operations h))
 
 moment-keeps : (operation : Op) → IsOperation operation → IsStamp (moment_of operation)
 moment-keeps (Add entry) h = h.edited

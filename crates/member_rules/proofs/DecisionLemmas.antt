@@ -15,7 +15,7 @@ use Rattle.member_rules.specs.declared.state.State.TheVariants.{Never, Live, Gon
 use Rattle.member_rules.specs.Fold.{fold_of, made, last_moment, last_naming, state_by, state_of}
 use Rattle.member_rules.specs.History.{AreFollowing, entry_limit, later_of}
 use Rattle.member_rules.specs.Decide.{◌>>=◌, live_or_gone, live_entry, unless_other, greatest_moment, later_moment, next_moment, unless_large, decide}
-use Rattle.member_rules.proofs.Standings.{AreMembers-of}
+use Rattle.member_rules.proofs.StateLemmas.{AreMembers-of}
 
 -- the entry by a member's state
 gone_or_live : (number : ℕ) (gone : Option ℤ) (live : Option EntryValue) (version : ℕ) (inside : Bool) → state_by gone live version ≡ Never → (if inside then live_or_gone number gone live else Err (NotFound number)) ≡ Err (NotFound number)

@@ -1,25 +1,20 @@
--- What the documents of a cut of a history show of a member: its newest item.
-use Rattle.std.proofs.Common.{◌≡◌, ◌≢◌, ◌↔◌, inl, inr, ℕ, zero, suc, ◌-◌, ◌<◌, ◌≤◌, false, nat_eq, List, [], ◌∷◌, ◌++◌, length, take, drop, reverse, map, get_or, Option, Some, None, refl, ap, sym, ◌∙◌, subst, arith}
-use Rattle.std.specs.Prelude.{All, Any, Contains}
-use Rattle.std.specs.List.{IsDistinct, AllByRecursion}
-use Rattle.std.proofs.lemmas.List.{reverse-append, take-append-drop, take-take}
+-- What a list of documents shows of a member: its newest item.
+use Rattle.std.proofs.Common.{◌≡◌, ◌≢◌, ◌↔◌, inl, inr, ℕ, zero, suc, ◌<◌, ◌≤◌, ◌==◌, false, nat_eq, List, [], ◌∷◌, ◌++◌, length, map, get_or, Option, Some, None, refl, ap, sym, ◌∙◌, subst, arith}
+use Rattle.std.specs.Prelude.{All, Any, Contains, max, fold}
+use Rattle.std.specs.List.{IsDistinct, AllByRecursion, find}
+use Rattle.std.specs.Option.{option_or}
 use Rattle.std.proofs.lemmas.List.Elements.{All-nil, All-cons, All-head, All-tail}
+use Rattle.std.proofs.lemmas.List.Folds.{find-append}
+use Rattle.std.proofs.lemmas.List.Concat.{flat_map-cons}
 use Rattle.std.proofs.lemmas.Bool.{cases_eq, eq-eqb, ne_eqb}
+use Rattle.std.proofs.Math.Nat.{le-max_left, le-max_right}
 use Rattle.atom_values.specs.Entry.{EntryValue}
-use Rattle.atom_writer.specs.Doc.{DocValue}
+use Rattle.atom_writer.specs.Doc.{DocValue, IsDoc}
 use Rattle.deleted_entries.specs.Item.{item_number}
 use Rattle.deleted_entries.specs.declared.item.Item.{Item}
 use Rattle.deleted_entries.specs.declared.item.Item.TheVariants.{Kept, Gone}
-use Rattle.member_rules.specs.declared.operation.Op.{Op}
-use Rattle.member_rules.specs.Head.{HeadValue}
-use Rattle.member_rules.specs.Fold.{fold_of}
-use Rattle.member_rules.specs.Items.{items_of}
-use Rattle.member_rules.specs.Documents.{archive_of, subscription_of}
-use Rattle.member_rules.specs.Shows.{HasItemOf, Shows}
-use Rattle.member_rules.specs.Chain.{down_from}
-use Rattle.member_rules.proofs.ItemsLemmas.{newest_of, newest_of-append, item_in, item_in-newest, or_else, entry_or, live-is}
-use Rattle.member_rules.proofs.DocumentsLemmas.{items-distinct}
-use Rattle.member_rules.proofs.DocumentsRules.{IsCut}
+use Rattle.member_rules.specs.Shows.{HasItemOf, Shows, entry_of, all_items, greatest_member, live_of}
+use Rattle.member_rules.proofs.ItemsLemmas.{item_in, or_else}
 
 -- items and `item_in`
 
@@ -82,7 +77,7 @@ item_in-Contains (first ∷ items) item h c = go (item_in-Contains items item h.
 -- documents
 
 -- the newest item of the member in a list of documents, newest first
-pub shown : ℕ → List DocValue → Option Item
+unfoldable pub shown : ℕ → List DocValue → Option Item
 shown number [] = None
 shown number (document ∷ older) = or_else (item_in number document.items) (shown number older)
 
@@ -139,67 +134,63 @@ Shows-from_shown (document ∷ documents) number entry e = go (Shows-from_shown 
     go behind None same h = Shows-behind document documents number entry same (behind h)
     go behind (Some item) same h = Shows-here document documents number entry (same ∙ h)
 
--- the documents of a cut
+-- `live_of`
 
-item_in-items : (number : ℕ) (operations : List Op) → item_in number (items_of operations) ≡ newest_of number (reverse operations)
-unfolding items_of
-item_in-items number operations = item_in-newest number (reverse operations)
+find-item_in : (number : ℕ) (items : List Item) → find (λ item. item_number item == number) items ≡ item_in number items
+find-item_in number [] = refl
+find-item_in number (item ∷ items) = elim (cases_eq number (item_number item)) [
+  | inl same ↦ rw (eq-eqb number (item_number item) same, eq-eqb (item_number item) number (sym same)) refl
+  | inr other ↦ rw (ne_eqb number (item_number item) other, ne_eqb (item_number item) number (λ e. other (sym e))) (find-item_in number items)
+]
 
--- a list of operations, from a place on and up to it
-newest_of-split : (number at : ℕ) (operations : List Op) → newest_of number (reverse operations) ≡ or_else (newest_of number (reverse (drop at operations))) (newest_of number (reverse (take at operations)))
-newest_of-split number at operations =
-    ap (λ (ops : List Op). newest_of number (reverse ops)) (sym (take-append-drop at operations))
-    ∙ ap (newest_of number) (reverse-append (take at operations) (drop at operations))
-    ∙ newest_of-append number (reverse (drop at operations)) (reverse (take at operations))
+or_else-is : (a b : Option Item) → option_or a b ≡ or_else a b
+or_else-is None b = refl
+or_else-is (Some item) b = refl
 
-shown-archives : (ends : ℕ → ℕ) (head : HeadValue) (history : List Op) (number : ℕ) → ends 0 ≡ 0 → (archives : ℕ) → ((k : ℕ) → k < archives → ends k < ends (suc k)) → shown number (down_from (archive_of ends head history) archives) ≡ newest_of number (reverse (take (ends archives) history))
-unfolding shown archive_of
-shown-archives ends head history number none zero rises = rw none refl
-shown-archives ends head history number none (suc k) rises =
-    let same : suc k - 1 ≡ k = omega arith in
-    let covered = take (ends (suc k)) history in
-    let below : ends k ≤ ends (suc k) = omega (arith, rises k (omega arith)) in
-    let front : take (ends k) covered ≡ take (ends k) history = take-take (ends k) (ends (suc k)) history below in
-    rw same
-    (ap (λ (o : Option Item). or_else o (shown number (down_from (archive_of ends head history) k))) (item_in-items number (drop (ends k) covered))
-    ∙ ap (or_else (newest_of number (reverse (drop (ends k) covered)))) (shown-archives ends head history number none k (λ j l. rises j (omega arith)) ∙ ap (λ (ops : List Op). newest_of number (reverse ops)) (sym front))
-    ∙ sym (newest_of-split number (ends k) covered))
+find-shown : (number : ℕ) (documents : List DocValue) → find (λ item. item_number item == number) (all_items documents) ≡ shown number documents
+unfolding shown
+find-shown number [] = refl
+find-shown number (document ∷ older) =
+    ap (find (λ item. item_number item == number)) (flat_map-cons (λ (d : DocValue). d.items) document older)
+    ∙ find-append (λ item. item_number item == number) document.items (all_items older)
+    ∙ or_else-is (find (λ item. item_number item == number) document.items) (find (λ item. item_number item == number) (all_items older))
+    ∙ ap (λ (o : Option Item). or_else o (find (λ item. item_number item == number) (all_items older))) (find-item_in number document.items)
+    ∙ ap (or_else (item_in number document.items)) (find-shown number older)
 
--- the documents of a cut, newest first
-unfoldable pub chain_of : (ℕ → ℕ) → ℕ → HeadValue → List Op → List DocValue
-chain_of ends archives head history =
-    subscription_of ends archives head history ∷ down_from (archive_of ends head history) archives
+pub live_of-shown : (documents : List DocValue) (number : ℕ) → live_of documents number ≡ entry_of (shown number documents)
+unfolding live_of
+live_of-shown documents number = ap entry_of (find-shown number documents)
 
-shown-chain : (ends : ℕ → ℕ) (archives : ℕ) (head : HeadValue) (history : List Op) (number : ℕ) → IsCut ends archives (length history) → shown number (chain_of ends archives head history) ≡ newest_of number (reverse history)
-unfolding shown chain_of subscription_of
-shown-chain ends archives head history number cut =
-    ap (λ (o : Option Item). or_else o (shown number (down_from (archive_of ends head history) archives))) (item_in-items number (drop (ends archives) history))
-    ∙ ap (or_else (newest_of number (reverse (drop (ends archives) history)))) (shown-archives ends head history number cut.from_none archives cut.rises)
-    ∙ sym (newest_of-split number (ends archives) history)
+pub entry_of-kept : (item : Option Item) (entry : EntryValue) → entry_of item ≡ Some entry → item ≡ Some (Kept entry)
+entry_of-kept None entry e = absurd (grind arith)
+entry_of-kept (Some (Kept other)) entry e = let same : other ≡ entry = cc in ap (λ (x : EntryValue). Some (Kept x)) same
+entry_of-kept (Some (Gone tombstone)) entry e = absurd (grind arith)
 
-distinct-archives : (ends : ℕ → ℕ) (head : HeadValue) (history : List Op) (archives : ℕ) → AllByRecursion (λ d. IsDistinct nat_eq (map item_number d.items)) (down_from (archive_of ends head history) archives)
-unfolding archive_of
-distinct-archives ends head history zero = tt
-distinct-archives ends head history (suc k) = (items-distinct (drop (ends (suc k - 1)) (take (ends (suc k)) history)), distinct-archives ends head history k)
+distinct-docs : (documents : List DocValue) → All IsDoc documents → AllByRecursion (λ d. IsDistinct nat_eq (map item_number d.items)) documents
+distinct-docs [] h = tt
+distinct-docs (document ∷ documents) h = ((All-head IsDoc document documents h).rules.distinct, distinct-docs documents (All-tail IsDoc document documents h))
 
-distinct-chain : (ends : ℕ → ℕ) (archives : ℕ) (head : HeadValue) (history : List Op) → AllByRecursion (λ d. IsDistinct nat_eq (map item_number d.items)) (chain_of ends archives head history)
-unfolding chain_of subscription_of
-distinct-chain ends archives head history = (items-distinct (drop (ends archives) history), distinct-archives ends head history archives)
+pub live_of-is_shown : (documents : List DocValue) (number : ℕ) (entry : EntryValue) → All IsDoc documents → Shows documents number entry ↔ (live_of documents number ≡ Some entry)
+live_of-is_shown documents number entry all = (
+  λ shows. live_of-shown documents number ∙ ap entry_of (shown-from_Shows documents number entry (distinct-docs documents all) shows),
+  λ e. Shows-from_shown documents number entry (entry_of-kept (shown number documents) entry (sym (live_of-shown documents number) ∙ e)),
+)
 
-kept-live : (item : Option Item) (entry : EntryValue) → item ≡ Some (Kept entry) → entry_or item None ≡ Some entry
-kept-live item entry e = ap (λ (o : Option Item). entry_or o None) e
+-- no item has a number past the greatest
 
-live-kept : (item : Option Item) (entry : EntryValue) → entry_or item None ≡ Some entry → item ≡ Some (Kept entry)
-live-kept None entry e = absurd (grind arith)
-live-kept (Some (Kept other)) entry e = let same : other ≡ entry = cc in ap (λ (x : EntryValue). Some (Kept x)) same
-live-kept (Some (Gone tombstone)) entry e = absurd (grind arith)
+abbrev greater : ℕ → Item → ℕ
+greater greatest item = max greatest (item_number item)
 
--- the documents of a cut show exactly the live entries
-pub chain_of-shows : (ends : ℕ → ℕ) (archives : ℕ) (head : HeadValue) (history : List Op) → IsCut ends archives (length history) → (number : ℕ) (entry : EntryValue) → Shows (chain_of ends archives head history) number entry ↔ ((fold_of history).live number ≡ Some entry)
-chain_of-shows ends archives head history cut number entry =
-    let newest = shown-chain ends archives head history number cut in
-    let live = live-is number history in
-    let item = newest_of number (reverse history) in (
-      λ shows. live ∙ kept-live item entry (sym newest ∙ shown-from_Shows (chain_of ends archives head history) number entry (distinct-chain ends archives head history) shows),
-      λ e. Shows-from_shown (chain_of ends archives head history) number entry (newest ∙ live-kept item entry (sym live ∙ e)),
-    )
+at_least : (greatest : ℕ) (items : List Item) → greatest ≤ fold greater greatest items
+at_least greatest [] = omega arith
+at_least greatest (item ∷ items) = omega (arith, le-max_left greatest (item_number item), at_least (max greatest (item_number item)) items)
+
+find-past : (number greatest : ℕ) (items : List Item) → fold greater greatest items < number → find (λ item. item_number item == number) items ≡ None
+find-past number greatest [] l = refl
+find-past number greatest (item ∷ items) l =
+    let other : item_number item ≢ number = λ e. absurd (omega (arith, e, le-max_right greatest (item_number item), at_least (max greatest (item_number item)) items)) in
+    rw (ne_eqb (item_number item) number other) (find-past number (max greatest (item_number item)) items l)
+
+pub live_of-past : (documents : List DocValue) (number : ℕ) → greatest_member documents < number → live_of documents number ≡ None
+unfolding live_of
+live_of-past documents number l = ap entry_of (find-past number 0 (all_items documents) l)

@@ -16,7 +16,7 @@ use Rattle.member_rules.specs.declared.state.State.TheVariants.{Never, Live, Gon
 use Rattle.member_rules.specs.Operation.{item_of, makes, names}
 use Rattle.member_rules.specs.Fold.{Fold, set, no_members, with_item, after_operation, fold_of, made, last_naming, state_by, state_of}
 use Rattle.member_rules.specs.History.{AreFollowing, Fits}
-use Rattle.member_rules.proofs.Folds.{fold_of-push, made-push, last_naming-push}
+use Rattle.member_rules.proofs.FoldLemmas.{fold_of-push, made-push, last_naming-push}
 
 pub set-same : {A : Type 0} (number : ℕ) (value : Option A) (map : ℕ → Option A) → set number value map number ≡ value
 set-same number value map = grind (arith, nat_tests)

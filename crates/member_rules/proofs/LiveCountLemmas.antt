@@ -1,5 +1,5 @@
 -- How many members are live, after one more operation.
-use Rattle.std.proofs.Common.{◌≡◌, ◌≢◌, inl, inr, ℕ, zero, suc, ◌+◌, ◌≤◌, Bool, true, false, if◌then◌else◌, Option, add-one, refl, sym, ap, ◌∙◌, arith}
+use Rattle.std.proofs.Common.{◌≡◌, ◌≢◌, inl, inr, ℕ, zero, suc, ◌+◌, ◌<◌, ◌≤◌, Bool, true, false, if◌then◌else◌, Option, None, add-one, refl, sym, ap, ◌∙◌, arith}
 use Rattle.std.specs.Prelude.{is_some}
 use Rattle.std.proofs.lemmas.Bool.{cases_eq}
 use Rattle.atom_values.specs.Entry.{EntryValue}
@@ -41,3 +41,12 @@ count-less before after (suc n) number low high was is same = elim (cases_eq num
         split : (b : Bool) → (if b then k + 1 + 1 else k + 1) ≡ (if b then k + 1 else k) + 1
         split true = refl
         split false = refl
+
+-- no member is live past this number
+pub count-past : (live : ℕ → Option EntryValue) (n more : ℕ) → ((k : ℕ) → n < k → live k ≡ None) → count_up_to live (n + more) ≡ count_up_to live n
+count-past live n zero none = let same : n + 0 ≡ n = omega arith in ap (count_up_to live) same
+count-past live n (suc more) none =
+    let next : n + suc more ≡ suc (n + more) = omega arith in
+    ap (count_up_to live) next
+    ∙ ap (λ (o : Option EntryValue). if is_some o then count_up_to live (n + more) + 1 else count_up_to live (n + more)) (none (suc (n + more)) (omega arith))
+    ∙ count-past live n more none

@@ -1,16 +1,17 @@
 -- The documents of a cut of a history adjoin, and each keeps the rules.
-use Rattle.std.proofs.Common.{◌≡◌, ℕ, zero, suc, ◌-◌, ◌≤◌, List, [], ◌∷◌, ◌++◌, length, refl, subst, arith}
+use Rattle.std.proofs.Common.{◌≡◌, ℕ, zero, suc, ◌-◌, ◌≤◌, List, [], ◌∷◌, ◌++◌, ◌+◌, length, take, refl, ap, subst, arith}
 use Rattle.std.specs.Prelude.{All}
+use Rattle.std.proofs.lemmas.List.{length-take-le}
 use Rattle.std.proofs.lemmas.List.Elements.{All-nil, All-cons}
 use Rattle.atom_writer.specs.Doc.{DocValue, IsDoc}
 use Rattle.chain_links.specs.Place.{Adjoins}
 use Rattle.member_rules.specs.declared.operation.Op.{Op}
 use Rattle.member_rules.specs.Head.{HeadValue, IsHead}
 use Rattle.member_rules.specs.History.{IsLawful}
-use Rattle.member_rules.specs.Documents.{archive_of, subscription_of}
-use Rattle.member_rules.specs.Chain.{IsChain, place_of, down_from}
-use Rattle.member_rules.proofs.ChainShows.{chain_of}
-use Rattle.member_rules.proofs.DocumentsRules.{IsCut, IsOpenCut, archive-is_doc, subscription-is_doc}
+use Rattle.member_rules.specs.Documents.{document_of, archive_of, subscription_of}
+use Rattle.member_rules.specs.Chain.{IsChain, IsOpenCut, place_of, down_from, chain_of}
+use Rattle.member_rules.proofs.CutLemmas.{IsCut, IsCut-open, ends-within}
+use Rattle.member_rules.proofs.DocumentRulesLemmas.{archive-is_doc, subscription-is_doc}
 
 -- by recursion: a document, and then the older ones
 abbrev Linked : DocValue → List DocValue → Type 0
@@ -44,24 +45,29 @@ whole-from first (next ∷ documents) (x ∷ before) oldest h e =
     let rest : next ∷ documents ≡ before ++ oldest ∷ [] = cc in
     whole-from next documents before oldest h.1 rest
 
-linked-archives : (ends : ℕ → ℕ) (head : HeadValue) (history : List Op) → ends 0 ≡ 0 → (k : ℕ) → Linked (archive_of ends head history (suc k)) (down_from (archive_of ends head history) k)
-unfolding archive_of
-linked-archives ends head history none zero = omega (arith, none)
-linked-archives ends head history none (suc k) =
-    let same : suc (suc k) - 1 ≡ suc k = omega arith in
-    (record { named = rw same refl; spans = rw same refl }, linked-archives ends head history none k)
+-- a span ends where the next one begins
+seam : (ends : ℕ → ℕ) (archives : ℕ) (history : List Op) (k : ℕ) → IsCut ends archives (length history) → k ≤ archives → length (take (ends k) history) + 1 ≡ ends k + 1
+seam ends archives history k cut l = ap (λ (n : ℕ). n + 1) (length-take-le (ends k) history (ends-within ends archives (length history) cut k l))
 
-linked-chain : (ends : ℕ → ℕ) (archives : ℕ) (head : HeadValue) (history : List Op) → ends 0 ≡ 0 → Linked (subscription_of ends archives head history) (down_from (archive_of ends head history) archives)
-unfolding archive_of subscription_of
-linked-chain ends zero head history none = omega (arith, none)
-linked-chain ends (suc k) head history none = (record { named = refl; spans = refl }, linked-archives ends head history none k)
+linked-archives : (ends : ℕ → ℕ) (archives : ℕ) (head : HeadValue) (history : List Op) → IsCut ends archives (length history) → (k : ℕ) → suc k ≤ archives → Linked (archive_of ends head history (suc k)) (down_from (archive_of ends head history) k)
+unfolding archive_of document_of
+linked-archives ends archives head history cut zero l = omega (arith, cut.from_none)
+linked-archives ends archives head history cut (suc k) l =
+    let same : suc (suc k) - 1 ≡ suc k = omega arith in
+    (record { named = rw same refl; spans = rw same (seam ends archives history (suc k) cut (omega arith)) }, linked-archives ends archives head history cut k (omega arith))
+
+linked-chain : (ends : ℕ → ℕ) (archives : ℕ) (head : HeadValue) (history : List Op) → IsCut ends archives (length history) → Linked (subscription_of ends archives head history) (down_from (archive_of ends head history) archives)
+unfolding archive_of subscription_of document_of
+linked-chain ends zero head history cut = omega (arith, cut.from_none)
+linked-chain ends (suc k) head history cut =
+    (record { named = refl; spans = seam ends (suc k) history (suc k) cut (omega arith) }, linked-archives ends (suc k) head history cut k (omega arith))
 
 pub chain_of-is_chain : (ends : ℕ → ℕ) (archives : ℕ) (head : HeadValue) (history : List Op) → IsCut ends archives (length history) → IsChain (chain_of ends archives head history)
 unfolding chain_of
 chain_of-is_chain ends archives head history cut =
     let first = subscription_of ends archives head history in
     let older = down_from (archive_of ends head history) archives in
-    let linked = linked-chain ends archives head history cut.from_none in
+    let linked = linked-chain ends archives head history cut in
     record {
       adjoined = λ before after newer next e. adjoined-from first older before after newer next linked e;
       whole = λ before oldest e. whole-from first older before oldest linked e;
@@ -79,4 +85,4 @@ unfolding chain_of
 chain_of-documents ends archives head history is_head lawful cut =
     All-cons IsDoc (subscription_of ends archives head history) (down_from (archive_of ends head history) archives)
     (subscription-is_doc ends archives head history is_head lawful cut)
-    (docs-archives ends archives head history is_head lawful cut.cut archives (omega arith))
+    (docs-archives ends archives head history is_head lawful (IsCut-open ends archives (length history) cut) archives (omega arith))
