@@ -1,5 +1,6 @@
 -- Cuts of a history into spans, and windows as one of them.
-use Rattle.std.proofs.Common.{◌≡◌, ◌≢◌, inl, inr, ℕ, zero, suc, ◌+◌, ◌-◌, ◌*◌, ◌/◌, ◌<◌, ◌≤◌, List, [], ◌∷◌, ◌++◌, length, take, refl, ap, subst, ◌∙◌, add-one, arith, length-append}
+use Rattle.std.proofs.Common.{◌≡◌, ◌≢◌, inl, inr, ℕ, zero, suc, ◌+◌, ◌-◌, ◌*◌, ◌/◌, ◌<◌, ◌≤◌, List, [], ◌∷◌, ◌++◌,
+    length, take, refl, ap, subst, ◌∙◌, add-one, arith, length-append}
 use Rattle.std.proofs.lemmas.Nat.{le-div}
 use Rattle.std.proofs.lemmas.Bool.{cases_lt}
 use Rattle.std.proofs.lemmas.List.{length-take-le}
@@ -29,27 +30,34 @@ IsCut-open ends archives count cut = record {
 }
 
 -- some operation comes after the archives
-pub some-open : (ends : ℕ → ℕ) (archives count : ℕ) → IsOpenCut ends archives count → archives ≢ 0 → ends archives < count
+pub some-open : (ends : ℕ → ℕ) (archives count : ℕ) → IsOpenCut ends archives count → archives ≢ 0
+    → ends archives < count
 some-open ends archives count cut n = elim cut.some_open [
   | inl some ↦ some
   | inr none ↦ absurd (n none.1)
 ]
 
 -- each archive has an operation
-pub ends-at_least : (ends : ℕ → ℕ) (archives count : ℕ) → IsCut ends archives count → (number : ℕ) → number ≤ archives → number ≤ ends number
+pub ends-at_least : (ends : ℕ → ℕ) (archives count : ℕ) → IsCut ends archives count → (number : ℕ) → number ≤ archives
+    → number ≤ ends number
 ends-at_least ends archives count cut zero l = omega arith
-ends-at_least ends archives count cut (suc n) l = omega (arith, ends-at_least ends archives count cut n (omega arith), cut.rises n (omega arith))
+ends-at_least ends archives count cut (suc n) l =
+    omega (arith, ends-at_least ends archives count cut n (omega arith), cut.rises n (omega arith))
 
-ends-up_to : (ends : ℕ → ℕ) (archives count : ℕ) → IsCut ends archives count → (number more : ℕ) → number + more ≤ archives → ends number ≤ ends (number + more)
+ends-up_to : (ends : ℕ → ℕ) (archives count : ℕ) → IsCut ends archives count → (number more : ℕ)
+    → number + more ≤ archives → ends number ≤ ends (number + more)
 ends-up_to ends archives count cut number zero l = let same : number + 0 ≡ number = omega arith in rw same (omega arith)
 ends-up_to ends archives count cut number (suc more) l =
     let same : number + suc more ≡ suc (number + more) = omega arith in
-    rw same (omega (arith, ends-up_to ends archives count cut number more (omega arith), cut.rises (number + more) (omega arith)))
+    rw same (omega (arith, ends-up_to ends archives count cut number more (omega arith),
+        cut.rises (number + more) (omega arith)))
 
-pub ends-within : (ends : ℕ → ℕ) (archives count : ℕ) → IsCut ends archives count → (number : ℕ) → number ≤ archives → ends number ≤ count
+pub ends-within : (ends : ℕ → ℕ) (archives count : ℕ) → IsCut ends archives count → (number : ℕ) → number ≤ archives
+    → ends number ≤ count
 ends-within ends archives count cut number l =
     let same : number + (archives - number) ≡ archives = omega arith in
-    let up : ends number ≤ ends archives = rw same at (ends-up_to ends archives count cut number (archives - number) (omega arith)) in
+    let up : ends number ≤ ends archives = rw same at
+        (ends-up_to ends archives count cut number (archives - number) (omega arith)) in
     omega (arith, cut.within)
 
 -- where the span of archive `number` begins and ends
@@ -61,7 +69,8 @@ pub record IsSpan (number before end count : ℕ) : Type 0 where
   pub first : number ≡ 1 → before ≡ 0
   pub within : end ≤ count
 
-pub span-of : (ends : ℕ → ℕ) (archives count : ℕ) → IsCut ends archives count → (number : ℕ) → 1 ≤ number → number ≤ archives → IsSpan number (ends (number - 1)) (ends number) count
+pub span-of : (ends : ℕ → ℕ) (archives count : ℕ) → IsCut ends archives count → (number : ℕ) → 1 ≤ number
+    → number ≤ archives → IsSpan number (ends (number - 1)) (ends number) count
 span-of ends archives count cut number one l =
     let same : suc (number - 1) ≡ number = omega arith in
     let rises : ends (number - 1) < ends number = rw same at (cut.rises (number - 1) (omega arith)) in
@@ -77,7 +86,8 @@ span-of ends archives count cut number one l =
 
 -- windows
 
-ends-cut : (window archives count : ℕ) → 1 ≤ window → window ≤ 100 → archives * window ≤ count → IsCut (λ number. number * window) archives count
+ends-cut : (window archives count : ℕ) → 1 ≤ window → window ≤ 100 → archives * window ≤ count
+    → IsCut (λ number. number * window) archives count
 ends-cut window archives count low high within = record {
   from_none = omega arith;
   rises = λ k l. omega arith;
@@ -86,20 +96,24 @@ ends-cut window archives count low high within = record {
 }
 
 -- full windows are a cut
-pub full-cut : (head : HeadValue) (history : List Op) (number : ℕ) → IsHead head → number ≤ (windows_of head history).full → IsCut (windows_of head history).ends number (length history)
+pub full-cut : (head : HeadValue) (history : List Op) (number : ℕ) → IsHead head
+    → number ≤ (windows_of head history).full → IsCut (windows_of head history).ends number (length history)
 unfolding windows_of
 full-cut head history number is_head l =
     let limits = is_head.limits.window in
-    ends-cut head.window number (length history) limits.0 limits.1 (omega (arith, mul-le-mul_right head.window l, div-mul-le_self (length history) head.window))
+    ends-cut head.window number (length history) limits.0 limits.1
+        (omega (arith, mul-le-mul_right head.window l, div-mul-le_self (length history) head.window))
 
-sealed-ends : (window count : ℕ) → 1 ≤ window → ((count - 1) / window * window ≤ count - 1) × (count ≤ (count - 1) / window * window + window)
+sealed-ends : (window count : ℕ) → 1 ≤ window
+    → ((count - 1) / window * window ≤ count - 1) × (count ≤ (count - 1) / window * window + window)
 sealed-ends window count h = (omega arith, omega arith)
 
 none_sealed : (sealed window : ℕ) → 1 ≤ window → sealed * window ≤ 0 → sealed ≡ 0
 none_sealed zero window h l = refl
 none_sealed (suc sealed) window h l = absurd (omega arith)
 
-open-cut : (window count : ℕ) → 1 ≤ window → window ≤ 100 → IsOpenCut (λ number. number * window) ((count - 1) / window) count
+open-cut : (window count : ℕ) → 1 ≤ window → window ≤ 100
+    → IsOpenCut (λ number. number * window) ((count - 1) / window) count
 open-cut window count low high =
     let ends = sealed-ends window count low in
     record {
@@ -113,7 +127,8 @@ open-cut window count low high =
       few_open = omega (arith, ends.1);
     }
 
-pub windows-cut : (head : HeadValue) (history : List Op) → IsHead head → IsOpenCut (windows_of head history).ends (windows_of head history).sealed (length history)
+pub windows-cut : (head : HeadValue) (history : List Op) → IsHead head
+    → IsOpenCut (windows_of head history).ends (windows_of head history).sealed (length history)
 unfolding windows_of
 windows-cut head history is_head =
     let limits = is_head.limits.window in
@@ -126,12 +141,14 @@ one_more n = omega arith
 exact-div : (sealed window count : ℕ) → 1 ≤ window → (sealed + 1) * window ≡ count → count / window ≡ sealed + 1
 exact-div sealed window count h e = div-eq_of_lt-le window (omega (arith, e)) (omega (arith, e))
 
-short-div : (window count : ℕ) → 1 ≤ window → ((count - 1) / window + 1) * window ≢ count → count / window ≡ (count - 1) / window
+short-div : (window count : ℕ) → 1 ≤ window → ((count - 1) / window + 1) * window ≢ count
+    → count / window ≡ (count - 1) / window
 short-div window count h n =
     let ends = sealed-ends window count h in
     div-eq_of_lt-le window (omega (arith, ends.0)) (omega (arith, ends.0, ends.1))
 
-pub windows-in_turn : (head : HeadValue) (history : List Op) (operation : Op) → IsHead head → SealsInTurn (windows_of head history) (windows_of head (history ++ operation ∷ [])) (length history)
+pub windows-in_turn : (head : HeadValue) (history : List Op) (operation : Op) → IsHead head
+    → SealsInTurn (windows_of head history) (windows_of head (history ++ operation ∷ [])) (length history)
 unfolding windows_of
 windows-in_turn head history operation is_head =
     let low = is_head.limits.window.0 in
@@ -147,11 +164,13 @@ windows-in_turn head history operation is_head =
 
 -- the full windows of the first operations stay where they are
 
-pub full-ends : (head : HeadValue) (history : List Op) (version number : ℕ) → version ≤ length history → number ≤ (windows_of head (take version history)).full → (windows_of head history).ends number ≤ version
+pub full-ends : (head : HeadValue) (history : List Op) (version number : ℕ) → version ≤ length history
+    → number ≤ (windows_of head (take version history)).full → (windows_of head history).ends number ≤ version
 unfolding windows_of
 full-ends head history version number past l =
     let size = length-take-le version history past in
-    let within : number * head.window ≤ length (take version history) = omega (arith, mul-le-mul_right head.window l, div-mul-le_self (length (take version history)) head.window) in
+    let within : number * head.window ≤ length (take version history) =
+        omega (arith, mul-le-mul_right head.window l, div-mul-le_self (length (take version history)) head.window) in
     omega (arith, within, size)
 
 fewer-sealed : (window before count : ℕ) → 1 ≤ window → before ≤ count → (before - 1) / window ≤ (count - 1) / window
@@ -162,11 +181,13 @@ sealed-full : (window count : ℕ) → 1 ≤ window → (count - 1) / window ≤
 sealed-full window count h =
     le-div ((count - 1) / window) count window h (omega (arith, div-mul-le_self (count - 1) window))
 
-pub sealed-are_full : (head : HeadValue) (history : List Op) → IsHead head → (windows_of head history).sealed ≤ (windows_of head history).full
+pub sealed-are_full : (head : HeadValue) (history : List Op) → IsHead head
+    → (windows_of head history).sealed ≤ (windows_of head history).full
 unfolding windows_of
 sealed-are_full head history is_head = sealed-full head.window (length history) is_head.limits.window.0
 
-pub sealed-stay : (head : HeadValue) (history : List Op) (version : ℕ) → IsHead head → version ≤ length history → (windows_of head (take version history)).sealed ≤ (windows_of head history).sealed
+pub sealed-stay : (head : HeadValue) (history : List Op) (version : ℕ) → IsHead head → version ≤ length history
+    → (windows_of head (take version history)).sealed ≤ (windows_of head history).sealed
 unfolding windows_of
 sealed-stay head history version is_head past =
     let size = length-take-le version history past in

@@ -1,5 +1,6 @@
 -- The documents of a cut of a history keep the rules of documents.
-use Rattle.std.proofs.Common.{◌≡◌, ◌≢◌, ℕ, ◌+◌, ◌-◌, ◌<◌, ◌≤◌, true, List, length, take, drop, subst, sym, ap, ◌∙◌, arith, length-drop}
+use Rattle.std.proofs.Common.{◌≡◌, ◌≢◌, ℕ, ◌+◌, ◌-◌, ◌<◌, ◌≤◌, true, List, length, take, drop, subst, sym, ap, ◌∙◌,
+    arith, length-drop}
 use Rattle.std.proofs.lemmas.List.{length-take-le}
 use Rattle.std.proofs.lemmas.List.Elements.{All-take, All-drop}
 use Rattle.std.proofs.lemmas.Bool.Decides.{nat_tests}
@@ -14,43 +15,58 @@ use Rattle.member_rules.specs.Chain.{IsOpenCut}
 use Rattle.member_rules.proofs.CutLemmas.{IsCut, IsCut-open, IsSpan, span-of, some-open, ends-at_least}
 use Rattle.member_rules.proofs.ItemsKeptLemmas.{items-length, items-distinct, items-keep, last_moment-keeps}
 
-archive-placed : (number before end : ℕ) → 1 ≤ number → number < 4_294_967_295 → before < end → number - 1 ≤ before → (number ≡ 1 → before ≡ 0) → is_placed (Archive number) record { first = before + 1; last = end } (number - 1) ≡ true
+archive-placed : (number before end : ℕ) → 1 ≤ number → number < 4_294_967_295 → before < end → number - 1 ≤ before
+    → (number ≡ 1 → before ≡ 0) → is_placed (Archive number) record { first = before + 1; last = end } (number - 1)
+    ≡ true
 archive-placed number before end one few rises behind first = grind (arith, nat_tests)
 
-subscription-placed : (archives before count : ℕ) → (archives ≡ 0 → before ≡ 0) → (archives ≢ 0 → (archives ≤ before) × (before < count)) → is_placed Subscription record { first = before + 1; last = count } archives ≡ true
+subscription-placed : (archives before count : ℕ) → (archives ≡ 0 → before ≡ 0)
+    → (archives ≢ 0 → (archives ≤ before) × (before < count))
+    → is_placed Subscription record { first = before + 1; last = count } archives ≡ true
 subscription-placed archives before count none some = grind (arith, nat_tests)
 
 -- the span of an archive, by the length of the operations that it covers
-covered-span : (ends : ℕ → ℕ) (archives : ℕ) (history : List Op) (number : ℕ) → IsCut ends archives (length history) → 1 ≤ number → number ≤ archives → IsSpan number (ends (number - 1)) (length (take (ends number) history)) (length history)
+covered-span : (ends : ℕ → ℕ) (archives : ℕ) (history : List Op) (number : ℕ) → IsCut ends archives (length history)
+    → 1 ≤ number → number ≤ archives → IsSpan number (ends (number - 1)) (length (take (ends number) history))
+    (length history)
 covered-span ends archives history number cut one l =
     let at = span-of ends archives (length history) cut number one l in
-    subst (λ (end : ℕ). IsSpan number (ends (number - 1)) end (length history)) (sym (length-take-le (ends number) history at.within)) at
+    subst (λ (end : ℕ). IsSpan number (ends (number - 1)) end (length history))
+        (sym (length-take-le (ends number) history at.within)) at
 
-pub archive-rules : (ends : ℕ → ℕ) (archives : ℕ) (head : HeadValue) (history : List Op) (number : ℕ) → IsCut ends archives (length history) → length history ≤ history_limit → 1 ≤ number → number ≤ archives → KeepsRules (archive_of ends head history number)
+pub archive-rules : (ends : ℕ → ℕ) (archives : ℕ) (head : HeadValue) (history : List Op) (number : ℕ)
+    → IsCut ends archives (length history) → length history ≤ history_limit → 1 ≤ number → number ≤ archives
+    → KeepsRules (archive_of ends head history number)
 unfolding archive_of document_of
 archive-rules ends archives head history number cut few one l =
     let at = covered-span ends archives history number cut one l in
     let before = ends (number - 1) in
     let covered = take (ends number) history in
     record {
-      placed = archive-placed number before (length covered) one (omega (arith, at.counted, at.within)) at.rises at.behind at.first;
+      placed = archive-placed number before (length covered) one (omega (arith, at.counted, at.within)) at.rises
+          at.behind at.first;
       few = omega (arith, at.narrow, at.rises);
       room = omega (arith, items-length (drop before covered), length-drop before covered);
       distinct = items-distinct (drop before covered);
     }
 
-pub subscription-rules : (ends : ℕ → ℕ) (archives : ℕ) (head : HeadValue) (history : List Op) → IsOpenCut ends archives (length history) → KeepsRules (subscription_of ends archives head history)
+pub subscription-rules : (ends : ℕ → ℕ) (archives : ℕ) (head : HeadValue) (history : List Op)
+    → IsOpenCut ends archives (length history) → KeepsRules (subscription_of ends archives head history)
 unfolding subscription_of document_of
 subscription-rules ends archives head history cut =
     let span = drop (ends archives) history in
     record {
-      placed = subscription-placed archives (ends archives) (length history) (λ e. ap ends e ∙ cut.from_none) (λ n. (ends-at_least ends archives (length history) (IsCut-open ends archives (length history) cut) archives (omega arith), some-open ends archives (length history) cut n));
+      placed = subscription-placed archives (ends archives) (length history) (λ e. ap ends e ∙ cut.from_none)
+          (λ n. (ends-at_least ends archives (length history) (IsCut-open ends archives (length history) cut) archives
+          (omega arith), some-open ends archives (length history) cut n));
       few = omega (arith, cut.few_open);
       room = omega (arith, items-length span, length-drop (ends archives) history);
       distinct = items-distinct span;
     }
 
-pub archive-is_doc : (ends : ℕ → ℕ) (archives : ℕ) (head : HeadValue) (history : List Op) (number : ℕ) → IsHead head → IsLawful head history → IsCut ends archives (length history) → 1 ≤ number → number ≤ archives → IsDoc (archive_of ends head history number)
+pub archive-is_doc : (ends : ℕ → ℕ) (archives : ℕ) (head : HeadValue) (history : List Op) (number : ℕ) → IsHead head
+    → IsLawful head history → IsCut ends archives (length history) → 1 ≤ number → number ≤ archives
+    → IsDoc (archive_of ends head history number)
 unfolding archive_of document_of name_of
 archive-is_doc ends archives head history number is_head lawful cut one l =
     let at = covered-span ends archives history number cut one l in
@@ -60,12 +76,17 @@ archive-is_doc ends archives head history number is_head lawful cut one l =
       first = omega (arith, at.rises, at.within, lawful.few);
       last = omega (arith, at.within, lawful.few);
       prev = omega (arith, at.counted, at.within, lawful.few);
-      updated = last_moment-keeps head.created (take (ends number) history) is_head.created (All-take IsOperation (ends number) history lawful.operations);
-      items = items-keep (drop (ends (number - 1)) (take (ends number) history)) (All-drop IsOperation (ends (number - 1)) (take (ends number) history) (All-take IsOperation (ends number) history lawful.operations));
+      updated = last_moment-keeps head.created (take (ends number) history) is_head.created
+          (All-take IsOperation (ends number) history lawful.operations);
+      items = items-keep (drop (ends (number - 1)) (take (ends number) history))
+          (All-drop IsOperation (ends (number - 1)) (take (ends number) history)
+          (All-take IsOperation (ends number) history lawful.operations));
       rules = rules;
     }
 
-pub subscription-is_doc : (ends : ℕ → ℕ) (archives : ℕ) (head : HeadValue) (history : List Op) → IsHead head → IsLawful head history → IsOpenCut ends archives (length history) → IsDoc (subscription_of ends archives head history)
+pub subscription-is_doc : (ends : ℕ → ℕ) (archives : ℕ) (head : HeadValue) (history : List Op) → IsHead head
+    → IsLawful head history → IsOpenCut ends archives (length history)
+    → IsDoc (subscription_of ends archives head history)
 unfolding subscription_of document_of name_of
 subscription-is_doc ends archives head history is_head lawful cut =
     let rules = subscription-rules ends archives head history cut in
@@ -77,6 +98,7 @@ subscription-is_doc ends archives head history is_head lawful cut =
       last = omega (arith, lawful.few);
       prev = omega (arith, closed.within, lawful.few, least);
       updated = last_moment-keeps head.created history is_head.created lawful.operations;
-      items = items-keep (drop (ends archives) history) (All-drop IsOperation (ends archives) history lawful.operations);
+      items = items-keep (drop (ends archives) history)
+          (All-drop IsOperation (ends archives) history lawful.operations);
       rules = rules;
     }

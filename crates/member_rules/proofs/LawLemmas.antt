@@ -21,4 +21,5 @@ law-of_cuts head history ends archives is_head lawful open_cut =
 pub law-of_chain : LawOfTheChain
 unfolding chain
 law-of_chain head history is_head lawful =
-    law-of_cuts head history (windows_of head history).ends (windows_of head history).sealed is_head lawful (windows-cut head history is_head)
+    law-of_cuts head history (windows_of head history).ends (windows_of head history).sealed is_head lawful
+        (windows-cut head history is_head)

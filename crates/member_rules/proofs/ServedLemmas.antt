@@ -25,16 +25,21 @@ prefix-lawful head history version lawful = record {
 }
 
 -- an archive of a cut is that of its own operations
-archive_of-stays : (ends ends' : ℕ → ℕ) (head : HeadValue) (history : List Op) (version number : ℕ) → ends' number ≡ ends number → ends' (number - 1) ≡ ends (number - 1) → ends number ≤ version → archive_of ends' head (take version history) number ≡ archive_of ends head history number
+archive_of-stays : (ends ends' : ℕ → ℕ) (head : HeadValue) (history : List Op) (version number : ℕ)
+    → ends' number ≡ ends number → ends' (number - 1) ≡ ends (number - 1) → ends number ≤ version
+    → archive_of ends' head (take version history) number ≡ archive_of ends head history number
 unfolding archive_of
-archive_of-stays ends ends' head history version number last first l = rw (last, first, take-take (ends number) version history l) refl
+archive_of-stays ends ends' head history version number last first l =
+    rw (last, first, take-take (ends number) version history l) refl
 
 pub archive-stays : ArchivesStay
 unfolding archive windows_of
 archive-stays head history version number past within =
-    archive_of-stays (windows_of head history).ends (windows_of head (take version history)).ends head history version number refl refl (full-ends head history version number past within)
+    archive_of-stays (windows_of head history).ends (windows_of head (take version history)).ends head history version
+        number refl refl (full-ends head history version number past within)
 
-feed-stays : (head : HeadValue) (history : List Op) (version : ℕ) → version ≤ length history → (address bytes : List ℕ) → ServesFeed head (take version history) address bytes → ServesFeed head history address bytes
+feed-stays : (head : HeadValue) (history : List Op) (version : ℕ) → version ≤ length history → (address bytes : List ℕ)
+    → ServesFeed head (take version history) address bytes → ServesFeed head history address bytes
 feed-stays head history version past address bytes served =
     let length-of = length-take-le version history past in
     let within : served.version ≤ version = omega (arith, served.past, length-of) in
@@ -42,17 +47,22 @@ feed-stays head history version past address bytes served =
       version = served.version;
       past = omega arith;
       there = served.there;
-      text = served.text ∙ ap (λ (operations : List Op). text (subscription head operations)) (take-take served.version version history within);
+      text = served.text ∙ ap (λ (operations : List Op). text (subscription head operations))
+          (take-take served.version version history within);
     }
 
-archive-served : (head : HeadValue) (history : List Op) (version : ℕ) → IsHead head → version ≤ length history → (address bytes : List ℕ) → ServesArchive head (take version history) address bytes → ServesArchive head history address bytes
+archive-served : (head : HeadValue) (history : List Op) (version : ℕ) → IsHead head → version ≤ length history
+    → (address bytes : List ℕ) → ServesArchive head (take version history) address bytes
+    → ServesArchive head history address bytes
 archive-served head history version is_head past address bytes served =
     let full = sealed-are_full head (take version history) is_head in
     record {
       number = served.number;
-      of_sealed = (served.of_sealed.0, omega (arith, served.of_sealed.1, sealed-stay head history version is_head past));
+      of_sealed = (served.of_sealed.0, omega (arith, served.of_sealed.1,
+          sealed-stay head history version is_head past));
       there = served.there;
-      text = served.text ∙ ap (λ (document : DocValue). text document) (archive-stays head history version served.number past (omega (arith, served.of_sealed.1, full)));
+      text = served.text ∙ ap (λ (document : DocValue). text document)
+          (archive-stays head history version served.number past (omega (arith, served.of_sealed.1, full)));
     }
 
 pub served-stays : ServedStays
@@ -65,27 +75,31 @@ served-stays head history version lawful past address bytes served = record {
   ];
 }
 
-feed-document : (head : HeadValue) (history : List Op) (address bytes : List ℕ) → IsHead head → IsLawful head history → ServesFeed head history address bytes → IsServedDoc head address bytes
+feed-document : (head : HeadValue) (history : List Op) (address bytes : List ℕ) → IsHead head → IsLawful head history
+    → ServesFeed head history address bytes → IsServedDoc head address bytes
 unfolding subscription subscription_of document_of name_of
 feed-document head history address bytes is_head lawful served =
     let past = take served.version history in
     record {
       document = subscription head past;
-      is_doc = subscription-is_doc (windows_of head past).ends (windows_of head past).sealed head past is_head (prefix-lawful head history served.version lawful) (windows-cut head past is_head);
+      is_doc = subscription-is_doc (windows_of head past).ends (windows_of head past).sealed head past is_head
+          (prefix-lawful head history served.version lawful) (windows-cut head past is_head);
       there = served.there;
       text = served.text;
       base = refl;
       id = refl;
     }
 
-archive-document : (head : HeadValue) (history : List Op) (address bytes : List ℕ) → IsHead head → IsLawful head history → ServesArchive head history address bytes → IsServedDoc head address bytes
+archive-document : (head : HeadValue) (history : List Op) (address bytes : List ℕ) → IsHead head
+    → IsLawful head history → ServesArchive head history address bytes → IsServedDoc head address bytes
 unfolding archive archive_of document_of name_of
 archive-document head history address bytes is_head lawful served =
     let full = sealed-are_full head history is_head in
     let cut = full-cut head history served.number is_head (omega (arith, served.of_sealed.1, full)) in
     record {
       document = archive head history served.number;
-      is_doc = archive-is_doc (windows_of head history).ends served.number head history served.number is_head lawful cut served.of_sealed.0 (omega arith);
+      is_doc = archive-is_doc (windows_of head history).ends served.number head history served.number is_head lawful
+          cut served.of_sealed.0 (omega arith);
       there = served.there;
       text = served.text;
       base = refl;

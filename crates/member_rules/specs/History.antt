@@ -1,5 +1,6 @@
 -- Which operation may follow a history, and which histories are lawful.
-use Rattle.std.specs.Prelude.{◌≡◌, ℕ, ◌+◌, ◌≤◌, List, ℤ, ◌≤ℤ◌, ◌<ℤ◌, int_lt, if◌then◌else◌, Some, length, take, slice_get, All, IsSomeAnd}
+use Rattle.std.specs.Prelude.{◌≡◌, ℕ, ◌+◌, ◌≤◌, List, ℤ, ◌≤ℤ◌, ◌<ℤ◌, int_lt, if◌then◌else◌, Some, length, take,
+    slice_get, All, IsSomeAnd}
 use Rattle.atom_writer.specs.declared.doc.FeedName.{FeedName}
 use Rattle.atom_writer.specs.Pieces.{entry_piece}
 use Rattle.member_rules.specs.declared.operation.Op.{Op}
@@ -12,7 +13,8 @@ use Rattle.member_rules.specs.Fold.{fold_of, made, last_moment}
 abbrev pub later_of : ℤ → ℤ → ℤ
 later_of a b = if int_lt a b then b else a
 
--- a new member has the next number; a change names a live member, whose `updated` doesn't go back; a removal names a live
+-- a new member has the next number; a change names a live member, whose `updated` doesn't go back; a removal names a
+-- live
 -- member, and the tombstone isn't before its `updated`
 abbrev pub Fits : List Op → Op → Type 0
 Fits history (Add entry) = entry.number ≡ made history + 1

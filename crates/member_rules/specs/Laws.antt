@@ -1,5 +1,6 @@
 -- The laws that the crates above cite. Each is the contract of a function of laws.rt.
-use Rattle.std.specs.Prelude.{◌≡◌, ◌≢◌, ◌↔◌, ◌⊎◌, ℕ, ◌+◌, ◌-◌, ◌≤◌, ℤ, List, [], ◌∷◌, ◌++◌, Some, length, take, slice_get, All}
+use Rattle.std.specs.Prelude.{◌≡◌, ◌≢◌, ◌↔◌, ◌⊎◌, ℕ, ◌+◌, ◌-◌, ◌≤◌, ℤ, List, [], ◌∷◌, ◌++◌, Some, length, take,
+    slice_get, All}
 use Rattle.atom_values.specs.Entry.{EntryValue}
 use Rattle.atom_writer.specs.Doc.{DocValue, IsDoc}
 use Rattle.member_rules.specs.declared.operation.Op.{Op}
@@ -76,7 +77,8 @@ pub record IsSetBy (history : List Op) (number : ℕ) (updated : ℤ) (version :
   pub live : (fold_of history).live number ≡ Some entry
   pub dated : entry.updated ≡ updated
   pub counted : 1 ≤ version
-  pub set_by : (slice_get history (version - 1) ≡ Some (Add entry)) ⊎ (slice_get history (version - 1) ≡ Some (Change entry))
+  pub set_by : (slice_get history (version - 1) ≡ Some (Add entry))
+      ⊎ (slice_get history (version - 1) ≡ Some (Change entry))
 
 -- a live member's state names the operation that set its entry
 abbrev pub VersionsSetTheEntry : Type 0
