@@ -6,7 +6,7 @@ use Rattle.std.proofs.lemmas.Bool.{cases_lt}
 use Rattle.std.proofs.lemmas.List.{length-take-le}
 use Rattle.std.proofs.Math.Nat.{div-mul-le_self, div-eq_of_lt-le, mul-le-mul_right}
 use Rattle.member_rules.specs.declared.operation.Op.{Op}
-use Rattle.member_rules.specs.Head.{HeadValue, IsHead}
+use Rattle.member_rules.specs.Head.{HeadValue, IsHead, window_limit}
 use Rattle.member_rules.specs.Windows.{windows_of}
 use Rattle.member_rules.specs.Chain.{IsOpenCut}
 use Rattle.member_rules.specs.Laws.{SealsInTurn}
@@ -96,11 +96,10 @@ ends-cut window archives count low high within = record {
 }
 
 -- full windows are a cut
-pub full-cut : (head : HeadValue) (history : List Op) (number : ℕ) → IsHead head
+pub full-cut : (head : HeadValue) (history : List Op) (number : ℕ) → (1 ≤ head.window) × (head.window ≤ window_limit)
     → number ≤ (windows_of head history).full → IsCut (windows_of head history).ends number (length history)
 unfolding windows_of
-full-cut head history number is_head l =
-    let limits = is_head.limits.window in
+full-cut head history number limits l =
     ends-cut head.window number (length history) limits.0 limits.1
         (omega (arith, mul-le-mul_right head.window l, div-mul-le_self (length history) head.window))
 
@@ -127,16 +126,13 @@ open-cut window count low high =
       few_open = omega (arith, ends.1);
     }
 
-pub windows-cut : (head : HeadValue) (history : List Op) → IsHead head
+pub windows-cut : (head : HeadValue) (history : List Op) → (1 ≤ head.window) × (head.window ≤ window_limit)
     → IsOpenCut (windows_of head history).ends (windows_of head history).sealed (length history)
 unfolding windows_of
-windows-cut head history is_head =
-    let limits = is_head.limits.window in
+windows-cut head history limits =
     open-cut head.window (length history) limits.0 limits.1
 
 -- an operation after a full window seals it
-one_more : (n : ℕ) → n + 1 - 1 ≡ n
-one_more n = omega arith
 
 exact-div : (sealed window count : ℕ) → 1 ≤ window → (sealed + 1) * window ≡ count → count / window ≡ sealed + 1
 exact-div sealed window count h e = div-eq_of_lt-le window (omega (arith, e)) (omega (arith, e))

@@ -8,11 +8,13 @@ use Rattle.atom_writer.specs.declared.doc.Kind.TheVariants.{Subscription, Archiv
 use Rattle.atom_writer.specs.Doc.{KeepsRules, IsDoc, is_placed}
 use Rattle.member_rules.specs.declared.operation.Op.{Op}
 use Rattle.member_rules.specs.Operation.{IsOperation}
-use Rattle.member_rules.specs.Head.{HeadValue, IsHead}
+use Rattle.member_rules.specs.Head.{HeadValue, IsHead, window_limit}
 use Rattle.member_rules.specs.History.{IsLawful, history_limit}
-use Rattle.member_rules.specs.Documents.{name_of, document_of, archive_of, subscription_of}
+use Rattle.member_rules.specs.Documents.{name_of, document_of, archive_of, subscription_of, archive, subscription}
+use Rattle.member_rules.specs.Windows.{windows_of}
 use Rattle.member_rules.specs.Chain.{IsOpenCut}
-use Rattle.member_rules.proofs.CutLemmas.{IsCut, IsCut-open, IsSpan, span-of, some-open, ends-at_least}
+use Rattle.member_rules.proofs.CutLemmas.{IsCut, IsCut-open, IsSpan, span-of, some-open, ends-at_least, full-cut,
+    windows-cut}
 use Rattle.member_rules.proofs.ItemsKeptLemmas.{items-length, items-distinct, items-keep, last_moment-keeps}
 
 archive-placed : (number before end : ℕ) → 1 ≤ number → number < 4_294_967_295 → before < end → number - 1 ≤ before
@@ -102,3 +104,20 @@ subscription-is_doc ends archives head history is_head lawful cut =
           (All-drop IsOperation (ends archives) history lawful.operations);
       rules = rules;
     }
+
+-- the documents of windows
+
+pub archive-keeps : (head : HeadValue) (history : List Op) (number : ℕ)
+    → (1 ≤ head.window) × (head.window ≤ window_limit) → length history ≤ history_limit
+    → 1 ≤ number → number ≤ (windows_of head history).full → KeepsRules (archive head history number)
+unfolding archive
+archive-keeps head history number limits few one full =
+    archive-rules (windows_of head history).ends number head history number (full-cut head history number limits full)
+        few one (omega arith)
+
+pub subscription-keeps : (head : HeadValue) (history : List Op) → (1 ≤ head.window) × (head.window ≤ window_limit)
+    → KeepsRules (subscription head history)
+unfolding subscription
+subscription-keeps head history limits =
+    subscription-rules (windows_of head history).ends (windows_of head history).sealed head history
+        (windows-cut head history limits)

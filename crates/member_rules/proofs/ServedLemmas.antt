@@ -83,7 +83,7 @@ feed-document head history address bytes is_head lawful served =
     record {
       document = subscription head past;
       is_doc = subscription-is_doc (windows_of head past).ends (windows_of head past).sealed head past is_head
-          (prefix-lawful head history served.version lawful) (windows-cut head past is_head);
+          (prefix-lawful head history served.version lawful) (windows-cut head past is_head.limits.window);
       there = served.there;
       text = served.text;
       base = refl;
@@ -95,7 +95,7 @@ archive-document : (head : HeadValue) (history : List Op) (address bytes : List 
 unfolding archive archive_of document_of name_of
 archive-document head history address bytes is_head lawful served =
     let full = sealed-are_full head history is_head in
-    let cut = full-cut head history served.number is_head (omega (arith, served.of_sealed.1, full)) in
+    let cut = full-cut head history served.number is_head.limits.window (omega (arith, served.of_sealed.1, full)) in
     record {
       document = archive head history served.number;
       is_doc = archive-is_doc (windows_of head history).ends served.number head history served.number is_head lawful

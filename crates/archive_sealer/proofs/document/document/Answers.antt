@@ -3,7 +3,7 @@ use Rattle.atom_writer.specs.Doc.{KeepsRules}
 use Rattle.member_rules.specs.Fold.{last_moment}
 use Rattle.member_rules.specs.Head.{HeadValue}
 use Rattle.member_rules.specs.Items.{items_of}
-use Rattle.archive_sealer.proofs.DocumentForm.{few-open, form-of_parts}
+use Rattle.archive_sealer.proofs.DocumentFormLemmas.{few-open, form-of_parts}
 use Rattle.archive_sealer.proofs.document.document.Goals as goal
 
 pub items-requires : goal.items-requires

@@ -2,7 +2,7 @@ use Rattle.std.proofs.Common.{◌≡◌, ap, subst}
 use Rattle.std.specs.Prelude.{IfOk}
 use Rattle.atom_writer.specs.Doc.{DocValue}
 use Rattle.member_rules.specs.Head.{HeadValue}
-use Rattle.archive_sealer.proofs.DocumentForm.{subscription-form, subscription-rules}
+use Rattle.archive_sealer.proofs.DocumentFormLemmas.{subscription-form, subscription-rules}
 use Rattle.archive_sealer.proofs.document.subscription.Goals as goal
 
 pub document-requires-clause-rules : goal.document-requires-clause-rules

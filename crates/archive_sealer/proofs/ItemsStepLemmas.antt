@@ -1,6 +1,6 @@
 -- One step of the pass over a span, newest operation first: what is left of its items, without the members that were met.
 use Rattle.std.proofs.Common.{◌≡◌, inl, inr, ℕ, ◌+◌, ◌<◌, ◌≤◌, Option, Some, None, cond, length, drop, get_or, nat_cmp, arith, append_assoc, Bool, true, false, not, nat_eq, List, [], ◌∷◌, ◌++◌, if◌then◌else◌, subst, refl, ap, sym, ◌∙◌}
-use Rattle.std.specs.Prelude.{filter, option_map}
+use Rattle.std.specs.Prelude.{filter, option_map, unwrap_or}
 use Rattle.std.specs.Ordering.{is_eq}
 use Rattle.std.proofs.lemmas.List.{append-nil, drop_more, drop_all}
 use Rattle.std.proofs.lemmas.Bool.Decides.{nat_tests}
@@ -8,8 +8,10 @@ use Rattle.std.proofs.lemmas.Bool.{cases_eq, eq-eqb, ne_eqb}
 use Rattle.deleted_entries.specs.Item.{item_number}
 use Rattle.deleted_entries.specs.declared.item.Item.{Item}
 use Rattle.member_rules.specs.declared.operation.Op.{Op}
-use Rattle.member_rules.specs.Operation.{item_of, named}
-use Rattle.member_rules.specs.Items.{without, in_place, newest_items}
+use Rattle.member_rules.specs.declared.operation.Op.TheVariants.{Add, Change, Remove}
+use Rattle.deleted_entries.specs.declared.item.Item.TheVariants.{Kept, Gone}
+use Rattle.member_rules.specs.Operation.{item_of, number_of}
+use Rattle.member_rules.proofs.NewestItemsLemmas.{without, in_place, newest_items}
 
 -- the items of members that were not met
 abbrev pub unmet : (ℕ → Bool) → List Item → List Item
@@ -80,18 +82,17 @@ Taken-old met after items count operations operation item l at is also y taken =
     ∙ ap (λ (rest : List Item). items ++ unmet met rest) (sym (newest-at operations count operation item l at is))
     ∙ taken
 
--- the item of an operation that names a member
-pub item-of_named : (operation : Op) (number : ℕ) → named operation ≡ Some number → (item : Item) × (item_of operation ≡ Some item) × (item_number item ≡ number)
-item-of_named operation number = go (item_of operation)
-  where
-    go : (o : Option Item) → option_map item_number o ≡ Some number → (item : Item) × (o ≡ Some item) × (item_number item ≡ number)
-    go None e = absurd (grind arith)
-    go (Some item) e = let same : item_number item ≡ number = cc in (item, refl, same)
+-- the item of an operation, by the number that it names
+pub item-of_number : (operation : Op) (number : ℕ) → number ≡ number_of operation
+    → (item : Item) × (item_of operation ≡ Some item) × (item_number item ≡ number)
+item-of_number (Add entry) number e = (Kept entry, refl, sym e)
+item-of_number (Change entry) number e = (Kept entry, refl, sym e)
+item-of_number (Remove removal) number e = (Gone removal.tombstone, refl, sym e)
 
-pub number-of_named : (operation : Op) (number : ℕ) (item : Item) → named operation ≡ Some number → item_of operation ≡ Some item → item_number item ≡ number
-number-of_named operation number item e is =
-    let same : Some (item_number item) ≡ Some number = sym (ap (option_map item_number) is) ∙ e in
-    cc
+pub number-of_item : (operation : Op) (number : ℕ) (item : Item) → number ≡ number_of operation
+    → item_of operation ≡ Some item → item_number item ≡ number
+number-of_item operation number item e is =
+    sym (e ∙ ap (λ (o : Option Item). unwrap_or (option_map item_number o) 0) is)
 
 is_eq-nat_cmp : (x y : ℕ) → is_eq (nat_cmp x y) ≡ nat_eq y x
 is_eq-nat_cmp x y = grind (arith, nat_tests)
