@@ -1,6 +1,25 @@
 -- The documents of a history, each as one `document_of`, and that they keep the rules of documents.
-use Rattle.std.proofs.Common.{◌≡◌, ℕ, zero, suc, ◌+◌, ◌-◌, ◌*◌, ◌/◌, ◌≤◌, List, length, take, drop, ℤ, refl, sym,
-    subst, arith, length-drop}
+use Rattle.std.proofs.Common.{
+  ◌≡◌,
+  ℕ,
+  zero,
+  suc,
+  ◌+◌,
+  ◌-◌,
+  ◌*◌,
+  ◌/◌,
+  ◌≤◌,
+  List,
+  length,
+  take,
+  drop,
+  ℤ,
+  refl,
+  sym,
+  subst,
+  arith,
+  length-drop,
+}
 use Rattle.std.proofs.Math.Nat.{div-mul-le_self, mul-le-mul_right}
 use Rattle.deleted_entries.specs.declared.item.Item.{Item}
 use Rattle.atom_writer.specs.declared.doc.FeedName.{FeedName}
@@ -20,8 +39,14 @@ use Rattle.member_rules.proofs.DocumentRulesLemmas.{archive-keeps, subscription-
 pub form-of_parts : (head : HeadValue) (kind : Kind) (prev before : ℕ) (covered : List Op) (name : FeedName)
     (updated : ℤ) (items : List Item) → name ≡ head.name → updated ≡ last_moment head.created covered
     → items ≡ items_of (drop before covered)
-    → document_of head kind prev before covered ≡ record { name = name; kind = kind;
-        span = record { first = before + 1; last = length covered }; prev = prev; updated = updated; items = items }
+    → document_of head kind prev before covered ≡ record {
+      name = name;
+      kind = kind;
+      span = record { first = before + 1; last = length covered };
+      prev = prev;
+      updated = updated;
+      items = items;
+    }
 unfolding document_of name_of
 form-of_parts head kind prev before covered name updated items n u i = rw (n, u, i) refl
 
@@ -61,7 +86,7 @@ pub subscription-rules : (head : HeadValue) (history : List Op) (less window : �
     → KeepsRules (document_of head Subscription (less / window) (less / window * window) history)
 subscription-rules head history less window e w limits =
     subst KeepsRules (sym (subscription-form head history less window e w))
-        (subscription-keeps head history (rw (← w) limits))
+    (subscription-keeps head history (rw (← w) limits))
 
 pub archive-rules : (head : HeadValue) (history : List Op) (number window : ℕ) (covered : List Op)
     → window ≡ head.window → covered ≡ take (number * window) history → (1 ≤ window) × (window ≤ window_limit)
@@ -69,4 +94,4 @@ pub archive-rules : (head : HeadValue) (history : List Op) (number window : ℕ)
     → KeepsRules (document_of head (Archive number) (number - 1) (number * window - window) covered)
 archive-rules head history number window covered w c limits few one full =
     subst KeepsRules (sym (archive-form head history number window covered w c))
-        (archive-keeps head history number (rw (← w) limits) few one full)
+    (archive-keeps head history number (rw (← w) limits) few one full)

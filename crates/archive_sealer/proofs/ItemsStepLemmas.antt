@@ -1,5 +1,6 @@
--- One step of the pass over a span, newest operation first: what is left of its items, without the members that were met.
-use Rattle.std.proofs.Common.{◌≡◌, inl, inr, ℕ, ◌+◌, ◌<◌, ◌≤◌, Option, Some, None, cond, length, drop, get_or, nat_cmp, arith, append_assoc, Bool, true, false, not, nat_eq, List, [], ◌∷◌, ◌++◌, if◌then◌else◌, subst, refl, ap, sym, ◌∙◌}
+-- One step of the pass over a span, newest operation first: what is left of its items, without the members that were
+-- met.
+use Rattle.std.proofs.Common.{◌≡◌, inl, inr, ℕ, ◌+◌, ◌<◌, ◌≤◌, Option, Some, cond, length, drop, get_or, nat_cmp, arith, append_assoc, Bool, true, false, not, nat_eq, List, [], ◌∷◌, ◌++◌, if◌then◌else◌, subst, refl, ap, sym, ◌∙◌}
 use Rattle.std.specs.Prelude.{filter, option_map, unwrap_or}
 use Rattle.std.specs.Ordering.{is_eq}
 use Rattle.std.proofs.lemmas.List.{append-nil, drop_more, drop_all}
@@ -21,23 +22,30 @@ unmet met items = filter (λ item. not (met (item_number item))) items
 abbrev pub AlsoMet : (ℕ → Bool) → ℕ → (ℕ → Bool) → Type 0
 AlsoMet met number after = (q : ℕ) → after q ≡ (if nat_eq q number then true else met q)
 
-unmet-without : (met : ℕ → Bool) (number : ℕ) (after : ℕ → Bool) (items : List Item) → AlsoMet met number after → unmet met (without number items) ≡ unmet after items
+unmet-without : (met : ℕ → Bool) (number : ℕ) (after : ℕ → Bool) (items : List Item) → AlsoMet met number after
+    → unmet met (without number items) ≡ unmet after items
 unmet-without met number after [] also = refl
 unmet-without met number after (item ∷ items) also = elim (cases_eq (item_number item) number) [
   | inl e ↦
-      let gone : after (item_number item) ≡ true = also (item_number item) ∙ rw (eq-eqb (item_number item) number e) refl in
+      let gone : after (item_number item) ≡ true = also (item_number item)
+      ∙ rw (eq-eqb (item_number item) number e) refl in
       rw (eq-eqb (item_number item) number e, gone) (unmet-without met number after items also)
   | inr n ↦
-      let same : after (item_number item) ≡ met (item_number item) = also (item_number item) ∙ rw (ne_eqb (item_number item) number n) refl in
+      let same : after (item_number item) ≡ met (item_number item) =
+      also (item_number item) ∙ rw (ne_eqb (item_number item) number n) refl in
       rw (ne_eqb (item_number item) number n, same, unmet-without met number after items also) refl
 ]
 
 -- the newest item of a member that was not met
-pub unmet-new : (met : ℕ → Bool) (after : ℕ → Bool) (item : Item) (older : List Item) → AlsoMet met (item_number item) after → met (item_number item) ≡ false → unmet met (item ∷ without (item_number item) older) ≡ item ∷ unmet after older
+pub unmet-new : (met : ℕ → Bool) (after : ℕ → Bool) (item : Item) (older : List Item)
+    → AlsoMet met (item_number item) after → met (item_number item) ≡ false
+    → unmet met (item ∷ without (item_number item) older) ≡ item ∷ unmet after older
 unmet-new met after item older also n = rw (n, unmet-without met (item_number item) after older also) refl
 
 -- an older item of a member that was met
-pub unmet-old : (met : ℕ → Bool) (after : ℕ → Bool) (item : Item) (older : List Item) → AlsoMet met (item_number item) after → met (item_number item) ≡ true → unmet met (item ∷ without (item_number item) older) ≡ unmet after older
+pub unmet-old : (met : ℕ → Bool) (after : ℕ → Bool) (item : Item) (older : List Item)
+    → AlsoMet met (item_number item) after → met (item_number item) ≡ true
+    → unmet met (item ∷ without (item_number item) older) ≡ unmet after older
 unmet-old met after item older also y = rw (y, unmet-without met (item_number item) after older also) refl
 
 unmet-none : (met : ℕ → Bool) (items : List Item) → ((q : ℕ) → met q ≡ false) → unmet met items ≡ items
@@ -48,23 +56,32 @@ unmet-none met (item ∷ items) none = rw (none (item_number item), unmet-none m
 pub Taken : (ℕ → Bool) → List Item → ℕ → List Op → Type 0
 Taken met items count operations = items ++ unmet met (newest_items (drop count operations)) ≡ newest_items operations
 
-pub Taken-none : (met : ℕ → Bool) (items : List Item) (operations : List Op) → ((q : ℕ) → met q ≡ false) → items ≡ [] → Taken met items 0 operations
+pub Taken-none : (met : ℕ → Bool) (items : List Item) (operations : List Op) → ((q : ℕ) → met q ≡ false) → items ≡ []
+    → Taken met items 0 operations
 unfolding Taken
 Taken-none met items operations none empty = rw empty (unmet-none met (newest_items operations) none)
 
-pub Taken-all : (met : ℕ → Bool) (items : List Item) (count : ℕ) (operations : List Op) → length operations ≤ count → Taken met items count operations → items ≡ newest_items operations
+pub Taken-all : (met : ℕ → Bool) (items : List Item) (count : ℕ) (operations : List Op) → length operations ≤ count
+    → Taken met items count operations → items ≡ newest_items operations
 unfolding Taken
 Taken-all met items count operations l taken =
-    sym (append-nil items) ∙ ap (λ (ops : List Op). items ++ unmet met (newest_items ops)) (sym (drop_all count operations l)) ∙ taken
+    sym (append-nil items) ∙ ap (λ (ops : List Op). items ++ unmet met (newest_items ops))
+    (sym (drop_all count operations l)) ∙ taken
 
-newest-at : (operations : List Op) (count : ℕ) (operation : Op) (item : Item) → count < length operations → operation ≡ get_or operations count operation → item_of operation ≡ Some item → newest_items (drop count operations) ≡ item ∷ without (item_number item) (newest_items (drop (count + 1) operations))
+newest-at : (operations : List Op) (count : ℕ) (operation : Op) (item : Item) → count < length operations
+    → operation ≡ get_or operations count operation → item_of operation ≡ Some item
+    → newest_items (drop count operations) ≡ item ∷ without (item_number item)
+    (newest_items (drop (count + 1) operations))
 newest-at operations count operation item l at is =
     ap newest_items (drop_more operations count operation l)
     ∙ ap (λ (o : Op). newest_items (o ∷ drop (count + 1) operations)) (sym at)
     ∙ ap (λ (i : Option Item). in_place i (newest_items (drop (count + 1) operations))) is
 
 -- the next operation names a member that was not met
-pub Taken-new : (met : ℕ → Bool) (after : ℕ → Bool) (items : List Item) (count : ℕ) (operations : List Op) (operation : Op) (item : Item) → count < length operations → operation ≡ get_or operations count operation → item_of operation ≡ Some item → AlsoMet met (item_number item) after → met (item_number item) ≡ false → Taken met items count operations → Taken after (items ++ item ∷ []) (count + 1) operations
+pub Taken-new : (met : ℕ → Bool) (after : ℕ → Bool) (items : List Item) (count : ℕ) (operations : List Op)
+    (operation : Op) (item : Item) → count < length operations → operation ≡ get_or operations count operation
+    → item_of operation ≡ Some item → AlsoMet met (item_number item) after → met (item_number item) ≡ false
+    → Taken met items count operations → Taken after (items ++ item ∷ []) (count + 1) operations
 unfolding Taken
 Taken-new met after items count operations operation item l at is also n taken =
     let older = newest_items (drop (count + 1) operations) in
@@ -74,7 +91,10 @@ Taken-new met after items count operations operation item l at is also n taken =
     ∙ taken
 
 -- the next operation names a member that was met
-pub Taken-old : (met : ℕ → Bool) (after : ℕ → Bool) (items : List Item) (count : ℕ) (operations : List Op) (operation : Op) (item : Item) → count < length operations → operation ≡ get_or operations count operation → item_of operation ≡ Some item → AlsoMet met (item_number item) after → met (item_number item) ≡ true → Taken met items count operations → Taken after items (count + 1) operations
+pub Taken-old : (met : ℕ → Bool) (after : ℕ → Bool) (items : List Item) (count : ℕ) (operations : List Op)
+    (operation : Op) (item : Item) → count < length operations → operation ≡ get_or operations count operation
+    → item_of operation ≡ Some item → AlsoMet met (item_number item) after → met (item_number item) ≡ true
+    → Taken met items count operations → Taken after items (count + 1) operations
 unfolding Taken
 Taken-old met after items count operations operation item l at is also y taken =
     let older = newest_items (drop (count + 1) operations) in
@@ -98,8 +118,10 @@ is_eq-nat_cmp : (x y : ℕ) → is_eq (nat_cmp x y) ≡ nat_eq y x
 is_eq-nat_cmp x y = grind (arith, nat_tests)
 
 -- a number was put into a set of numbers
-pub AlsoMet-inserted : (met : ℕ → Bool) (number : ℕ) (after : ℕ → Bool) → ((q : ℕ) → after q ≡ cond (is_eq (nat_cmp number q)) true (met q)) → AlsoMet met number after
+pub AlsoMet-inserted : (met : ℕ → Bool) (number : ℕ) (after : ℕ → Bool)
+    → ((q : ℕ) → after q ≡ cond (is_eq (nat_cmp number q)) true (met q)) → AlsoMet met number after
 AlsoMet-inserted met number after h = λ q. h q ∙ ap (λ (b : Bool). cond b true (met q)) (is_eq-nat_cmp number q)
 
-pub AlsoMet-same : (met : ℕ → Bool) (number other : ℕ) (after : ℕ → Bool) → number ≡ other → AlsoMet met other after → AlsoMet met number after
+pub AlsoMet-same : (met : ℕ → Bool) (number other : ℕ) (after : ℕ → Bool) → number ≡ other → AlsoMet met other after
+    → AlsoMet met number after
 AlsoMet-same met number other after same also = subst (λ (n : ℕ). AlsoMet met n after) (sym same) also
