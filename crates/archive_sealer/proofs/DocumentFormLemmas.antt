@@ -1,25 +1,6 @@
 -- The documents of a history, each as one `document_of`, and that they keep the rules of documents.
-use Rattle.std.proofs.Common.{
-  ◌≡◌,
-  ℕ,
-  zero,
-  suc,
-  ◌+◌,
-  ◌-◌,
-  ◌*◌,
-  ◌/◌,
-  ◌≤◌,
-  List,
-  length,
-  take,
-  drop,
-  ℤ,
-  refl,
-  sym,
-  subst,
-  arith,
-  length-drop,
-}
+use Rattle.std.proofs.Common.{◌≡◌, ℕ, zero, suc, ◌+◌, ◌-◌, ◌*◌, ◌/◌, ◌≤◌, List, length, take, drop, ℤ, refl, sym, subst}
+use Rattle.std.proofs.Common.{arith, length-drop}
 use Rattle.std.proofs.Math.Nat.{div-mul-le_self, mul-le-mul_right}
 use Rattle.deleted_entries.specs.declared.item.Item.{Item}
 use Rattle.atom_writer.specs.declared.doc.FeedName.{FeedName}

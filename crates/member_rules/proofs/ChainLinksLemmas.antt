@@ -1,6 +1,6 @@
 -- The documents of a cut of a history adjoin, and each keeps the rules.
-use Rattle.std.proofs.Common.{◌≡◌, ℕ, zero, suc, ◌-◌, ◌≤◌, List, [], ◌∷◌, ◌++◌, ◌+◌, length, take, refl, ap, subst,
-    arith}
+use Rattle.std.proofs.Common.{◌≡◌, ℕ, zero, suc, ◌-◌, ◌≤◌, List, [], ◌∷◌, ◌++◌, ◌+◌, length, take, refl, ap, subst}
+use Rattle.std.proofs.Common.{arith}
 use Rattle.std.specs.Prelude.{All}
 use Rattle.std.proofs.lemmas.List.{length-take-le}
 use Rattle.std.proofs.lemmas.List.Elements.{All-nil, All-cons}
@@ -32,7 +32,7 @@ adjoined-from first (next ∷ documents) [] after newer older h e =
     let one : first ≡ newer = cc in
     let two : next ≡ older = cc in
     subst (λ (d : DocValue). Adjoins (place_of older) (place_of d)) one
-        (subst (λ (d : DocValue). Adjoins (place_of d) (place_of first)) two h.0)
+    (subst (λ (d : DocValue). Adjoins (place_of d) (place_of first)) two h.0)
 adjoined-from first (next ∷ documents) (x ∷ before) after newer older h e =
     let rest : next ∷ documents ≡ before ++ newer ∷ older ∷ after = cc in
     adjoined-from next documents before after newer older h.1 rest
@@ -62,18 +62,20 @@ linked-archives : (ends : ℕ → ℕ) (archives : ℕ) (head : HeadValue) (hist
 unfolding archive_of document_of
 linked-archives ends archives head history cut zero l = omega (arith, cut.from_none)
 linked-archives ends archives head history cut (suc k) l =
-    let same : suc (suc k) - 1 ≡ suc k = omega arith in
-    (record { named = rw same refl; spans = rw same (seam ends archives history (suc k) cut (omega arith)) },
-        linked-archives ends archives head history cut k (omega arith))
+    let same : suc (suc k) - 1 ≡ suc k = omega arith in (
+      record { named = rw same refl; spans = rw same (seam ends archives history (suc k) cut (omega arith)) },
+      linked-archives ends archives head history cut k (omega arith),
+    )
 
 linked-chain : (ends : ℕ → ℕ) (archives : ℕ) (head : HeadValue) (history : List Op)
     → IsCut ends archives (length history) → Linked (subscription_of ends archives head history)
     (down_from (archive_of ends head history) archives)
 unfolding archive_of subscription_of document_of
 linked-chain ends zero head history cut = omega (arith, cut.from_none)
-linked-chain ends (suc k) head history cut =
-    (record { named = refl; spans = seam ends (suc k) history (suc k) cut (omega arith) },
-        linked-archives ends (suc k) head history cut k (omega arith))
+linked-chain ends (suc k) head history cut = (
+  record { named = refl; spans = seam ends (suc k) history (suc k) cut (omega arith) },
+  linked-archives ends (suc k) head history cut k (omega arith),
+)
 
 pub chain_of-is_chain : (ends : ℕ → ℕ) (archives : ℕ) (head : HeadValue) (history : List Op)
     → IsCut ends archives (length history) → IsChain (chain_of ends archives head history)
@@ -103,4 +105,4 @@ chain_of-documents ends archives head history is_head lawful cut =
     All-cons IsDoc (subscription_of ends archives head history) (down_from (archive_of ends head history) archives)
     (subscription-is_doc ends archives head history is_head lawful cut)
     (docs-archives ends archives head history is_head lawful (IsCut-open ends archives (length history) cut) archives
-        (omega arith))
+    (omega arith))

@@ -1,6 +1,6 @@
 -- What the documents of a cut of a history show: its live entries.
-use Rattle.std.proofs.Common.{◌≡◌, ◌↔◌, ℕ, zero, suc, ◌+◌, ◌-◌, ◌<◌, ◌≤◌, ℤ, nat_eq, List, length, take, drop, reverse,
-    map, Option, Some, None, refl, ap, sym, ◌∙◌, arith}
+use Rattle.std.proofs.Common.{◌≡◌, ◌↔◌, ℕ, zero, suc, ◌+◌, ◌-◌, ◌<◌, ◌≤◌, ℤ, nat_eq, List, length, take, drop, reverse}
+use Rattle.std.proofs.Common.{map, Option, Some, None, refl, ap, sym, ◌∙◌, arith}
 use Rattle.std.specs.Prelude.{is_some}
 use Rattle.std.specs.List.{IsDistinct, AllByRecursion}
 use Rattle.std.proofs.lemmas.List.{reverse-append, take-append-drop, take-take}
@@ -17,11 +17,11 @@ use Rattle.member_rules.specs.Documents.{document_of, archive_of, subscription_o
 use Rattle.member_rules.specs.Shows.{Shows, entry_of, greatest_member, live_of, live_count_of}
 use Rattle.member_rules.specs.Chain.{down_from, chain_of}
 use Rattle.member_rules.proofs.NewestItemsLemmas.{items_of-newest}
-use Rattle.member_rules.proofs.ItemsLemmas.{newest_of, newest_of-append, item_in, item_in-newest, or_else, entry_or,
-    live-is}
+use Rattle.member_rules.proofs.ItemsLemmas.{newest_of, newest_of-append, item_in, item_in-newest, or_else, entry_or}
+use Rattle.member_rules.proofs.ItemsLemmas.{live-is}
 use Rattle.member_rules.proofs.ItemsKeptLemmas.{items-distinct}
-use Rattle.member_rules.proofs.ShowsLemmas.{shown, shown-from_Shows, Shows-from_shown, live_of-shown, live_of-past,
-    entry_of-kept}
+use Rattle.member_rules.proofs.ShowsLemmas.{shown, shown-from_Shows, Shows-from_shown, live_of-shown, live_of-past}
+use Rattle.member_rules.proofs.ShowsLemmas.{entry_of-kept}
 use Rattle.member_rules.proofs.StateLemmas.{AreMembers-of}
 use Rattle.member_rules.proofs.LiveCountLemmas.{count-same, count-past}
 use Rattle.member_rules.proofs.CutLemmas.{IsCut}
@@ -55,7 +55,7 @@ shown-archives ends head history number none (suc k) rises =
     let front : take (ends k) covered ≡ take (ends k) history = take-take (ends k) (ends (suc k)) history below in
     rw same
     (ap (λ (o : Option Item). or_else o (shown number (down_from (archive_of ends head history) k)))
-        (item_in-items number (drop (ends k) covered))
+    (item_in-items number (drop (ends k) covered))
     ∙ ap (or_else (newest_of number (reverse (drop (ends k) covered))))
     (shown-archives ends head history number none k (λ j l. rises j (omega arith))
     ∙ ap (λ (ops : List Op). newest_of number (reverse ops)) (sym front))
@@ -67,7 +67,7 @@ shown-chain : (ends : ℕ → ℕ) (archives : ℕ) (head : HeadValue) (history 
 unfolding shown chain_of subscription_of document_of
 shown-chain ends archives head history number cut =
     ap (λ (o : Option Item). or_else o (shown number (down_from (archive_of ends head history) archives)))
-        (item_in-items number (drop (ends archives) history))
+    (item_in-items number (drop (ends archives) history))
     ∙ ap (or_else (newest_of number (reverse (drop (ends archives) history))))
     (shown-archives ends head history number cut.from_none archives cut.rises)
     ∙ sym (newest_of-split number (ends archives) history)
@@ -83,8 +83,10 @@ distinct-archives ends head history (suc k) =
 distinct-chain : (ends : ℕ → ℕ) (archives : ℕ) (head : HeadValue) (history : List Op)
     → AllByRecursion (λ d. IsDistinct nat_eq (map item_number d.items)) (chain_of ends archives head history)
 unfolding chain_of subscription_of document_of
-distinct-chain ends archives head history = (items-distinct (drop (ends archives) history),
-    distinct-archives ends head history archives)
+distinct-chain ends archives head history = (
+  items-distinct (drop (ends archives) history),
+  distinct-archives ends head history archives,
+)
 
 entry_of-or : (item : Option Item) → entry_of item ≡ entry_or item None
 entry_of-or None = refl

@@ -1,6 +1,6 @@
 -- Cuts of a history into spans, and windows as one of them.
-use Rattle.std.proofs.Common.{◌≡◌, ◌≢◌, inl, inr, ℕ, zero, suc, ◌+◌, ◌-◌, ◌*◌, ◌/◌, ◌<◌, ◌≤◌, List, [], ◌∷◌, ◌++◌,
-    length, take, refl, ap, subst, ◌∙◌, add-one, arith, length-append}
+use Rattle.std.proofs.Common.{◌≡◌, ◌≢◌, inl, inr, ℕ, zero, suc, ◌+◌, ◌-◌, ◌*◌, ◌/◌, ◌<◌, ◌≤◌, List, [], ◌∷◌, ◌++◌}
+use Rattle.std.proofs.Common.{length, take, refl, ap, subst, ◌∙◌, add-one, arith, length-append}
 use Rattle.std.proofs.lemmas.Nat.{le-div}
 use Rattle.std.proofs.lemmas.Bool.{cases_lt}
 use Rattle.std.proofs.lemmas.List.{length-take-le}
@@ -49,15 +49,18 @@ ends-up_to : (ends : ℕ → ℕ) (archives count : ℕ) → IsCut ends archives
 ends-up_to ends archives count cut number zero l = let same : number + 0 ≡ number = omega arith in rw same (omega arith)
 ends-up_to ends archives count cut number (suc more) l =
     let same : number + suc more ≡ suc (number + more) = omega arith in
-    rw same (omega (arith, ends-up_to ends archives count cut number more (omega arith),
-        cut.rises (number + more) (omega arith)))
+    rw same (omega (
+      arith,
+      ends-up_to ends archives count cut number more (omega arith),
+      cut.rises (number + more) (omega arith),
+    ))
 
 pub ends-within : (ends : ℕ → ℕ) (archives count : ℕ) → IsCut ends archives count → (number : ℕ) → number ≤ archives
     → ends number ≤ count
 ends-within ends archives count cut number l =
     let same : number + (archives - number) ≡ archives = omega arith in
     let up : ends number ≤ ends archives = rw same at
-        (ends-up_to ends archives count cut number (archives - number) (omega arith)) in
+    (ends-up_to ends archives count cut number (archives - number) (omega arith)) in
     omega (arith, cut.within)
 
 -- where the span of archive `number` begins and ends
@@ -101,7 +104,7 @@ pub full-cut : (head : HeadValue) (history : List Op) (number : ℕ) → (1 ≤ 
 unfolding windows_of
 full-cut head history number limits l =
     ends-cut head.window number (length history) limits.0 limits.1
-        (omega (arith, mul-le-mul_right head.window l, div-mul-le_self (length history) head.window))
+    (omega (arith, mul-le-mul_right head.window l, div-mul-le_self (length history) head.window))
 
 sealed-ends : (window count : ℕ) → 1 ≤ window
     → ((count - 1) / window * window ≤ count - 1) × (count ≤ (count - 1) / window * window + window)
@@ -166,7 +169,7 @@ unfolding windows_of
 full-ends head history version number past l =
     let size = length-take-le version history past in
     let within : number * head.window ≤ length (take version history) =
-        omega (arith, mul-le-mul_right head.window l, div-mul-le_self (length (take version history)) head.window) in
+    omega (arith, mul-le-mul_right head.window l, div-mul-le_self (length (take version history)) head.window) in
     omega (arith, within, size)
 
 fewer-sealed : (window before count : ℕ) → 1 ≤ window → before ≤ count → (before - 1) / window ≤ (count - 1) / window

@@ -1,7 +1,7 @@
 -- What an ask becomes, part by part.
-use Rattle.std.proofs.Common.{◌≡◌, inl, inr, ℕ, zero, suc, ◌+◌, ◌≤◌, ℤ, int_lt, nat_lt, nat_le, Bool, true, false,
-    ◌&&◌, cond, if◌then◌else◌, Option, Some, None, Result, Ok, Err, IsOkAnd, List, length, refl, sym, ap, ap₂, ◌∙◌,
-    arith, le-leb, Less, Equal, Greater}
+use Rattle.std.proofs.Common.{◌≡◌, inl, inr, ℕ, zero, suc, ◌+◌, ◌≤◌, ℤ, int_lt, nat_lt, nat_le, Bool, true, false, ◌&&◌}
+use Rattle.std.proofs.Common.{cond, if◌then◌else◌, Option, Some, None, Result, Ok, Err, IsOkAnd, List, length, refl}
+use Rattle.std.proofs.Common.{sym, ap, ap₂, ◌∙◌, arith, le-leb, Less, Equal, Greater}
 use Rattle.std.specs.Ordering.{is_lt, int_cmp, ord_max}
 use Rattle.std.proofs.lemmas.Bool.{cases_lt}
 use Rattle.std.proofs.lemmas.Int.{ints}
@@ -16,8 +16,8 @@ use Rattle.member_rules.specs.declared.fault.RuleFault.TheVariants.{NotFound, De
 use Rattle.member_rules.specs.declared.state.State.TheVariants.{Never, Live, Gone}
 use Rattle.member_rules.specs.Fold.{fold_of, made, last_moment, last_naming, state_by, state_of}
 use Rattle.member_rules.specs.History.{AreFollowing, entry_limit, later_of}
-use Rattle.member_rules.specs.Decide.{◌>>=◌, live_or_gone, live_entry, unless_other, greatest_moment, later_moment,
-    next_moment, unless_large, decide}
+use Rattle.member_rules.specs.Decide.{◌>>=◌, live_or_gone, live_entry, unless_other, greatest_moment, later_moment}
+use Rattle.member_rules.specs.Decide.{next_moment, unless_large, decide}
 use Rattle.member_rules.proofs.StateLemmas.{AreMembers-of}
 
 -- the entry by a member's state
@@ -34,7 +34,7 @@ pub live_entry-never : (history : List Op) (number : ℕ) → state_of history n
 unfolding live_entry state_of
 live_entry-never history number e =
     gone_or_live number ((fold_of history).gone number) ((fold_of history).live number) (last_naming number history)
-        (nat_le 1 number && nat_le number (made history)) e
+    (nat_le 1 number && nat_le number (made history)) e
 
 -- a number at which either map has something is a member's
 inside_of : (created : ℤ) (history : List Op) (number : ℕ) → AreFollowing created history
@@ -65,10 +65,10 @@ pub live_entry-live : (created : ℤ) (history : List Op) (number version : ℕ)
 unfolding live_entry state_of
 live_entry-live created history number version updated following e =
     rw (inside_of created history number following
-        (none_live ((fold_of history).gone number) ((fold_of history).live number) (last_naming number history) version
-        updated e))
+    (none_live ((fold_of history).gone number) ((fold_of history).live number) (last_naming number history) version
+    updated e))
     (live_here number ((fold_of history).gone number) ((fold_of history).live number) (last_naming number history)
-        version updated e)
+    version updated e)
 
 gone_here : (number : ℕ) (gone : Option ℤ) (live : Option EntryValue) (version : ℕ) (when : ℤ)
     → state_by gone live version ≡ Gone when → live_or_gone number gone live ≡ Err (Deleted number when)
@@ -87,9 +87,9 @@ pub live_entry-gone : (created : ℤ) (history : List Op) (number : ℕ) (when :
 unfolding live_entry state_of
 live_entry-gone created history number when following e =
     rw (inside_of created history number following
-        (none_gone ((fold_of history).gone number) ((fold_of history).live number) (last_naming number history) when e))
+    (none_gone ((fold_of history).gone number) ((fold_of history).live number) (last_naming number history) when e))
     (gone_here number ((fold_of history).gone number) ((fold_of history).live number) (last_naming number history) when
-        e)
+    e)
 
 -- the moment by the last one
 pub next_moment-by : (created last : ℤ) (history : List Op) (now : ℕ) → last ≡ last_moment created history

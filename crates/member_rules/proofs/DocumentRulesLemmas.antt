@@ -1,6 +1,6 @@
 -- The documents of a cut of a history keep the rules of documents.
-use Rattle.std.proofs.Common.{◌≡◌, ◌≢◌, ℕ, ◌+◌, ◌-◌, ◌<◌, ◌≤◌, true, List, length, take, drop, subst, sym, ap, ◌∙◌,
-    arith, length-drop}
+use Rattle.std.proofs.Common.{◌≡◌, ◌≢◌, ℕ, ◌+◌, ◌-◌, ◌<◌, ◌≤◌, true, List, length, take, drop, subst, sym, ap, ◌∙◌}
+use Rattle.std.proofs.Common.{arith, length-drop}
 use Rattle.std.proofs.lemmas.List.{length-take-le}
 use Rattle.std.proofs.lemmas.List.Elements.{All-take, All-drop}
 use Rattle.std.proofs.lemmas.Bool.Decides.{nat_tests}
@@ -13,8 +13,8 @@ use Rattle.member_rules.specs.History.{IsLawful, history_limit}
 use Rattle.member_rules.specs.Documents.{name_of, document_of, archive_of, subscription_of, archive, subscription}
 use Rattle.member_rules.specs.Windows.{windows_of}
 use Rattle.member_rules.specs.Chain.{IsOpenCut}
-use Rattle.member_rules.proofs.CutLemmas.{IsCut, IsCut-open, IsSpan, span-of, some-open, ends-at_least, full-cut,
-    windows-cut}
+use Rattle.member_rules.proofs.CutLemmas.{IsCut, IsCut-open, IsSpan, span-of, some-open, ends-at_least, full-cut}
+use Rattle.member_rules.proofs.CutLemmas.{windows-cut}
 use Rattle.member_rules.proofs.ItemsKeptLemmas.{items-length, items-distinct, items-keep, last_moment-keeps}
 
 archive-placed : (number before end : ℕ) → 1 ≤ number → number < 4_294_967_295 → before < end → number - 1 ≤ before
@@ -34,7 +34,7 @@ covered-span : (ends : ℕ → ℕ) (archives : ℕ) (history : List Op) (number
 covered-span ends archives history number cut one l =
     let at = span-of ends archives (length history) cut number one l in
     subst (λ (end : ℕ). IsSpan number (ends (number - 1)) end (length history))
-        (sym (length-take-le (ends number) history at.within)) at
+    (sym (length-take-le (ends number) history at.within)) at
 
 pub archive-rules : (ends : ℕ → ℕ) (archives : ℕ) (head : HeadValue) (history : List Op) (number : ℕ)
     → IsCut ends archives (length history) → length history ≤ history_limit → 1 ≤ number → number ≤ archives
@@ -59,8 +59,11 @@ subscription-rules ends archives head history cut =
     let span = drop (ends archives) history in
     record {
       placed = subscription-placed archives (ends archives) (length history) (λ e. ap ends e ∙ cut.from_none)
-          (λ n. (ends-at_least ends archives (length history) (IsCut-open ends archives (length history) cut) archives
-          (omega arith), some-open ends archives (length history) cut n));
+          (λ n. (
+            ends-at_least ends archives (length history) (IsCut-open ends archives (length history) cut) archives
+                (omega arith),
+            some-open ends archives (length history) cut n,
+          ));
       few = omega (arith, cut.few_open);
       room = omega (arith, items-length span, length-drop (ends archives) history);
       distinct = items-distinct span;
@@ -113,11 +116,11 @@ pub archive-keeps : (head : HeadValue) (history : List Op) (number : ℕ)
 unfolding archive
 archive-keeps head history number limits few one full =
     archive-rules (windows_of head history).ends number head history number (full-cut head history number limits full)
-        few one (omega arith)
+    few one (omega arith)
 
 pub subscription-keeps : (head : HeadValue) (history : List Op) → (1 ≤ head.window) × (head.window ≤ window_limit)
     → KeepsRules (subscription head history)
 unfolding subscription
 subscription-keeps head history limits =
     subscription-rules (windows_of head history).ends (windows_of head history).sealed head history
-        (windows-cut head history limits)
+    (windows-cut head history limits)

@@ -1,7 +1,7 @@
 -- What one more operation at the end of a list does to what is made of the list.
-use Rattle.std.proofs.Common.{◌≡◌, inl, inr, ℕ, zero, suc, ◌+◌, ◌-◌, ◌<◌, ◌≤◌, ℤ, Bool, true, false, cond,
-    if◌then◌else◌, ◌==◌, Some, List, [], ◌∷◌, ◌++◌, length, take, take-take, slice_get, refl, sym, ap, subst₂, ◌∙◌,
-    arith, length-append, zero-add}
+use Rattle.std.proofs.Common.{◌≡◌, inl, inr, ℕ, zero, suc, ◌+◌, ◌-◌, ◌<◌, ◌≤◌, ℤ, Bool, true, false, cond}
+use Rattle.std.proofs.Common.{if◌then◌else◌, ◌==◌, Some, List, [], ◌∷◌, ◌++◌, length, take, take-take, slice_get, refl}
+use Rattle.std.proofs.Common.{sym, ap, subst₂, ◌∙◌, arith, length-append, zero-add}
 use Rattle.std.specs.Prelude.{option_map, unwrap_or}
 use Rattle.std.proofs.lemmas.Bool.{cases_lt}
 use Rattle.std.proofs.lemmas.Bool.Decides.{nat_tests}
@@ -41,7 +41,7 @@ pub last_moment-push : (created : ℤ) (history : List Op) (operation : Op)
     → last_moment created (history ++ operation ∷ []) ≡ moment_of operation
 last_moment-push created history operation =
     let at : length (history ++ operation ∷ []) - 1 ≡ length history =
-        omega (arith, length-append history (operation ∷ [])) in
+    omega (arith, length-append history (operation ∷ [])) in
     ap (λ k. unwrap_or (option_map moment_of (slice_get (history ++ operation ∷ []) k)) created) at
     ∙ ap (λ o. unwrap_or (option_map moment_of o) created) (get-push history operation)
 
@@ -57,7 +57,7 @@ pub last_naming-push : (number : ℕ) (history : List Op) (operation : Op)
 last_naming-push number [] operation = refl
 last_naming-push number (first ∷ later) operation =
     last_naming-step (last_naming number later) (last_naming number (later ++ operation ∷ [])) (length later)
-        (names number operation) (names number first) (last_naming-push number later operation)
+    (names number operation) (names number first) (last_naming-push number later operation)
     ∙ ap (λ n. if names number operation then n else last_naming number (first ∷ later))
     (let e : length later + 1 + 1 ≡ length (first ∷ later) + 1 = omega arith in e)
 
@@ -66,7 +66,7 @@ pub AreFollowing-push : (created : ℤ) (history : List Op) (operation : Op) →
 AreFollowing-push created history operation following follows k other at = elim (cases_lt k (length history)) [
   | inl inside ↦
       rw (take-append-le k history (operation ∷ []) (omega arith))
-          (following k other (sym (get-push-other history operation k inside) ∙ at))
+      (following k other (sym (get-push-other history operation k inside) ∙ at))
   | inr past ↦ last k at past
 ]
   where
@@ -76,9 +76,9 @@ AreFollowing-push created history operation following follows k other at = elim 
         let within = slice_get_within (history ++ operation ∷ []) k other at in
         let here : k ≡ length history = omega (arith, within, length-append history (operation ∷ [])) in
         let front : take k (history ++ operation ∷ []) ≡ history =
-            ap (λ (n : ℕ). take n (history ++ operation ∷ [])) here ∙ take-append_seam history (operation ∷ []) in
+        ap (λ (n : ℕ). take n (history ++ operation ∷ [])) here ∙ take-append_seam history (operation ∷ []) in
         let got : Some operation ≡ Some other = sym (get-push history operation)
-            ∙ ap (slice_get (history ++ operation ∷ [])) (sym here) ∙ at in
+        ∙ ap (slice_get (history ++ operation ∷ [])) (sym here) ∙ at in
         let same : operation ≡ other = cc in
         subst₂ (MayFollow created) (sym front) same follows
 

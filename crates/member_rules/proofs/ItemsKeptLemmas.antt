@@ -1,7 +1,7 @@
 -- What the items of a list of operations keep: there are no more of them than operations, their members are distinct,
 -- and each keeps what the operations' types do.
-use Rattle.std.proofs.Common.{◌≡◌, inl, inr, ℕ, suc, ◌+◌, ◌-◌, ◌≤◌, Bool, true, false, not, nat_eq, List, [], ◌∷◌,
-    length, reverse, map, Option, Some, None, ℤ, sym, subst, arith}
+use Rattle.std.proofs.Common.{◌≡◌, inl, inr, ℕ, suc, ◌+◌, ◌-◌, ◌≤◌, Bool, true, false, not, nat_eq, List, [], ◌∷◌}
+use Rattle.std.proofs.Common.{length, reverse, map, Option, Some, None, ℤ, sym, subst, arith}
 use Rattle.std.specs.Prelude.{filter, All, IfSome, if◌then◌else◌}
 use Rattle.std.specs.List.{IsDistinct, AllByRecursion}
 use Rattle.std.proofs.lemmas.List.{reverse-append, length-reverse}
@@ -37,8 +37,10 @@ in_place-length (Some item) older n h = omega
 
 newest-length : (operations : List Op) → length (newest_items operations) ≤ length operations
 newest-length [] = omega arith
-newest-length (operation ∷ older) = omega (arith,
-    in_place-length (item_of operation) (newest_items older) (length older) (newest-length older))
+newest-length (operation ∷ older) = omega (
+  arith,
+  in_place-length (item_of operation) (newest_items older) (length older) (newest-length older),
+)
 
 pub items-length : (operations : List Op) → length (items_of operations) ≤ length operations
 items-length operations = rw (items_of-newest operations)
@@ -86,8 +88,10 @@ in_place-distinct : (item : Option Item) (older : List Item) → IsDistinct nat_
     → IsDistinct nat_eq (map item_number (in_place item older))
 unfolding IsDistinct
 in_place-distinct None older h = h
-in_place-distinct (Some item) older h = (apart-without (item_number item) older,
-    distinct-filter (λ (other : Item). not (nat_eq (item_number other) (item_number item))) older h)
+in_place-distinct (Some item) older h = (
+  apart-without (item_number item) older,
+  distinct-filter (λ (other : Item). not (nat_eq (item_number other) (item_number item))) older h,
+)
 
 pub newest-distinct : (operations : List Op) → IsDistinct nat_eq (map item_number (newest_items operations))
 unfolding IsDistinct
@@ -114,14 +118,14 @@ newest-keeps : (operations : List Op) → All IsOperation operations → All IsI
 newest-keeps [] h = All-nil IsItem
 newest-keeps (operation ∷ older) h =
     in_place-keeps (item_of operation) (newest_items older)
-        (item_of-keeps operation (All-head IsOperation operation older h))
-        (newest-keeps older (All-tail IsOperation operation older h))
+    (item_of-keeps operation (All-head IsOperation operation older h))
+    (newest-keeps older (All-tail IsOperation operation older h))
 
 All-reverse : {X : Type 0} (P : X → Type 0) (xs : List X) → All P xs → All P (reverse xs)
 All-reverse P [] h = All-nil P
 All-reverse P (x ∷ xs) h =
     rw (reverse-append (x ∷ []) xs) (All-append P (reverse xs) (x ∷ []) (All-reverse P xs (All-tail P x xs h))
-        (All-cons P x [] (All-head P x xs h) (All-nil P)))
+    (All-cons P x [] (All-head P x xs h) (All-nil P)))
 
 pub items-keep : (operations : List Op) → All IsOperation operations → All IsItem (items_of operations)
 items-keep operations h = rw (items_of-newest operations)

@@ -1,6 +1,6 @@
 -- Which item of a member stands last in a list of operations. An operation goes in by `item_of` alone.
-use Rattle.std.proofs.Common.{◌≡◌, ◌≢◌, inl, inr, ℕ, nat_eq, List, [], ◌∷◌, ◌++◌, reverse, Option, Some, None,
-    if◌then◌else◌, refl, ap, sym, ◌∙◌}
+use Rattle.std.proofs.Common.{◌≡◌, ◌≢◌, inl, inr, ℕ, nat_eq, List, [], ◌∷◌, ◌++◌, reverse, Option, Some, None}
+use Rattle.std.proofs.Common.{if◌then◌else◌, refl, ap, sym, ◌∙◌}
 use Rattle.std.specs.Prelude.{fold, option_map, unwrap_or}
 use Rattle.std.proofs.lemmas.List.{reverse-append}
 use Rattle.std.proofs.lemmas.Bool.{cases_eq, eq-eqb, ne_eqb}
@@ -62,7 +62,7 @@ item_in-without number other (item ∷ items) n = elim (cases_eq (item_number it
   | inl e ↦
       let apart : number ≢ item_number item = λ same. n (same ∙ e) in
       rw (eq-eqb (item_number item) other e, ne_eqb number (item_number item) apart)
-          (item_in-without number other items n)
+      (item_in-without number other items n)
   | inr k ↦ rw (ne_eqb (item_number item) other k, item_in-without number other items n) refl
 ]
 
@@ -80,7 +80,7 @@ pub item_in-newest : (number : ℕ) (operations : List Op)
 item_in-newest number [] = refl
 item_in-newest number (operation ∷ older) =
     item_in-in_place number (item_of operation) (newest_items older)
-        ∙ ap (or_older number (item_of operation)) (item_in-newest number older)
+    ∙ ap (or_older number (item_of operation)) (item_in-newest number older)
 
 -- the entry of a kept item; none of a tombstone; and else the one from before
 abbrev pub entry_or : Option Item → Option EntryValue → Option EntryValue

@@ -22,4 +22,4 @@ pub law-of_chain : LawOfTheChain
 unfolding chain
 law-of_chain head history is_head lawful =
     law-of_cuts head history (windows_of head history).ends (windows_of head history).sealed is_head lawful
-        (windows-cut head history is_head.limits.window)
+    (windows-cut head history is_head.limits.window)

@@ -1,7 +1,7 @@
 -- What is decided may follow its history, and keeps it lawful.
-use Rattle.std.proofs.Common.{◌≡◌, ℕ, suc, ◌+◌, ◌<◌, ◌≤◌, ℤ, ◌≤ℤ◌, ◌<ℤ◌, int_lt, nat_lt, nat_le, Bool, true, false,
-    ◌&&◌, ◌==◌, if◌then◌else◌, Option, Some, None, IfSome, Result, Ok, Err, IfOk, IsSomeAnd, List, [], ◌∷◌, ◌++◌, fold,
-    length, All, length-append, refl, sym, ap, subst, ◌∙◌, arith}
+use Rattle.std.proofs.Common.{◌≡◌, ℕ, suc, ◌+◌, ◌<◌, ◌≤◌, ℤ, ◌≤ℤ◌, ◌<ℤ◌, int_lt, nat_lt, nat_le, Bool, true, false}
+use Rattle.std.proofs.Common.{◌&&◌, ◌==◌, if◌then◌else◌, Option, Some, None, IfSome, Result, Ok, Err, IfOk, IsSomeAnd}
+use Rattle.std.proofs.Common.{List, [], ◌∷◌, ◌++◌, fold, length, All, length-append, refl, sym, ap, subst, ◌∙◌, arith}
 use Rattle.std.specs.Prelude.{is_some, unwrap_or}
 use Rattle.std.proofs.lemmas.Bool.Decides.{nat_tests}
 use Rattle.std.proofs.lemmas.Int.{ints}
@@ -21,8 +21,8 @@ use Rattle.member_rules.specs.Operation.{IsOperation, KeepsEntry}
 use Rattle.member_rules.specs.Fold.{Fold, set, no_members, after_operation, fold_of, made, last_moment}
 use Rattle.member_rules.specs.History.{MayFollow, AreFollowing, IsLawful, IsSmall, later_of, entry_limit, history_limit}
 use Rattle.member_rules.specs.Table.{Table, IsTableOf}
-use Rattle.member_rules.specs.Decide.{◌>>=◌, live_or_gone, live_entry, unless_other, greatest_moment, later_moment,
-    next_moment, unless_large, decide}
+use Rattle.member_rules.specs.Decide.{◌>>=◌, live_or_gone, live_entry, unless_other, greatest_moment, later_moment}
+use Rattle.member_rules.specs.Decide.{next_moment, unless_large, decide}
 use Rattle.member_rules.proofs.FoldLemmas.{AreFollowing-push, made-le-length}
 use Rattle.member_rules.proofs.StateLemmas.{AreMembers-of, live_within}
 
@@ -68,7 +68,7 @@ live_entry-ok : (history : List Op) (number : ℕ) (stored : EntryValue) → liv
 unfolding live_entry
 live_entry-ok history number stored e =
     let t = live_test number ((fold_of history).gone number) ((fold_of history).live number)
-        (nat_le 1 number && nat_le number (made history)) stored e in
+    (nat_le 1 number && nat_le number (made history)) stored e in
     (counted number (made history) t.0, t.1)
 
 large_test : (size : ℕ) (made operation : Op) (large : Bool) → nat_lt entry_limit size ≡ large
@@ -89,18 +89,18 @@ later_stamp a b x y = (grind (arith, ints), grind (arith, ints))
 
 -- what is decided for each ask
 record CreateGives (name : FeedName) (created : ℤ) (history : List Op) (draft : DraftValue) (operation : Op) : Type 0
-    where
-  moment : ℤ
-  later : (last_moment created history <ℤ moment) × IsStamp moment
-  small : length (entry_piece name (normal draft (made history + 1) moment None)) ≤ entry_limit
-  is : Add (normal draft (made history + 1) moment None) ≡ operation
+  where
+    moment : ℤ
+    later : (last_moment created history <ℤ moment) × IsStamp moment
+    small : length (entry_piece name (normal draft (made history + 1) moment None)) ≤ entry_limit
+    is : Add (normal draft (made history + 1) moment None) ≡ operation
 
 create-gives : (name : FeedName) (created : ℤ) (history : List Op) (draft : DraftValue) (now : ℕ) (operation : Op)
     → decide name created history (Create draft) now ≡ Ok operation → CreateGives name created history draft operation
 unfolding decide
 create-gives name created history draft now operation e =
     let m = split_ok (next_moment created history now)
-        (λ m. unless_large name Add (normal draft (made history + 1) m None)) operation e in
+    (λ m. unless_large name Add (normal draft (made history + 1) m None)) operation e in
     let l = unless_large-ok name Add (normal draft (made history + 1) m.0 None) operation m.2 in
     record { moment = m.0; later = next_moment-ok created history now m.0 m.1; small = l.0; is = l.1 }
 
@@ -119,16 +119,23 @@ replace-gives : (name : FeedName) (created : ℤ) (history : List Op) (number : 
 unfolding decide
 replace-gives name created history number draft now operation e =
     let s = split_ok (live_entry history number) (λ stored. unless_other name number draft.id >>= λ _. next_moment
-        created history now >>= λ m. unless_large name Change (normal draft number m (Some stored.updated))) operation
-        e in
+    created history now >>= λ m. unless_large name Change (normal draft number m (Some stored.updated))) operation
+    e in
     let o = split_ok (unless_other name number draft.id)
-        (λ _. next_moment created history now >>= λ m. unless_large name Change
-        (normal draft number m (Some s.0.updated))) operation s.2 in
+    (λ _. next_moment created history now >>= λ m. unless_large name Change
+    (normal draft number m (Some s.0.updated))) operation s.2 in
     let m = split_ok (next_moment created history now)
-        (λ m. unless_large name Change (normal draft number m (Some s.0.updated))) operation o.2 in
+    (λ m. unless_large name Change (normal draft number m (Some s.0.updated))) operation o.2 in
     let l = unless_large-ok name Change (normal draft number m.0 (Some s.0.updated)) operation m.2 in
-    record { stored = s.0; live = live_entry-ok history number s.0 s.1; moment = m.0; later =
-        next_moment-ok created history now m.0 m.1; small = l.0; is = l.1 }
+    record {
+      stored = s.0;
+      live = live_entry-ok history number s.0 s.1;
+      moment = m.0;
+      later =
+          next_moment-ok created history now m.0 m.1;
+      small = l.0;
+      is = l.1;
+    }
 
 record DeleteGives (created : ℤ) (history : List Op) (number : ℕ) (operation : Op) : Type 0 where
   stored : EntryValue
@@ -143,15 +150,21 @@ delete-gives : (name : FeedName) (created : ℤ) (history : List Op) (number now
 unfolding decide
 delete-gives name created history number now operation e =
     let s = split_ok (live_entry history number) (λ stored. next_moment created history now >>= λ m. Ok
-        (Remove record { tombstone = record { number = number; when = later_of m stored.updated }; moment = m }))
-        operation e in
+    (Remove record { tombstone = record { number = number; when = later_of m stored.updated }; moment = m }))
+    operation e in
     let m = split_ok (next_moment created history now)
-        (λ m. Ok (Remove record { tombstone = record { number = number; when = later_of m s.0.updated }; moment = m }))
-        operation s.2 in
-    record { stored = s.0; live = live_entry-ok history number s.0 s.1; moment = m.0; later =
-        next_moment-ok created history now m.0 m.1; is =
-        same (Remove record { tombstone = record { number = number; when = later_of m.0 s.0.updated }; moment = m.0 })
-        operation m.2 }
+    (λ m. Ok (Remove record { tombstone = record { number = number; when = later_of m s.0.updated }; moment = m }))
+    operation s.2 in
+    record {
+      stored = s.0;
+      live = live_entry-ok history number s.0 s.1;
+      moment = m.0;
+      later =
+          next_moment-ok created history now m.0 m.1;
+      is =
+          same (Remove record { tombstone = record { number = number; when = later_of m.0 s.0.updated }; moment = m.0 })
+          operation m.2;
+    }
   where
     same : (a b : Op) → (let r : Result Op RuleFault = Ok a in r ≡ Ok b) → a ≡ b
     same a b e = cc
@@ -193,7 +206,7 @@ decide-follows name created history (Replace number draft) now operation e =
       later = rw (normal-edited draft number g.moment (Some g.stored.updated)) g.later.0;
       fits = rw (normal-number draft number g.moment (Some g.stored.updated))
           (some_and ((fold_of history).live number) g.stored _ g.live.1
-              (normal-updated draft number g.moment g.stored.updated));
+          (normal-updated draft number g.moment g.stored.updated));
     })
 decide-follows name created history (Delete number) now operation e =
     let g = delete-gives name created history number now operation e in
@@ -228,7 +241,7 @@ fold-entries : (operations : List Op) (members : Fold) → AllEntries members �
 fold-entries [] members all of = all
 fold-entries (operation ∷ later) members all of =
     fold-entries later (after_operation members operation)
-        (after-entries members operation all (of 0 operation (omega arith))) (λ k d inside. of (suc k) d (omega arith))
+    (after-entries members operation all (of 0 operation (omega arith))) (λ k d inside. of (suc k) d (omega arith))
 
 pub live-entries : (history : List Op) → All IsOperation history → AllEntries (fold_of history)
 unfolding fold_of
@@ -254,10 +267,19 @@ decide-keeps name created history (Delete number) now operation e following all 
     let stored = live-entries history all number g.stored g.live.1 in
     let range = removal-stamp g.moment g.stored.updated g.later.1 stored.updated in
     let within = live_within (fold_of history) (made history) number (AreMembers-of created history following)
-        (ap is_some g.live.1) in
-    subst (λ (o : Op). IsOperation o × IsSmall name o) g.is
-    (record { tombstone = record { number = (g.live.0, omega (arith, within.1, made-le-length history, few)); when =
-        range.0 }; moment = g.later.1; in_order = range.1 }, tt)
+    (ap is_some g.live.1) in
+    subst (λ (o : Op). IsOperation o × IsSmall name o) g.is (
+      record {
+        tombstone = record {
+          number = (g.live.0, omega (arith, within.1, made-le-length history, few));
+          when =
+              range.0;
+        };
+        moment = g.later.1;
+        in_order = range.1;
+      },
+      tt,
+    )
 
 pub decide-lawful : (head : HeadValue) (history : List Op) (ask : Ask) (now : ℕ) (operation : Op)
     → decide head.name head.created history ask now ≡ Ok operation
@@ -265,7 +287,7 @@ pub decide-lawful : (head : HeadValue) (history : List Op) (ask : Ask) (now : �
     → IsLawful head (history ++ operation ∷ [])
 decide-lawful head history ask now operation e few lawful entry =
     let keeps = decide-keeps head.name head.created history ask now operation e lawful.following lawful.operations few
-        entry in
+    entry in
     record {
       few = omega (arith, length-append history (operation ∷ []));
       following = AreFollowing-push head.created history operation lawful.following
@@ -291,6 +313,6 @@ pub decided-lawful : (r : Result Op RuleFault) (name : FeedName) (ask : Ask) (no
     → IsTableOf table head.created history → IsLawful head history → IsLawful head (history ++ operation ∷ []))
 decided-lawful (Ok operation) name ask now table few is entry = λ head history named of lawful.
     decide-lawful head history ask now operation (ap (λ (n : FeedName). decide n head.created history ask now) named
-        ∙ sym (is head.created history of))
+    ∙ sym (is head.created history of))
     (omega (arith, of.operations, few)) lawful entry
 decided-lawful (Err fault) name ask now table few is entry = tt

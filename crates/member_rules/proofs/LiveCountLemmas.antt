@@ -1,6 +1,6 @@
 -- How many members are live, after one more operation.
-use Rattle.std.proofs.Common.{◌≡◌, ◌≢◌, inl, inr, ℕ, zero, suc, ◌+◌, ◌<◌, ◌≤◌, Bool, true, false, if◌then◌else◌,
-    Option, None, add-one, refl, sym, ap, ◌∙◌, arith}
+use Rattle.std.proofs.Common.{◌≡◌, ◌≢◌, inl, inr, ℕ, zero, suc, ◌+◌, ◌<◌, ◌≤◌, Bool, true, false, if◌then◌else◌, Option}
+use Rattle.std.proofs.Common.{None, add-one, refl, sym, ap, ◌∙◌, arith}
 use Rattle.std.specs.Prelude.{is_some}
 use Rattle.std.proofs.lemmas.Bool.{cases_eq}
 use Rattle.atom_values.specs.Entry.{EntryValue}
@@ -34,13 +34,13 @@ count-less before after zero number low high was is same = absurd (omega arith)
 count-less before after (suc n) number low high was is same = elim (cases_eq number (suc n)) [
   | inl here ↦
       ap (λ b. if b then count_up_to before n + 1 else count_up_to before n)
-          (ap (λ (k : ℕ). is_some (before k)) (sym here) ∙ was)
+      (ap (λ (k : ℕ). is_some (before k)) (sym here) ∙ was)
       ∙ ap (λ m. m + 1) (count-same before after n (λ k from to. same k (omega arith)))
       ∙ ap (λ b. (if b then count_up_to after n + 1 else count_up_to after n) + 1)
       (sym is ∙ ap (λ (k : ℕ). is_some (after k)) here)
   | inr elsewhere ↦
       both (is_some (before (suc n))) (is_some (after (suc n))) (count_up_to before n) (count_up_to after n)
-          (same (suc n) (omega arith))
+      (same (suc n) (omega arith))
       (count-less before after n number low (omega arith) was is same)
 ]
   where

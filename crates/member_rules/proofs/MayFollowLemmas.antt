@@ -1,6 +1,6 @@
 -- Whether an operation may follow, by what its member is.
-use Rattle.std.proofs.Common.{◌≡◌, ◌↔◌, ◌⊎◌, inl, inr, ℤ, ◌≤ℤ◌, int_cmp, int_eq, is_le, ℕ, Bool, false, Option, Some,
-    None, IsSomeAnd, true≢false, List, refl, sym, ap, subst, ◌∙◌, arith}
+use Rattle.std.proofs.Common.{◌≡◌, ◌↔◌, ◌⊎◌, inl, inr, ℤ, ◌≤ℤ◌, int_cmp, int_eq, is_le, ℕ, Bool, false, Option, Some}
+use Rattle.std.proofs.Common.{None, IsSomeAnd, true≢false, List, refl, sym, ap, subst, ◌∙◌, arith}
 use Rattle.std.specs.Prelude.{is_some, IsTrue}
 use Rattle.std.specs.Ordering.{ord_max}
 use Rattle.std.proofs.lemmas.Int.{ints}
@@ -97,7 +97,7 @@ pub change-live : (created : ℤ) (history : List Op) (operation : Op) (entry : 
 change-live created history operation entry number version updated new result is named dated following state test =
     subst (λ (o : Op). IsTrue result ↔ Fits history o) (sym is)
     (fits-live created history entry.number updated version result (λ u. u ≤ℤ entry.updated) following
-        (state ∙ ap (state_of history) named)
+    (state ∙ ap (state_of history) named)
     (le-test updated entry.updated result (test ∙ ap (λ (n : ℤ). is_le (int_cmp updated n)) dated)))
 
 -- a removal of a live member
@@ -110,11 +110,11 @@ remove-live created history operation removal number version updated when moment
     following state test =
     subst (λ (o : Op). IsTrue result ↔ Fits history o) (sym is)
     (fits-live created history removal.tombstone.number updated version result
-        (λ u. removal.tombstone.when ≡ later_of removal.moment u) following (state ∙ ap (state_of history) named)
+    (λ u. removal.tombstone.when ≡ later_of removal.moment u) following (state ∙ ap (state_of history) named)
     (eq-test removal.tombstone.when (later_of removal.moment updated) result
     (test ∙ ap (λ (w : ℤ). int_eq w (ord_max int_cmp moment updated)) dated
-        ∙ ap (int_eq removal.tombstone.when) (ord_max-later moment updated
-        ∙ ap (λ (m : ℤ). later_of m updated) accepted))))
+    ∙ ap (int_eq removal.tombstone.when) (ord_max-later moment updated
+    ∙ ap (λ (m : ℤ). later_of m updated) accepted))))
 
 -- of a member that isn't live
 abbrev IsNotLive : State → Type 0
@@ -134,7 +134,7 @@ pub change-not_live : (created : ℤ) (history : List Op) (operation : Op) (entr
 change-not_live created history operation entry number state is named following not_live of =
     subst (λ (o : Op). IsTrue false ↔ Fits history o) (sym is)
     (fits-not_live created history entry.number state (λ stored. stored.updated ≤ℤ entry.updated) following not_live
-        (of ∙ ap (state_of history) named))
+    (of ∙ ap (state_of history) named))
 
 pub remove-not_live : (created : ℤ) (history : List Op) (operation : Op) (removal : RemovalValue) (number : ℕ)
     (state : State) → operation ≡ Remove removal → number ≡ removal.tombstone.number → AreFollowing created history
@@ -143,5 +143,5 @@ pub remove-not_live : (created : ℤ) (history : List Op) (operation : Op) (remo
 remove-not_live created history operation removal number state is named following not_live of =
     subst (λ (o : Op). IsTrue false ↔ Fits history o) (sym is)
     (fits-not_live created history removal.tombstone.number state
-        (λ stored. removal.tombstone.when ≡ later_of removal.moment stored.updated) following not_live
-        (of ∙ ap (state_of history) named))
+    (λ stored. removal.tombstone.when ≡ later_of removal.moment stored.updated) following not_live
+    (of ∙ ap (state_of history) named))

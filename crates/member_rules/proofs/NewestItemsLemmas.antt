@@ -1,6 +1,6 @@
 -- The items of operations by recursion, newest operation first, as a pass over a span finds them.
-use Rattle.std.proofs.Common.{◌≡◌, inl, inr, ℕ, Bool, true, false, not, ◌||◌, ◌==◌, if◌then◌else◌, List, [], ◌∷◌, ◌++◌,
-    reverse, Option, Some, None, option_map, refl, ap, sym, ◌∙◌}
+use Rattle.std.proofs.Common.{◌≡◌, inl, inr, ℕ, Bool, true, false, not, ◌||◌, ◌==◌, if◌then◌else◌, List, [], ◌∷◌, ◌++◌}
+use Rattle.std.proofs.Common.{reverse, Option, Some, None, option_map, refl, ap, sym, ◌∙◌}
 use Rattle.std.specs.Prelude.{filter}
 use Rattle.std.specs.List.{list_any, cons_option, filter_map}
 use Rattle.std.proofs.lemmas.List.{append-nil, reverse-append}
@@ -50,14 +50,18 @@ kept-in_place (Some first) true items item = elim (cases_eq (item_number first) 
 ]
 kept-in_place (Some first) false items item = elim (cases_eq (item_number first) (item_number item)) [
   | inl same ↦
-      rw (eq-eqb (item_number first) (item_number item) same,
-          filter-append (λ (i : Item). not (item_number i == item_number first)) items (item ∷ []),
-          eq-eqb (item_number item) (item_number first) (sym same))
+      rw (
+        eq-eqb (item_number first) (item_number item) same,
+        filter-append (λ (i : Item). not (item_number i == item_number first)) items (item ∷ []),
+        eq-eqb (item_number item) (item_number first) (sym same),
+      )
       (ap (λ (rest : List Item). first ∷ rest) (append-nil (without (item_number first) items)))
   | inr other ↦
-      rw (ne_eqb (item_number first) (item_number item) other,
-          filter-append (λ (i : Item). not (item_number i == item_number first)) items (item ∷ []),
-          ne_eqb (item_number item) (item_number first) (λ e. other (sym e)))
+      rw (
+        ne_eqb (item_number first) (item_number item) other,
+        filter-append (λ (i : Item). not (item_number i == item_number first)) items (item ∷ []),
+        ne_eqb (item_number item) (item_number first) (λ e. other (sym e)),
+      )
       refl
 ]
 
@@ -113,7 +117,7 @@ items_of-newest (operation ∷ later) = go (item_of operation) refl (items_of-ne
         ∙ sym (older ∙ push-none (reverse later) operation is))
     go (Some item) is behind =
         let again : is_named_again later operation ≡ list_any (names (item_number item)) later =
-            rw (is, is_named_again) refl in
+        rw (is, is_named_again) refl in
         rw again
         (by_item item is (list_any (names (item_number item)) later) refl behind
         ∙ ap (λ (b : Bool). kept b (newest_items (reverse later)) item)

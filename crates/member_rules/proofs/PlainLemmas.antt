@@ -1,6 +1,6 @@
 -- What a look at one more operation of a list adds.
-use Rattle.std.proofs.Common.{◌≡◌, ◌≢◌, ℕ, ◌+◌, ◌<◌, true, false, if◌then◌else◌, ◌==◌, List, ◌∷◌, ◌++◌, [], length,
-    get_or, take, refl, sym, ap, ◌∙◌, arith, length-take}
+use Rattle.std.proofs.Common.{◌≡◌, ◌≢◌, ℕ, ◌+◌, ◌<◌, true, false, if◌then◌else◌, ◌==◌, List, ◌∷◌, ◌++◌, [], length}
+use Rattle.std.proofs.Common.{get_or, take, refl, sym, ap, ◌∙◌, arith, length-take}
 use Rattle.std.proofs.lemmas.Bool.Decides.{nat_tests}
 use Rattle.std.proofs.lemmas.List.{take_more}
 use Rattle.member_rules.specs.declared.operation.Op.{Op}
@@ -26,7 +26,7 @@ pub last_naming-more : (number : ℕ) (history : List Op) (i : ℕ) (operation :
 last_naming-more number history i operation inside is =
     let size : length (take i history) ≡ i = omega (arith, length-take i history) in
     ap (last_naming number) (take-one history i operation inside is)
-        ∙ last_naming-push number (take i history) operation
+    ∙ last_naming-push number (take i history) operation
     ∙ ap (λ n. if names number operation then n + 1 else last_naming number (take i history)) size
 
 -- whether an operation names a member, by its number

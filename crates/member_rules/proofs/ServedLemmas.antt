@@ -36,7 +36,7 @@ pub archive-stays : ArchivesStay
 unfolding archive windows_of
 archive-stays head history version number past within =
     archive_of-stays (windows_of head history).ends (windows_of head (take version history)).ends head history version
-        number refl refl (full-ends head history version number past within)
+    number refl refl (full-ends head history version number past within)
 
 feed-stays : (head : HeadValue) (history : List Op) (version : ℕ) → version ≤ length history → (address bytes : List ℕ)
     → ServesFeed head (take version history) address bytes → ServesFeed head history address bytes
@@ -58,8 +58,14 @@ archive-served head history version is_head past address bytes served =
     let full = sealed-are_full head (take version history) is_head in
     record {
       number = served.number;
-      of_sealed = (served.of_sealed.0, omega (arith, served.of_sealed.1,
-          sealed-stay head history version is_head past));
+      of_sealed = (
+        served.of_sealed.0,
+        omega (
+          arith,
+          served.of_sealed.1,
+          sealed-stay head history version is_head past,
+        ),
+      );
       there = served.there;
       text = served.text ∙ ap (λ (document : DocValue). text document)
           (archive-stays head history version served.number past (omega (arith, served.of_sealed.1, full)));

@@ -1,6 +1,6 @@
 -- What a list of documents shows of a member: its newest item.
-use Rattle.std.proofs.Common.{◌≡◌, ◌≢◌, ◌↔◌, inl, inr, ℕ, zero, suc, ◌<◌, ◌≤◌, ◌==◌, false, nat_eq, List, [], ◌∷◌,
-    ◌++◌, length, map, get_or, Option, Some, None, refl, ap, sym, ◌∙◌, subst, arith}
+use Rattle.std.proofs.Common.{◌≡◌, ◌≢◌, ◌↔◌, inl, inr, ℕ, zero, suc, ◌<◌, ◌≤◌, ◌==◌, false, nat_eq, List, [], ◌∷◌, ◌++◌}
+use Rattle.std.proofs.Common.{length, map, get_or, Option, Some, None, refl, ap, sym, ◌∙◌, subst, arith}
 use Rattle.std.specs.Prelude.{All, Any, Contains, max, fold}
 use Rattle.std.specs.List.{IsDistinct, AllByRecursion, find}
 use Rattle.std.specs.Option.{option_or}
@@ -82,10 +82,10 @@ item_in-Contains (first ∷ items) item h c = go (item_in-Contains items item h.
         (ap (λ (i : Item). Some i) at)
     go behind (suc k) l at =
         let apart : nat_eq (item_number first) (item_number item) ≡ false =
-            subst (λ (i : Item). nat_eq (item_number first) (item_number i) ≡ false) at
-            (apart-at (item_number first) items k item h.0 (omega arith)) in
+        subst (λ (i : Item). nat_eq (item_number first) (item_number i) ≡ false) at
+        (apart-at (item_number first) items k item h.0 (omega arith)) in
         let other : item_number item ≢ item_number first =
-            λ e. grind (arith, eq-eqb (item_number first) (item_number item) (sym e)) in
+        λ e. grind (arith, eq-eqb (item_number first) (item_number item) (sym e)) in
         rw (ne_eqb (item_number item) (item_number first) other) (behind (k, omega arith, at))
 
 -- documents
@@ -115,10 +115,10 @@ pub shown-from_Shows : (documents : List DocValue) (number : ℕ) (entry : Entry
 unfolding shown
 shown-from_Shows documents number entry h shows =
     let distinct = distinct-behind shows.newer shows.document shows.older
-        (subst (AllByRecursion (λ d. IsDistinct nat_eq (map item_number d.items))) shows.split h) in
+    (subst (AllByRecursion (λ d. IsDistinct nat_eq (map item_number d.items))) shows.split h) in
     let first : item_in number shows.document.items ≡ Some (Kept entry) =
-        subst (λ (n : ℕ). item_in n shows.document.items ≡ Some (Kept entry)) shows.member
-        (item_in-Contains shows.document.items (Kept entry) distinct shows.kept) in
+    subst (λ (n : ℕ). item_in n shows.document.items ≡ Some (Kept entry)) shows.member
+    (item_in-Contains shows.document.items (Kept entry) distinct shows.kept) in
     ap (shown number) shows.split
     ∙ shown-behind number shows.newer (shows.document ∷ shows.older) shows.newest
     ∙ ap (λ (o : Option Item). or_else o (shown number shows.older)) first
@@ -203,8 +203,10 @@ entry_of-kept (Some (Gone tombstone)) entry e = absurd (grind arith)
 distinct-docs : (documents : List DocValue) → All IsDoc documents
     → AllByRecursion (λ d. IsDistinct nat_eq (map item_number d.items)) documents
 distinct-docs [] h = tt
-distinct-docs (document ∷ documents) h = ((All-head IsDoc document documents h).rules.distinct,
-    distinct-docs documents (All-tail IsDoc document documents h))
+distinct-docs (document ∷ documents) h = (
+  (All-head IsDoc document documents h).rules.distinct,
+  distinct-docs documents (All-tail IsDoc document documents h),
+)
 
 pub live_of-is_shown : (documents : List DocValue) (number : ℕ) (entry : EntryValue) → All IsDoc documents
     → Shows documents number entry ↔ (live_of documents number ≡ Some entry)
@@ -222,16 +224,19 @@ greater greatest item = max greatest (item_number item)
 
 at_least : (greatest : ℕ) (items : List Item) → greatest ≤ fold greater greatest items
 at_least greatest [] = omega arith
-at_least greatest (item ∷ items) = omega (arith, le-max_left greatest (item_number item),
-    at_least (max greatest (item_number item)) items)
+at_least greatest (item ∷ items) = omega (
+  arith,
+  le-max_left greatest (item_number item),
+  at_least (max greatest (item_number item)) items,
+)
 
 find-past : (number greatest : ℕ) (items : List Item) → fold greater greatest items < number
     → find (λ item. item_number item == number) items ≡ None
 find-past number greatest [] l = refl
 find-past number greatest (item ∷ items) l =
     let other : item_number item ≢ number = λ e. absurd
-        (omega (arith, e, le-max_right greatest (item_number item), at_least (max greatest (item_number item)) items))
-        in
+    (omega (arith, e, le-max_right greatest (item_number item), at_least (max greatest (item_number item)) items))
+    in
     rw (ne_eqb (item_number item) number other) (find-past number (max greatest (item_number item)) items l)
 
 pub live_of-past : (documents : List DocValue) (number : ℕ) → greatest_member documents < number

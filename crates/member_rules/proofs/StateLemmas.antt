@@ -1,7 +1,7 @@
 -- What each member is in a history, after one more operation.
-use Rattle.std.proofs.Common.{◌≡◌, ◌≢◌, inl, inr, ℕ, zero, suc, ◌+◌, ◌<◌, ◌≤◌, ℤ, Bool, true, false, not,
-    if◌then◌else◌, ◌==◌, Option, Some, None, option_map, List, [], ◌∷◌, ◌++◌, length, get_or, take, add-one, IsSomeAnd,
-    true≢false, take_all, refl, sym, ap, ap₂, subst, ◌∙◌, arith}
+use Rattle.std.proofs.Common.{◌≡◌, ◌≢◌, inl, inr, ℕ, zero, suc, ◌+◌, ◌<◌, ◌≤◌, ℤ, Bool, true, false, not, if◌then◌else◌}
+use Rattle.std.proofs.Common.{◌==◌, Option, Some, None, option_map, List, [], ◌∷◌, ◌++◌, length, get_or, take, add-one}
+use Rattle.std.proofs.Common.{IsSomeAnd, true≢false, take_all, refl, sym, ap, ap₂, subst, ◌∙◌, arith}
 use Rattle.std.specs.Prelude.{is_some, unwrap_or}
 use Rattle.std.proofs.lemmas.Bool.{cases_lt, cases_eq}
 use Rattle.std.proofs.lemmas.Bool.Decides.{nat_tests}
@@ -16,8 +16,8 @@ use Rattle.member_rules.specs.declared.operation.Op.TheVariants.{Add, Change, Re
 use Rattle.member_rules.specs.declared.state.State.{State}
 use Rattle.member_rules.specs.declared.state.State.TheVariants.{Never, Live, Gone as Deleted}
 use Rattle.member_rules.specs.Operation.{item_of, makes, names}
-use Rattle.member_rules.specs.Fold.{Fold, set, no_members, with_item, after_operation, fold_of, made, last_naming,
-    state_by, state_of}
+use Rattle.member_rules.specs.Fold.{Fold, set, no_members, with_item, after_operation, fold_of, made, last_naming}
+use Rattle.member_rules.specs.Fold.{state_by, state_of}
 use Rattle.member_rules.specs.History.{AreFollowing, Fits}
 use Rattle.member_rules.proofs.FoldLemmas.{fold_of-push, made-push, last_naming-push}
 
@@ -63,12 +63,12 @@ state_of-push-other history operation number e =
     let same = unnamed (fold_of history) operation number e in
     let maps = fold_of-push history operation in
     let gone : (fold_of (history ++ operation ∷ [])).gone number ≡ (fold_of history).gone number =
-        ap (λ (m : Fold). m.gone number) maps ∙ same.1 in
+    ap (λ (m : Fold). m.gone number) maps ∙ same.1 in
     let live : (fold_of (history ++ operation ∷ [])).live number ≡ (fold_of history).live number =
-        ap (λ (m : Fold). m.live number) maps ∙ same.0 in
+    ap (λ (m : Fold). m.live number) maps ∙ same.0 in
     let version : last_naming number (history ++ operation ∷ []) ≡ last_naming number history =
-        last_naming-push number history operation ∙ ap
-        (λ b. if b then length history + 1 else last_naming number history) e in
+    last_naming-push number history operation ∙ ap
+    (λ b. if b then length history + 1 else last_naming number history) e in
     by_parts gone live version
   where
     by_parts : {g g' : Option ℤ} → {l l' : Option EntryValue} → {v v' : ℕ} → g ≡ g' → l ≡ l' → v ≡ v'
@@ -96,15 +96,15 @@ state_of-push-item history operation item is absent =
     let number = item_number item in
     let maps : fold_of (history ++ operation ∷ []) ≡ with_item (fold_of history) item =
     fold_of-push history operation ∙ ap (λ o. unwrap_or (option_map (with_item (fold_of history)) o) (fold_of history))
-        is in
+    is in
     let named : names number operation ≡ true =
     ap (λ (o : Option Item). elim (option_map item_number o) as (λ _. Bool)
-        [ None ↦ false | Some other ↦ other == number ]) is ∙ grind (arith, nat_tests) in
+    [ None ↦ false | Some other ↦ other == number ]) is ∙ grind (arith, nat_tests) in
     let version : last_naming number (history ++ operation ∷ []) ≡ length history + 1 =
-        last_naming-push number history operation ∙ ap
-        (λ b. if b then length history + 1 else last_naming number history) named in
+    last_naming-push number history operation ∙ ap
+    (λ b. if b then length history + 1 else last_naming number history) named in
     ap₂ (λ (m : Fold) (v : ℕ). state_by (m.gone number) (m.live number) v) maps version
-        ∙ state_by-item (fold_of history) item (length history + 1) absent
+    ∙ state_by-item (fold_of history) item (length history + 1) absent
 
 -- the members of a history: up to the last one made each is live or gone and not both, and no other number is a
 -- member's
@@ -127,8 +127,12 @@ pub live_within : (members : Fold) (count number : ℕ) → AreMembers members c
 live_within members count zero are live = absurd (true≢false (sym live ∙ ap is_some are.none_zero.0))
 live_within members count (suc n) are live = elim (cases_lt count (suc n)) [
   | inl past ↦ absurd (true≢false (sym live ∙ ap is_some (are.none_past (suc n) past).0))
-  | inr within ↦ (omega arith, within, not_gone (members.gone (suc n))
-      (sym live ∙ are.each (suc n) (omega arith) within))
+  | inr within ↦ (
+    omega arith,
+    within,
+    not_gone (members.gone (suc n))
+        (sym live ∙ are.each (suc n) (omega arith) within),
+  )
 ]
   where
     not_gone : (gone : Option ℤ) → true ≡ not (is_some gone) → gone ≡ None
@@ -142,9 +146,10 @@ differ a b e = grind (arith, nat_tests)
 other_item : (members : Fold) (item : Item) (number : ℕ) → item_number item ≢ number
     → ((with_item members item).live number ≡ members.live number)
     × ((with_item members item).gone number ≡ members.gone number)
-other_item members item number ne =
-    (live-other members item number (differ (item_number item) number ne),
-        gone-other members item number (differ (item_number item) number ne))
+other_item members item number ne = (
+  live-other members item number (differ (item_number item) number ne),
+  gone-other members item number (differ (item_number item) number ne),
+)
 
 -- each number but the item's is as before, and so are all where the item's is right
 with_each : (members : Fold) (item : Item) (number : ℕ)
@@ -216,11 +221,11 @@ AreMembers-step history (Add entry) are fits = one_more (fold_of history) (made 
 AreMembers-step history (Change entry) are fits =
     let same : made history + 0 ≡ made history = omega arith in
     rw same (one_same (fold_of history) (made history) (Kept entry) are
-        (is_there ((fold_of history).live entry.number) _ fits))
+    (is_there ((fold_of history).live entry.number) _ fits))
 AreMembers-step history (Remove removal) are fits =
     let same : made history + 0 ≡ made history = omega arith in
     rw same (one_same (fold_of history) (made history) (Gone removal.tombstone) are
-        (is_there ((fold_of history).live removal.tombstone.number) _ fits))
+    (is_there ((fold_of history).live removal.tombstone.number) _ fits))
 
 pub AreMembers-push : (history : List Op) (operation : Op) → AreMembers (fold_of history) (made history)
     → Fits history operation

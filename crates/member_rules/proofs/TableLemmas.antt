@@ -1,7 +1,8 @@
 -- The table after one more operation.
-use Rattle.std.proofs.Common.{◌≡◌, ◌≢◌, inl, inr, ℕ, zero, suc, ◌+◌, ◌-◌, ◌<◌, ◌≤◌, ℤ, ◌≤ℤ◌, Bool, true, false,
-    if◌then◌else◌, ◌==◌, Option, Some, None, option_map, List, [], ◌∷◌, ◌++◌, length, slice_get, slice_set, IsSomeAnd,
-    length-append, length-set, refl, sym, ap, subst, ◌∙◌, arith}
+use Rattle.std.proofs.Common.{◌≡◌, ◌≢◌, inl, inr, ℕ, zero, suc, ◌+◌, ◌-◌, ◌<◌, ◌≤◌, ℤ, ◌≤ℤ◌, Bool, true, false}
+use Rattle.std.proofs.Common.{if◌then◌else◌, ◌==◌, Option, Some, None, option_map, List, [], ◌∷◌, ◌++◌, length}
+use Rattle.std.proofs.Common.{slice_get, slice_set, IsSomeAnd, length-append, length-set, refl, sym, ap, subst, ◌∙◌}
+use Rattle.std.proofs.Common.{arith}
 use Rattle.std.specs.Prelude.{is_some, unwrap_or}
 use Rattle.std.proofs.lemmas.Bool.{cases_eq, cases_lt}
 use Rattle.atom_values.specs.Entry.{EntryValue}
@@ -14,14 +15,14 @@ use Rattle.member_rules.specs.declared.state.State.{State}
 use Rattle.member_rules.specs.declared.state.State.TheVariants.{Live, Gone as Deleted}
 use Rattle.member_rules.specs.Removal.{RemovalValue}
 use Rattle.member_rules.specs.Operation.{item_of, names, moment_of}
-use Rattle.member_rules.specs.Fold.{Fold, with_item, fold_of, made, last_moment, last_naming, live_count, state_by,
-    state_of, count_up_to}
+use Rattle.member_rules.specs.Fold.{Fold, with_item, fold_of, made, last_moment, last_naming, live_count, state_by}
+use Rattle.member_rules.specs.Fold.{state_of, count_up_to}
 use Rattle.member_rules.specs.History.{MayFollow, Fits, later_of}
 use Rattle.member_rules.specs.Table.{Table, IsTableOf, MayCommit}
-use Rattle.member_rules.proofs.FoldLemmas.{fold_of-push, made-push, last_moment-push, AreFollowing-push, get-push,
-    get-push-other}
-use Rattle.member_rules.proofs.StateLemmas.{AreMembers-of, live_within, state_with, state_of-push-item,
-    state_of-push-other, unnamed, is_there, differ, set-same, set-other}
+use Rattle.member_rules.proofs.FoldLemmas.{fold_of-push, made-push, last_moment-push, AreFollowing-push, get-push}
+use Rattle.member_rules.proofs.FoldLemmas.{get-push-other}
+use Rattle.member_rules.proofs.StateLemmas.{AreMembers-of, live_within, state_with, state_of-push-item}
+use Rattle.member_rules.proofs.StateLemmas.{state_of-push-other, unnamed, is_there, differ, set-same, set-other}
 use Rattle.member_rules.proofs.LiveCountLemmas.{count-same, count-more, count-less}
 
 -- what a member is tells whether it is live
@@ -55,7 +56,7 @@ same_states table created other history past number of also from to =
     let inside : number - 1 < length table.states = omega (arith, also.count) in
     let here : number - 1 + 1 ≡ number = omega arith in
     let both : Some (state_of past (number - 1 + 1)) ≡ Some (state_of history (number - 1 + 1)) =
-        sym (also.states (number - 1) inside) ∙ of.states (number - 1) inside in
+    sym (also.states (number - 1) inside) ∙ of.states (number - 1) inside in
     let same : state_of past (number - 1 + 1) ≡ state_of history (number - 1 + 1) = cc in
     rw here at same
 
@@ -71,9 +72,9 @@ same_live : (table : Table) (created other : ℤ) (history past : List Op) (numb
 same_live table created other history past number P of also fits =
     let was = at_some ((fold_of past).live number) (λ stored. P stored.updated) fits in
     let within = live_within (fold_of past) (made past) number (AreMembers-of other past also.following)
-        (ap is_some was.1) in
+    (ap is_some was.1) in
     let state = sym (same_states table created other history past number of also within.0 within.1)
-        ∙ state_of_live past number was.0 was.1 within.2 in
+    ∙ state_of_live past number was.0 was.1 within.2 in
     let is = live_of_state history number (last_naming number past) was.0.updated state in
     subst (λ (o : Option EntryValue). IsSomeAnd o (λ stored. P stored.updated)) (sym is.1) (subst P (sym is.2) was.2)
 
@@ -115,7 +116,7 @@ names_not : (operation : Op) (item : Item) (number : ℕ) → item_of operation 
     → names number operation ≡ false
 names_not operation item number is ne =
     ap (λ (o : Option Item). elim (option_map item_number o) as (λ _. Bool)
-        [ None ↦ false | Some other ↦ other == number ]) is ∙ differ (item_number item) number ne
+    [ None ↦ false | Some other ↦ other == number ]) is ∙ differ (item_number item) number ne
 
 -- the states are those of a history
 abbrev AreStates : List State → List Op → Type 0
@@ -130,16 +131,16 @@ states_put : (history : List Op) (operation : Op) (item : Item) (states : List S
 states_put history operation item states is absent from to are k inside =
     let at = item_number item - 1 in
     let size : length (slice_set states at (state_with item (length history + 1))) ≡ length states =
-        length-set states at (state_with item (length history + 1)) in
+    length-set states at (state_with item (length history + 1)) in
     elim (cases_eq k at) [
       | inl here ↦
           let number : item_number item ≡ k + 1 = omega arith in
           let got : slice_get (slice_set states at (state_with item (length history + 1))) k
-              ≡ Some (state_with item (length history + 1)) =
+          ≡ Some (state_with item (length history + 1)) =
           ap (slice_get (slice_set states at (state_with item (length history + 1)))) here
-              ∙ get-set states at (state_with item (length history + 1)) (omega arith) in
+          ∙ get-set states at (state_with item (length history + 1)) (omega arith) in
           got ∙ ap Some (sym (state_of-push-item history operation item is absent)
-              ∙ ap (state_of (history ++ operation ∷ [])) number)
+          ∙ ap (state_of (history ++ operation ∷ [])) number)
       | inr elsewhere ↦
           get-set-other states at k (state_with item (length history + 1)) elsewhere
           ∙ are k (omega (arith, size))
@@ -181,7 +182,7 @@ own_live : (history : List Op) (operation : Op) (item : Item) → item_of operat
     ≡ (with_item (fold_of history) item).live (item_number item)
 own_live history operation item is =
     ap (λ (m : Fold). m.live (item_number item)) (fold_of-push history operation
-        ∙ ap (λ o. unwrap_or (option_map (with_item (fold_of history)) o) (fold_of history)) is)
+    ∙ ap (λ o. unwrap_or (option_map (with_item (fold_of history)) o) (fold_of history)) is)
 
 -- what stays to be shown of a new table
 pub record Commits (table new : Table) (operation : Op) : Type 0 where
@@ -213,20 +214,25 @@ IsTableOf-add created history entry table new of follows commits states live =
     let more : made (history ++ Add entry ∷ []) ≡ made history + 1 = made-push history (Add entry) in
     let version : new.operations ≡ length history + 1 = omega (arith, commits.operations, of.operations) in
     let pushed : new.states ≡ table.states ++ state_with (Kept entry) (length history + 1) ∷ [] =
-        states ∙ ap (λ v. table.states ++ Live entry.updated v ∷ []) version in
+    states ∙ ap (λ v. table.states ++ Live entry.updated v ∷ []) version in
     let after = (fold_of (history ++ Add entry ∷ [])).live in
     let here : is_some (after (made history + 1)) ≡ true =
     ap (λ (k : ℕ). is_some (after k)) (sym next) ∙ ap is_some
-        (own_live history (Add entry) (Kept entry) refl ∙ set-same entry.number (Some entry) (fold_of history).live) in
+    (own_live history (Add entry) (Kept entry) refl ∙ set-same entry.number (Some entry) (fold_of history).live) in
     let counted : live_count (history ++ Add entry ∷ []) ≡ live_count history + 1 =
     ap (count_up_to after) more
     ∙ count-more (fold_of history).live after (made history)
     (λ k ne. others_live history (Add entry) (Kept entry) k refl (omega arith)) here in
     after_any created history (Add entry) table new of follows commits
-    (omega (arith, more, of.count, ap length states,
-        length-append table.states (Live entry.updated new.operations ∷ [])))
+    (omega (
+      arith,
+      more,
+      of.count,
+      ap length states,
+      length-append table.states (Live entry.updated new.operations ∷ []),
+    ))
     (subst (λ (s : List State). AreStates s (history ++ Add entry ∷ [])) (sym pushed)
-        (states_more history (Add entry) (Kept entry) table.states refl absent (omega (arith, of.count)) of.states))
+    (states_more history (Add entry) (Kept entry) table.states refl absent (omega (arith, of.count)) of.states))
     (omega (arith, counted, live, of.live))
 
 pub IsTableOf-change : (created : ℤ) (history : List Op) (entry : EntryValue) (table new : Table)
@@ -238,13 +244,13 @@ IsTableOf-change created history entry table new of follows commits states live 
     let after = (fold_of (history ++ Change entry ∷ [])).live in
     let was : is_some (before entry.number) ≡ true = is_there (before entry.number) _ follows.fits in
     let within = live_within (fold_of history) (made history) entry.number (AreMembers-of created history of.following)
-        was in
+    was in
     let more : made (history ++ Change entry ∷ []) ≡ made history + 0 = made-push history (Change entry) in
     let version : new.operations ≡ length history + 1 = omega (arith, commits.operations, of.operations) in
     let put : new.states ≡ slice_set table.states (entry.number - 1) (state_with (Kept entry) (length history + 1)) =
-        states ∙ ap (λ v. slice_set table.states (entry.number - 1) (Live entry.updated v)) version in
+    states ∙ ap (λ v. slice_set table.states (entry.number - 1) (Live entry.updated v)) version in
     let here : is_some (after entry.number) ≡ true =
-        ap is_some (own_live history (Change entry) (Kept entry) refl ∙ set-same entry.number (Some entry) before) in
+    ap is_some (own_live history (Change entry) (Kept entry) refl ∙ set-same entry.number (Some entry) before) in
     let each : (k : ℕ) → is_some (before k) ≡ is_some (after k) = λ k. elim (cases_eq entry.number k) [
       | inl same ↦ subst (λ (n : ℕ). is_some (before n) ≡ is_some (after n)) same (was ∙ sym here)
       | inr ne ↦ others_live history (Change entry) (Kept entry) k refl ne
@@ -253,11 +259,16 @@ IsTableOf-change created history entry table new of follows commits states live 
     let counted : live_count (history ++ Change entry ∷ []) ≡ live_count history =
     ap (count_up_to after) (more ∙ none) ∙ sym (count-same before after (made history) (λ k low high. each k)) in
     after_any created history (Change entry) table new of follows commits
-    (omega (arith, more, of.count, ap length states,
-        length-set table.states (entry.number - 1) (Live entry.updated new.operations)))
+    (omega (
+      arith,
+      more,
+      of.count,
+      ap length states,
+      length-set table.states (entry.number - 1) (Live entry.updated new.operations),
+    ))
     (subst (λ (s : List State). AreStates s (history ++ Change entry ∷ [])) (sym put)
-        (states_put history (Change entry) (Kept entry) table.states refl within.2 within.0
-        (omega (arith, of.count, within.1)) of.states))
+    (states_put history (Change entry) (Kept entry) table.states refl within.2 within.0
+    (omega (arith, of.count, within.1)) of.states))
     (live ∙ of.live ∙ sym counted)
 
 -- a table of a history with a live member has a live one
@@ -265,10 +276,10 @@ pub live-pos : (created : ℤ) (history : List Op) (table : Table) (number : ℕ
     → is_some ((fold_of history).live number) ≡ true → (1 ≤ table.live) × (1 ≤ number) × (number ≤ length table.states)
 live-pos created history table number of live =
     let within = live_within (fold_of history) (made history) number (AreMembers-of created history of.following) live
-        in
+    in
     let none : ℕ → Option EntryValue = λ k. if k == number then None else (fold_of history).live k in
     let less = count-less (fold_of history).live none (made history) number within.0 within.1 live
-        (ap is_some (set-same number None (fold_of history).live))
+    (ap is_some (set-same number None (fold_of history).live))
     (λ k ne. ap is_some (sym (set-other number k None (fold_of history).live (differ k number ne)))) in
     (omega (arith, less, of.live), within.0, omega (arith, within.1, of.count))
 
@@ -284,18 +295,23 @@ IsTableOf-remove created history removal table new of follows commits states liv
     let within = live_within (fold_of history) (made history) number (AreMembers-of created history of.following) was in
     let more : made (history ++ Remove removal ∷ []) ≡ made history + 0 = made-push history (Remove removal) in
     let here : is_some (after number) ≡ false = ap is_some
-        (own_live history (Remove removal) (Gone removal.tombstone) refl ∙ set-same number None before) in
+    (own_live history (Remove removal) (Gone removal.tombstone) refl ∙ set-same number None before) in
     let none : made history + 0 ≡ made history = omega arith in
     let counted : live_count history ≡ live_count (history ++ Remove removal ∷ []) + 1 =
     count-less before after (made history) number within.0 within.1 was here
-        (λ k ne. others_live history (Remove removal) (Gone removal.tombstone) k refl (omega arith))
+    (λ k ne. others_live history (Remove removal) (Gone removal.tombstone) k refl (omega arith))
     ∙ ap (λ m. count_up_to after m + 1) (sym (more ∙ none)) in
     after_any created history (Remove removal) table new of follows commits
-    (omega (arith, more, of.count, ap length states,
-        length-set table.states (number - 1) (Deleted removal.tombstone.when)))
+    (omega (
+      arith,
+      more,
+      of.count,
+      ap length states,
+      length-set table.states (number - 1) (Deleted removal.tombstone.when),
+    ))
     (subst (λ (s : List State). AreStates s (history ++ Remove removal ∷ [])) (sym states)
-        (states_put history (Remove removal) (Gone removal.tombstone) table.states refl within.2 within.0
-        (omega (arith, of.count, within.1)) of.states))
+    (states_put history (Remove removal) (Gone removal.tombstone) table.states refl within.2 within.0
+    (omega (arith, of.count, within.1)) of.states))
     (omega (arith, counted, live, of.live))
 
 -- the same where the operation is known by an equation
@@ -308,7 +324,7 @@ commit-add table new operation entry created history is may of last operations s
     subst (λ (o : Op). IsTableOf new created (history ++ o ∷ [])) (sym is)
     (IsTableOf-add created history entry table new of
     (subst (MayFollow created history) is (MayFollow-along table created may.created history may.history operation of
-        may.table_of may.follows))
+    may.table_of may.follows))
     (record { last = last ∙ ap moment_of is; operations = operations })
     (states ∙ ap (λ v. table.states ++ Live entry.updated v ∷ []) (sym operations)) live)
 
@@ -322,7 +338,7 @@ commit-change table new operation entry created history is may of last operation
     subst (λ (o : Op). IsTableOf new created (history ++ o ∷ [])) (sym is)
     (IsTableOf-change created history entry table new of
     (subst (MayFollow created history) is (MayFollow-along table created may.created history may.history operation of
-        may.table_of may.follows))
+    may.table_of may.follows))
     (record { last = last ∙ ap moment_of is; operations = operations })
     (states ∙ ap (λ v. slice_set table.states (entry.number - 1) (Live entry.updated v)) (sym operations)) live)
 
@@ -336,7 +352,7 @@ commit-remove table new operation removal created history is may of last operati
     subst (λ (o : Op). IsTableOf new created (history ++ o ∷ [])) (sym is)
     (IsTableOf-remove created history removal table new of
     (subst (MayFollow created history) is (MayFollow-along table created may.created history may.history operation of
-        may.table_of may.follows))
+    may.table_of may.follows))
     (record { last = last ∙ ap moment_of is; operations = operations })
     states live)
 
@@ -346,7 +362,7 @@ pub change-place : (table : Table) (operation : Op) (entry : EntryValue) → ope
 change-place table operation entry is may =
     let fits : Fits may.history (Change entry) = subst (λ (o : Op). Fits may.history o) is may.follows.fits in
     let within = live-pos may.created may.history table entry.number may.table_of
-        (is_there ((fold_of may.history).live entry.number) _ fits) in
+    (is_there ((fold_of may.history).live entry.number) _ fits) in
     omega (arith, within.1, within.2)
 
 pub remove-place : (table : Table) (operation : Op) (removal : RemovalValue) → operation ≡ Remove removal
@@ -354,5 +370,5 @@ pub remove-place : (table : Table) (operation : Op) (removal : RemovalValue) →
 remove-place table operation removal is may =
     let fits : Fits may.history (Remove removal) = subst (λ (o : Op). Fits may.history o) is may.follows.fits in
     let within = live-pos may.created may.history table removal.tombstone.number may.table_of
-        (is_there ((fold_of may.history).live removal.tombstone.number) _ fits) in
+    (is_there ((fold_of may.history).live removal.tombstone.number) _ fits) in
     (within.0, omega (arith, within.1, within.2))

@@ -1,6 +1,7 @@
 -- The operation that last named a member has the member's newest item.
-use Rattle.std.proofs.Common.{◌≡◌, inl, inr, ◌⊎◌, ℕ, suc, ◌+◌, ◌-◌, ◌≤◌, ◌==◌, ℤ, Bool, true, false, List, [], ◌∷◌,
-    reverse, slice_get, if◌then◌else◌, Option, Some, None, option_map, refl, ap, sym, subst, ◌∙◌, arith}
+use Rattle.std.proofs.Common.{◌≡◌, inl, inr, ◌⊎◌, ℕ, suc, ◌+◌, ◌-◌, ◌≤◌, ◌==◌, ℤ, Bool, true, false, List, [], ◌∷◌}
+use Rattle.std.proofs.Common.{reverse, slice_get, if◌then◌else◌, Option, Some, None, option_map, refl, ap, sym, subst}
+use Rattle.std.proofs.Common.{◌∙◌, arith}
 use Rattle.std.proofs.lemmas.Bool.{cases_eq, eq-eqb, ne_eqb}
 use Rattle.std.proofs.lemmas.Bool.Decides.{nat_tests}
 use Rattle.std.proofs.lemmas.List.{reverse-append}
@@ -32,7 +33,7 @@ front : (number : ℕ) (operation : Op) (later : List Op)
     ≡ or_else (newest_of number (reverse later)) (or_older number (item_of operation) None)
 front number operation later =
     ap (newest_of number) (reverse-append (operation ∷ []) later)
-        ∙ newest_of-append number (reverse later) (operation ∷ [])
+    ∙ newest_of-append number (reverse later) (operation ∷ [])
 
 -- the first of the operations is the last one that names the member
 first-last : (number : ℕ) (operation : Op) (later : List Op) → last_naming number later ≡ 0
@@ -58,20 +59,20 @@ last-is number (operation ∷ later) = subst (LastBy number (operation ∷ later
     own (Some item) is none = elim (cases_eq number (item_number item)) [
       | inl same ↦
           let named : names number operation ≡ true = ap
-              (λ (o : Option Item). elim (option_map item_number o) as (λ _. Bool)
-              [ None ↦ false | Some other ↦ other == number ]) is ∙ eq-eqb (item_number item) number (sym same) in
+          (λ (o : Option Item). elim (option_map item_number o) as (λ _. Bool)
+          [ None ↦ false | Some other ↦ other == number ]) is ∙ eq-eqb (item_number item) number (sym same) in
           let one : last_naming number (operation ∷ later) ≡ 1 =
-              first-last number operation later none ∙ rw named refl in
+          first-last number operation later none ∙ rw named refl in
           let last : IsLast number (operation ∷ later) item =
-              record { operation = operation; counted = omega (arith, one); at = rw one refl; is = is } in
+          record { operation = operation; counted = omega (arith, one); at = rw one refl; is = is } in
           rw (eq-eqb number (item_number item) same) last
       | inr other ↦
           let unnamed : names number operation ≡ false =
-              ap (λ (o : Option Item). elim (option_map item_number o) as (λ _. Bool)
-              [ None ↦ false | Some other ↦ other == number ]) is
-              ∙ ne_eqb (item_number item) number (λ e. other (sym e)) in
+          ap (λ (o : Option Item). elim (option_map item_number o) as (λ _. Bool)
+          [ None ↦ false | Some other ↦ other == number ]) is
+          ∙ ne_eqb (item_number item) number (λ e. other (sym e)) in
           let zero_is : last_naming number (operation ∷ later) ≡ 0 =
-              first-last number operation later none ∙ rw unnamed refl in
+          first-last number operation later none ∙ rw unnamed refl in
           rw (ne_eqb number (item_number item) other) zero_is
     ]
 
@@ -81,9 +82,14 @@ last-is number (operation ∷ later) = subst (LastBy number (operation ∷ later
     go (Some item) last =
         let more = later-last number operation later last.counted in
         let place : last_naming number (operation ∷ later) - 1 ≡ suc (last_naming number later - 1) =
-            omega (arith, more, last.counted) in
-        record { operation = last.operation; counted = omega (arith, more); at =
-            ap (slice_get (operation ∷ later)) place ∙ last.at; is = last.is }
+        omega (arith, more, last.counted) in
+        record {
+          operation = last.operation;
+          counted = omega (arith, more);
+          at =
+              ap (slice_get (operation ∷ later)) place ∙ last.at;
+          is = last.is;
+        }
 
 set-of : (operation : Op) (entry : EntryValue) → item_of operation ≡ Some (Kept entry)
     → (operation ≡ Add entry) ⊎ (operation ≡ Change entry)
@@ -103,11 +109,11 @@ pub version-is : (history : List Op) (number : ℕ) (updated : ℤ) (version : �
 unfolding state_of
 version-is history number updated version e =
     let live = live_parts ((fold_of history).gone number) ((fold_of history).live number) (last_naming number history)
-        version updated e in
+    version updated e in
     let newest = entry_or-kept (newest_of number (reverse history)) live.0 (sym (live-is number history) ∙ live.1) in
     let last : IsLast number history (Kept live.0) = subst (LastBy number history) newest (last-is number history) in
     let place : slice_get history (version - 1) ≡ Some last.operation =
-        ap (λ (n : ℕ). slice_get history (n - 1)) (sym live.3) ∙ last.at in
+    ap (λ (n : ℕ). slice_get history (n - 1)) (sym live.3) ∙ last.at in
     record {
       entry = live.0;
       live = live.1;

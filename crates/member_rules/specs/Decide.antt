@@ -1,7 +1,7 @@
 -- What a client's ask becomes after a history: an operation, or the first refusal that fits (RFC 5023 sections 9.2 to
 -- 9.4).
-use Rattle.std.specs.Prelude.{ℕ, ◌+◌, List, ℤ, pos, ◌+ℤ◌, int_lt, nat_lt, nat_le, ◌&&◌, if◌then◌else◌, Option, Some,
-    None, Result, Ok, Err, length}
+use Rattle.std.specs.Prelude.{ℕ, ◌+◌, List, ℤ, pos, ◌+ℤ◌, int_lt, nat_lt, nat_le, ◌&&◌, if◌then◌else◌, Option, Some}
+use Rattle.std.specs.Prelude.{None, Result, Ok, Err, length}
 use Rattle.std.specs.Str.{bytes_eq}
 use Rattle.atom_values.specs.Entry.{EntryValue, normal}
 use Rattle.atom_writer.specs.declared.doc.FeedName.{FeedName}

@@ -1,6 +1,6 @@
 -- What a list of operations makes of the members: two finite maps, the members that are live and those that are gone.
-use Rattle.std.specs.Prelude.{ℕ, zero, suc, ◌+◌, ◌-◌, ◌==◌, List, [], ◌∷◌, ℤ, if◌then◌else◌, Option, Some, None,
-    option_map, unwrap_or, is_some, fold, length, slice_get, count_by}
+use Rattle.std.specs.Prelude.{ℕ, zero, suc, ◌+◌, ◌-◌, ◌==◌, List, [], ◌∷◌, ℤ, if◌then◌else◌, Option, Some, None}
+use Rattle.std.specs.Prelude.{option_map, unwrap_or, is_some, fold, length, slice_get, count_by}
 use Rattle.atom_values.specs.Entry.{EntryValue}
 use Rattle.deleted_entries.specs.declared.item.Item.{Item}
 use Rattle.deleted_entries.specs.declared.item.Item.TheVariants.{Kept, Gone}

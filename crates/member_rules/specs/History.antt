@@ -1,6 +1,6 @@
 -- Which operation may follow a history, and which histories are lawful.
-use Rattle.std.specs.Prelude.{◌≡◌, ℕ, ◌+◌, ◌≤◌, List, ℤ, ◌≤ℤ◌, ◌<ℤ◌, int_lt, if◌then◌else◌, Some, length, take,
-    slice_get, All, IsSomeAnd}
+use Rattle.std.specs.Prelude.{◌≡◌, ℕ, ◌+◌, ◌≤◌, List, ℤ, ◌≤ℤ◌, ◌<ℤ◌, int_lt, if◌then◌else◌, Some, length, take}
+use Rattle.std.specs.Prelude.{slice_get, All, IsSomeAnd}
 use Rattle.atom_writer.specs.declared.doc.FeedName.{FeedName}
 use Rattle.atom_writer.specs.Pieces.{entry_piece}
 use Rattle.member_rules.specs.declared.operation.Op.{Op}

@@ -8,16 +8,8 @@ use Rattle.std.proofs.lemmas.Iterator.Adapters.{YieldsList-from_rev_slice}
 use Rattle.std.proofs.lemmas.Iterator.Consumers.{YieldsList-turn, YieldsList-end}
 use Rattle.deleted_entries.specs.Item.{item_number}
 use Rattle.member_rules.proofs.NewestItemsLemmas.{items_of-newest}
-use Rattle.archive_sealer.proofs.ItemsStepLemmas.{
-  Taken-none,
-  Taken-all,
-  Taken-new,
-  Taken-old,
-  AlsoMet-inserted,
-  AlsoMet-same,
-  item-of_number,
-  number-of_item,
-}
+use Rattle.archive_sealer.proofs.ItemsStepLemmas.{Taken-none, Taken-all, Taken-new, Taken-old, AlsoMet-inserted}
+use Rattle.archive_sealer.proofs.ItemsStepLemmas.{AlsoMet-same, item-of_number, number-of_item}
 use Rattle.archive_sealer.proofs.items.items.Goals as goal
 
 pub loop-operation-init : goal.loop-operation-init

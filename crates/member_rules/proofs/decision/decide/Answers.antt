@@ -11,9 +11,9 @@ pub returns-in-Create : goal.returns-in-Create
 returns-in-Create c =
     let is : c.args.ask ≡ Create c.in-Create.draft = search rules in
     let decision : (created : ℤ) (history : List Op) → IsTableOf c.args.members.now created history
-        → c.create.result ≡ decide c.args.name.now created history c.args.ask c.args.now =
+    → c.create.result ≡ decide c.args.name.now created history c.args.ask c.args.now =
     λ created history of. c.create.ensures.decision created history of
-        ∙ ap (λ (a : Ask). decide c.args.name.now created history a c.args.now) (sym is) in
+    ∙ ap (λ (a : Ask). decide c.args.name.now created history a c.args.now) (sym is) in
     record {
       decision = decision;
       follows = decided-follows c.create.result c.args.name.now c.args.ask c.args.now c.args.members.now decision;
@@ -25,9 +25,9 @@ pub returns-in-Replace : goal.returns-in-Replace
 returns-in-Replace c =
     let is : c.args.ask ≡ Replace c.in-Replace.number c.in-Replace.draft = search rules in
     let decision : (created : ℤ) (history : List Op) → IsTableOf c.args.members.now created history
-        → c.replace.result ≡ decide c.args.name.now created history c.args.ask c.args.now =
+    → c.replace.result ≡ decide c.args.name.now created history c.args.ask c.args.now =
     λ created history of. c.replace.ensures.decision created history of
-        ∙ ap (λ (a : Ask). decide c.args.name.now created history a c.args.now) (sym is) in
+    ∙ ap (λ (a : Ask). decide c.args.name.now created history a c.args.now) (sym is) in
     record {
       decision = decision;
       follows = decided-follows c.replace.result c.args.name.now c.args.ask c.args.now c.args.members.now decision;
@@ -39,9 +39,9 @@ pub returns-in-Delete : goal.returns-in-Delete
 returns-in-Delete c =
     let is : c.args.ask ≡ Delete c.in-Delete.number = search rules in
     let decision : (created : ℤ) (history : List Op) → IsTableOf c.args.members.now created history
-        → c.delete.result ≡ decide c.args.name.now created history c.args.ask c.args.now =
+    → c.delete.result ≡ decide c.args.name.now created history c.args.ask c.args.now =
     λ created history of. c.delete.ensures.decision c.args.name.now created history of
-        ∙ ap (λ (a : Ask). decide c.args.name.now created history a c.args.now) (sym is) in
+    ∙ ap (λ (a : Ask). decide c.args.name.now created history a c.args.now) (sym is) in
     record {
       decision = decision;
       follows = decided-follows c.delete.result c.args.name.now c.args.ask c.args.now c.args.members.now decision;

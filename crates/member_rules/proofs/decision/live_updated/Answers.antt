@@ -9,9 +9,9 @@ returns-in-Never-clause-entry c = λ created history of. live_entry-never histor
 pub returns-in-Live-clause-entry : goal.returns-in-Live-clause-entry
 returns-in-Live-clause-entry c = λ created history of.
     live_entry-live created history c.args.number c.in-Live.version c.in-Live.updated of.following
-        (sym (c.in-Live.ensures.state created history of))
+    (sym (c.in-Live.ensures.state created history of))
 
 pub returns-in-Gone-clause-entry : goal.returns-in-Gone-clause-entry
 returns-in-Gone-clause-entry c = λ created history of.
     live_entry-gone created history c.args.number c.in-Gone.when of.following
-        (sym (c.in-Gone.ensures.state created history of))
+    (sym (c.in-Gone.ensures.state created history of))

@@ -10,6 +10,6 @@ loop-operation-init c = refl
 pub loop-operation-preserved : goal.loop-operation-preserved
 loop-operation-preserved c =
     let more = fold_of-more c.args.history.now c.loop-operation.operation-index c.operation-item.result
-        c.loop-operation-test.true c.operation-item.is in
+    c.loop-operation-test.true c.operation-item.is in
     c.live_after-live.ensures (fold_of (take c.loop-operation.operation-index c.args.history.now))
-        c.loop-operation.invariant ∙ ap (λ (members : Fold). updated_of (members.live c.args.number)) (sym more)
+    c.loop-operation.invariant ∙ ap (λ (members : Fold). updated_of (members.live c.args.number)) (sym more)

@@ -15,7 +15,7 @@ loop-at-preserved c =
     let operation = c.index-history-at.result in
     let before = last_naming number (take c.loop-at.at c.args.history.now) in
     let more = last_naming-more number c.args.history.now c.loop-at.at operation c.loop-at-test.true
-        c.index-history-at.is in
+    c.index-history-at.is in
     elim c.if-number.branch [
       | then-number w ↦ w.version-is ∙ sym (more ∙ chosen (names number operation) true (c.loop-at.at + 1) before
           (names-same number operation c.number.result c.number.ensures w.if-number.true))

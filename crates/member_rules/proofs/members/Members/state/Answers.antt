@@ -9,7 +9,7 @@ use Rattle.member_rules.proofs.members.Members.state.Goals as goal
 pub returns-in-None-get-clause-state : goal.returns-in-None-get-clause-state
 returns-in-None-get-clause-state c = λ created history of.
     let items = ap (λ (t : Table). length t.states) (sym c.self.view_is)
-        ∙ ap (λ (s : List State). length s) (sym c.deref.ensures.value) in
+    ∙ ap (λ (s : List State). length s) (sym c.deref.ensures.value) in
     let none = c.in-None-get.ensures.lookup in
     let at = c.in-Some.ensures in
     let past : made history < c.args.number = grind (arith, nat_tests) in
