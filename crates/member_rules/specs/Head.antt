@@ -1,4 +1,4 @@
--- What contracts see of a feed's head.
+-- The value of a feed's head that contracts see.
 use Rattle.std.specs.Prelude.{ℕ, ◌≤◌, ◌^◌, ℤ, pos, ◌≤ℤ◌, length}
 use Rattle.atom_values.specs.Stamp.{IsStamp}
 use Rattle.atom_writer.specs.declared.doc.FeedName.{FeedName}
@@ -35,7 +35,7 @@ pub record KeepsLimits (h : HeadValue) : Type 0 where
   pub author : length h.name.author ≤ title_limit
   pub created : pos 0 ≤ℤ h.created
 
--- what the types of a head keep
+-- the rules that the types of a head keep
 pub record IsHead (h : HeadValue) : Type 0 where
   pub name : IsFeedName h.name
   pub created : IsStamp h.created

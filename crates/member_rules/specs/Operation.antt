@@ -1,5 +1,5 @@
--- What contracts see of an operation (RFC 5023 sections 9.2 to 9.4). An operation names one member or none. The
--- definitions on lists of operations use its item, its moment and whether it makes a member, and not its variant.
+-- The value of an operation that contracts see (RFC 5023 sections 9.2 to 9.4). An operation names one member or none.
+-- The definitions on lists of operations use its item, its moment and whether it makes a member, and not its variant.
 use Rattle.std.specs.Prelude.{ℕ, ℤ, Option, Some, None, option_map, unwrap_or, Bool, true, false, ◌==◌}
 use Rattle.atom_values.specs.Entry.{IsEntry}
 use Rattle.deleted_entries.specs.Item.{item_number}
@@ -39,13 +39,13 @@ makes (Remove removal) = false
 abbrev pub names : ℕ → Op → Bool
 names number operation = elim (member_of operation) as (λ _. Bool) [ None ↦ false | Some other ↦ other == number ]
 
--- what its types keep
+-- the rules that its types keep
 abbrev pub IsOperation : Op → Type 0
 IsOperation (Add entry) = IsEntry entry
 IsOperation (Change entry) = IsEntry entry
 IsOperation (Remove removal) = IsRemoval removal
 
--- what the type of its entry keeps, where it has one
+-- the rules that the type of its entry keeps, where it has one
 abbrev pub KeepsEntry : Op → Type 0
 KeepsEntry (Add entry) = IsEntry entry
 KeepsEntry (Change entry) = IsEntry entry

@@ -1,5 +1,5 @@
--- What a list of documents, newest first, shows of the members: the newest document that has an item of a member
--- decides. RFC 5005's rule for duplicate entries goes by `atom:updated`; here the order of the documents decides.
+-- The members that a list of documents, newest first, shows: the newest document that has an item of a member decides.
+-- RFC 5005's rule for duplicate entries goes by `atom:updated`; here the order of the documents decides.
 use Rattle.std.specs.Prelude.{◌≡◌, ◌==◌, ℕ, List, ◌∷◌, ◌++◌, Option, Some, None, max, fold, All, Any, Contains}
 use Rattle.std.specs.List.{find, flat_map}
 use Rattle.atom_values.specs.Entry.{EntryValue}

@@ -1,4 +1,6 @@
-ghost use Rattle.member_rules.specs.Laws.{LawOfCuts, WindowsAreACut, LawOfTheChain, ArchivesStay, ServedStays, ServedAreDocuments, PrefixesAreLawful, WindowsSealInTurn, LiveMembersAreMade, VersionsSetTheEntry, LiveOfIsShown};
+ghost use Rattle.member_rules.specs.Laws.{LawOfCuts, WindowsAreACut, LawOfTheChain, ArchivesStay, ServedStays};
+ghost use Rattle.member_rules.specs.Laws.{ServedAreDocuments, PrefixesAreLawful, WindowsSealInTurn};
+ghost use Rattle.member_rules.specs.Laws.{LiveMembersAreMade, VersionsSetTheEntry, LiveOfIsShown};
 
 // The functions of this file do nothing. Each exists for its contract, which is a law over the definitions of specs/.
 

@@ -10,8 +10,13 @@ use atom_values::{NoMemory, Stamp};
 use std::alloc::Global;
 use std::marker::Model;
 
-/// The table of all members after a list of operations, which is changed in place. Members are numbered from 1, in the
-/// order in which they were made.
+/// The most operations of a history.
+pub const HISTORY_LIMIT: u32 = 4_294_967_294;
+
+/// The table of all members after a list of operations, and the moment of the last one. It is changed in place.
+/// Members are numbered from 1, in the order in which they were made.
+///
+/// The table keeps no operations. So its contracts speak of each history that it is the table of.
 #[derive(Debug, Drop)]
 pub struct Members {
     states: Vec<State>,
@@ -38,7 +43,7 @@ impl Model for Members {
 }
 
 impl Members {
-    /// The table of no operation, in a feed that was made at this moment.
+    /// The table of the empty history of a feed that was made at this moment. It takes no memory.
     pub fn new(alloc: Global, created: Stamp) -> Members
         ensures table { IsTableOf result created [] }
         ensures empty { result.operations ≡ 0 }
@@ -51,7 +56,7 @@ impl Members {
         }
     }
 
-    /// What the member of this number is.
+    /// The state of the member with this number.
     pub fn state(&self, number: u32) -> State
         ensures state { (created : ℤ) (history : List Op) → IsTableOf self.now created history
             → result ≡ state_of history number }
@@ -66,7 +71,7 @@ impl Members {
         }
     }
 
-    /// The moment of the last operation, or when the feed was made.
+    /// The moment of the last operation, or the one when the feed was made if there is none.
     pub fn last_moment(&self) -> Stamp
         ensures last { (created : ℤ) (history : List Op) → IsTableOf self.now created history
             → result ≡ last_moment created history }
@@ -75,7 +80,7 @@ impl Members {
         self.last
     }
 
-    /// How many members were ever made.
+    /// How many members were made, those that are deleted included.
     pub fn count(&self) -> u32
         ensures made { (created : ℤ) (history : List Op) → IsTableOf self.now created history
             → result ≡ made history }
@@ -92,9 +97,10 @@ impl Members {
         self.live
     }
 
-    /// Whether the operation may follow those that the table is of: it is later than all of them, a new member has the
-    /// next number, a changed or removed one is live, and neither `updated` nor a tombstone goes back. `commit` asks for
-    /// this.
+    /// Whether the operation may follow the history, which `commit` requires. It may where it is later than the last
+    /// operation and its member is as it has to be: a new member has the next number, a changed one is live and its
+    /// `updated` doesn't go back, and a removed one is live and its tombstone has the later of the moment and its
+    /// `updated`.
     pub fn may_follow(&self, operation: &Op) -> bool
         ensures exact { (created : ℤ) (history : List Op) → IsTableOf self.now created history
             → (IsTrue result ↔ MayFollow created history operation.now) }
@@ -104,7 +110,7 @@ impl Members {
         operation.moment() > self.last && self.fits(operation)
     }
 
-    /// Whether the operation's member is as the operation needs it.
+    /// Whether the operation's member is as it has to be. Moments are left to `may_follow`.
     fn fits(&self, operation: &Op) -> bool
         ensures { (created : ℤ) (history : List Op) → IsTableOf self.now created history
             → (IsTrue result ↔ Fits history operation.now) }
@@ -123,7 +129,7 @@ impl Members {
         }
     }
 
-    /// Makes room for one more operation.
+    /// Makes room for one more operation. It answers `NoMemory` where memory ran out, and then nothing changed.
     pub fn prepare(&mut self) -> Result<(), NoMemory>
         ensures room { OnOk result (1 ≤ self.new.spare) }
         ensures same { self.new ≡ record self.old { spare = self.new.spare } }
@@ -132,8 +138,8 @@ impl Members {
         Ok(())
     }
 
-    /// Takes one more operation, in the room that `prepare` made. It takes no memory, and the same time however many
-    /// members there are.
+    /// Adds an operation to the table, in the room that `prepare` made. It takes no memory, and the same time however
+    /// many members there are.
     pub fn commit(&mut self, operation: &Op)
         requires room { 1 ≤ self.old.spare }
         requires few { self.old.operations < history_limit }
