@@ -4,10 +4,10 @@ use Rattle.std.proofs.lemmas.Bool.{false≢true}
 use Rattle.std.proofs.lemmas.List.{append_cancel_left, append_cancel_right}
 use Rattle.std.proofs.lemmas.Option.{some_pair_parts, same_Some}
 use Rattle.chain_links.specs.Base.{BaseParts, AreParts, IsPort, Spells, base_text, host_text, port_text, path_text}
-use Rattle.chain_links.proofs.Hosts.{host_only}
-use Rattle.chain_links.proofs.Numbers.{number_only}
-use Rattle.chain_links.proofs.Bases.{port_ends_host}
-use Rattle.chain_links.proofs.Splits.{same_labels, same_segments}
+use Rattle.chain_links.proofs.HostLemmas.{host_only}
+use Rattle.chain_links.proofs.NumberLemmas.{number_only}
+use Rattle.chain_links.proofs.BaseLemmas.{port_ends_host}
+use Rattle.chain_links.proofs.SplitLemmas.{same_labels, same_segments}
 
 same_ports : (m n : Option ℕ) (x y : List ℕ) → IsPort m → IsPort n → port_text m ++ 47 ∷ x ≡ port_text n ++ 47 ∷ y → (m ≡ n) × (x ≡ y)
 same_ports None None x y is_m is_n e = (refl, cc)

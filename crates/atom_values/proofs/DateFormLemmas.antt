@@ -1,11 +1,14 @@
 -- Texts of a form, in which each 0 stands for a digit.
-use Rattle.std.proofs.Common.{rules, Option, ℤ, pos, ◌-ℤ◌, IsSome, IfSome, ◌↔◌, codes, Bool, refl, cond, ◌&&◌, nat_le, Some, None, ◌+◌, ◌≡◌, ◌≢◌, inl, inr, ℕ, ◌-◌, ◌<◌, ◌≤◌, true, false, List, map, length, get_or, sym, ap, ◌∙◌, arith}
+use Rattle.std.proofs.Common.{rules, ◌*◌, ◌/◌, ◌%◌, Option, ℤ, pos, ◌-ℤ◌, IsSome, IfSome, ◌↔◌, codes, Bool, refl, cond, ◌&&◌, nat_le, Some, None, ◌+◌, ◌≡◌, ◌≢◌, inl, inr, ℕ, ◌-◌, ◌<◌, ◌≤◌, true, false, List, map, length, get_or, sym, ap, ◌∙◌, arith}
 use Rattle.std.proofs.lemmas.Int.{ints}
 use Rattle.std.proofs.lemmas.Bool.{false_from_ne_true, cases_lt}
 use Rattle.std.proofs.lemmas.Bool.Decides.{nat_tests}
 use Rattle.std.proofs.lemmas.List.{length-map, get_or_past, get_or-map, get_or_default, same_lists}
 use Rattle.std.proofs.lemmas.Slice.Eq.{bytes_eq-Decides}
-use Rattle.atom_values.specs.Stamp.{IsStamp, stamp_at, is_date_time, date_time_millis, is_fraction, fraction_millis, is_offset, offset_millis, value_of_parts, shape_of, has_form, digit_at, year_in, month_in, day_in}
+use Rattle.atom_values.specs.DateFormula.{stamp_at, is_date_time, date_time_millis, is_fraction, fraction_millis, is_offset, offset_millis, value_of_parts, shape_of, has_form, year_in, month_in, day_in}
+use Rattle.atom_values.specs.DateText.{digit_at}
+use Rattle.atom_values.specs.Stamp.{IsStamp}
+use Rattle.atom_values.specs.Calendar.{days_in_month}
 
 pub has_form_all : (text form : List ℕ) → length text ≡ length form → ((k : ℕ) → k < length text → shape_of (get_or text k 0) ≡ get_or form k 0) → true ≡ has_form text form
 has_form_all text form same each =
@@ -80,3 +83,28 @@ refused_rest false b c value h = refl
 pub refused_first : (a b c : Bool) (millis : ℕ) (value : Option ℤ) → None ≡ cond a (Some millis) None → None ≡ cond (a && b && c) value None
 refused_first true b c millis value h = cc
 refused_first false b c millis value h = refl
+
+pub le_tested : (m n : ℕ) → nat_le m n ≡ true → m ≤ n
+le_tested m n h = grind (arith, nat_tests)
+
+pub le_test : (m n : ℕ) → m ≤ n → nat_le m n ≡ true
+le_test m n h = grind (arith, nat_tests)
+
+pub digit_shape : (n : ℕ) → shape_of (48 + n % 10) ≡ 48
+digit_shape n = grind (arith, nat_tests)
+
+-- a number of two or four digits is read back
+pub two_back : (n : ℕ) → n < 100 → 10 * (48 + n / 10 % 10 - 48) + (48 + n % 10 - 48) ≡ n
+two_back n h = omega arith
+
+pub four_back : (n : ℕ) → n < 10_000 →
+    100 * (10 * (48 + n / 10 / 10 / 10 % 10 - 48) + (48 + n / 10 / 10 % 10 - 48))
+    + (10 * (48 + n / 10 % 10 - 48) + (48 + n % 10 - 48)) ≡ n
+four_back n h = omega arith
+
+pub days_short : (y m : ℕ) → days_in_month y m ≤ 31
+days_short y m = grind (arith, nat_tests)
+
+pub all_five : (a b c d e : Bool) → a ≡ true → b ≡ true → c ≡ true → d ≡ true → e ≡ true →
+    (a && b && c && d && e) ≡ true
+all_five a b c d e f g h i j = rw (f, g, h, i, j) refl

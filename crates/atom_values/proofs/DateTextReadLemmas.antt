@@ -6,12 +6,14 @@ use Rattle.std.proofs.lemmas.Int.{ints}
 use Rattle.std.proofs.lemmas.Bool.Decides.{nat_tests}
 use Rattle.std.proofs.lemmas.List.{take-append-drop}
 use Rattle.std.proofs.lemmas.Slice.Eq.{bytes_eq-Decides}
-use Rattle.atom_values.specs.Stamp.{IsStamp, is_date, days_in_month, fixed_digits, shape_of, has_form, is_date_time, is_fraction, is_offset, offset_length, year_in, month_in, day_in, hour_in, minute_in, second_in, stamp_at, value_of_parts, value_of, two_digits}
+use Rattle.atom_values.specs.Calendar.{days_in_month}
+use Rattle.atom_values.specs.DateFormula.{is_date, shape_of, has_form, is_date_time, is_fraction, is_offset, offset_length, year_in, month_in, day_in, hour_in, minute_in, second_in, stamp_at, value_of_parts, value_of, two_digits}
+use Rattle.atom_values.specs.Stamp.{IsStamp, fixed_digits}
 use Rattle.atom_values.specs.DateText.{Offset, utc, ahead, behind, offset_text, IsOffset, Parts, fraction_part, text_of, IsParts, moment_of, States}
-use Rattle.atom_values.proofs.StampDates.{is_date_parts}
-use Rattle.atom_values.proofs.StampLaw.{two_back, four_back, le_tested}
-use Rattle.atom_values.proofs.DateTexts.{value_of-text_of}
-use Rattle.atom_values.proofs.StampForms.{stamp_at_some}
+use Rattle.atom_values.proofs.CalendarLemmas.{is_date_parts}
+use Rattle.atom_values.proofs.DateFormLemmas.{two_back, four_back, le_tested}
+use Rattle.atom_values.proofs.DateTextLemmas.{value_of-text_of}
+use Rattle.atom_values.proofs.DateFormLemmas.{stamp_at_some}
 
 -- two digits at the front of a text
 record Two (text form : List ℕ) : Type 0 where

@@ -3,8 +3,8 @@ use Rattle.std.proofs.Common.{◌≡◌, ℕ, List, [], ◌∷◌, ◌++◌, tru
 use Rattle.std.proofs.lemmas.Bool.{cases_Bool, cond-false, true≢false}
 use Rattle.std.proofs.lemmas.List.Elements.{All-head, All-tail}
 use Rattle.chain_links.specs.Base.{is_label_char, is_segment_char, IsWord, AreLabels, AreSegments, host_text}
-use Rattle.chain_links.proofs.Hosts.{host_text-cons}
-use Rattle.chain_links.proofs.Paths.{segments_text}
+use Rattle.chain_links.proofs.HostLemmas.{host_text-cons}
+use Rattle.chain_links.proofs.PathLemmas.{segments_text}
 
 -- the first piece with one more character at its front
 abbrev widened : ℕ → List (List ℕ) → List (List ℕ)

@@ -5,10 +5,12 @@ use Rattle.std.specs.List.{list_all}
 use Rattle.std.proofs.lemmas.Bool.Decides.{nat_tests}
 use Rattle.std.proofs.lemmas.List.{get_or-append_right, take_at, drop_at}
 use Rattle.std.proofs.lemmas.Slice.Eq.{bytes_eq-Decides}
-use Rattle.atom_values.specs.Stamp.{is_date, days_in_month, shape_of, has_form, is_date_time, date_time_millis, is_fraction, fraction_millis, is_offset, offset_length, offset_millis, year_in, month_in, day_in, hour_in, minute_in, second_in, stamp_at, value_of_parts, value_of, two_digits, digit_at}
+use Rattle.atom_values.specs.Calendar.{days_in_month}
+use Rattle.atom_values.specs.DateFormula.{is_date, shape_of, has_form, is_date_time, date_time_millis, is_fraction, fraction_millis, is_offset, offset_length, offset_millis, year_in, month_in, day_in, hour_in, minute_in, second_in, stamp_at, value_of_parts, value_of, two_digits}
+use Rattle.atom_values.specs.DateText.{digit_at}
 use Rattle.atom_values.specs.DateText.{Offset, utc, ahead, behind, offset_text, offset_size, IsOffset, Parts, fraction_part, date_time_text, text_of, IsParts, moment_of}
-use Rattle.atom_values.proofs.StampDates.{is_date_parts}
-use Rattle.atom_values.proofs.StampLaw.{two_back, four_back, digit_shape, le_test, all_five, days_short}
+use Rattle.atom_values.proofs.CalendarLemmas.{is_date_parts}
+use Rattle.atom_values.proofs.DateFormLemmas.{two_back, four_back, digit_shape, le_test, all_five, days_short}
 
 length-date_time : (p : Parts) → length (date_time_text p) ≡ 19
 length-date_time p = refl

@@ -5,7 +5,7 @@ use Rattle.std.proofs.lemmas.Bool.{eqb-true, ne_eqb, and_parts, cond-false}
 use Rattle.std.proofs.lemmas.List.{append_assoc, append-nil, append_cancel_left, length-append, get_or_append_left}
 use Rattle.atom_values.specs.Escape.{escaped_byte, escaped, IsNotWritten, IsReadBack}
 use Rattle.atom_values.specs.XmlText.{IsAtomText}
-use Rattle.atom_values.proofs.Escapes.{length-escaped_byte, escaped-nil, escaped-cons, escaped-append, escaped_one}
+use Rattle.atom_values.proofs.EscapeLemmas.{length-escaped_byte, escaped-nil, escaped-cons, escaped-append, escaped_one}
 
 -- the byte that written bytes begin with, by what tells the references apart
 abbrev first_byte : List ℕ → ℕ

@@ -5,11 +5,11 @@ use Rattle.std.specs.List.{list_all}
 use Rattle.std.specs.Str.{IsUtf8, is_utf8, chars, encode_utf8_all, IsCharBoundary, NoCharPasses, NonePass}
 use Rattle.std.specs.Str.Lossy.{utf8_valid_len, valid_len_up_to}
 use Rattle.std.specs.Str.Pattern.{FindsBy}
-use Rattle.std.proofs.lemmas.Bool.{both_ways, cases_lt, cases_Bool, cond_both, cond-true, cond-false, and_parts, and_from, and_left, not-true, not-false, false_from_ne_true}
+use Rattle.std.proofs.lemmas.Bool.{both_ways, cases_lt, cases_Bool, cond-true, cond-false, and_parts, and_from, and_left, not-true, not-false, false_from_ne_true}
 use Rattle.std.proofs.lemmas.List.{append-nil, append_assoc, take-append-drop, take-append-le, take-take, take_all, take_at, drop-append-le, length-take-le, length-drop, length-append, nil_from_length}
 use Rattle.std.proofs.lemmas.List.Folds.{list_all-append}
 use Rattle.std.proofs.lemmas.Str.{IsUtf8-nil, IsUtf8-from_is_utf8, is_utf8-from_IsUtf8, IsUtf8-take, IsUtf8-drop, IsCharBoundary-from_take, chars-append, chars_from_encodes, encode_same, len_utf8_bounds}
-use Rattle.atom_values.specs.XmlText.{is_xml_char, is_xml_text, IsXmlText, xml_len_up_to, xml_text_len, IsAtomText}
+use Rattle.atom_values.specs.XmlText.{is_xml_char, is_xml_text, IsXmlText, IsLongestXmlPrefix}
 
 -- the two parts of the test
 is_xml_text-parts : (bs : List ℕ) → is_xml_text bs ≡ true → IsUtf8 bs × (list_all is_xml_char (chars bs) ≡ true)
@@ -30,22 +30,14 @@ is_xml_text-clean bs u h =
     let P : List ℕ → Type 0 = λ cs. list_all is_xml_char cs ≡ true in
     is_xml_text-from bs u (subst P (chars_from_encodes h.0 bs u h.1) (none_refused h.0 h.2))
 
--- going down from m, the search stops at n
-xml_len_up_to-longest : (bytes : List ℕ) (n m : ℕ) → is_xml_text (take n bytes) ≡ true → ((k : ℕ) → n < k → k ≤ m → is_xml_text (take k bytes) ≡ false) → n ≤ m → xml_len_up_to bytes m ≡ n
-xml_len_up_to-longest bytes n zero front longer within = omega arith
-xml_len_up_to-longest bytes n (suc m) front longer within =
-    let P : ℕ → Type 0 = λ k. k ≡ n in
-    let F : ℕ → Type 0 = λ k. is_xml_text (take k bytes) ≡ true in
-    cond_both (is_xml_text (take (suc m) bytes)) (suc m) (xml_len_up_to bytes m) P
-    (λ t. ⊎_elim (λ below. absurd (both_ways _ (longer (suc m) below (omega arith)) t)) (λ above. omega arith) (cases_lt n (suc m)))
-    (λ f. ⊎_elim
-    (λ past. let same : n ≡ suc m = omega arith in absurd (both_ways _ f (subst F same front)))
-    (λ low. xml_len_up_to-longest bytes n m front (λ k p q. longer k p (omega arith)) low)
-    (cases_lt m n))
-
-xml_text_len-longest : (bytes : List ℕ) (n : ℕ) → is_xml_text (take n bytes) ≡ true → ((k : ℕ) → n < k → k ≤ length bytes → is_xml_text (take k bytes) ≡ false) → n ≤ length bytes → xml_text_len bytes ≡ n
-unfolding xml_text_len
-xml_text_len-longest bytes n front longer within = xml_len_up_to-longest bytes n (length bytes) front longer within
+-- the prefix of n bytes is a text, and no longer one is
+is_longest : (bytes : List ℕ) (n : ℕ) → n < length bytes → is_xml_text (take n bytes) ≡ true →
+    ((k : ℕ) → n < k → k ≤ length bytes → is_xml_text (take k bytes) ≡ false) → IsLongestXmlPrefix bytes n
+is_longest bytes n within front longer = record {
+  before_end = within;
+  is_text = front;
+  longest = λ k above below text. both_ways _ (longer k above below) text;
+}
 
 -- characters whose bytes begin with those of a refused one
 begins_refused : (cs ys rest : List ℕ) (c : ℕ) → 0 < length (encode_utf8_all cs) → encode_utf8_all cs ++ ys ≡ encode_utf8 c ++ rest → is_xml_char c ≡ false → list_all is_xml_char cs ≡ false
@@ -92,8 +84,8 @@ unfolding is_xml_text utf8_valid_len
 broken_next bytes k above within = and_left _ _ (longer_than_valid bytes (length bytes) k above within)
 
 -- the bytes begin with a text in which the first refused character stands at n
-pub xml_text_len-refused : (bytes valid more : List ℕ) (n j : ℕ) → bytes ≡ valid ++ more → IsUtf8 valid → FindsBy (λ c. not (is_xml_char c)) valid (Some (n, j)) → IsCharBoundary valid n → (n < length bytes) × (n ≡ xml_text_len bytes)
-xml_text_len-refused bytes valid more n j parts u found cut =
+pub IsLongestXmlPrefix-refused : (bytes valid more : List ℕ) (n j : ℕ) → bytes ≡ valid ++ more → IsUtf8 valid → FindsBy (λ c. not (is_xml_char c)) valid (Some (n, j)) → IsCharBoundary valid n → IsLongestXmlPrefix bytes n
+IsLongestXmlPrefix-refused bytes valid more n j parts u found cut =
     let place = found.1 in
     let at = place.2 in
     let width = len_utf8_bounds place.0 in
@@ -105,7 +97,8 @@ xml_text_len-refused bytes valid more n j parts u found cut =
     let front = subst F (sym front_is) (is_xml_text-clean _ (IsUtf8-take valid n u cut) found.0) in
     let next : drop n bytes ≡ encode_utf8 place.0 ++ (drop j valid ++ more) =
     ap (drop n) parts ∙ drop-append-le n valid more (omega arith) ∙ ap (λ xs. xs ++ more) at.split ∙ append_assoc (encode_utf8 place.0) (drop j valid) more in
-    (omega arith, sym (xml_text_len-longest bytes n front (λ k p q. refused_next bytes (drop j valid ++ more) n k place.0 front next (not-true _ place.1) p q) (omega arith)))
+    is_longest bytes n (omega arith) front
+    (λ k p q. refused_next bytes (drop j valid ++ more) n k place.0 front next (not-true _ place.1) p q)
 
 -- the bytes are a text in which no character is refused
 pub IsXmlText-clean : (bytes valid more : List ℕ) → bytes ≡ valid ++ more → IsUtf8 valid → NoCharPasses (λ c. not (is_xml_char c)) valid → length more ≡ 0 → IsXmlText bytes
@@ -115,13 +108,13 @@ IsXmlText-clean bytes valid more parts u clean none =
     subst F same (is_xml_text-clean valid u clean)
 
 -- the bytes begin with their longest text, in which no character is refused, and go on
-pub xml_text_len-broken : (bytes valid more : List ℕ) → bytes ≡ valid ++ more → IsUtf8 valid → NoCharPasses (λ c. not (is_xml_char c)) valid → 0 < length more → length valid ≡ utf8_valid_len bytes → (length valid < length bytes) × (length valid ≡ xml_text_len bytes)
-xml_text_len-broken bytes valid more parts u clean some longest =
+pub IsLongestXmlPrefix-broken : (bytes valid more : List ℕ) → bytes ≡ valid ++ more → IsUtf8 valid → NoCharPasses (λ c. not (is_xml_char c)) valid → 0 < length more → length valid ≡ utf8_valid_len bytes → IsLongestXmlPrefix bytes (length valid)
+IsLongestXmlPrefix-broken bytes valid more parts u clean some longest =
     let total : length bytes ≡ length valid + length more = ap length parts ∙ length-append valid more in
     let front_is : take (length valid) bytes ≡ valid = ap (take (length valid)) parts ∙ take_at valid more (length valid) refl in
     let F : List ℕ → Type 0 = λ xs. is_xml_text xs ≡ true in
     let front = subst F (sym front_is) (is_xml_text-clean valid u clean) in
-    (omega arith, sym (xml_text_len-longest bytes (length valid) front (λ k p q. broken_next bytes k (omega arith) q) (omega arith)))
+    is_longest bytes (length valid) (omega arith) front (λ k p q. broken_next bytes k (omega arith) q)
 
 -- no bytes
 pub IsXmlText-nil : (bytes : List ℕ) → length bytes ≡ 0 → IsXmlText bytes
@@ -129,9 +122,8 @@ IsXmlText-nil bytes none =
     IsXmlText-clean bytes [] [] (nil_from_length bytes none) IsUtf8-nil ([], refl, tt) refl
 
 -- bytes with a refused sequence are no text
-pub IsAtomText-refused : (bytes : List ℕ) (at : ℕ) → at < length bytes → at ≡ xml_text_len bytes → IsAtomText bytes → ⊥
-IsAtomText-refused bytes at within is text =
+pub IsXmlText-refused : (bytes : List ℕ) (at : ℕ) → IsLongestXmlPrefix bytes at → IsXmlText bytes → ⊥
+IsXmlText-refused bytes at prefix text =
     let F : List ℕ → Type 0 = λ xs. is_xml_text xs ≡ true in
-    let whole = subst F (sym (take_all (length bytes) bytes (omega arith))) text.xml in
-    let long = xml_text_len-longest bytes (length bytes) whole (λ k p q. absurd (omega arith)) (omega arith) in
-    omega arith
+    let whole = subst F (sym (take_all (length bytes) bytes (omega arith))) text in
+    prefix.longest (length bytes) prefix.before_end (omega arith) whole

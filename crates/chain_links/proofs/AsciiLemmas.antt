@@ -6,8 +6,8 @@ use Rattle.std.proofs.lemmas.Str.{IsAscii-append, IsUtf8-from_ascii}
 use Rattle.std.proofs.lemmas.Str.Ascii.{IsAscii-nil, IsAscii-cons, IsAscii-from_all}
 use Rattle.std.proofs.lemmas.Fmt.{IsAscii-decimal}
 use Rattle.chain_links.specs.Base.{is_label_char, is_segment_char, IsWord, IsPort, AreSegments, IsBase, host_text, port_text, path_text}
-use Rattle.chain_links.proofs.Paths.{segments_text}
-use Rattle.chain_links.proofs.Bases.{spelling}
+use Rattle.chain_links.proofs.PathLemmas.{segments_text}
+use Rattle.chain_links.proofs.BaseLemmas.{spelling}
 
 label_ascii : (c : ℕ) → is_label_char c ≡ true → c < 128
 label_ascii c e = grind (arith, nat_tests)

@@ -3,9 +3,9 @@ use Rattle.std.proofs.Common.{◌≡◌, ◌+◌, ◌++◌, sym, ap, ◌∙◌, 
 use Rattle.std.proofs.lemmas.Bool.{false≢true}
 use Rattle.std.proofs.lemmas.Option.{none-some, same_Some}
 use Rattle.chain_links.specs.Base.{host_text, port_text}
-use Rattle.chain_links.proofs.Bases.{spelling, port_ends_host, base_from}
-use Rattle.chain_links.proofs.Placed.{spelling_of, placed_at}
-use Rattle.chain_links.proofs.base.find_places.Goals as goal
+use Rattle.chain_links.proofs.BaseLemmas.{spelling, port_ends_host, base_from}
+use Rattle.chain_links.proofs.PartOffsetLemmas.{spelling_of, part_offsets_at}
+use Rattle.chain_links.proofs.base.find_parts.Goals as goal
 
 pub returns-in_err-host-clause-none : goal.returns-in_err-host-clause-none
 returns-in_err-host-clause-none c =
@@ -38,8 +38,8 @@ pub returns-clause-base : goal.returns-clause-base
 returns-clause-base c =
     base_from c.args.text.now c.in_ok-host.host.now c.in_ok-behind.behind.now c.in_ok-number.path.now c.in_ok-number.number (omega arith) c.in_ok-host.ensures.found c.in_ok-behind.ensures.found c.in_ok-number.ensures.found (c.is_path.ensures.0 c.if-not-is_path.false)
 
-pub returns-clause-placed : goal.returns-clause-placed
-returns-clause-placed c =
+pub returns-clause-offsets : goal.returns-clause-offsets
+returns-clause-offsets c =
     let whole : length c.args.text.now ≡ 7 + length c.in_ok-host.host.now = omega (arith, ap length c.in_ok-host.ensures.found) in
     let has_host = c.in_ok-behind.ensures.found in
     let has_port = c.in_ok-number.ensures.found in
@@ -54,5 +54,5 @@ returns-clause-placed c =
           let host = same_Some _ _ (c.in_ok-host.ensures.only _ (spelling_of parts c.args.text.now spells)) in
           let behind = same_Some _ _ (c.in_ok-behind.ensures.only parts.labels _ spells.0.labels (port_ends_host parts.port parts.segments) host) in
           let path = c.in_ok-number.ensures.only parts.port _ spells.0.port behind in
-          placed_at c.args.text.now c.in_ok-host.host.now c.in_ok-behind.behind.now c.in_ok-number.path.now c.in_ok-number.number parts c.in_ok-host.ensures.found (host ∙ ap (λ x. host_text parts.labels ++ x) (sym behind)) (behind ∙ ap (λ x. port_text parts.port ++ x) (sym path.1)) path.1 path.0;
+          part_offsets_at c.args.text.now c.in_ok-host.host.now c.in_ok-behind.behind.now c.in_ok-number.path.now c.in_ok-number.number parts c.in_ok-host.ensures.found (host ∙ ap (λ x. host_text parts.labels ++ x) (sym behind)) (behind ∙ ap (λ x. port_text parts.port ++ x) (sym path.1)) path.1 path.0;
     }

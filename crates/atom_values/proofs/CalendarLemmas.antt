@@ -11,7 +11,8 @@ use Rattle.jiff_core.proofs.SignedLemmas.{signed_arith}
 use Rattle.jiff_core.proofs.MarchLemmas.{leap_day, leap_day-shift, days_of_years-suc, days_of_years-march_days, days_in_year-leap_day}
 use Rattle.jiff_core.proofs.CalendarLemmas.{days_of_months-zero, days_of_months_more, days_of_months_all, days_of_months_mono, day_of_year_bound, day_of_year_before, days_from_civil-day_count, day_count-lt_year}
 use Rattle.jiff_core.proofs.DateLemmas.{civil}
-use Rattle.atom_values.specs.Stamp.{days_before_year, days_before_month, is_date, days_in_month, day_number, year_of, month_of, day_of}
+use Rattle.atom_values.specs.Calendar.{days_before_year, days_before_month, days_in_month, day_number, year_of, month_of, day_of}
+use Rattle.atom_values.specs.DateFormula.{is_date}
 
 days_before_year-suc : (y : ℕ) → days_before_year (suc y) ≡ days_before_year y + 365 + leap_day (pos y)
 unfolding days_before_year
