@@ -18,12 +18,12 @@ use Rattle.atom_values.specs.Person.{IsPerson}
 use Rattle.atom_values.specs.Stamp as stamp
 use Rattle.atom_values.specs.Stamp.{date_text, clock_text, fraction_text, fixed_digits, since_year_zero}
 use Rattle.atom_values.specs.XmlText.{IsAtomText}
-use Rattle.atom_values.proofs.Escapes.{length-escaped_byte}
+use Rattle.atom_values.proofs.EscapeLemmas.{length-escaped_byte}
 use Rattle.chain_links.specs.Base.{IsBase}
-use Rattle.chain_links.proofs.Addresses.{base_short}
+use Rattle.chain_links.proofs.AddressLemmas.{base_short}
 use Rattle.chain_links.specs.declared.place.Span.{Span}
 use Rattle.chain_links.specs.Address as address
-use Rattle.chain_links.specs.Address.{IsAddress, place_text}
+use Rattle.chain_links.specs.Address.{IsAddress, suffix_text}
 use Rattle.chain_links.specs.declared.address.Address.{Address}
 use Rattle.chain_links.specs.declared.address.Address.TheVariants.{Feed, Archive, Member}
 use Rattle.deleted_entries.specs.FeedId.{member_id}

@@ -1,6 +1,6 @@
 ghost use Rattle.std.specs.Prelude.{◌≡◌, ◌<◌, ◌≤◌, ◌^◌, ◌++◌, OnOk, OnErr, IfSome};
 ghost use Rattle.atom_values.specs.Category.{IsCategory};
-ghost use Rattle.atom_values.specs.Entry.{IsEntry, IsText, IsWhole};
+ghost use Rattle.atom_values.specs.Entry.{IsEntry, IsText, IsWhole, person_limit, link_limit, category_limit};
 ghost use Rattle.atom_values.specs.Link.{IsLink};
 ghost use Rattle.atom_values.specs.Listed.{IsListOf};
 ghost use Rattle.atom_values.specs.Person.{IsPerson};
@@ -78,9 +78,9 @@ pub fn push_back<W: Out>(out: &mut W, name: &FeedName, entry: &Entry) -> Result<
     ensures failed { OnErr result W.can_fail }
     ensures base { OnOk result ∥ IsBase name.now.base ∥₁ }
 
-    ensures contributors { OnOk result (IsListOf 16 IsPerson entry.now.contributors) }
-    ensures links { OnOk result (IsListOf 32 IsLink entry.now.links) }
-    ensures categories { OnOk result (IsListOf 64 IsCategory entry.now.categories) }
+    ensures contributors { OnOk result (IsListOf person_limit IsPerson entry.now.contributors) }
+    ensures links { OnOk result (IsListOf link_limit IsLink entry.now.links) }
+    ensures categories { OnOk result (IsListOf category_limit IsCategory entry.now.categories) }
     ensures rights { OnOk result (IfSome entry.now.rights IsText) }
     ensures summary { OnOk result (IfSome entry.now.summary IsText) }
     ensures content { OnOk result (IfSome entry.now.content IsText) }

@@ -67,8 +67,6 @@ impl Out for Vec<u8> {
     }
 
     fn push_escaped(&mut self, text: &AtomText, quoted: bool) -> Result<(), NoMemory> {
-        // `bytes` states the text's rules.
-        let _rules = text.bytes();
         escape_into(self, text, quoted)
     }
 
@@ -102,8 +100,6 @@ impl Out for Count {
     }
 
     fn push_escaped(&mut self, text: &AtomText, quoted: bool) -> Result<(), NoMemory> {
-        // `bytes` states the text's rules.
-        let _rules = text.bytes();
         self.bytes = self.bytes.saturating_add(escaped_len(text, quoted) as u64);
         Ok(())
     }
