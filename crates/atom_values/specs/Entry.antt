@@ -1,5 +1,5 @@
 -- What contracts see of entries (RFC 4287 section 4.1.2) and drafts, and what makes an entry of a draft.
-use Rattle.std.specs.Prelude.{◌≡◌, ℕ, ◌<◌, ◌≤◌, ◌^◌, Option, Some, List, [], ℤ, ◌||◌, false, IsTrue, IfSome, is_some, unwrap_or, int_lt, if◌then◌else◌}
+use Rattle.std.specs.Prelude.{◌≡◌, ℕ, ◌<◌, ◌≤◌, ◌^◌, Option, Some, None, List, [], ℤ, ◌||◌, false, IsTrue, IfSome, is_some, unwrap_or, int_lt, if◌then◌else◌}
 use Rattle.atom_values.specs.declared.text.Text.{Text}
 use Rattle.atom_values.specs.declared.text.TextKind.TheVariants.{Plain}
 use Rattle.atom_values.specs.declared.person.Person.{Person}
@@ -11,6 +11,16 @@ use Rattle.atom_values.specs.Listed.{IsListOf}
 use Rattle.atom_values.specs.Person.{IsPerson}
 use Rattle.atom_values.specs.Stamp.{IsStamp}
 use Rattle.atom_values.specs.XmlText.{IsAtomText}
+
+-- the greatest number of authors, and of contributors
+abbrev pub person_limit : ℕ
+person_limit = 16
+
+abbrev pub link_limit : ℕ
+link_limit = 32
+
+abbrev pub category_limit : ℕ
+category_limit = 64
 
 -- what a client sends for an entry
 pub record DraftValue : Type 0 where
@@ -59,10 +69,10 @@ pub record IsEntry (e : EntryValue) : Type 0 where
   pub title : IsText e.title
   pub updated : IsStamp e.updated
   pub published : IfSome e.published IsStamp
-  pub authors : IsListOf 16 IsPerson e.authors
-  pub contributors : IsListOf 16 IsPerson e.contributors
-  pub links : IsListOf 32 IsLink e.links
-  pub categories : IsListOf 64 IsCategory e.categories
+  pub authors : IsListOf person_limit IsPerson e.authors
+  pub contributors : IsListOf person_limit IsPerson e.contributors
+  pub links : IsListOf link_limit IsLink e.links
+  pub categories : IsListOf category_limit IsCategory e.categories
   pub rights : IfSome e.rights IsText
   pub summary : IfSome e.summary IsText
   pub content : IfSome e.content IsText
@@ -73,13 +83,29 @@ pub record IsDraft (d : DraftValue) : Type 0 where
   pub title : IsText d.title
   pub updated : IfSome d.updated IsStamp
   pub published : IfSome d.published IsStamp
-  pub authors : IsListOf 16 IsPerson d.authors
-  pub contributors : IsListOf 16 IsPerson d.contributors
-  pub links : IsListOf 32 IsLink d.links
-  pub categories : IsListOf 64 IsCategory d.categories
+  pub authors : IsListOf person_limit IsPerson d.authors
+  pub contributors : IsListOf person_limit IsPerson d.contributors
+  pub links : IsListOf link_limit IsLink d.links
+  pub categories : IsListOf category_limit IsCategory d.categories
   pub rights : IfSome d.rights IsText
   pub summary : IfSome d.summary IsText
   pub content : IfSome d.content IsText
+
+-- a draft with this plain title and nothing else
+abbrev pub titled : List ℕ → DraftValue
+titled title = record {
+  id = None;
+  title = record { kind = Plain; value = title };
+  updated = None;
+  published = None;
+  authors = [];
+  contributors = [];
+  links = [];
+  categories = [];
+  rights = None;
+  summary = None;
+  content = None;
+}
 
 -- the empty plain text
 abbrev pub empty_text : Text

@@ -1,10 +1,14 @@
+pub mod Ascii
+pub mod Calendar
 pub mod Category
 pub mod Counts
+pub mod DateFormula
 pub mod DateText
 pub mod Entry
 pub mod Escape
 pub mod Link
 pub mod Listed
+pub mod ListedCalls
 pub mod Person
 pub mod Stamp
 pub mod XmlText

@@ -4,7 +4,7 @@ use crate::text::AtomText;
 use std::alloc::Global;
 
 /// A category of an entry (RFC 4287 section 4.2.2).
-#[derive(Debug, Drop)]
+#[derive(Debug, Drop, PartialEq, Eq)]
 pub struct Category {
     pub term: AtomText,
     pub scheme: Option<AtomText>,

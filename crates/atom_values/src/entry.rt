@@ -13,6 +13,15 @@ use crate::text::{AtomText, Text, TextKind};
 use std::alloc::Global;
 use std::marker::Model;
 
+/// The greatest number of an entry's authors, and of its contributors.
+pub const MAX_PERSONS: u32 = 16;
+
+/// The greatest number of an entry's links.
+pub const MAX_LINKS: u32 = 32;
+
+/// The greatest number of an entry's categories.
+pub const MAX_CATEGORIES: u32 = 64;
+
 /// What a client sends for an entry, without what the server sets (RFC 5023 section 9).
 #[derive(Debug, Drop)]
 pub struct Draft {
@@ -20,10 +29,10 @@ pub struct Draft {
     pub title: Text,
     pub updated: Option<Stamp>,
     pub published: Option<Stamp>,
-    pub authors: Many<Person, 16>,
-    pub contributors: Many<Person, 16>,
-    pub links: Many<Link, 32>,
-    pub categories: Many<Category, 64>,
+    pub authors: Many<Person, MAX_PERSONS>,
+    pub contributors: Many<Person, MAX_PERSONS>,
+    pub links: Many<Link, MAX_LINKS>,
+    pub categories: Many<Category, MAX_CATEGORIES>,
     pub rights: Option<Text>,
     pub summary: Option<Text>,
     pub content: Option<Text>,
@@ -58,10 +67,10 @@ pub struct Entry {
     pub title: Text,
     pub updated: Stamp,
     pub published: Option<Stamp>,
-    pub authors: Many<Person, 16>,
-    pub contributors: Many<Person, 16>,
-    pub links: Many<Link, 32>,
-    pub categories: Many<Category, 64>,
+    pub authors: Many<Person, MAX_PERSONS>,
+    pub contributors: Many<Person, MAX_PERSONS>,
+    pub links: Many<Link, MAX_LINKS>,
+    pub categories: Many<Category, MAX_CATEGORIES>,
     pub rights: Option<Text>,
     pub summary: Option<Text>,
     pub content: Option<Text>,
@@ -91,7 +100,7 @@ impl Model for Entry {
 }
 
 /// Drops the links that say where the entry is edited.
-fn drop_edit(links: &mut Many<Link, 32>)
+fn drop_edit(links: &mut Many<Link, MAX_LINKS>)
     ensures { links.new.items ≡ without_edit links.old.items }
 {
     links.retain(|link| !link.has_relation(b"edit"));
@@ -120,7 +129,29 @@ fn shown(content: Option<Text>, links: &[Link], alloc: Global) -> Option<Text>
 
 impl Draft {
     ghost use Rattle.std.specs.Prelude.{◌≤◌};
-    ghost use Rattle.atom_values.specs.Entry.{normal};
+    ghost use Rattle.atom_values.specs.Entry.{normal, titled};
+
+    /// A draft with this plain title and nothing else. Takes no memory.
+    pub fn titled(alloc: Global, title: AtomText) -> Draft
+        ensures { result ≡ titled title }
+    {
+        Draft {
+            id: None,
+            title: Text {
+                kind: TextKind::Plain,
+                value: title,
+            },
+            updated: None,
+            published: None,
+            authors: Many::new(alloc),
+            contributors: Many::new(alloc),
+            links: Many::new(alloc),
+            categories: Many::new(alloc),
+            rights: None,
+            summary: None,
+            content: None,
+        }
+    }
 
     /// The entry that the server makes of the draft for member `number` at this moment. `stored` is the
     /// stored entry's `updated`, where one is replaced. Takes no memory.
@@ -257,7 +288,7 @@ mod tests {
 
     #[test]
     fn refuses_the_33rd_link(rt: HostRuntime) -> Result<(), Fail> {
-        let mut links: Many<Link, 32> = Many::new(rt.alloc());
+        let mut links: Many<Link, MAX_LINKS> = Many::new(rt.alloc());
         for _ in 0..32 {
             links.push(link(rt.alloc(), b"via")?)?;
         }

@@ -8,7 +8,7 @@ use std::alloc::Global;
 
 /// A link of an entry (RFC 4287 section 4.2.7). An absent `rel` is the text `alternate`, and `media` is the
 /// attribute `type`.
-#[derive(Debug, Drop)]
+#[derive(Debug, Drop, PartialEq, Eq)]
 pub struct Link {
     pub href: AtomText,
     pub rel: AtomText,

@@ -1,10 +1,14 @@
 ghost use Rattle.std.specs.Prelude.{◌≡◌, ℕ, ◌+◌, ◌-◌, ◌<◌, ◌≤◌, ◌↔◌, [], ◌∷◌, ◌++◌, length, ◌⊎◌, IfErr, OnOk, OnErr, slice_get, option_copied, vec_len, vec_capacity};
+ghost use Rattle.std.specs.Cmp.{on_per};
+ghost use Rattle.std.specs.Cmp.Lexicographic.{lists_per, pointwise};
 ghost use Rattle.std.specs.Fn.{CalledAt};
 ghost use Rattle.std.specs.List.Retain.{IsFiltered};
 
 use crate::copies::Copies;
 use crate::memory::NoMemory;
 use std::alloc::Global;
+use std::error::Error;
+use std::fmt;
 use std::marker::Model;
 
 /// A list of at most `MAX` items.
@@ -27,11 +31,22 @@ impl<T, const MAX: u32> Model for Many<T, MAX> {
 /// Why an item was not added to a list.
 #[derive(Clone, Copy, Debug, PartialEq, Eq)]
 pub enum ListFault {
-    /// The list has as many items as it may have, which is `count`.
+    /// The list already has its greatest number of items, which is `count`.
     TooMany { count: usize },
-    /// Memory ran out.
+    /// The item needed memory, and none was left.
     NoMemory,
 }
+
+impl fmt::Display for ListFault {
+    fn fmt<W: fmt::Write>(&self, f: &mut fmt::Formatter<W>) -> fmt::Result {
+        match self {
+            ListFault::TooMany { count } => write!(f, "the list is full with {count} items"),
+            ListFault::NoMemory => write!(f, "out of memory"),
+        }
+    }
+}
+
+impl Error for ListFault {}
 
 impl<T, const MAX: u32> Many<T, MAX> {
     /// The empty list, without memory of its own.
@@ -93,14 +108,16 @@ impl<T: Drop, const MAX: u32> Many<T, MAX> {
     pub fn reserve(&mut self, more: usize) -> Result<(), NoMemory>
         ensures items { self.new.items ≡ self.old.items }
         ensures ok { OnOk result (more ≤ self.new.spare) }
-        ensures kept { self.old.spare ≤ self.new.spare }
+        ensures spare { self.old.spare ≤ self.new.spare }
     {
         self.items.reserve(more)?;
         Ok(())
     }
 
-    /// Keeps the items that pass the test, in their order. Takes no memory.
-    pub fn retain<F: FnMut(&T) -> bool>(&mut self, keep: F)
+    /// Removes the items that fail the test and leaves the others in order. Takes no memory.
+    ///
+    /// Private to the crate, since its contract says nothing of the spare room.
+    pub(crate) fn retain<F: FnMut(&T) -> bool>(&mut self, keep: F)
         requires { F.IsAlwaysCallable keep }
         ensures { IsFiltered (CalledAt F.FnMut) keep self.old.items self.new.items }
     {
@@ -108,10 +125,20 @@ impl<T: Drop, const MAX: u32> Many<T, MAX> {
     }
 }
 
+impl<T: PartialEq, const MAX: u32> PartialEq for Many<T, MAX> {
+    ghost eq = { λ one other. pointwise T.eq one.items other.items };
+
+    ghost laws = { on_per (λ many. many.items) (lists_per T.laws) };
+
+    fn eq(&self, other: &Many<T, MAX>) -> bool {
+        self.as_slice() == other.as_slice()
+    }
+}
+
 impl<T: Copies + Drop, const MAX: u32> Copies for Many<T, MAX> {
     ghost use Rattle.std.specs.Prelude.{map};
 
-    ghost kept = { λ many. record { items = map T.kept many.items; spare = 0 } };
+    ghost copied = { λ many. record { items = map T.copied many.items; spare = 0 } };
 
     fn copy(&self, alloc: Global) -> Result<Many<T, MAX>, NoMemory> {
         let mut items = Vec::with_capacity(alloc, self.items.len())?;

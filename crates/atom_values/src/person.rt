@@ -4,7 +4,7 @@ use crate::text::AtomText;
 use std::alloc::Global;
 
 /// A person construct (RFC 4287 section 3.2): an author or a contributor.
-#[derive(Debug, Drop)]
+#[derive(Debug, Drop, PartialEq, Eq)]
 pub struct Person {
     pub name: AtomText,
     pub uri: Option<AtomText>,

@@ -2,7 +2,10 @@ ghost use Rattle.std.specs.Prelude.{ℕ, List, ◌≡◌, ◌↔◌, ◌<◌, �
 ghost use Rattle.std.specs.Char.{is_ascii_digit};
 ghost use Rattle.std.specs.List.{list_all};
 ghost use Rattle.atom_values.specs.DateText.{States};
-ghost use Rattle.atom_values.specs.Stamp.{IsStamp, since_year_zero, year_of, month_of, day_of, date_text, clock_text, fraction_text, printed, digit_at, two_digits, shape_of, has_form, is_date, day_number, is_date_time, date_time_millis, is_fraction, fraction_millis, is_offset, offset_length, offset_millis, value_of_parts, value_of};
+ghost use Rattle.atom_values.specs.Calendar.{year_of, month_of, day_of, day_number};
+ghost use Rattle.atom_values.specs.DateFormula.{two_digits, shape_of, has_form, is_date, is_date_time, date_time_millis, is_fraction, fraction_millis, is_offset, offset_length, offset_millis, value_of_parts, value_of};
+ghost use Rattle.atom_values.specs.DateText.{digit_at};
+ghost use Rattle.atom_values.specs.Stamp.{IsStamp, since_year_zero, date_text, clock_text, fraction_text, printed};
 
 use jiff::ToSpan;
 use jiff::civil::{self, Date};
@@ -60,7 +63,7 @@ impl Stamp {
     /// read as the second before it. `None` exactly where the text is no such text, the calendar
     /// lacks the date, or the moment lies outside the years 0 to 9999 in UTC.
     pub fn parse(text: &[u8]) -> Option<Stamp>
-        ensures { result ≡ value_of text.now }
+        ensures stated { (moment : ℤ) → (result ≡ Some moment) ↔ States text.now moment }
     {
         let (date_time, rest) = text.split_at(text.len().min(19));
         let (fraction, offset) = rest.split_at(rest.len().saturating_sub(offset_length(rest)));
@@ -303,15 +306,9 @@ fn value_of_parts(date_time: &[u8], fraction: &[u8], offset: &[u8]) -> Option<St
     Stamp::new(millis + Stamp::MIN_MILLIS - offset_millis(offset))
 }
 
-/// A law: the value of every printed form is its stamp.
+/// A law: the printed form of every stamp is a date text that states it, so `Stamp::parse` reads it back.
 pub fn printed_is_read()
-    ensures { (z : ℤ) → IsStamp z → value_of (printed z) ≡ Some z }
-{}
-
-/// A law: a text has a value exactly where it is a date text of RFC 3339 section 5.6, and its parts
-/// state that value.
-pub fn values_are_stated()
-    ensures { (text : List ℕ) (z : ℤ) → (value_of text ≡ Some z) ↔ States text z }
+    ensures { (z : ℤ) → IsStamp z → States (printed z) z }
 {}
 
 #[cfg(test)]

@@ -1,6 +1,8 @@
-ghost use Rattle.std.specs.Prelude.{◌≡◌, ℕ, ◌<◌, ◌≤◌, ◌*◌, ◌++◌, [], ◌∷◌, length, OnOk, OnErr, IfOk, IfErr, MatchOption, slice_index};
-ghost use Rattle.atom_values.specs.Escape.{escaped, escaped_byte, IsNotWritten, IsReadBack};
-ghost use Rattle.atom_values.specs.XmlText.{IsXmlText, is_xml_char, xml_text_len};
+ghost use Rattle.std.specs.Prelude.{◌≡◌, ℕ, ◌<◌, ◌≤◌, ◌*◌, ◌++◌, [], ◌∷◌, length, OnOk, OnErr, IfOk, IfErr, MatchOption, slice_index, nat_eq};
+ghost use Rattle.std.specs.Cmp.{partial_equiv_from_equiv};
+ghost use Rattle.std.specs.Cmp.Lexicographic.{nat_list_eq_equiv, pointwise};
+ghost use Rattle.atom_values.specs.Escape.{escaped, escaped_byte, escaped_limit, IsNotWritten, IsReadBack};
+ghost use Rattle.atom_values.specs.XmlText.{IsAtomText, IsXmlText, IsLongestXmlPrefix, is_xml_char};
 
 use crate::copies::Copies;
 use crate::memory::NoMemory;
@@ -44,9 +46,14 @@ pub enum TextFault {
 impl fmt::Display for TextFault {
     fn fmt<W: fmt::Write>(&self, f: &mut fmt::Formatter<W>) -> fmt::Result {
         match self {
-            TextFault::TooLong { length } => write!(f, "{length} bytes are too long a text"),
-            TextFault::NotXmlChar { at } => write!(f, "no XML character at byte {at}"),
-            TextFault::NoMemory => write!(f, "no memory"),
+            TextFault::TooLong { length } => {
+                write!(
+                    f,
+                    "the text has {length} bytes, and the limit is {MAX_TEXT}"
+                )
+            }
+            TextFault::NotXmlChar { at } => write!(f, "no XML character begins at byte {at}"),
+            TextFault::NoMemory => write!(f, "out of memory"),
         }
     }
 }
@@ -76,7 +83,7 @@ fn is_xml_char(c: char) -> bool
 
 /// Where the first sequence stands that is no XML character in UTF-8, if there is one.
 fn first_fault(bytes: &[u8]) -> Option<usize>
-    ensures { MatchOption result (IsXmlText bytes.now) (λ at. (at < length bytes.now) × (at ≡ xml_text_len bytes.now)) }
+    ensures { MatchOption result (IsXmlText bytes.now) (IsLongestXmlPrefix bytes.now) }
 {
     let chunk = bytes.utf8_chunks().next()?;
     let text = chunk.valid();
@@ -88,7 +95,7 @@ fn first_fault(bytes: &[u8]) -> Option<usize>
 }
 
 impl AtomText {
-    ghost use Rattle.atom_values.specs.XmlText.{IsAtomText, IsTextFault};
+    ghost use Rattle.atom_values.specs.XmlText.{IsTextFault};
 
     /// The text with these bytes. `TooLong` comes past `MAX_TEXT` bytes, whatever they are; `NotXmlChar` where they
     /// aren't UTF-8 (RFC 3629) of XML characters, with the place of the first sequence that isn't one.
@@ -146,6 +153,20 @@ impl AtomText {
     }
 }
 
+impl PartialEq for AtomText {
+    ghost eq = { pointwise nat_eq };
+
+    ghost laws = { partial_equiv_from_equiv nat_list_eq_equiv };
+
+    fn eq(&self, other: &AtomText) -> bool {
+        self.bytes() == other.bytes()
+    }
+}
+
+impl Eq for AtomText {
+    ghost laws = { nat_list_eq_equiv };
+}
+
 impl Copies for AtomText {
     fn copy(&self, alloc: Global) -> Result<AtomText, NoMemory> {
         Ok(AtomText {
@@ -164,7 +185,7 @@ pub enum TextKind {
 }
 
 /// A text construct (RFC 4287 section 3.1).
-#[derive(Debug, Drop)]
+#[derive(Debug, Drop, PartialEq, Eq)]
 pub struct Text {
     pub kind: TextKind,
     pub value: AtomText,
@@ -201,7 +222,8 @@ fn escape_of(byte: u8, quoted: bool) -> Option<&'static str>
 pub fn escape_into(out: &mut Vec<u8>, text: &AtomText, quoted: bool) -> Result<(), NoMemory>
     ensures ok { OnOk result (out.new.items ≡ out.old.items ++ escaped quoted text.now) }
     ensures err { OnErr result (out.new.items ≡ out.old.items) }
-    ensures bound { length (escaped quoted text.now) ≤ 6 * MAX_TEXT }
+    ensures bound { length (escaped quoted text.now) ≤ escaped_limit }
+    ensures rules { IsAtomText text.now }
 {
     out.reserve(escaped_len(text, quoted))?;
     let bytes = text.bytes();
@@ -220,7 +242,8 @@ pub fn escape_into(out: &mut Vec<u8>, text: &AtomText, quoted: bool) -> Result<(
 /// How many bytes `escape_into` appends. Takes no memory.
 pub fn escaped_len(text: &AtomText, quoted: bool) -> usize
     ensures length { result ≡ length (escaped quoted text.now) }
-    ensures bound { result ≤ 6 * MAX_TEXT }
+    ensures bound { result ≤ escaped_limit }
+    ensures rules { IsAtomText text.now }
 {
     let mut total = 0;
     for byte in text.bytes() {

@@ -31,7 +31,6 @@ fn prints(rt: HostRuntime) {
 #[test]
 fn reads(rt: HostRuntime) {
     printed_is_read();
-    values_are_stated();
     // The first is an example of RFC 4287 section 3.3, and the next five are those of RFC 3339
     // section 5.8.
     for (text, millis) in [

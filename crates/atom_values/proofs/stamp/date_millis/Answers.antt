@@ -3,8 +3,8 @@ use Rattle.std.proofs.lemmas.Int.{to_z_pos}
 use Rattle.jiff_core.proofs.SignedLemmas.{signed_casts}
 use Rattle.jiff_core.specs.Calendar.{IsCivilDate}
 use Rattle.jiff_core.specs.Date.{IsYmd}
-use Rattle.atom_values.specs.Stamp.{day_number}
-use Rattle.atom_values.proofs.StampDates.{is_date_civil, date_seconds, day_number-lt, civil_date}
+use Rattle.atom_values.specs.Calendar.{day_number}
+use Rattle.atom_values.proofs.CalendarLemmas.{is_date_civil, date_seconds, day_number-lt, civil_date}
 use Rattle.atom_values.proofs.stamp.date_millis.Goals as goal
 use Rattle.atom_values.proofs.stamp.date_millis.Goals.{After-as_secs-seconds}
 

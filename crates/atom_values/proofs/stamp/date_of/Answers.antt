@@ -3,7 +3,7 @@ use Rattle.std.proofs.lemmas.Int.{to_z_pos}
 use Rattle.jiff_core.specs.Calendar.{IsEpochDay}
 use Rattle.jiff_core.specs.Date.{epoch_day}
 use Rattle.jiff.proofs.SpanFacts.{signed_arith, date_add-days, can_add-days}
-use Rattle.atom_values.proofs.StampDates.{first_is, date_of_day, IsDateOfDay}
+use Rattle.atom_values.proofs.CalendarLemmas.{first_is, date_of_day, IsDateOfDay}
 use Rattle.atom_values.proofs.stamp.date_of.Goals as goal
 use Rattle.atom_values.proofs.stamp.date_of.Goals.{After-unwrap}
 

@@ -1,6 +1,6 @@
 use Rattle.std.proofs.Common.{codes, nat_le, None, arith, ◌≡◌, ◌∙◌, sym}
-use Rattle.atom_values.specs.Stamp.{has_form, is_date, year_in, month_in, day_in, hour_in, minute_in, second_in, date_time_millis}
-use Rattle.atom_values.proofs.StampForms.{date_time_bounds, refused_date, refused_time}
+use Rattle.atom_values.specs.DateFormula.{has_form, is_date, year_in, month_in, day_in, hour_in, minute_in, second_in, date_time_millis}
+use Rattle.atom_values.proofs.DateFormLemmas.{date_time_bounds, refused_date, refused_time}
 use Rattle.atom_values.proofs.stamp.date_time_millis.Goals as goal
 
 pub date_millis-requires-clause-year_in : goal.date_millis-requires-clause-year_in

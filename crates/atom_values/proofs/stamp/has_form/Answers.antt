@@ -1,5 +1,5 @@
 use Rattle.std.proofs.Common.{arith, ◌∙◌}
-use Rattle.atom_values.proofs.StampForms.{has_form_all, has_form_not}
+use Rattle.atom_values.proofs.DateFormLemmas.{has_form_all, has_form_not}
 use Rattle.atom_values.proofs.stamp.has_form.Goals as goal
 
 pub returns-then-shape_of-form : goal.returns-then-shape_of-form

@@ -1,7 +1,7 @@
 use Rattle.std.proofs.Common.{arith, ◌≡◌, ◌∙◌, None}
 use Rattle.jiff_core.proofs.SignedLemmas.{signed_casts}
-use Rattle.atom_values.proofs.StampForms.{value_given, refused_first, refused_rest}
-use Rattle.atom_values.specs.Stamp.{is_date_time, date_time_millis, is_fraction, is_offset, value_of_parts}
+use Rattle.atom_values.proofs.DateFormLemmas.{value_given, refused_first, refused_rest}
+use Rattle.atom_values.specs.DateFormula.{is_date_time, date_time_millis, is_fraction, is_offset, value_of_parts}
 use Rattle.atom_values.proofs.stamp.value_of_parts.Goals as goal
 use Rattle.atom_values.proofs.stamp.value_of_parts.Goals.{then-not-is_fraction-via-then-not-is_fraction, then-not-is_fraction-via-else-not-is_fraction+then-not-is_offset}
 

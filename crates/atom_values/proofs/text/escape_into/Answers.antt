@@ -1,6 +1,6 @@
 use Rattle.std.proofs.Common.{◌≡◌, ◌-◌, ◌++◌, length, take, drop, List, ℕ, [], ap, sym, ◌∙◌, arith}
 use Rattle.atom_values.specs.Escape.{escaped}
-use Rattle.atom_values.proofs.Escapes.{escaped-nil, length-run, length-run_more, IsWritten-escape, IsWritten-plain, IsWritten-all}
+use Rattle.atom_values.proofs.EscapeLemmas.{escaped-nil, length-run, length-run_more, IsWritten-escape, IsWritten-plain, IsWritten-all}
 use Rattle.atom_values.proofs.text.escape_into.Goals as goal
 use Rattle.atom_values.proofs.text.escape_into.Goals.{in-Some+in_ok-extend_from_slice+in_ok-extend_from_slice-2, in_default}
 

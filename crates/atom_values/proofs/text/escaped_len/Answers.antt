@@ -1,7 +1,7 @@
 use Rattle.std.proofs.Common.{◌≡◌, length, get_or, ap, sym, ◌∙◌, rules, arith}
 use Rattle.std.proofs.lemmas.List.{take_all}
 use Rattle.atom_values.specs.Escape.{escaped, escaped_byte}
-use Rattle.atom_values.proofs.Escapes.{length-escaped_byte, length-escaped_more, escaped-nil}
+use Rattle.atom_values.proofs.EscapeLemmas.{length-escaped_byte, length-escaped_more, escaped-nil}
 use Rattle.atom_values.proofs.text.escaped_len.Goals as goal
 
 width : (c : goal.After-map_or-total) → c.map_or-total.result ≡ length (escaped_byte c.args.quoted (get_or c.bytes-byte-items.result.now c.loop-byte.byte-index 0))

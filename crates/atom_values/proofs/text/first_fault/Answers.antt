@@ -5,7 +5,7 @@ use Rattle.std.specs.Str.Lossy.{utf8_valid_len}
 use Rattle.std.proofs.lemmas.Fn.{always_returns_same}
 use Rattle.std.proofs.lemmas.List.{length-append}
 use Rattle.atom_values.specs.XmlText.{is_xml_char}
-use Rattle.atom_values.proofs.XmlTexts.{xml_text_len-refused, IsXmlText-clean, xml_text_len-broken, IsXmlText-nil}
+use Rattle.atom_values.proofs.XmlTextLemmas.{IsLongestXmlPrefix-refused, IsXmlText-clean, IsLongestXmlPrefix-broken, IsXmlText-nil}
 use Rattle.atom_values.proofs.text.first_fault.Goals as goal
 
 pub returns-in_err-chunk : goal.returns-in_err-chunk
@@ -20,7 +20,7 @@ returns-in-Some c =
     let parts : c.args.bytes.now ≡ c.valid-text.result.now ++ more = cc in
     let by = c.in-Some.ensures.cases in
     let found = by.1 (λ d. not (is_xml_char d)) (always_returns_same _ _ _ (λ a r f k. search rules)) in
-    xml_text_len-refused c.args.bytes.now c.valid-text.result.now more c.in-Some.at by.0 parts c.valid-text.utf8 found by.3
+    IsLongestXmlPrefix-refused c.args.bytes.now c.valid-text.result.now more c.in-Some.at by.0 parts c.valid-text.utf8 found by.3
 
 pub returns-in-None : goal.returns-in-None
 returns-in-None c =
@@ -43,4 +43,4 @@ returns-in-None-2 c =
     let invalid = ap length c.invalid.ensures in
     let total = length-append c.in_ok-chunk.chunk.invalid.now c.next.new.self.rest.now in
     let longest = ap length c.valid-text.ensures ∙ steps.3.0 ∙ ap utf8_valid_len c.utf8_chunks.ensures.rest in
-    xml_text_len-broken c.args.bytes.now c.valid-text.result.now more parts c.valid-text.utf8 clean (omega (arith, some)) longest
+    IsLongestXmlPrefix-broken c.args.bytes.now c.valid-text.result.now more parts c.valid-text.utf8 clean (omega (arith, some)) longest

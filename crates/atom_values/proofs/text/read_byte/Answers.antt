@@ -1,5 +1,5 @@
 use Rattle.std.proofs.Common.{◌∷◌, get_or, ap, sym, ◌∙◌, arith}
-use Rattle.atom_values.proofs.Unescaped.{IsNotWritten-bare, IsNotWritten-reference}
+use Rattle.atom_values.proofs.UnescapeLemmas.{IsNotWritten-bare, IsNotWritten-reference}
 use Rattle.atom_values.proofs.text.read_byte.Goals as goal
 
 pub returns-in-Some : goal.returns-in-Some

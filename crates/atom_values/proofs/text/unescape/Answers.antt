@@ -2,8 +2,8 @@ use Rattle.std.proofs.Common.{◌++◌, length, ap, sym, ◌∙◌, arith}
 use Rattle.std.proofs.lemmas.Bool.{eqb-true, eqb-false}
 use Rattle.std.proofs.lemmas.List.{append-nil, nil_from_length}
 use Rattle.atom_values.specs.Escape.{escaped}
-use Rattle.atom_values.proofs.Escapes.{escaped-nil}
-use Rattle.atom_values.proofs.Unescaped.{IsReadBack-all, IsReadBack-stuck, IsReadBack-long, escaped-read}
+use Rattle.atom_values.proofs.EscapeLemmas.{escaped-nil}
+use Rattle.atom_values.proofs.UnescapeLemmas.{IsReadBack-all, IsReadBack-stuck, IsReadBack-long, escaped-read}
 use Rattle.atom_values.proofs.text.unescape.Goals as goal
 
 pub returns-then-written : goal.returns-then-written

@@ -1,7 +1,7 @@
 -- Where the walk over the host ends, and with what.
 use Rattle.std.proofs.Common.{drop, get_or, sym, ◌∙◌, arith, ne_eqb}
 use Rattle.std.proofs.lemmas.List.{take_rest}
-use Rattle.chain_links.proofs.Hosts.{host_found, host_only, no_label, host_ends, text_ends}
+use Rattle.chain_links.proofs.HostLemmas.{host_found, host_only, no_label, host_ends, text_ends}
 use Rattle.chain_links.proofs.front.after_host.Goals as goal
 
 pub returns-then-is_fresh-clause-only : goal.returns-then-is_fresh-clause-only

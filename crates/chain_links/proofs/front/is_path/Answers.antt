@@ -4,7 +4,7 @@ use Rattle.std.proofs.lemmas.List.{at_drop_more, at_drop_all}
 use Rattle.std.proofs.lemmas.Bool.{or_left, or_right}
 use Rattle.chain_links.specs.Base.{is_segment_char}
 use Rattle.chain_links.specs.Front.{IsPath}
-use Rattle.chain_links.proofs.Paths.{is_behind, segments_text, path_found, path_only}
+use Rattle.chain_links.proofs.PathLemmas.{is_behind, segments_text, path_found, path_only}
 use Rattle.chain_links.proofs.front.is_path.Goals.{then-is_closed, else-is_closed}
 use Rattle.chain_links.proofs.front.is_path.Goals as goal
 

@@ -3,7 +3,7 @@ use Rattle.std.proofs.Common.{[], drop, sym, ◌∙◌, arith}
 use Rattle.std.proofs.lemmas.Bool.{false≢true}
 use Rattle.std.proofs.lemmas.List.{take_rest}
 use Rattle.std.proofs.lemmas.Option.{some_pair_parts, none-some}
-use Rattle.chain_links.proofs.Numbers.{number_begins, number_found, number_only, number_ends, number_too_large, text_ends}
+use Rattle.chain_links.proofs.NumberLemmas.{number_begins, number_found, number_only, number_ends, number_too_large, text_ends}
 use Rattle.chain_links.proofs.front.number.Goals as goal
 
 pub returns-then-not-begins_number-clause-only : goal.returns-then-not-begins_number-clause-only

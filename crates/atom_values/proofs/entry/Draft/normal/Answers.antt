@@ -2,7 +2,7 @@ use Rattle.std.proofs.Common.{◌≡◌, ap, ◌∙◌}
 use Rattle.std.specs.Ordering.{int_cmp, ord_max}
 use Rattle.std.specs.Prelude.{unwrap_or}
 use Rattle.atom_values.specs.Entry.{DraftValue, normal, shown_content}
-use Rattle.atom_values.proofs.Entries.{IsWhole-normal, normal_is}
+use Rattle.atom_values.proofs.EntryLemmas.{IsWhole-normal, normal_is}
 use Rattle.atom_values.proofs.entry.Draft.normal.Goals as goal
 
 pub invariant_of-result : goal.invariant_of-result

@@ -1,6 +1,6 @@
 use Rattle.std.proofs.Common.{arith, ◌≡◌, ◌+◌, ◌/◌, ◌%◌, ◌<◌, ◌∙◌, ◌∷◌, set}
 use Rattle.atom_values.specs.Stamp.{fixed_digits}
-use Rattle.atom_values.proofs.StampText.{IsPrinted, front, plain_is, exact_is}
+use Rattle.atom_values.proofs.PrintLemmas.{IsPrinted, front, plain_is, exact_is}
 use Rattle.atom_values.proofs.stamp.Stamp.print.Goals as goal
 use borrow.Rule.Slice.PartMut.{put_mid}
 use Rattle.atom_values.proofs.stamp.Stamp.print.Goals.{Then-millis-eq0, After-copy_from_slice-3}
