@@ -1,8 +1,9 @@
-ghost use Rattle.std.specs.Prelude.{◌≡◌, ◌+◌, ◌-◌, ◌*◌, ◌≤◌, length, IfOk};
+ghost use Rattle.std.specs.Prelude.{◌≡◌, ◌≤◌, length, IfOk};
 ghost use Rattle.atom_writer.specs.Doc.{KeepsRules};
 ghost use Rattle.member_rules.specs.Documents as documents;
+ghost use Rattle.member_rules.specs.Documents.{document_of};
 ghost use Rattle.member_rules.specs.History.{history_limit};
-ghost use Rattle.archive_sealer.specs.Document.{document_of};
+ghost use Rattle.member_rules.specs.Windows.{windows_of};
 
 use crate::items::items;
 use atom_values::{Copies, NoMemory};
@@ -11,9 +12,10 @@ use chain_links::Span;
 use member_rules::{Head, Op, plain_last_moment};
 use std::alloc::Global;
 
-/// The subscription document of a feed with this head and history: the operations that no sealed archive has.
+/// The subscription document of a feed with this head and history: the operations after the last sealed archive.
+/// It answers `NoMemory` where memory ran out.
 ///
-/// It looks at each of those once, at most 100, and copies each member's last entry once.
+/// It reads each of those operations once, at most 100, and copies each member's last entry once.
 pub fn subscription(alloc: Global, head: &Head, history: &[Op]) -> Result<Doc, NoMemory>
     requires { length history.now ≤ history_limit }
     ensures { IfOk result (λ doc. doc ≡ documents.subscription head.now history.now) }
@@ -24,12 +26,13 @@ pub fn subscription(alloc: Global, head: &Head, history: &[Op]) -> Result<Doc, N
     document(alloc, head, Kind::Subscription, sealed, before, history)
 }
 
-/// The archive of this number, from 1, of a feed with this head and history, which has all its operations.
+/// The archive of this number, from 1, of a feed with this head and history. The history has filled that window.
+/// It answers `NoMemory` where memory ran out.
 ///
-/// It looks at each of those once, at most 100, and copies each member's last entry once.
+/// It reads each operation of the window once, at most 100, and copies each member's last entry once.
 pub fn archive(alloc: Global, head: &Head, history: &[Op], number: u32) -> Result<Doc, NoMemory>
     requires few { length history.now ≤ history_limit }
-    requires filled { (1 ≤ number) × (number * head.now.window ≤ length history.now) }
+    requires filled { (1 ≤ number) × (number ≤ (windows_of head.now history.now).full) }
     ensures { IfOk result (λ doc. doc ≡ documents.archive head.now history.now number) }
 {
     let last = number * head.window;
@@ -45,7 +48,15 @@ pub fn archive(alloc: Global, head: &Head, history: &[Op], number: u32) -> Resul
     )
 }
 
-/// The document of this kind that has what the operations have behind the first ones.
+/// How many windows the history has filled, each of which has an [`archive`].
+pub fn full_windows(head: &Head, history: &[Op]) -> u32
+    requires { length history.now ≤ history_limit }
+    ensures { result ≡ (windows_of head.now history.now).full }
+{
+    history.len() as u32 / head.window
+}
+
+/// The document of this kind that has the covered operations after the first `before`.
 fn document(
     alloc: Global,
     head: &Head,

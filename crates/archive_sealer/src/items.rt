@@ -1,4 +1,5 @@
 ghost use Rattle.std.specs.Prelude.{◌≡◌, ◌≤◌, Some, length, IfOk};
+ghost use Rattle.member_rules.specs.Head.{window_limit};
 ghost use Rattle.member_rules.specs.Items.{items_of};
 ghost use Rattle.member_rules.specs.Operation as operations;
 
@@ -8,10 +9,10 @@ use member_rules::Op;
 use std::alloc::Global;
 use std::collections::BTreeSet;
 
-/// What the operations leave of the members that they name, the member that was named last first. A member that several
-/// operations name stands where the last of them does, and as it left it. Each operation is looked at once.
+/// The items of the operations: for each member that they name, the item of the member's last operation, newest
+/// operation first. It reads each operation once.
 pub(crate) fn items(alloc: Global, span: &[Op]) -> Result<Many<Item, 100>, NoMemory>
-    requires { length span.now ≤ 100 }
+    requires { length span.now ≤ window_limit }
     ensures { IfOk result (λ items. items.items ≡ items_of span.now) }
 {
     let mut items = Many::new(alloc);
@@ -28,7 +29,7 @@ pub(crate) fn items(alloc: Global, span: &[Op]) -> Result<Many<Item, 100>, NoMem
     Ok(items)
 }
 
-/// What the operation leaves of the member that it names.
+/// The item that the operation leaves of its member.
 fn item(alloc: Global, operation: &Op) -> Result<Item, NoMemory>
     ensures { IfOk result (λ item. operations.item_of operation.now ≡ Some item) }
 {

@@ -1,6 +1,7 @@
--- Pieces joined, as the code adds them one after another.
-use Rattle.std.proofs.Common.{◌≡◌, ◌≢◌, ℕ, zero, suc, arith, rules, tests, nat_eq, false, List, [], ◌∷◌, ◌++◌, map, refl, ap, sym, ◌∙◌, append_assoc, append-nil, codes}
-use Rattle.std.proofs.lemmas.List.{map-append}
+-- The text that the code adds part by part is the joined text of the definitions.
+use Rattle.std.proofs.Common.{◌≡◌, ◌≢◌, ℕ, zero, suc, arith, rules, tests, nat_eq, false, List, [], ◌∷◌, ◌++◌, map, length, take, get_or, ◌+◌, ◌<◌, All, subst, refl, ap, sym, ◌∙◌, append_assoc, append-nil, codes}
+use Rattle.std.proofs.lemmas.List.{map-append, take_more}
+use Rattle.std.proofs.lemmas.List.Elements.{All-push}
 use Rattle.std.proofs.lemmas.Grind.{flat_map-append}
 use Rattle.std.specs.Prelude.{flat_map, IsTrue}
 use Rattle.atom_writer.specs.Doc.{is_placed, HasNext}
@@ -61,10 +62,29 @@ pub has_next : (kind : Kind) (span : Span) (prev : ℕ) → IsTrue (is_placed ki
 has_next Subscription span prev placed = tt
 has_next (Sealed number) span prev placed = search (rules, tests)
 
--- one more element
-pub flat_map-push : {X : Type 0} (f : X → List ℕ) (xs : List X) (x : X) → flat_map f (xs ++ x ∷ []) ≡ flat_map f xs ++ f x
-flat_map-push f xs x = flat_map-append f xs (x ∷ []) ∙ ap (λ (t : List ℕ). flat_map f xs ++ t) (append-nil (f x))
+-- In a loop over a list: the elements up to the next one, which is `x`.
+take-one_more : {X : Type 0} (xs : List X) (i : ℕ) (x : X) → i < length xs → x ≡ get_or xs i x
+    → take (i + 1) xs ≡ take i xs ++ x ∷ []
+take-one_more xs i x below is = take_more xs i x below ∙ ap (λ y. take i xs ++ y ∷ []) (sym is)
+
+-- and their texts, one after another
+pub flat_map-more : {X : Type 0} (f : X → List ℕ) (xs : List X) (i : ℕ) (x : X) → i < length xs → x ≡ get_or xs i x
+    → flat_map f (take i xs) ++ f x ≡ flat_map f (take (i + 1) xs)
+flat_map-more f xs i x below is =
+    let more = flat_map-append f (take i xs) (x ∷ []) ∙ ap (λ (t : List ℕ). flat_map f (take i xs) ++ t) (append-nil (f x)) in
+    sym (ap (flat_map f) (take-one_more xs i x below is) ∙ more)
+
+-- and a rule that each of them keeps
+pub All-one_more : {X : Type 0} (P : X → Type 0) (xs : List X) (i : ℕ) (x : X) → i < length xs → x ≡ get_or xs i x
+    → All P (take i xs) → P x → All P (take (i + 1) xs)
+All-one_more P xs i x below is before here =
+    subst (All P) (sym (take-one_more xs i x below is)) (All-push P (take i xs) x before here)
 
 -- one more item
 pub joined-map-push : (f : Item → List ℕ) (items : List Item) (item : Item) → joined (map f (items ++ item ∷ [])) ≡ joined (map f items) ++ f item
 joined-map-push f items item = ap joined (map-append f items (item ∷ [])) ∙ joined-append (map f items) (f item ∷ []) ∙ ap (λ (x : List ℕ). joined (map f items) ++ x) (joined-one (f item))
+
+pub joined-map-more : (f : Item → List ℕ) (items : List Item) (i : ℕ) (item : Item) → i < length items → item ≡ get_or items i item
+    → joined (map f (take i items)) ++ f item ≡ joined (map f (take (i + 1) items))
+joined-map-more f items i item below is =
+    sym (ap (λ (xs : List Item). joined (map f xs)) (take-one_more items i item below is) ∙ joined-map-push f (take i items) item)

@@ -1,3 +1,5 @@
 pub mod Doc
+pub mod Entries
+pub mod Members
 pub mod Parts
 pub mod Pieces

@@ -1,16 +1,12 @@
 -- The one text of a document (RFC 4287, RFC 5005 section 4), as a list of pieces. Each piece ends with LF, and an item
 -- is one piece.
-use Rattle.std.specs.Prelude.{ℕ, ◌+◌, ◌==◌, List, [], ◌∷◌, ◌++◌, ℤ, map, flat_map, false, if◌then◌else◌, Option, Some, None, codes, decimal}
-use Rattle.atom_values.specs.declared.person.Person.{Person}
-use Rattle.atom_values.specs.declared.text.Text.{Text}
-use Rattle.atom_values.specs.declared.text.TextKind.{TextKind}
-use Rattle.atom_values.specs.declared.text.TextKind.TheVariants.{Plain, Html}
+use Rattle.std.specs.Prelude.{ℕ, ◌+◌, ◌==◌, List, [], ◌∷◌, ◌++◌, ℤ, map, flat_map, false, if◌then◌else◌, codes, decimal}
 use Rattle.atom_values.specs.Entry.{EntryValue}
 use Rattle.atom_values.specs.Escape.{escaped}
 use Rattle.atom_values.specs.Stamp as stamp
 use Rattle.chain_links.specs.Address as address
 use Rattle.chain_links.specs.declared.address.Address.{Address}
-use Rattle.chain_links.specs.declared.address.Address.TheVariants.{Feed, Archive, Member}
+use Rattle.chain_links.specs.declared.address.Address.TheVariants.{Feed, Archive}
 use Rattle.chain_links.specs.declared.place.Span.{Span}
 use Rattle.deleted_entries.specs.FeedId.{feed_text, member_id}
 use Rattle.deleted_entries.specs.Tombstone.{TombstoneValue}
@@ -20,46 +16,7 @@ use Rattle.atom_writer.specs.declared.doc.FeedName.{FeedName}
 use Rattle.atom_writer.specs.declared.doc.Kind.{Kind}
 use Rattle.atom_writer.specs.declared.doc.Kind.TheVariants.{Subscription, Archive as Sealed}
 use Rattle.atom_writer.specs.Doc.{DocValue}
-use Rattle.atom_writer.specs.Parts.{persons_text, link_text, category_text}
-
--- <title>..</title> and the like, by the name and what an attribute adds to the open tag
-abbrev pub open_attributes : TextKind → List ℕ
-open_attributes Plain = []
-open_attributes Html = codes " type=\"html\""
-
-unfoldable pub construct : List ℕ → Text → List ℕ
-construct tag t =
-    codes "<" ++ tag ++ open_attributes t.kind ++ codes ">" ++ escaped false t.value ++ codes "</" ++ tag ++ codes ">"
-
-unfoldable pub optional_construct : List ℕ → Option Text → List ℕ
-optional_construct tag None = []
-optional_construct tag (Some t) = construct tag t
-
-unfoldable pub edit_link : FeedName → ℕ → List ℕ
-edit_link name number =
-    codes "<link rel=\"edit\" href=\"" ++ address.printed name.base (Member number) ++ codes "\"/>"
-
--- when the entry was first published, where that is known
-unfoldable pub published_text : Option ℤ → List ℕ
-published_text None = []
-published_text (Some moment) = codes "<published>" ++ stamp.printed moment ++ codes "</published>"
-
--- what stands in an entry before its authors (RFC 4287 section 4.1.2, RFC 5023 section 10.2)
-unfoldable pub front_text : FeedName → EntryValue → List ℕ
-front_text name e =
-    codes "<id>" ++ member_id name.id e.number ++ codes "</id>" ++ construct (codes "title") e.title ++ codes "<updated>"
-    ++ stamp.printed e.updated ++ codes "</updated>" ++ published_text e.published ++ codes "<app:edited>"
-    ++ stamp.printed e.edited ++ codes "</app:edited>"
-
--- and behind them
-unfoldable pub back_text : FeedName → EntryValue → List ℕ
-back_text name e =
-    persons_text (codes "contributor") e.contributors ++ edit_link name e.number ++ flat_map link_text e.links
-    ++ flat_map category_text e.categories ++ optional_construct (codes "rights") e.rights
-    ++ optional_construct (codes "summary") e.summary ++ optional_construct (codes "content") e.content
-
-unfoldable pub inner_text : FeedName → EntryValue → List ℕ
-inner_text name e = front_text name e ++ persons_text (codes "author") e.authors ++ back_text name e
+use Rattle.atom_writer.specs.Entries.{inner_text}
 
 unfoldable pub entry_piece : FeedName → EntryValue → List ℕ
 entry_piece name e = codes "<entry>" ++ inner_text name e ++ codes "</entry>\n"
@@ -145,17 +102,3 @@ joined ps = flat_map (λ piece. piece) ps
 -- the one text of the document
 unfoldable pub text : DocValue → List ℕ
 text d = joined (pieces d)
-
-unfoldable pub member_open : List ℕ
-member_open = codes "<entry xmlns=\"http://www.w3.org/2005/Atom\" xmlns:app=\"http://www.w3.org/2007/app\">"
-
--- the authors that a member document shows: the feed's where the entry has none (RFC 4287 section 4.1.2)
-unfoldable pub shown_authors : FeedName → List Person → List ℕ
-shown_authors name [] = codes "<author><name>" ++ escaped false name.author ++ codes "</name></author>"
-shown_authors name (person ∷ more) = persons_text (codes "author") (person ∷ more)
-
--- the document of a member (RFC 5023 section 9)
-unfoldable pub member_text : FeedName → EntryValue → List ℕ
-member_text name e =
-    declaration_piece ++ member_open ++ front_text name e ++ shown_authors name e.authors ++ back_text name e
-    ++ codes "</entry>\n"

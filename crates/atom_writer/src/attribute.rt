@@ -1,15 +1,15 @@
-ghost use Rattle.std.specs.Prelude.{◌≡◌, ◌≤◌, ◌++◌, length, OnOk, OnErr};
+ghost use Rattle.std.specs.Prelude.{◌≡◌, ◌++◌, OnOk, OnErr, IfSome};
+ghost use Rattle.atom_values.specs.XmlText.{IsAtomText};
 ghost use Rattle.atom_writer.specs.Parts.{attribute, optional_attribute};
 
 use crate::out::Out;
 use atom_values::{AtomText, NoMemory};
 
-/// Adds an attribute. Its name has at most 16 bytes.
+/// Adds an attribute (XML 1.0, production 41), with a space before it.
 pub fn push_attribute<W: Out>(out: &mut W, name: &[u8], value: &AtomText) -> Result<(), NoMemory>
-    requires { length name.now ≤ 16 }
     ensures added { OnOk result (W.adds out.old out.new (attribute name.now value.now)) }
     ensures failed { OnErr result W.can_fail }
-    ensures bound { OnOk result (length (attribute name.now value.now) ≤ 393_300) }
+    ensures rules { OnOk result (IsAtomText value.now) }
 {
     out.push(b" ")?;
     out.push(name)?;
@@ -19,17 +19,16 @@ pub fn push_attribute<W: Out>(out: &mut W, name: &[u8], value: &AtomText) -> Res
     Ok(())
 }
 
-/// Adds an attribute where there is one.
+/// Adds the attribute if it has a value.
 #[tactic(auto, unfolding(crate::specs::Parts::optional_attribute))]
 pub fn push_optional_attribute<W: Out>(
     out: &mut W,
     name: &[u8],
     value: &Option<AtomText>,
 ) -> Result<(), NoMemory>
-    requires { length name.now ≤ 16 }
     ensures added { OnOk result (W.adds out.old out.new (optional_attribute name.now value.now)) }
     ensures failed { OnErr result W.can_fail }
-    ensures bound { OnOk result (length (optional_attribute name.now value.now) ≤ 393_300) }
+    ensures rules { OnOk result (IfSome value.now IsAtomText) }
 {
     match value {
         Some(value) => push_attribute(out, name, value),

@@ -1,4 +1,5 @@
-ghost use Rattle.std.specs.Prelude.{◌≡◌, ◌≤◌, ◌++◌, length, flat_map, OnOk, OnErr};
+ghost use Rattle.std.specs.Prelude.{◌≡◌, ◌++◌, All, OnOk, OnErr, flat_map};
+ghost use Rattle.atom_values.specs.Category.{IsCategory};
 ghost use Rattle.atom_writer.specs.Parts.{category_text};
 
 use crate::attribute::{push_attribute, push_optional_attribute};
@@ -9,7 +10,7 @@ use atom_values::{Category, NoMemory};
 fn push_category<W: Out>(out: &mut W, category: &Category) -> Result<(), NoMemory>
     ensures added { OnOk result (W.adds out.old out.new (category_text category.now)) }
     ensures failed { OnErr result W.can_fail }
-    ensures bound { OnOk result (length (category_text category.now) ≤ 1_200_000) }
+    ensures rules { OnOk result (IsCategory category.now) }
 {
     out.push(b"<category")?;
     push_attribute(out, b"term", &category.term)?;
@@ -19,12 +20,11 @@ fn push_category<W: Out>(out: &mut W, category: &Category) -> Result<(), NoMemor
     Ok(())
 }
 
-/// Adds the categories of the entry, in order. There are at most 64.
+/// Adds the categories of the entry, in order.
 pub fn push_categories<W: Out>(out: &mut W, categories: &[Category]) -> Result<(), NoMemory>
-    requires { length categories.now ≤ 64 }
     ensures added { OnOk result (W.adds out.old out.new (flat_map category_text categories.now)) }
     ensures failed { OnErr result W.can_fail }
-    ensures bound { OnOk result (length (flat_map category_text categories.now) ≤ 80_000_000) }
+    ensures rules { OnOk result (All IsCategory categories.now) }
 {
     for category in categories {
         push_category(out, category)?;

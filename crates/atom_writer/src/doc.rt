@@ -10,10 +10,13 @@ use deleted_entries::{FeedId, Item};
 use std::alloc::Global;
 use std::marker::Model;
 
-/// How many operations a document covers at most, and so how many items it has at most.
+/// The greatest number of operations that a document covers, and so of its items.
 pub const MAX_ITEMS: u32 = 100;
 
-/// What a feed is called: its base address, identifier, title and author.
+/// The greatest number of an archive: its document names the next one, whose number is a `u32`.
+pub const MAX_ARCHIVE: u32 = u32::MAX - 1;
+
+/// The name of a feed: its base address, identifier, title and author. Each document of the feed states it.
 #[derive(Debug, Drop)]
 pub struct FeedName {
     pub base: Base,
@@ -33,24 +36,27 @@ impl Copies for FeedName {
     }
 }
 
-/// Which document of a feed it is (RFC 5005 section 4).
+/// The kind of a feed's document (RFC 5005 section 4).
 #[derive(Clone, Copy, Debug, PartialEq, Eq)]
 pub enum Kind {
-    /// The subscription document, which holds the newest operations.
+    /// The subscription document, which covers the newest operations.
     Subscription,
-    /// The archive of this number, from 1, whose text never changes.
+    /// The archive of this number, counted from 1. Its text never changes.
     Archive(u32),
 }
 
-/// A feed document. Its items have distinct numbers, newest operation first, at most as many as its span has
-/// operations; the span and `prev` fit its kind.
+/// A feed document: a subscription document or an archive. It keeps the rules that [`Doc::new`] lists.
 #[derive(Debug, Drop)]
 pub struct Doc {
     pub name: FeedName,
     pub kind: Kind,
+    /// The operations that the document covers.
     pub span: Span,
+    /// The number of the archive before the document, or 0 if there is none.
     pub prev: u32,
+    /// The timestamp of the last change.
     pub updated: Stamp,
+    /// The members that the operations name, newest operation first, with distinct numbers.
     pub items: Many<Item, 100>,
 }
 
@@ -59,9 +65,23 @@ impl Model for Doc {
 
     ghost Value = { DocValue };
 
-    ghost view = { λ d. record { name = d.name; kind = d.kind; span = d.span; prev = d.prev; updated = d.updated; items = d.items.items } };
+    ghost view = { λ d. record {
+      name = d.name;
+      kind = d.kind;
+      span = d.span;
+      prev = d.prev;
+      updated = d.updated;
+      items = d.items.items;
+    } };
 
-    ghost invariant = { λ d. KeepsRules record { name = d.name; kind = d.kind; span = d.span; prev = d.prev; updated = d.updated; items = d.items.items } };
+    ghost invariant = { λ d. KeepsRules record {
+      name = d.name;
+      kind = d.kind;
+      span = d.span;
+      prev = d.prev;
+      updated = d.updated;
+      items = d.items.items;
+    } };
 }
 
 impl Kind {
@@ -82,10 +102,16 @@ impl Doc {
     ghost use Rattle.atom_writer.specs.Doc.{DocValue, KeepsRules};
     ghost use Rattle.atom_writer.specs.Pieces.{own_address};
 
-    /// The document of these parts, or `None` where a rule fails. A subscription document has the span from 1 to 0
-    /// or one with `first <= last`, `first` is at least 1, and `prev` is 0 exactly where `first` is 1. An archive has
-    /// a number from 1 to 4294967294, `prev` is one less, `first <= last`, and `first` is 1 exactly in archive 1. The
-    /// span has at most `MAX_ITEMS` operations, there are at most so many items, and the items' numbers are distinct.
+    /// Returns the document of these parts, or `None` if one of these rules fails:
+    ///
+    /// - A subscription document has the span from 1 to 0, or one with `1 <= first <= last`. Its `prev` is 0 exactly
+    ///   if `first` is 1.
+    /// - An archive has a number from 1 to `MAX_ARCHIVE`, `prev` is one less, and `first <= last`. Its `first` is 1
+    ///   exactly in archive 1.
+    /// - The span has at most `MAX_ITEMS` operations, and the document at most as many items as the span has
+    ///   operations.
+    /// - The items have distinct numbers.
+    ///
     /// Takes no memory.
     pub fn new(
         name: FeedName,
@@ -95,8 +121,22 @@ impl Doc {
         updated: Stamp,
         items: Many<Item, 100>,
     ) -> Option<Doc>
-        ensures rules { IsSome result ↔ KeepsRules record { name = name; kind = kind; span = span; prev = prev; updated = updated; items = items.items } }
-        ensures parts { IfSome result (λ doc. doc ≡ record { name = name; kind = kind; span = span; prev = prev; updated = updated; items = items.items }) }
+        ensures rules { IsSome result ↔ KeepsRules record {
+          name = name;
+          kind = kind;
+          span = span;
+          prev = prev;
+          updated = updated;
+          items = items.items;
+        } }
+        ensures parts { IfSome result (λ doc. doc ≡ record {
+          name = name;
+          kind = kind;
+          span = span;
+          prev = prev;
+          updated = updated;
+          items = items.items;
+        }) }
     {
         if is_placed(kind, span, prev)
             && has_room(span, items.as_slice())
@@ -115,7 +155,7 @@ impl Doc {
         }
     }
 
-    /// Where the document stands in the chain.
+    /// The document's place in the chain.
     pub fn place(&self) -> Place
         ensures span { result.span ≡ self.now.span }
         ensures prev { result.prev ≡ self.now.prev }
@@ -130,8 +170,20 @@ impl Doc {
     }
 }
 
-/// Whether a document of this kind may have that span and that newest archive before it, by the rules of
-/// [`Doc::new`]. Takes no memory.
+impl Copies for Doc {
+    fn copy(&self, alloc: Global) -> Result<Doc, NoMemory> {
+        Ok(Doc {
+            name: self.name.copy(alloc)?,
+            kind: self.kind,
+            span: self.span,
+            prev: self.prev,
+            updated: self.updated,
+            items: self.items.copy(alloc)?,
+        })
+    }
+}
+
+/// Whether a document of this kind may have this span and this `prev`, by the rules of [`Doc::new`]. Takes no memory.
 pub fn is_placed(kind: Kind, span: Span, prev: u32) -> bool
     ensures { result ≡ is_placed kind span prev }
 {
@@ -143,7 +195,7 @@ pub fn is_placed(kind: Kind, span: Span, prev: u32) -> bool
         }
         Kind::Archive(number) => {
             number >= 1
-                && number < u32::MAX
+                && number <= MAX_ARCHIVE
                 && prev == number - 1
                 && span.first <= span.last
                 && (span.first == 1) == (number == 1)
@@ -151,7 +203,7 @@ pub fn is_placed(kind: Kind, span: Span, prev: u32) -> bool
     }
 }
 
-/// Whether the span has at most `MAX_ITEMS` operations, and there are at most so many items.
+/// Whether the span has at most `MAX_ITEMS` operations, and at least as many operations as there are items.
 fn has_room(span: Span, items: &[Item]) -> bool
     ensures { IsTrue result ↔ (span_len span ≤ MAX_ITEMS) × (length items.now ≤ span_len span) }
 {
@@ -159,9 +211,9 @@ fn has_room(span: Span, items: &[Item]) -> bool
     operations <= u64::from(MAX_ITEMS) && items.len() as u64 <= operations
 }
 
-/// Whether the items' numbers are distinct. They are sorted beside the items, so that equal ones would be neighbours.
+/// Whether the items' numbers are distinct. A copy of them is sorted, so that equal numbers are neighbours.
 fn are_distinct(items: &[Item]) -> bool
-    requires { length items.now ≤ 100 }
+    requires { length items.now ≤ MAX_ITEMS }
     ensures { IsTrue result ↔ IsDistinct nat_eq (map item_number items.now) }
 {
     let mut room = [0; MAX_ITEMS as usize];
@@ -171,7 +223,7 @@ fn are_distinct(items: &[Item]) -> bool
     rises(numbers)
 }
 
-/// Writes the items' numbers, in order.
+/// Writes the items' numbers to `numbers`, in order.
 fn copy_numbers(items: &[Item], numbers: &mut [u32])
     requires { length numbers.old ≡ length items.now }
     ensures { numbers.new ≡ map item_number items.now }

@@ -5,16 +5,21 @@
 
 mod attribute;
 mod category;
+mod construct;
 mod doc;
+mod element;
 mod entry;
+mod item;
 mod link;
 mod member;
+mod name;
 mod out;
 mod person;
+mod place;
 mod write;
 
-pub use doc::{Doc, FeedName, Kind, MAX_ITEMS, is_placed};
-pub use entry::entry_len;
+pub use doc::{Doc, FeedName, Kind, MAX_ARCHIVE, MAX_ITEMS, is_placed};
+pub use item::entry_len;
 pub use member::write_member;
 pub use write::{doc_len, write_doc};
 

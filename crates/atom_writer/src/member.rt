@@ -1,43 +1,47 @@
-ghost use Rattle.std.specs.Prelude.{◌≡◌, ◌+◌, ◌≤◌, ◌++◌, length, OnOk, OnErr, IfOk};
+ghost use Rattle.std.specs.Prelude.{◌≡◌, [], ◌++◌, All, length, OnOk, OnErr, IfOk};
+ghost use Rattle.atom_values.specs.Entry.{IsEntry};
 ghost use Rattle.atom_values.specs.Escape.{escaped};
-ghost use Rattle.atom_writer.specs.Pieces.{member_open, shown_authors, member_text};
+ghost use Rattle.atom_values.specs.Person.{IsPerson};
+ghost use Rattle.atom_values.specs.XmlText.{IsAtomText};
+ghost use Rattle.chain_links.specs.Base.{IsBase};
+ghost use Rattle.atom_writer.specs.Members.{member_open, shown_authors, member_text};
 
 use crate::doc::FeedName;
 use crate::entry::{push_back, push_front};
+use crate::name::{push_between, push_declaration};
 use crate::out::{Count, Out};
 use crate::person::push_persons;
-use crate::write::{push_declaration, push_text_piece};
 use atom_values::{Entry, NoMemory, Person};
 use std::alloc::Global;
 
 const MEMBER_OPEN: &[u8] =
     b"<entry xmlns=\"http://www.w3.org/2005/Atom\" xmlns:app=\"http://www.w3.org/2007/app\">";
 
-/// Adds the open tag of a member document.
-#[tactic(auto, unfolding(crate::specs::Pieces::member_open))]
+/// Adds the open tag of a member document, with the namespaces.
+#[tactic(auto, unfolding(crate::specs::Members::member_open))]
 fn push_member_open<W: Out>(out: &mut W) -> Result<(), NoMemory>
     ensures added { OnOk result (W.adds out.old out.new member_open) }
     ensures failed { OnErr result W.can_fail }
-    ensures bound { length member_open ≤ 100 }
 {
     out.push(MEMBER_OPEN)?;
     Ok(())
 }
 
-/// Adds the authors, or the feed's where the entry has none (RFC 4287 section 4.1.2). There are at most 16.
-#[tactic(auto, unfolding(crate::specs::Pieces::shown_authors))]
+/// Adds the entry's authors, or the feed's if the entry has none (RFC 4287 section 4.1.2).
+#[tactic(auto, unfolding(crate::specs::Members::shown_authors))]
 fn push_shown_authors<W: Out>(
     out: &mut W,
     name: &FeedName,
     authors: &[Person],
 ) -> Result<(), NoMemory>
-    requires { length authors.now ≤ 16 }
     ensures added { OnOk result (W.adds out.old out.new (shown_authors name.now authors.now)) }
     ensures failed { OnErr result W.can_fail }
-    ensures bound { OnOk result (length (shown_authors name.now authors.now) ≤ 20_000_000) }
+    ensures rules { OnOk result (All IsPerson authors.now) }
+    // The feed's author is read only if it is shown.
+    ensures author { OnOk result (authors.now ≡ [] → IsAtomText name.now.author) }
 {
     match authors {
-        [] => push_text_piece(out, b"<author><name>", &name.author, b"</name></author>"),
+        [] => push_between(out, b"<author><name>", &name.author, b"</name></author>"),
         [_, ..] => push_persons(out, b"author", authors),
     }
 }
@@ -46,7 +50,9 @@ fn push_shown_authors<W: Out>(
 fn push_member<W: Out>(out: &mut W, name: &FeedName, entry: &Entry) -> Result<(), NoMemory>
     ensures added { OnOk result (W.adds out.old out.new (member_text name.now entry.now)) }
     ensures failed { OnErr result W.can_fail }
-    ensures bound { OnOk result (length (member_text name.now entry.now) ≤ 250_000_000) }
+    ensures base { OnOk result ∥ IsBase name.now.base ∥₁ }
+    ensures rules { OnOk result (IsEntry entry.now) }
+    ensures author { OnOk result (entry.now.authors ≡ [] → IsAtomText name.now.author) }
 {
     push_declaration(out)?;
     push_member_open(out)?;
@@ -57,8 +63,10 @@ fn push_member<W: Out>(out: &mut W, name: &FeedName, entry: &Entry) -> Result<()
     Ok(())
 }
 
-/// The member document of the entry (RFC 5023 section 9). An entry without author shows the feed's author, since an
-/// entry document must have one (RFC 4287 section 4.1.2). The memory is taken at once.
+/// Returns the member document of the entry (RFC 5023 section 9). If the entry has no author it shows the feed's
+/// author, because an entry document must have one (RFC 4287 section 4.1.2). The memory is allocated at once.
+///
+/// The only error is out of memory.
 pub fn write_member(alloc: Global, name: &FeedName, entry: &Entry) -> Result<Vec<u8>, NoMemory>
     ensures { IfOk result (λ written. written.items ≡ member_text name.now entry.now) }
 {
@@ -67,11 +75,12 @@ pub fn write_member(alloc: Global, name: &FeedName, entry: &Entry) -> Result<Vec
     Ok(out)
 }
 
-/// How many bytes the member document has. Takes no memory.
+/// The length of the member document, in bytes. Takes no memory.
 fn member_len(name: &FeedName, entry: &Entry) -> u64
     ensures { result ≡ length (member_text name.now entry.now) }
 {
     let mut count = Count { bytes: 0 };
+    // A count takes no memory, so this can't fail.
     let _ = push_member(&mut count, name, entry);
     count.bytes
 }

@@ -1,50 +1,16 @@
-ghost use Rattle.std.specs.Prelude.{◌≡◌, ◌≤◌, ◌++◌, length, OnOk, OnErr};
-ghost use Rattle.atom_writer.specs.Parts.{element, optional_element, person_text, persons_text};
+ghost use Rattle.std.specs.Prelude.{◌≡◌, ◌++◌, All, OnOk, OnErr};
+ghost use Rattle.atom_values.specs.Person.{IsPerson};
+ghost use Rattle.atom_writer.specs.Parts.{person_text, persons_text};
 
+use crate::element::{push_element, push_optional_element};
 use crate::out::Out;
-use atom_values::{AtomText, NoMemory, Person};
+use atom_values::{NoMemory, Person};
 
-/// Adds a text in an element. Its tag has at most 16 bytes.
-fn push_element<W: Out>(out: &mut W, tag: &[u8], value: &AtomText) -> Result<(), NoMemory>
-    requires { length tag.now ≤ 16 }
-    ensures added { OnOk result (W.adds out.old out.new (element tag.now value.now)) }
-    ensures failed { OnErr result W.can_fail }
-    ensures bound { OnOk result (length (element tag.now value.now) ≤ 393_300) }
-{
-    out.push(b"<")?;
-    out.push(tag)?;
-    out.push(b">")?;
-    out.push_escaped(value, false)?;
-    out.push(b"</")?;
-    out.push(tag)?;
-    out.push(b">")?;
-    Ok(())
-}
-
-/// Adds a text in an element where there is one.
-#[tactic(auto, unfolding(crate::specs::Parts::optional_element))]
-fn push_optional_element<W: Out>(
-    out: &mut W,
-    tag: &[u8],
-    value: &Option<AtomText>,
-) -> Result<(), NoMemory>
-    requires { length tag.now ≤ 16 }
-    ensures added { OnOk result (W.adds out.old out.new (optional_element tag.now value.now)) }
-    ensures failed { OnErr result W.can_fail }
-    ensures bound { OnOk result (length (optional_element tag.now value.now) ≤ 393_300) }
-{
-    match value {
-        Some(value) => push_element(out, tag, value),
-        None => Ok(()),
-    }
-}
-
-/// Adds a person construct (RFC 4287 section 3.2) under this tag, which has at most 16 bytes.
+/// Adds a person construct (RFC 4287 section 3.2) in an element of this tag.
 fn push_person<W: Out>(out: &mut W, tag: &[u8], person: &Person) -> Result<(), NoMemory>
-    requires { length tag.now ≤ 16 }
     ensures added { OnOk result (W.adds out.old out.new (person_text tag.now person.now)) }
     ensures failed { OnErr result W.can_fail }
-    ensures bound { OnOk result (length (person_text tag.now person.now) ≤ 1_200_000) }
+    ensures rules { OnOk result (IsPerson person.now) }
 {
     out.push(b"<")?;
     out.push(tag)?;
@@ -58,13 +24,11 @@ fn push_person<W: Out>(out: &mut W, tag: &[u8], person: &Person) -> Result<(), N
     Ok(())
 }
 
-/// Adds the persons, in order. There are at most 16.
+/// Adds the persons, in order.
 pub fn push_persons<W: Out>(out: &mut W, tag: &[u8], persons: &[Person]) -> Result<(), NoMemory>
-    requires tag { length tag.now ≤ 16 }
-    requires few { length persons.now ≤ 16 }
     ensures added { OnOk result (W.adds out.old out.new (persons_text tag.now persons.now)) }
     ensures failed { OnErr result W.can_fail }
-    ensures bound { OnOk result (length (persons_text tag.now persons.now) ≤ 20_000_000) }
+    ensures rules { OnOk result (All IsPerson persons.now) }
 {
     for person in persons {
         push_person(out, tag, person)?;

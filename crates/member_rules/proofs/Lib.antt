@@ -1,13 +1,38 @@
+-- for all clauses: how an operation at the end of a list changes the fold, the counts and the last moment
+pub mod FoldLemmas
+-- for all clauses: what each member is after one more operation
+pub mod StateLemmas
+-- serves `Members::live_count`
+pub mod LiveCountLemmas
+-- serves `Members::commit`, `table`
+pub mod TableLemmas
+-- serves `decide`, `decision`
+pub mod DecisionLemmas
+-- serves `Members::may_follow`, `exact`
+pub mod MayFollowLemmas
+-- serves `decide`, `follows` and `lawful`
+pub mod LawfulLemmas
+-- serves the plain functions
+pub mod PlainLemmas
+-- serves `versions_set_the_entry`
+pub mod VersionLemmas
+-- for the documents: the items of a list of operations by recursion, newest operation first
+pub mod NewestItemsLemmas
+-- serves `chain_shows_the_fold`, `cuts`: which item of a member is the last of a list of operations
 pub mod ItemsLemmas
-pub mod DocumentsLemmas
-pub mod DocumentsRules
-pub mod ChainShows
-pub mod ChainLinks
-pub mod ChainStays
-pub mod Folds
-pub mod Standings
-pub mod Counts
-pub mod Tables
-pub mod Decisions
-pub mod Lawful
-pub mod Plains
+-- serves `chain_shows_the_fold`, `cuts`: what the items of a list of operations keep
+pub mod ItemsKeptLemmas
+-- serves `chain_shows_the_fold`, `windows`, and `windows_seal_in_turn`
+pub mod CutLemmas
+-- serves `chain_shows_the_fold`, `cuts`: the rules of documents
+pub mod DocumentRulesLemmas
+-- serves `live_of_is_shown`
+pub mod ShowsLemmas
+-- serves `chain_shows_the_fold`, `cuts`: what the documents show
+pub mod ChainShowsLemmas
+-- serves `chain_shows_the_fold`, `cuts`: how the documents adjoin
+pub mod ChainLinksLemmas
+-- serves `chain_shows_the_fold`: the law from its parts
+pub mod LawLemmas
+-- serves `archives_stay`, `served_stays_served` and `served_are_documents`
+pub mod ServedLemmas

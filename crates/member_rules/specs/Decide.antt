@@ -1,7 +1,9 @@
--- What a client's ask becomes after a history: an operation, or the first refusal that fits (RFC 5023 sections 9.2 to 9.4).
-use Rattle.std.specs.Prelude.{ℕ, ◌+◌, ◌<◌, ◌^◌, List, ℤ, pos, ◌+ℤ◌, int_lt, nat_lt, nat_le, ◌&&◌, if◌then◌else◌, Option, Some, None, Result, Ok, Err, length}
+-- The decision on a client's ask after a history: the operation that the ask becomes, or the first refusal that fits
+-- (RFC 5023 sections 9.2 to 9.4).
+use Rattle.std.specs.Prelude.{ℕ, ◌+◌, List, ℤ, pos, ◌+ℤ◌, int_lt, nat_lt, nat_le, ◌&&◌, if◌then◌else◌, Option, Some}
+use Rattle.std.specs.Prelude.{None, Result, Ok, Err, length}
 use Rattle.std.specs.Str.{bytes_eq}
-use Rattle.atom_values.specs.Entry.{EntryValue, IsDraft, normal}
+use Rattle.atom_values.specs.Entry.{EntryValue, normal}
 use Rattle.atom_writer.specs.declared.doc.FeedName.{FeedName}
 use Rattle.atom_writer.specs.Pieces.{entry_piece}
 use Rattle.deleted_entries.specs.FeedId.{member_id}
@@ -19,13 +21,13 @@ abbrev pub ◌>>=◌ : {A B : Type 0} → Result A RuleFault → (A → Result B
 (Ok x) >>= f = f x
 (Err e) >>= f = Err e
 
--- the entry of a live member; of one that is gone, when it was deleted
+-- the entry of a live member, or the refusal of a deleted one or of one that was never made
 abbrev pub live_or_gone : ℕ → Option ℤ → Option EntryValue → Result EntryValue RuleFault
 live_or_gone number (Some when) live = Err (Deleted number when)
 live_or_gone number None (Some entry) = Ok entry
 live_or_gone number None None = Err (NotFound number)
 
--- the entry of the member that is asked for; a number that is 0 or past the last member made was never a member's
+-- the entry of the member with this number; no member has the number 0 or one past the number of members made
 unfoldable pub live_entry : List Op → ℕ → Result EntryValue RuleFault
 live_entry history number =
     let members = fold_of history in
@@ -33,7 +35,7 @@ live_entry history number =
     then live_or_gone number (members.gone number) (members.live number)
     else Err (NotFound number)
 
--- a draft that replaces a member's entry has the member's identifier or none
+-- a draft that replaces a member's entry may have the member's identifier or none
 abbrev pub unless_other : FeedName → ℕ → Option (List ℕ) → Result (Unit {0}) RuleFault
 unless_other name number None = Ok tt
 unless_other name number (Some given) =
@@ -60,7 +62,7 @@ unless_large name operation entry =
     let size = length (entry_piece name entry) in
     if nat_lt entry_limit size then Err (TooLarge size) else Ok (operation entry)
 
--- what the ask becomes in the feed of this name, which was made at `created`, with the clock at `now`
+-- the decision on the ask in the feed of this name, which was made at `created`, with the clock at `now`
 unfoldable pub decide : FeedName → ℤ → List Op → Ask → ℕ → Result Op RuleFault
 decide name created history (Create draft) now =
     next_moment created history now
@@ -77,9 +79,3 @@ decide name created history (Delete number) now =
       tombstone = record { number = number; when = later_of moment stored.updated };
       moment = moment;
     })
-
--- what the types of an ask keep
-abbrev pub IsAsk : Ask → Type 0
-IsAsk (Create draft) = IsDraft draft
-IsAsk (Replace number draft) = (number < 2 ^ 32) × IsDraft draft
-IsAsk (Delete number) = number < 2 ^ 32

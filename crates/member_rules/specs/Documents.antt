@@ -1,50 +1,46 @@
--- The documents of a history (RFC 5005 section 4). A history is cut into spans: archive j has the operations from
--- `ends (j - 1) + 1` to `ends j`, and the subscription document those behind the last sealed archive.
-use Rattle.std.specs.Prelude.{ℕ, ◌+◌, ◌-◌, ◌*◌, ◌/◌, List, take, drop, length}
+-- The documents of a history (RFC 5005 section 4). A history is cut into spans: archive `number` has the operations
+-- from `ends (number - 1) + 1` to `ends number`, and the subscription document has those after the last archive.
+use Rattle.std.specs.Prelude.{ℕ, ◌+◌, ◌-◌, List, take, drop, length}
+use Rattle.atom_writer.specs.declared.doc.FeedName.{FeedName}
+use Rattle.atom_writer.specs.declared.doc.Kind.{Kind}
 use Rattle.atom_writer.specs.declared.doc.Kind.TheVariants.{Subscription, Archive}
 use Rattle.atom_writer.specs.Doc.{DocValue}
 use Rattle.member_rules.specs.declared.operation.Op.{Op}
 use Rattle.member_rules.specs.Head.{HeadValue}
 use Rattle.member_rules.specs.Fold.{last_moment}
 use Rattle.member_rules.specs.Items.{items_of}
+use Rattle.member_rules.specs.Windows.{windows_of}
 
--- the archive of a cut
-unfoldable pub archive_of : (ℕ → ℕ) → HeadValue → List Op → ℕ → DocValue
-archive_of ends head history number =
-    let covered = take (ends number) history in
-    record {
-      name = head.name;
-      kind = Archive number;
-      span = record { first = ends (number - 1) + 1; last = ends number };
-      prev = number - 1;
-      updated = last_moment head.created covered;
-      items = items_of (drop (ends (number - 1)) covered);
-    }
+-- the feed's name after these operations, none of which changes it today
+unfoldable pub name_of : HeadValue → List Op → FeedName
+name_of head operations = head.name
 
--- the subscription document of a cut with so many sealed archives
-unfoldable pub subscription_of : (ℕ → ℕ) → ℕ → HeadValue → List Op → DocValue
-subscription_of ends archives head history = record {
-  name = head.name;
-  kind = Subscription;
-  span = record { first = ends archives + 1; last = length history };
-  prev = archives;
-  updated = last_moment head.created history;
-  items = items_of (drop (ends archives) history);
+-- the document of this kind, which has the covered operations after the first `before`
+unfoldable pub document_of : HeadValue → Kind → ℕ → ℕ → List Op → DocValue
+document_of head kind prev before covered = record {
+  name = name_of head covered;
+  kind = kind;
+  span = record { first = before + 1; last = length covered };
+  prev = prev;
+  updated = last_moment head.created covered;
+  items = items_of (drop before covered);
 }
 
--- windows of equal size
-abbrev pub window_end : ℕ → ℕ → ℕ
-window_end window number = number * window
+-- archive `number` of a cut
+unfoldable pub archive_of : (ℕ → ℕ) → HeadValue → List Op → ℕ → DocValue
+archive_of ends head history number =
+    document_of head (Archive number) (number - 1) (ends (number - 1)) (take (ends number) history)
 
--- how many archives a history of so many operations has sealed: each full window but the last one
-abbrev pub sealed : ℕ → ℕ → ℕ
-sealed window count = (count - 1) / window
+-- the subscription document of a cut with this many archives
+unfoldable pub subscription_of : (ℕ → ℕ) → ℕ → HeadValue → List Op → DocValue
+subscription_of ends archives head history = document_of head Subscription archives (ends archives) history
 
--- archive `number` of the history, which has all its operations
+-- archive `number` of the history, where that window is full
 unfoldable pub archive : HeadValue → List Op → ℕ → DocValue
-archive head history number = archive_of (window_end head.window) head history number
+archive head history number = archive_of (windows_of head history).ends head history number
 
 -- the subscription document of the history
 unfoldable pub subscription : HeadValue → List Op → DocValue
 subscription head history =
-    subscription_of (window_end head.window) (sealed head.window (length history)) head history
+    let windows = windows_of head history in
+    subscription_of windows.ends windows.sealed head history

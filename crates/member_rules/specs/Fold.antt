@@ -1,5 +1,6 @@
--- What a list of operations makes of the members: two finite maps, the members that are live and those that are gone.
-use Rattle.std.specs.Prelude.{ℕ, zero, suc, ◌+◌, ◌-◌, ◌==◌, List, [], ◌∷◌, ℤ, if◌then◌else◌, Option, Some, None, option_map, unwrap_or, is_some, fold, length, slice_get, count_by}
+-- The members after a list of operations: two finite maps, of the live members and of the deleted ones.
+use Rattle.std.specs.Prelude.{ℕ, zero, suc, ◌+◌, ◌-◌, ◌==◌, List, [], ◌∷◌, ℤ, if◌then◌else◌, Option, Some, None}
+use Rattle.std.specs.Prelude.{option_map, unwrap_or, is_some, fold, length, slice_get, count_by}
 use Rattle.atom_values.specs.Entry.{EntryValue}
 use Rattle.deleted_entries.specs.declared.item.Item.{Item}
 use Rattle.deleted_entries.specs.declared.item.Item.TheVariants.{Kept, Gone}
@@ -8,7 +9,7 @@ use Rattle.member_rules.specs.declared.state.State.{State}
 use Rattle.member_rules.specs.declared.state.State.TheVariants.{Never, Live, Gone as Deleted}
 use Rattle.member_rules.specs.Operation.{item_of, moment_of, makes, names}
 
--- the entry of each live member, and when each member that is gone was deleted
+-- the entry of each live member, and the moment when each deleted one was deleted
 pub record Fold : Type 0 where
   pub live : ℕ → Option EntryValue
   pub gone : ℕ → Option ℤ
@@ -20,7 +21,7 @@ set number value map other = if other == number then value else map other
 abbrev pub no_members : Fold
 no_members = record { live = λ _. None; gone = λ _. None }
 
--- with what stands of one member
+-- the maps with the item of one member
 abbrev pub with_item : Fold → Item → Fold
 with_item members (Kept entry) = record { live = set entry.number (Some entry) members.live; gone = members.gone }
 with_item members (Gone tombstone) = record {
@@ -44,7 +45,7 @@ abbrev pub last_moment : ℤ → List Op → ℤ
 last_moment created operations =
     unwrap_or (option_map moment_of (slice_get operations (length operations - 1))) created
 
--- the operation, from 1, that last named the member, or 0
+-- the operation, counted from 1, that last named the member, or 0
 abbrev pub last_naming : ℕ → List Op → ℕ
 last_naming number [] = 0
 last_naming number (operation ∷ later) =
@@ -64,13 +65,13 @@ live_count operations = count_up_to (fold_of operations).live (made operations)
 abbrev pub updated_of : Option EntryValue → Option ℤ
 updated_of entry = option_map (λ (e : EntryValue). e.updated) entry
 
--- a member that the maps have at neither place was never made
+-- the state of a member; one that neither map has was never made
 abbrev pub state_by : Option ℤ → Option EntryValue → ℕ → State
 state_by (Some when) live version = Deleted when
 state_by None (Some entry) version = Live entry.updated version
 state_by None None version = Never
 
--- what a member is after the operations
+-- the state of a member after the operations
 unfoldable pub state_of : List Op → ℕ → State
 state_of operations number =
     let members = fold_of operations in

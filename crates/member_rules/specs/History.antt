@@ -1,5 +1,6 @@
 -- Which operation may follow a history, and which histories are lawful.
-use Rattle.std.specs.Prelude.{◌≡◌, ℕ, ◌+◌, ◌≤◌, List, ℤ, ◌≤ℤ◌, ◌<ℤ◌, int_lt, if◌then◌else◌, Some, length, take, slice_get, All, IsSomeAnd}
+use Rattle.std.specs.Prelude.{◌≡◌, ℕ, ◌+◌, ◌≤◌, List, ℤ, ◌≤ℤ◌, ◌<ℤ◌, int_lt, if◌then◌else◌, Some, length, take}
+use Rattle.std.specs.Prelude.{slice_get, All, IsSomeAnd}
 use Rattle.atom_writer.specs.declared.doc.FeedName.{FeedName}
 use Rattle.atom_writer.specs.Pieces.{entry_piece}
 use Rattle.member_rules.specs.declared.operation.Op.{Op}
@@ -12,8 +13,8 @@ use Rattle.member_rules.specs.Fold.{fold_of, made, last_moment}
 abbrev pub later_of : ℤ → ℤ → ℤ
 later_of a b = if int_lt a b then b else a
 
--- a new member has the next number; a change names a live member, whose `updated` doesn't go back; a removal names a live
--- member, and the tombstone isn't before its `updated`
+-- a new member has the next number; a change names a live member, whose `updated` doesn't go back; a removal names a
+-- live member, and its tombstone has the later of the moment and the member's `updated`
 abbrev pub Fits : List Op → Op → Type 0
 Fits history (Add entry) = entry.number ≡ made history + 1
 Fits history (Change entry) =
@@ -27,7 +28,7 @@ pub record MayFollow (created : ℤ) (history : List Op) (operation : Op) : Type
   pub later : last_moment created history <ℤ moment_of operation
   pub fits : Fits history operation
 
--- each operation may follow those before it
+-- each operation of the history may follow those before it
 abbrev pub AreFollowing : ℤ → List Op → Type 0
 AreFollowing created history =
     (k : ℕ) (operation : Op) → slice_get history k ≡ Some operation → MayFollow created (take k history) operation
@@ -40,7 +41,7 @@ history_limit = 4_294_967_294
 abbrev pub entry_limit : ℕ
 entry_limit = 394_240
 
--- the operation's entry, if it has one, is no longer than a piece of a document may be
+-- the operation's entry, if it has one, keeps `entry_limit`
 abbrev pub IsSmall : FeedName → Op → Type 0
 IsSmall name (Add entry) = length (entry_piece name entry) ≤ entry_limit
 IsSmall name (Change entry) = length (entry_piece name entry) ≤ entry_limit

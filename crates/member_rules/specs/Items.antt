@@ -1,24 +1,21 @@
--- The items of a list of operations: of each member that they name, what stands of it after them.
-use Rattle.std.specs.Prelude.{ℕ, ◌==◌, List, [], ◌∷◌, not, filter, reverse, Option, Some, None}
-use Rattle.deleted_entries.specs.Item.{item_number}
+-- The items of a list of operations: one for each member that they name, from the member's last operation.
+use Rattle.std.specs.Prelude.{List, [], ◌∷◌, reverse, Bool, false, if◌then◌else◌, Some, None}
+use Rattle.std.specs.List.{list_any, filter_map}
 use Rattle.deleted_entries.specs.declared.item.Item.{Item}
 use Rattle.member_rules.specs.declared.operation.Op.{Op}
-use Rattle.member_rules.specs.Operation.{item_of}
+use Rattle.member_rules.specs.Operation.{item_of, member_of, names}
 
--- the items without those of a member
-abbrev pub without : ℕ → List Item → List Item
-without number items = filter (λ item. not (item_number item == number)) items
+-- whether one of the later operations names the operation's member again
+abbrev pub is_named_again : List Op → Op → Bool
+is_named_again later operation =
+    elim (member_of operation) as (λ _. Bool) [ None ↦ false | Some number ↦ list_any (names number) later ]
 
--- in front of the older items, where it takes the place of its member's
-abbrev pub in_place : Option Item → List Item → List Item
-in_place None older = older
-in_place (Some item) older = item ∷ without (item_number item) older
+-- the operations that no later one names again
+abbrev pub last_of_each : List Op → List Op
+last_of_each [] = []
+last_of_each (operation ∷ later) =
+    if is_named_again later operation then last_of_each later else operation ∷ last_of_each later
 
--- of operations, newest first
-abbrev pub newest_items : List Op → List Item
-newest_items [] = []
-newest_items (operation ∷ older) = in_place (item_of operation) (newest_items older)
-
--- of operations, oldest first: for each member the item of the last operation that names it, newest first
+-- their items, newest first; an operation that names no member has none
 unfoldable pub items_of : List Op → List Item
-items_of operations = newest_items (reverse operations)
+items_of operations = filter_map item_of (reverse (last_of_each operations))

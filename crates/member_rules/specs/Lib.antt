@@ -6,7 +6,9 @@ pub mod History
 pub mod Decide
 pub mod Table
 pub mod Items
+pub mod Windows
 pub mod Documents
 pub mod Shows
 pub mod Served
 pub mod Chain
+pub mod Laws

@@ -1,6 +1,6 @@
--- What contracts see of an operation (RFC 5023 sections 9.2 to 9.4). An operation names a member, or none; what is said
--- of lists of operations goes by that alone.
-use Rattle.std.specs.Prelude.{ℕ, ℤ, Option, Some, None, option_map, Bool, true, false, ◌==◌}
+-- The value of an operation that contracts see (RFC 5023 sections 9.2 to 9.4). An operation names one member or none.
+-- The definitions on lists of operations use its item, its moment and whether it makes a member, and not its variant.
+use Rattle.std.specs.Prelude.{ℕ, ℤ, Option, Some, None, option_map, unwrap_or, Bool, true, false, ◌==◌}
 use Rattle.atom_values.specs.Entry.{IsEntry}
 use Rattle.deleted_entries.specs.Item.{item_number}
 use Rattle.deleted_entries.specs.declared.item.Item.{Item}
@@ -9,15 +9,19 @@ use Rattle.member_rules.specs.Removal.{IsRemoval}
 use Rattle.member_rules.specs.declared.operation.Op.{Op}
 use Rattle.member_rules.specs.declared.operation.Op.TheVariants.{Add, Change, Remove}
 
--- what stands of the member that it names
+-- the item that it leaves of the member that it names
 abbrev pub item_of : Op → Option Item
 item_of (Add entry) = Some (Kept entry)
 item_of (Change entry) = Some (Kept entry)
 item_of (Remove removal) = Some (Gone removal.tombstone)
 
--- the member that it names
-abbrev pub named : Op → Option ℕ
-named operation = option_map item_number (item_of operation)
+-- the number of the member that it names, if it names one
+abbrev pub member_of : Op → Option ℕ
+member_of operation = option_map item_number (item_of operation)
+
+-- the same number, or 0 where it names no member
+abbrev pub number_of : Op → ℕ
+number_of operation = unwrap_or (member_of operation) 0
 
 -- when it was accepted
 abbrev pub moment_of : Op → ℤ
@@ -33,10 +37,16 @@ makes (Remove removal) = false
 
 -- whether it names this member
 abbrev pub names : ℕ → Op → Bool
-names number operation = elim (named operation) as (λ _. Bool) [ None ↦ false | Some other ↦ other == number ]
+names number operation = elim (member_of operation) as (λ _. Bool) [ None ↦ false | Some other ↦ other == number ]
 
--- what its types keep
+-- the rules that its types keep
 abbrev pub IsOperation : Op → Type 0
 IsOperation (Add entry) = IsEntry entry
 IsOperation (Change entry) = IsEntry entry
 IsOperation (Remove removal) = IsRemoval removal
+
+-- the rules that the type of its entry keeps, where it has one
+abbrev pub KeepsEntry : Op → Type 0
+KeepsEntry (Add entry) = IsEntry entry
+KeepsEntry (Change entry) = IsEntry entry
+KeepsEntry (Remove removal) = Unit {0}

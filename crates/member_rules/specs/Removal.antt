@@ -1,14 +1,14 @@
--- What contracts see of the removal of a member.
+-- The value of a removal that contracts see.
 use Rattle.std.specs.Prelude.{ℤ, ◌≤ℤ◌}
 use Rattle.atom_values.specs.Stamp.{IsStamp}
 use Rattle.deleted_entries.specs.Tombstone.{TombstoneValue, IsTombstone}
 
--- the tombstone that stands for the member from now on, and when the removal was accepted
+-- the tombstone of the member, and the moment when the removal was accepted
 pub record RemovalValue : Type 0 where
   pub tombstone : TombstoneValue
   pub moment : ℤ
 
--- what the types of a removal keep
+-- the rules that the types of a removal keep
 pub record IsRemoval (r : RemovalValue) : Type 0 where
   pub tombstone : IsTombstone r.tombstone
   pub moment : IsStamp r.moment

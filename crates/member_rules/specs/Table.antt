@@ -5,8 +5,8 @@ use Rattle.member_rules.specs.declared.state.State.{State}
 use Rattle.member_rules.specs.Fold.{made, last_moment, live_count, state_of}
 use Rattle.member_rules.specs.History.{AreFollowing, MayFollow, history_limit}
 
--- what each member is, in order of number from 1, the last moment, how many members are live, how many operations there
--- were, and for how many more members there is room
+-- the states of the members, in order of number from 1; the last moment; how many members are live; how many operations
+-- there were; and how many more members there is room for
 pub record Table : Type 0 where
   pub states : List State
   pub last : ℤ

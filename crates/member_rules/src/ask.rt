@@ -1,14 +1,14 @@
 use atom_values::{Copies, Draft, NoMemory};
 use std::alloc::Global;
 
-/// What a client asks for (RFC 5023 section 9).
+/// A client's request to change the feed (RFC 5023 section 9). [`crate::decide`] turns it into an operation.
 #[derive(Debug, Drop)]
 pub enum Ask {
-    /// A member is to be made.
+    /// Make a member of this draft.
     Create(Draft),
-    /// The member of this number is to have another entry.
+    /// Replace the entry of the member with this number.
     Replace { number: u32, draft: Draft },
-    /// The member of this number is to be removed.
+    /// Remove the member with this number.
     Delete { number: u32 },
 }
 

@@ -1,8 +1,11 @@
-ghost use Rattle.std.specs.Prelude.{◌≡◌, ℕ, ◌<◌, ◌≤◌, [], ◌∷◌, ◌++◌, List, ℤ, length, nat_lt, int_lt, if◌then◌else◌, IfOk, OnOk, IsOkAnd, MatchResult};
+ghost use Rattle.std.specs.Prelude.{◌≡◌, ℕ, ◌<◌, ◌≤◌, [], ◌∷◌, ◌++◌, List, ℤ, length, nat_lt, int_lt};
+ghost use Rattle.std.specs.Prelude.{if◌then◌else◌, IfOk, OnOk, IsOkAnd, MatchResult};
 ghost use Rattle.atom_writer.specs.declared.doc.FeedName.{FeedName};
+ghost use Rattle.atom_values.specs.Entry.{IsEntry};
 ghost use Rattle.atom_writer.specs.Pieces.{entry_piece};
 ghost use Rattle.member_rules.specs.declared.operation.Op.{Op};
 ghost use Rattle.member_rules.specs.Head.{HeadValue};
+ghost use Rattle.member_rules.specs.Operation.{KeepsEntry};
 ghost use Rattle.member_rules.specs.History.{IsLawful, MayFollow, entry_limit, history_limit};
 ghost use Rattle.member_rules.specs.Decide as decision;
 ghost use Rattle.member_rules.specs.Table.{IsTableOf};
@@ -17,24 +20,28 @@ use atom_writer::{FeedName, entry_len};
 use deleted_entries::{Tombstone, id_of};
 
 /// The most bytes that an entry's piece of a document may have.
-const ENTRY_LIMIT: u64 = 394_240;
+pub const ENTRY_LIMIT: u64 = 394_240;
 
-/// The operation that the ask becomes, with the clock at `now` milliseconds since 1970. Its moment is the clock's, but
-/// always later than the last one. It takes no memory.
+/// The operation that the ask becomes, with the clock at `now` milliseconds since 1970 (RFC 5023 sections 9.2 to 9.4).
+/// Its moment is the clock's, but always later than the last operation's. It takes no memory.
 ///
-/// The first that fits is answered: `NotFound` where the member was never made; `Deleted` where it is gone; `OtherId`
-/// where a draft that replaces its entry has an identifier that isn't the member's; `ClockSpent` where the moment is past
-/// the greatest stamp; `TooLarge` where the entry's piece of a document has more than 394,240 bytes.
+/// The error is the first of these that fits:
+///
+/// - `NotFound`: no member with that number was made.
+/// - `Deleted`: the member is deleted.
+/// - `OtherId`: the draft that replaces the member's entry has another identifier than the member.
+/// - `ClockSpent`: the moment would be past the greatest stamp.
+/// - `TooLarge`: the entry's piece of a document would have more than [`ENTRY_LIMIT`] bytes.
 pub fn decide(members: &Members, name: &FeedName, ask: Ask, now: u64) -> Result<Op, RuleFault>
     requires { members.now.operations < history_limit }
     // The answer, or the first refusal that fits, with its numbers.
     ensures decision { (created : ℤ) (history : List Op) → IsTableOf members.now created history
         → result ≡ decision.decide name.now created history ask now }
-    // The operation may follow the history, and keeps it lawful.
+    // The operation may follow the history, which stays lawful with it.
     ensures follows { IfOk result (λ operation. (created : ℤ) (history : List Op)
         → IsTableOf members.now created history → MayFollow created history operation) }
     ensures lawful { IfOk result (λ operation. (head : HeadValue) (history : List Op) → head.name ≡ name.now
-        → IsTableOf members.now head.created history → IsLawful head history → decision.IsAsk ask
+        → IsTableOf members.now head.created history → IsLawful head history
         → IsLawful head (history ++ operation ∷ [])) }
 {
     match ask {
@@ -47,8 +54,9 @@ pub fn decide(members: &Members, name: &FeedName, ask: Ask, now: u64) -> Result<
 /// The operation that makes the next member.
 fn create(members: &Members, name: &FeedName, draft: Draft, now: u64) -> Result<Op, RuleFault>
     requires { members.now.operations < history_limit }
-    ensures { (created : ℤ) (history : List Op) → IsTableOf members.now created history
+    ensures decision { (created : ℤ) (history : List Op) → IsTableOf members.now created history
         → result ≡ decision.decide name.now created history (Ask.Create draft) now }
+    ensures entry { IfOk result KeepsEntry }
 {
     let moment = next_moment(members.last_moment(), now)?;
     let entry = draft.normal(members.count() + 1, moment, None);
@@ -56,7 +64,7 @@ fn create(members: &Members, name: &FeedName, draft: Draft, now: u64) -> Result<
     Ok(Op::Add(entry))
 }
 
-/// The operation that gives the member another entry.
+/// The operation that replaces the member's entry.
 fn replace(
     members: &Members,
     name: &FeedName,
@@ -64,8 +72,9 @@ fn replace(
     mut draft: Draft,
     now: u64,
 ) -> Result<Op, RuleFault>
-    ensures { (created : ℤ) (history : List Op) → IsTableOf members.now created history
+    ensures decision { (created : ℤ) (history : List Op) → IsTableOf members.now created history
         → result ≡ decision.decide name.now created history (Ask.Replace number draft) now }
+    ensures entry { IfOk result KeepsEntry }
 {
     let stored = live_updated(members, number)?;
     refuse_other(name, number, draft.id.take())?;
@@ -77,8 +86,10 @@ fn replace(
 
 /// The operation that removes the member.
 fn delete(members: &Members, number: u32, now: u64) -> Result<Op, RuleFault>
-    ensures { (name : FeedName) (created : ℤ) (history : List Op) → IsTableOf members.now created history
+    ensures decision { (name : FeedName) (created : ℤ) (history : List Op)
+        → IsTableOf members.now created history
         → result ≡ decision.decide name created history (Ask.Delete number) now }
+    ensures entry { IfOk result KeepsEntry }
 {
     let stored = live_updated(members, number)?;
     let moment = next_moment(members.last_moment(), now)?;
@@ -87,11 +98,13 @@ fn delete(members: &Members, number: u32, now: u64) -> Result<Op, RuleFault>
     Ok(Op::Remove(Removal { tombstone, moment }))
 }
 
-/// The `updated` of the member's entry, where the member is live.
+/// The `updated` of the member's entry. It refuses by `NotFound` a member that was never made, and by `Deleted` one that
+/// is deleted.
 fn live_updated(members: &Members, number: u32) -> Result<Stamp, RuleFault>
     ensures entry { (created : ℤ) (history : List Op) → IsTableOf members.now created history
-        → MatchResult result (λ updated. IsOkAnd (decision.live_entry history number) (λ stored. stored.updated ≡ updated))
-        (λ fault. decision.live_entry history number ≡ Err fault) }
+        → let entry = decision.live_entry history number in
+        MatchResult result (λ updated. IsOkAnd entry (λ stored. stored.updated ≡ updated))
+        (λ fault. entry ≡ Err fault) }
     ensures counted { OnOk result (1 ≤ number) }
 {
     match members.state(number) {
@@ -101,7 +114,7 @@ fn live_updated(members: &Members, number: u32) -> Result<Stamp, RuleFault>
     }
 }
 
-/// Refuses the identifier of a draft that replaces the member's entry, where it isn't the member's.
+/// Refuses by `OtherId` a draft's identifier that isn't the member's.
 fn refuse_other(name: &FeedName, number: u32, id: Option<AtomText>) -> Result<(), RuleFault>
     requires { 1 ≤ number }
     ensures { result ≡ decision.unless_other name.now number id }
@@ -116,7 +129,7 @@ fn refuse_other(name: &FeedName, number: u32, id: Option<AtomText>) -> Result<()
     }
 }
 
-/// The moment of the next operation: the clock's, but always later than the last one.
+/// The moment of the next operation: the clock's, but always later than the last one. It refuses by `ClockSpent`.
 fn next_moment(last: Stamp, now: u64) -> Result<Stamp, RuleFault>
     ensures { result ≡ (if int_lt decision.greatest_moment (decision.later_moment last now)
         then Err (RuleFault.ClockSpent last now) else Ok (decision.later_moment last now)) }
@@ -129,10 +142,12 @@ fn next_moment(last: Stamp, now: u64) -> Result<Stamp, RuleFault>
     }
 }
 
-/// Refuses an entry whose piece of a document is too long.
+/// Refuses by `TooLarge` an entry whose piece of a document is too long.
 fn refuse_large(name: &FeedName, entry: &Entry) -> Result<(), RuleFault>
-    ensures { let size = length (entry_piece name.now entry.now) in
+    ensures size { let size = length (entry_piece name.now entry.now) in
         result ≡ (if nat_lt entry_limit size then Err (RuleFault.TooLarge size) else Ok tt) }
+    // `entry_len` walks the entry, and so knows what its type keeps.
+    ensures rules { IsEntry entry.now }
 {
     let length = entry_len(name, entry);
     if length > ENTRY_LIMIT {

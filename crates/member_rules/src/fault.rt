@@ -1,19 +1,19 @@
 use atom_values::{AtomText, Stamp};
 
-/// Why an ask is refused.
+/// Why [`crate::decide`] refuses an ask.
 #[derive(Debug, Drop)]
 pub enum RuleFault {
-    /// The member of this number was never made.
+    /// No member with this number was ever made.
     NotFound { number: u32 },
-    /// The member was deleted, at this moment.
+    /// The member was deleted at this moment.
     Deleted { number: u32, when: Stamp },
-    /// The draft that replaces the member's entry has an identifier that isn't the member's.
+    /// The draft that replaces the member's entry has another identifier than the member.
     OtherId { number: u32, given: AtomText },
-    /// The moment of the operation would be past the greatest stamp: behind the last one, with the clock at `now`
-    /// milliseconds since 1970.
+    /// The operation's moment would be past the greatest stamp. It has to be later than `last`, the moment of the last
+    /// operation, and the clock stands at `now` milliseconds since 1970.
     ClockSpent { last: Stamp, now: u64 },
-    /// The entry's piece of a document would have this many bytes, which are more than 394,240.
+    /// The entry's piece of a document would have this length in bytes, which is more than [`crate::ENTRY_LIMIT`].
     TooLarge { length: u64 },
-    /// Memory ran out.
+    /// Memory ran out. `decide` never answers this; it is for calls that pass its refusals on.
     NoMemory,
 }

@@ -3,8 +3,24 @@ use atom_writer::FeedName;
 use std::alloc::Global;
 use std::marker::Model;
 
-/// What stays of a feed: its name, how many operations a window has (1 to 100), how many bytes an area of its store may
-/// have (4,096 to 2^36), and when it was made, not before 1970. Title and author have at most 1,024 bytes each.
+/// The most operations of a window.
+pub const WINDOW_LIMIT: u32 = 100;
+
+/// The most bytes of a feed's title, and of its author.
+pub const TITLE_LIMIT: usize = 1_024;
+
+/// The fewest bytes that an area of a store may be limited to.
+pub const CAPACITY_FLOOR: u64 = 4_096;
+
+/// The most bytes that an area of a store may be limited to.
+pub const CAPACITY_LIMIT: u64 = 1 << 36;
+
+/// The head of a feed, which is chosen when the feed is made. It keeps
+///
+/// - the feed's name, whose title and author have at most `TITLE_LIMIT` bytes each,
+/// - the number of operations of a window, 1 to `WINDOW_LIMIT`,
+/// - the number of bytes that an area of the feed's store may have, `CAPACITY_FLOOR` to `CAPACITY_LIMIT`, and
+/// - the moment when the feed was made, which isn't before 1970.
 #[derive(Debug, Drop)]
 pub struct Head {
     pub name: FeedName,
@@ -18,9 +34,19 @@ impl Model for Head {
 
     ghost Value = { HeadValue };
 
-    ghost view = { λ h. record { name = h.name; window = h.window; capacity = h.capacity; created = h.created } };
+    ghost view = { λ h. record {
+      name = h.name;
+      window = h.window;
+      capacity = h.capacity;
+      created = h.created;
+    } };
 
-    ghost invariant = { λ h. KeepsLimits record { name = h.name; window = h.window; capacity = h.capacity; created = h.created } };
+    ghost invariant = { λ h. KeepsLimits record {
+      name = h.name;
+      window = h.window;
+      capacity = h.capacity;
+      created = h.created;
+    } };
 }
 
 impl Copies for Head {

@@ -1,18 +1,58 @@
-ghost use Rattle.member_rules.specs.Chain.{LawOfTheChain, ArchivesStay, ServedStays};
+ghost use Rattle.member_rules.specs.Laws.{LawOfCuts, WindowsAreACut, LawOfTheChain, ArchivesStay, ServedStays};
+ghost use Rattle.member_rules.specs.Laws.{ServedAreDocuments, PrefixesAreLawful, WindowsSealInTurn};
+ghost use Rattle.member_rules.specs.Laws.{LiveMembersAreMade, VersionsSetTheEntry, LiveOfIsShown};
 
-/// The law of the chain: for every head and lawful history, what the subscription document followed by its archives down
-/// to the first shows is exactly the live entries; each document but the first is followed by the one before it; the last
-/// one's span begins at 1; and all of them keep the rules of documents (RFC 5005 section 4).
+// The functions of this file do nothing. Each exists for its contract, which is a law over the definitions of specs/.
+
+/// The law of the chain (RFC 5005 section 4). For each cut of a lawful history into spans, the subscription document
+/// followed by its archives down to the first shows exactly the live entries. Each document but the first is followed by
+/// the one before it, the last one's span begins at 1, and each keeps the rules of documents.
+///
+/// Windows are one such cut, so the law holds for the documents that a feed serves.
 pub fn chain_shows_the_fold()
-    ensures { LawOfTheChain }
+    ensures cuts { LawOfCuts }
+    ensures windows { WindowsAreACut }
+    ensures chain { LawOfTheChain }
 {}
 
-/// An archive never changes: once a history has its operations, the archive is the same after whatever follows.
+/// An archive never changes: once its window is full, it is the same whatever operations follow.
 pub fn archives_stay()
     ensures { ArchivesStay }
 {}
 
-/// What a feed served once, it still serves.
+/// Bytes that a feed served once, it still serves after more operations.
 pub fn served_stays_served()
     ensures { ServedStays }
+{}
+
+/// Served bytes are the text of a document that keeps the rules of documents, at the document's own address, with the
+/// base and the identifier of the feed.
+pub fn served_are_documents()
+    ensures { ServedAreDocuments }
+{}
+
+/// The first operations of a lawful history are a lawful history.
+pub fn prefixes_are_lawful()
+    ensures { PrefixesAreLawful }
+{}
+
+/// An operation that follows a full open window seals it as an archive. Any other operation seals nothing.
+pub fn windows_seal_in_turn()
+    ensures { WindowsSealInTurn }
+{}
+
+/// The number of a live member is from 1 to the number of members made.
+pub fn live_members_are_made()
+    ensures { LiveMembersAreMade }
+{}
+
+/// The version in a live member's state is the operation that set the member's entry, and the state has that entry's
+/// `updated`.
+pub fn versions_set_the_entry()
+    ensures { VersionsSetTheEntry }
+{}
+
+/// The map `live_of` of a list of documents has exactly the entries that the documents show.
+pub fn live_of_is_shown()
+    ensures { LiveOfIsShown }
 {}

@@ -1,7 +1,19 @@
-//! The rules on the members of a feed: which operation an ask becomes, and what a history makes of the members.
-//! What is decided is exactly what specs/ defines, the table answers what the fold does, and the documents of a history
-//! show its live entries.
-//! Stands on `atom_writer`.
+//! The rules on the members of a feed: the operation that an ask becomes, the members after a history, and the documents
+//! of a history. Stands on `atom_writer`.
+//!
+//! - [`decide`] is exactly the decision that specs/ defines.
+//! - [`Members`] answers what the fold of a history does.
+//! - The documents of a history show exactly its live entries: [`chain_shows_the_fold`] and the laws beside it.
+//!
+//! Begin with [`decide`], over a table of the members:
+//!
+//! ```
+//! let mut members = Members::new(alloc, head.created);
+//! members.prepare()?;
+//! let operation = decide(&members, &head.name, Ask::Create(draft), clock.now())?;
+//! members.commit(&operation);
+//! assert!(matches!(members.state(1), State::Live { version: 1, .. }));
+//! ```
 #![tactic(auto)]
 
 mod ask;
@@ -15,14 +27,15 @@ mod plain;
 mod state;
 
 pub use ask::Ask;
-pub use decision::decide;
+pub use decision::{ENTRY_LIMIT, decide};
 pub use fault::RuleFault;
-pub use head::Head;
-pub use laws::{archives_stay, chain_shows_the_fold, served_stays_served};
-pub use members::Members;
+pub use head::{CAPACITY_FLOOR, CAPACITY_LIMIT, Head, TITLE_LIMIT, WINDOW_LIMIT};
+pub use laws::{
+    archives_stay, chain_shows_the_fold, live_members_are_made, live_of_is_shown,
+    prefixes_are_lawful, served_are_documents, served_stays_served, versions_set_the_entry,
+    windows_seal_in_turn,
+};
+pub use members::{HISTORY_LIMIT, Members};
 pub use operation::{Op, Removal};
 pub use plain::{plain_count, plain_last_moment, plain_live_count, plain_state};
 pub use state::State;
-
-#[cfg(test)]
-mod tests;

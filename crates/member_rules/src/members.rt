@@ -1,7 +1,7 @@
-ghost use Rattle.std.specs.Prelude.{◌≡◌, ◌≢◌, ℕ, ◌+◌, ◌<◌, ◌≤◌, [], ◌∷◌, ◌++◌, List, ℤ, OnOk};
+ghost use Rattle.std.specs.Prelude.{◌≡◌, ◌≢◌, ◌↔◌, ℕ, ◌+◌, ◌<◌, ◌≤◌, [], ◌∷◌, ◌++◌, List, ℤ, IsTrue, OnOk};
 ghost use Rattle.member_rules.specs.declared.operation.Op.{Op};
 ghost use Rattle.member_rules.specs.Fold.{made, last_moment, live_count, state_of};
-ghost use Rattle.member_rules.specs.History.{history_limit};
+ghost use Rattle.member_rules.specs.History.{Fits, MayFollow, history_limit};
 ghost use Rattle.member_rules.specs.Table.{IsTableOf, MayCommit};
 
 use crate::operation::Op;
@@ -10,8 +10,13 @@ use atom_values::{NoMemory, Stamp};
 use std::alloc::Global;
 use std::marker::Model;
 
-/// The table of all members after a list of operations, which is changed in place. Members are numbered from 1, in the
-/// order in which they were made.
+/// The most operations of a history.
+pub const HISTORY_LIMIT: u32 = 4_294_967_294;
+
+/// The table of all members after a list of operations, and the moment of the last one. It is changed in place.
+/// Members are numbered from 1, in the order in which they were made.
+///
+/// The table keeps no operations. So its contracts speak of each history that it is the table of.
 #[derive(Debug, Drop)]
 pub struct Members {
     states: Vec<State>,
@@ -38,7 +43,7 @@ impl Model for Members {
 }
 
 impl Members {
-    /// The table of no operation, in a feed that was made at this moment.
+    /// The table of the empty history of a feed that was made at this moment. It takes no memory.
     pub fn new(alloc: Global, created: Stamp) -> Members
         ensures table { IsTableOf result created [] }
         ensures empty { result.operations ≡ 0 }
@@ -51,9 +56,10 @@ impl Members {
         }
     }
 
-    /// What the member of this number is.
+    /// The state of the member with this number.
     pub fn state(&self, number: u32) -> State
-        ensures state { (created : ℤ) (history : List Op) → IsTableOf self.now created history → result ≡ state_of history number }
+        ensures state { (created : ℤ) (history : List Op) → IsTableOf self.now created history
+            → result ≡ state_of history number }
         ensures from_one { result ≢ State.Never → 1 ≤ number }
     {
         match number.checked_sub(1) {
@@ -65,17 +71,19 @@ impl Members {
         }
     }
 
-    /// The moment of the last operation, or when the feed was made.
+    /// The moment of the last operation, or the one when the feed was made if there is none.
     pub fn last_moment(&self) -> Stamp
-        ensures last { (created : ℤ) (history : List Op) → IsTableOf self.now created history → result ≡ last_moment created history }
+        ensures last { (created : ℤ) (history : List Op) → IsTableOf self.now created history
+            → result ≡ last_moment created history }
         ensures value { result ≡ self.now.last }
     {
         self.last
     }
 
-    /// How many members were ever made.
+    /// How many members were made, those that are deleted included.
     pub fn count(&self) -> u32
-        ensures made { (created : ℤ) (history : List Op) → IsTableOf self.now created history → result ≡ made history }
+        ensures made { (created : ℤ) (history : List Op) → IsTableOf self.now created history
+            → result ≡ made history }
         ensures few { result ≤ self.now.operations }
     {
         self.states.len() as u32
@@ -83,12 +91,45 @@ impl Members {
 
     /// How many members are live.
     pub fn live_count(&self) -> u32
-        ensures { (created : ℤ) (history : List Op) → IsTableOf self.now created history → result ≡ live_count history }
+        ensures { (created : ℤ) (history : List Op) → IsTableOf self.now created history
+            → result ≡ live_count history }
     {
         self.live
     }
 
-    /// Makes room for one more operation.
+    /// Whether the operation may follow the history, which `commit` requires. It may where it is later than the last
+    /// operation and its member is as it has to be: a new member has the next number, a changed one is live and its
+    /// `updated` doesn't go back, and a removed one is live and its tombstone has the later of the moment and its
+    /// `updated`.
+    pub fn may_follow(&self, operation: &Op) -> bool
+        ensures exact { (created : ℤ) (history : List Op) → IsTableOf self.now created history
+            → (IsTrue result ↔ MayFollow created history operation.now) }
+        ensures commits { IsTrue result → (created : ℤ) (history : List Op)
+            → IsTableOf self.now created history → MayCommit self.now operation.now }
+    {
+        operation.moment() > self.last && self.fits(operation)
+    }
+
+    /// Whether the operation's member is as it has to be. Moments are left to `may_follow`.
+    fn fits(&self, operation: &Op) -> bool
+        ensures { (created : ℤ) (history : List Op) → IsTableOf self.now created history
+            → (IsTrue result ↔ Fits history operation.now) }
+    {
+        match operation {
+            Op::Add(entry) => entry.number - 1 == self.count(),
+            Op::Change(entry) => match self.state(entry.number) {
+                State::Live { updated, .. } => updated <= entry.updated,
+                State::Never | State::Gone { .. } => false,
+            },
+            Op::Remove(removal) => match self.state(removal.tombstone.number) {
+                State::Live { updated, .. } => removal.tombstone.when
+                    == removal.moment.max(updated),
+                State::Never | State::Gone { .. } => false,
+            },
+        }
+    }
+
+    /// Makes room for one more operation. It answers `NoMemory` where memory ran out, and then nothing changed.
     pub fn prepare(&mut self) -> Result<(), NoMemory>
         ensures room { OnOk result (1 ≤ self.new.spare) }
         ensures same { self.new ≡ record self.old { spare = self.new.spare } }
@@ -97,13 +138,14 @@ impl Members {
         Ok(())
     }
 
-    /// Takes one more operation, in the room that `prepare` made. It takes no memory, and the same time however many
-    /// members there are.
+    /// Adds an operation to the table, in the room that `prepare` made. It takes no memory, and the same time however
+    /// many members there are.
     pub fn commit(&mut self, operation: &Op)
         requires room { 1 ≤ self.old.spare }
         requires few { self.old.operations < history_limit }
         requires follows { MayCommit self.old operation.now }
-        ensures table { (created : ℤ) (history : List Op) → IsTableOf self.old created history → IsTableOf self.new created (history ++ operation.now ∷ []) }
+        ensures table { (created : ℤ) (history : List Op) → IsTableOf self.old created history
+            → IsTableOf self.new created (history ++ operation.now ∷ []) }
         ensures counted { self.new.operations ≡ self.old.operations + 1 }
     {
         self.last = operation.moment();

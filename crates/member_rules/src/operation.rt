@@ -3,7 +3,8 @@ use deleted_entries::Tombstone;
 use std::alloc::Global;
 use std::marker::Model;
 
-/// That a member is removed: its tombstone, which isn't before the moment, and when the removal was accepted.
+/// The removal of a member: the member's tombstone, and the moment when the removal was accepted. The tombstone's
+/// `when` isn't before that moment.
 #[derive(Clone, Copy, Debug, PartialEq, Eq)]
 pub struct Removal {
     pub tombstone: Tombstone,
@@ -23,24 +24,25 @@ impl Model for Removal {
     ghost inverse = { λ v. record { tombstone = v.tombstone; moment = v.moment } };
 }
 
-/// An operation on a member (RFC 5023 sections 9.2 to 9.4).
+/// An accepted operation on a member (RFC 5023 sections 9.2 to 9.4). A history is a list of operations.
 #[derive(Debug, Drop)]
 pub enum Op {
-    /// A member is made.
+    /// Makes a member with this entry.
     Add(Entry),
-    /// A member gets another entry.
+    /// Replaces a member's entry by this one.
     Change(Entry),
-    /// A member is removed.
+    /// Removes a member.
     Remove(Removal),
 }
 
 impl Op {
-    ghost use Rattle.std.specs.Prelude.{◌≡◌, Some};
-    ghost use Rattle.member_rules.specs.Operation.{moment_of, named};
+    ghost use Rattle.std.specs.Prelude.{◌≡◌};
+    ghost use Rattle.member_rules.specs.Operation.{moment_of, number_of};
 
-    /// The member that the operation names.
+    /// The number of the member that the operation names. An operation that names none would have 0, but each of
+    /// today's names one.
     pub fn number(&self) -> u32
-        ensures { named self.now ≡ Some result }
+        ensures { result ≡ number_of self.now }
     {
         match self {
             Op::Add(entry) | Op::Change(entry) => entry.number,
@@ -48,7 +50,7 @@ impl Op {
         }
     }
 
-    /// When the operation was accepted.
+    /// The moment when the operation was accepted.
     pub fn moment(&self) -> Stamp
         ensures { result ≡ moment_of self.now }
     {

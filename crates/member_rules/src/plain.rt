@@ -1,12 +1,14 @@
 ghost use Rattle.std.specs.Prelude.{◌≡◌, ◌≤◌, length};
-ghost use Rattle.member_rules.specs.Fold.{Fold, after_operation, fold_of, made, last_moment, last_naming, live_count, state_of, updated_of};
+ghost use Rattle.member_rules.specs.Fold.{Fold, after_operation, fold_of, made, last_moment, last_naming};
+ghost use Rattle.member_rules.specs.Fold.{live_count, state_of, updated_of};
 ghost use Rattle.member_rules.specs.History.{history_limit};
 
 use crate::operation::Op;
 use crate::state::State;
 use atom_values::Stamp;
 
-/// What the member of this number is after the operations, by a look at each of them.
+/// The state of the member with this number after the operations. It reads each of them, so it is a plain form that
+/// [`crate::Members::state`] is tested against.
 #[tactic(auto, unfolding(crate::specs::Fold::state_of))]
 pub fn plain_state(history: &[Op], number: u32) -> State
     requires { length history.now ≤ history_limit }
@@ -33,7 +35,7 @@ fn plain_live(history: &[Op], number: u32) -> Option<Stamp>
     live
 }
 
-/// The same after one more operation.
+/// The `updated` after one more operation.
 fn live_after(live: Option<Stamp>, operation: &Op, number: u32) -> Option<Stamp>
     ensures { (members : Fold) → live ≡ updated_of (members.live number)
         → result ≡ updated_of ((after_operation members operation.now).live number) }
@@ -47,7 +49,7 @@ fn live_after(live: Option<Stamp>, operation: &Op, number: u32) -> Option<Stamp>
     }
 }
 
-/// When the member was deleted, if it was.
+/// The moment when the member was deleted, if it was.
 fn plain_gone(history: &[Op], number: u32) -> Option<Stamp>
     ensures { result ≡ (fold_of history.now).gone number }
 {
@@ -58,7 +60,7 @@ fn plain_gone(history: &[Op], number: u32) -> Option<Stamp>
     gone
 }
 
-/// The same after one more operation.
+/// The moment of deletion after one more operation.
 fn gone_after(gone: Option<Stamp>, operation: &Op, number: u32) -> Option<Stamp>
     ensures { (members : Fold) → gone ≡ members.gone number
         → result ≡ (after_operation members operation.now).gone number }
@@ -70,7 +72,7 @@ fn gone_after(gone: Option<Stamp>, operation: &Op, number: u32) -> Option<Stamp>
     }
 }
 
-/// The operation, from 1, that last named the member, or 0.
+/// The operation, counted from 1, that last named the member, or 0.
 fn plain_version(history: &[Op], number: u32) -> u32
     requires { length history.now ≤ history_limit }
     ensures { result ≡ last_naming number history.now }
@@ -112,7 +114,7 @@ pub fn plain_live_count(history: &[Op]) -> u32
     live
 }
 
-/// The moment of the last operation, or else when the feed was made.
+/// The moment of the last operation, or the one when the feed was made if there is none.
 pub fn plain_last_moment(created: Stamp, history: &[Op]) -> Stamp
     ensures { result ≡ last_moment created history.now }
 {

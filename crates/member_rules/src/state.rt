@@ -1,12 +1,13 @@
 use atom_values::Stamp;
 
-/// What a member is after the operations so far.
+/// The state of a member after some operations.
 #[derive(Clone, Copy, Debug, PartialEq, Eq)]
 pub enum State {
-    /// It was never made.
+    /// No member with this number was made.
     Never,
-    /// It has an entry, with this `updated`. `version` is the operation, from 1, that last named the member.
+    /// It has an entry with this `updated`. `version` is the operation, counted from 1, that set the entry
+    /// ([`crate::versions_set_the_entry`]).
     Live { updated: Stamp, version: u32 },
-    /// It was deleted, at this moment.
+    /// It was deleted at this moment.
     Gone { when: Stamp },
 }

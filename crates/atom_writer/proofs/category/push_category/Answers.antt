@@ -6,8 +6,7 @@ pub returns-clause-added : goal.returns-clause-added
 unfolding category_text
 returns-clause-added g c =
     let join = g.met.W.Out.joins in
-    (join _ _ _ _ _ (join _ _ _ _ _ (join _ _ _ _ _ (join _ _ _ _ _ (c.in_ok-push.ensures.added) c.in_ok-push_attribute.ensures.added) c.in_ok-push_optional_attribute.ensures.added) c.in_ok-push_optional_attribute-2.ensures.added) c.in_ok-push-2.ensures.added)
-
-pub returns-clause-bound : goal.returns-clause-bound
-unfolding category_text
-returns-clause-bound g c = (simp length-append (omega (arith, c.in_ok-push_attribute.ensures.bound, c.in_ok-push_optional_attribute.ensures.bound, c.in_ok-push_optional_attribute-2.ensures.bound)))
+    join _ _ _ _ _ (join _ _ _ _ _ (join _ _ _ _ _ (join _ _ _ _ _
+    c.in_ok-push.ensures.added c.in_ok-push_attribute.ensures.added)
+    c.in_ok-push_optional_attribute.ensures.added) c.in_ok-push_optional_attribute-2.ensures.added)
+    c.in_ok-push-2.ensures.added

@@ -1,14 +1,16 @@
 use Rattle.std.proofs.Common.{◌≤◌, arith, length-append, length, subst}
 use Rattle.atom_values.specs.Entry.{EntryValue}
-use Rattle.atom_writer.specs.Pieces.{front_text}
+use Rattle.atom_writer.specs.Entries.{front_text}
 use Rattle.atom_writer.proofs.entry.push_front.Goals as goal
 
 pub returns-clause-added : goal.returns-clause-added
 unfolding front_text
 returns-clause-added g c =
     let join = g.met.W.Out.joins in
-    rw (← c.entry.view_is) (join _ _ _ _ _ (join _ _ _ _ _ (join _ _ _ _ _ (join _ _ _ _ _ (join _ _ _ _ _ (join _ _ _ _ _ (join _ _ _ _ _ (join _ _ _ _ _ (join _ _ _ _ _ (join _ _ _ _ _ (c.in_ok-push.ensures.added) c.in_ok-push_id.ensures.added) c.in_ok-push-2.ensures.added) c.in_ok-push_construct.ensures.added) c.in_ok-push-3.ensures.added) c.in_ok-push_stamp.ensures.added) c.in_ok-push-4.ensures.added) c.in_ok-push_published.ensures.added) c.in_ok-push-5.ensures.added) c.in_ok-push_stamp-2.ensures.added) c.in_ok-push-6.ensures.added)
-
-pub returns-clause-bound : goal.returns-clause-bound
-unfolding front_text
-returns-clause-bound g c = subst (λ (e : EntryValue). length (front_text c.args.name.now e) ≤ 400_000) c.entry.view_is (simp length-append (omega (arith, c.in_ok-push_id.ensures.bound, c.in_ok-push_construct.ensures.bound, c.in_ok-push_stamp.ensures.bound, c.in_ok-push_published.ensures.bound, c.in_ok-push_stamp-2.ensures.bound)))
+    rw (← c.entry.view_is)
+    (join _ _ _ _ _ (join _ _ _ _ _ (join _ _ _ _ _ (join _ _ _ _ _ (join _ _ _ _ _ (join _ _ _ _ _
+    (join _ _ _ _ _ (join _ _ _ _ _ (join _ _ _ _ _ (join _ _ _ _ _
+    c.in_ok-push.ensures.added c.in_ok-push_id.ensures.added) c.in_ok-push-2.ensures.added)
+    c.in_ok-push_construct.ensures.added) c.in_ok-push-3.ensures.added) c.in_ok-push_stamp.ensures.added)
+    c.in_ok-push-4.ensures.added) c.in_ok-push_published.ensures.added) c.in_ok-push-5.ensures.added)
+    c.in_ok-push_stamp-2.ensures.added) c.in_ok-push-6.ensures.added)

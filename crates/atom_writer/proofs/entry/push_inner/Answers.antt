@@ -1,14 +1,13 @@
 use Rattle.std.proofs.Common.{arith, length-append, ap, ◌∙◌}
 use Rattle.atom_values.specs.Entry.{EntryValue}
-use Rattle.atom_writer.specs.Pieces.{inner_text}
+use Rattle.atom_writer.specs.Entries.{inner_text}
 use Rattle.atom_writer.proofs.entry.push_inner.Goals as goal
 
 pub returns-clause-added : goal.returns-clause-added
 unfolding inner_text
 returns-clause-added g c =
     let join = g.met.W.Out.joins in
-    (join _ _ _ _ _ (join _ _ _ _ _ (c.in_ok-push_front.ensures.added) (rw (c.as_slice.ensures.items ∙ ap (λ (e : EntryValue). e.authors) c.entry.view_is) at c.in_ok-push_persons.ensures.added)) c.in_ok-push_back.ensures.added)
-
-pub returns-clause-bound : goal.returns-clause-bound
-unfolding inner_text
-returns-clause-bound g c = (simp length-append (omega (arith, c.in_ok-push_front.ensures.bound, rw (c.as_slice.ensures.items ∙ ap (λ (e : EntryValue). e.authors) c.entry.view_is) at c.in_ok-push_persons.ensures.bound, c.in_ok-push_back.ensures.bound)))
+    join _ _ _ _ _ (join _ _ _ _ _
+    c.in_ok-push_front.ensures.added
+    (rw (c.as_slice.ensures.items ∙ ap (λ (e : EntryValue). e.authors) c.entry.view_is) at c.in_ok-push_persons.ensures.added))
+    c.in_ok-push_back.ensures.added

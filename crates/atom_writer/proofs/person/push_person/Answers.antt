@@ -6,8 +6,9 @@ pub returns-clause-added : goal.returns-clause-added
 unfolding person_text
 returns-clause-added g c =
     let join = g.met.W.Out.joins in
-    (join _ _ _ _ _ (join _ _ _ _ _ (join _ _ _ _ _ (join _ _ _ _ _ (join _ _ _ _ _ (join _ _ _ _ _ (join _ _ _ _ _ (join _ _ _ _ _ (c.in_ok-push.ensures.added) c.in_ok-push-2.ensures.added) c.in_ok-push-3.ensures.added) c.in_ok-push_element.ensures.added) c.in_ok-push_optional_element.ensures.added) c.in_ok-push_optional_element-2.ensures.added) c.in_ok-push-4.ensures.added) c.in_ok-push-5.ensures.added) c.in_ok-push-6.ensures.added)
-
-pub returns-clause-bound : goal.returns-clause-bound
-unfolding person_text
-returns-clause-bound g c = (simp length-append (omega (arith, c.in_ok-push_element.ensures.bound, c.in_ok-push_optional_element.ensures.bound, c.in_ok-push_optional_element-2.ensures.bound)))
+    join _ _ _ _ _ (join _ _ _ _ _ (join _ _ _ _ _ (join _ _ _ _ _ (join _ _ _ _ _ (join _ _ _ _ _
+    (join _ _ _ _ _ (join _ _ _ _ _
+    c.in_ok-push.ensures.added c.in_ok-push-2.ensures.added) c.in_ok-push-3.ensures.added)
+    c.in_ok-push_element.ensures.added) c.in_ok-push_optional_element.ensures.added)
+    c.in_ok-push_optional_element-2.ensures.added) c.in_ok-push-4.ensures.added)
+    c.in_ok-push-5.ensures.added) c.in_ok-push-6.ensures.added

@@ -1,5 +1,5 @@
 use Rattle.std.proofs.Common.{◌≤◌, length, subst, arith, length-append}
-use Rattle.atom_writer.specs.Doc.{DocValue}
+use mathlib.Core.Logic.{∥∥₁_map}
 use Rattle.atom_writer.specs.Pieces.{text}
 use Rattle.atom_writer.proofs.PieceLemmas.{text-is}
 use Rattle.atom_writer.proofs.write.push_doc.Goals as goal
@@ -8,9 +8,21 @@ pub returns-clause-added : goal.returns-clause-added
 returns-clause-added g c =
     let join = g.met.W.Out.joins in
     rw (← c.doc.view_is, ← text-is _)
-    (join _ _ _ _ _ (join _ _ _ _ _ (join _ _ _ _ _ c.in_ok-push_name.ensures.added c.in_ok-push_place.ensures.added) (rw c.as_slice.ensures.items at c.in_ok-push_items.ensures.added)) c.in_ok-push.ensures.added)
+    (join _ _ _ _ _ (join _ _ _ _ _ (join _ _ _ _ _
+    c.in_ok-push_name.ensures.added c.in_ok-push_place.ensures.added)
+    (rw c.as_slice.ensures.items at c.in_ok-push_items.ensures.added)) c.in_ok-push.ensures.added)
 
-pub returns-clause-bound : goal.returns-clause-bound
-returns-clause-bound g c =
-    subst (λ (d : DocValue). length (text d) ≤ 24_000_000_000) c.doc.view_is
-    (rw (← text-is _) (simp length-append (omega (arith, c.in_ok-push_name.ensures.bound, c.in_ok-push_place.ensures.bound, rw c.as_slice.ensures.items at c.in_ok-push_items.ensures.bound))))
+pub returns-clause-rules : goal.returns-clause-rules
+returns-clause-rules g c =
+    let name = c.in_ok-push_name.ensures in
+    let place = c.in_ok-push_place.ensures in
+    rw (← c.doc.view_is)
+    (∥∥₁_map place.base (λ base. record {
+      name = record { base = base; id = name.id; title = name.title; author = name.author };
+      first = place.first;
+      last = place.last;
+      prev = place.prev;
+      updated = name.updated;
+      items = rw c.as_slice.ensures.items at c.in_ok-push_items.ensures.rules;
+      rules = c.doc.invariant;
+    }))

@@ -1,4 +1,4 @@
-use Rattle.member_rules.proofs.ChainStays.{archive-stays}
+use Rattle.member_rules.proofs.ServedLemmas.{archive-stays}
 use Rattle.member_rules.proofs.laws.archives_stay.Goals as goal
 
 pub returns : goal.returns

@@ -1,6 +1,6 @@
 use Rattle.std.proofs.Common.{take, refl, sym, ap, ◌∙◌}
 use Rattle.member_rules.specs.Fold.{Fold, fold_of, updated_of}
-use Rattle.member_rules.proofs.Plains.{fold_of-more}
+use Rattle.member_rules.proofs.PlainLemmas.{fold_of-more}
 use Rattle.member_rules.proofs.plain.plain_live.Goals as goal
 
 pub loop-operation-init : goal.loop-operation-init
@@ -9,5 +9,7 @@ loop-operation-init c = refl
 
 pub loop-operation-preserved : goal.loop-operation-preserved
 loop-operation-preserved c =
-    let more = fold_of-more c.args.history.now c.loop-operation.operation-index c.operation-item.result c.loop-operation-test.true c.operation-item.is in
-    c.live_after-live.ensures (fold_of (take c.loop-operation.operation-index c.args.history.now)) c.loop-operation.invariant ∙ ap (λ (members : Fold). updated_of (members.live c.args.number)) (sym more)
+    let more = fold_of-more c.args.history.now c.loop-operation.operation-index c.operation-item.result
+    c.loop-operation-test.true c.operation-item.is in
+    c.live_after-live.ensures (fold_of (take c.loop-operation.operation-index c.args.history.now))
+    c.loop-operation.invariant ∙ ap (λ (members : Fold). updated_of (members.live c.args.number)) (sym more)

@@ -3,12 +3,13 @@ use Rattle.std.proofs.lemmas.Bool.Decides.{nat_tests}
 use Rattle.member_rules.specs.declared.state.State.{State}
 use Rattle.member_rules.specs.Table.{Table}
 use Rattle.member_rules.specs.Fold.{made, state_of}
-use Rattle.member_rules.proofs.Standings.{state_of-zero, state_of-past}
+use Rattle.member_rules.proofs.StateLemmas.{state_of-zero, state_of-past}
 use Rattle.member_rules.proofs.members.Members.state.Goals as goal
 
 pub returns-in-None-get-clause-state : goal.returns-in-None-get-clause-state
 returns-in-None-get-clause-state c = λ created history of.
-    let items = ap (λ (t : Table). length t.states) (sym c.self.view_is) ∙ ap (λ (s : List State). length s) (sym c.deref.ensures.value) in
+    let items = ap (λ (t : Table). length t.states) (sym c.self.view_is)
+    ∙ ap (λ (s : List State). length s) (sym c.deref.ensures.value) in
     let none = c.in-None-get.ensures.lookup in
     let at = c.in-Some.ensures in
     let past : made history < c.args.number = grind (arith, nat_tests) in

@@ -1,0 +1,12 @@
+use Rattle.std.proofs.Common.{arith, length-append}
+use Rattle.atom_writer.specs.Parts.{element}
+use Rattle.atom_writer.proofs.element.push_element.Goals as goal
+
+pub returns-clause-added : goal.returns-clause-added
+unfolding element
+returns-clause-added g c =
+    let join = g.met.W.Out.joins in
+    join _ _ _ _ _ (join _ _ _ _ _ (join _ _ _ _ _ (join _ _ _ _ _ (join _ _ _ _ _ (join _ _ _ _ _
+    c.in_ok-push.ensures.added c.in_ok-push-2.ensures.added) c.in_ok-push-3.ensures.added)
+    c.in_ok-push_escaped.ensures.added) c.in_ok-push-4.ensures.added) c.in_ok-push-5.ensures.added)
+    c.in_ok-push-6.ensures.added

@@ -1,0 +1,10 @@
+use Rattle.std.proofs.Common.{arith, length-append}
+use Rattle.atom_writer.specs.Pieces.{updated_piece}
+use Rattle.atom_writer.proofs.name.push_updated_piece.Goals as goal
+
+pub returns-clause-added : goal.returns-clause-added
+unfolding updated_piece
+returns-clause-added g c =
+    let join = g.met.W.Out.joins in
+    join _ _ _ _ _ (join _ _ _ _ _
+    c.in_ok-push.ensures.added c.in_ok-push_stamp.ensures.added) c.in_ok-push-2.ensures.added
