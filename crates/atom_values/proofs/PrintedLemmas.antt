@@ -1,5 +1,7 @@
 -- The printed form of a stamp states it.
-use Rattle.std.proofs.Common.{◌≡◌, ℕ, zero, suc, ◌+◌, ◌-◌, ◌*◌, ◌/◌, ◌%◌, ◌<◌, ◌≤◌, inl, inr, Bool, true, false, nat_le, List, [], ◌∷◌, ◌++◌, refl, sym, arith, ℤ, pos, negsuc, unsigned_abs, ◌≤ℤ◌, ◌+ℤ◌, ◌-ℤ◌, append_assoc, ap, ◌∙◌, min}
+use Rattle.std.proofs.Common.{◌≡◌, ℕ, zero, suc, ◌+◌, ◌-◌, ◌*◌, ◌/◌, ◌%◌, ◌<◌, ◌≤◌, inl, inr, Bool, true, false, nat_le}
+use Rattle.std.proofs.Common.{List, [], ◌∷◌, ◌++◌, refl, sym, arith, ℤ, pos, negsuc, unsigned_abs, ◌≤ℤ◌, ◌+ℤ◌, ◌-ℤ◌}
+use Rattle.std.proofs.Common.{append_assoc, ap, ◌∙◌, min}
 use Rattle.std.specs.Char.{is_ascii_digit}
 use Rattle.std.specs.List.{range_with_len, prefix_len, list_all}
 use Rattle.std.proofs.lemmas.Bool.{cases_lt}
@@ -9,9 +11,12 @@ use Rattle.std.proofs.lemmas.List.Sums.{prefix_len_passes, prefix_len_stops, pre
 use Rattle.jiff_core.proofs.SignedLemmas.{signed_arith}
 use Rattle.atom_values.specs.Ascii.{upper_t, upper_z}
 use Rattle.atom_values.specs.Calendar.{days_before_year, day_number, days_in_month, year_of, month_of, day_of}
-use Rattle.atom_values.specs.DateText.{utc, Parts, IsParts, States, date_time_text, digit_at, fraction_part, moment_of, text_of}
-use Rattle.atom_values.specs.Stamp.{IsStamp, millis_before_1970, since_year_zero, date_text, clock_text, fixed_digits, fraction_text, printed}
-use Rattle.atom_values.proofs.CalendarLemmas.{days_before_year-zero, days_before_year-end, day_number-first, day_number-next_month, day_number-next_year, day_number-day}
+use Rattle.atom_values.specs.DateText.{utc, Parts, IsParts, States, date_time_text, digit_at, fraction_part, moment_of}
+use Rattle.atom_values.specs.DateText.{text_of}
+use Rattle.atom_values.specs.Stamp.{IsStamp, millis_before_1970, since_year_zero, date_text, clock_text, fixed_digits}
+use Rattle.atom_values.specs.Stamp.{fraction_text, printed}
+use Rattle.atom_values.proofs.CalendarLemmas.{days_before_year-zero, days_before_year-end, day_number-first}
+use Rattle.atom_values.proofs.CalendarLemmas.{day_number-next_month, day_number-next_year, day_number-day}
 use Rattle.atom_values.proofs.DateFormLemmas.{le_tested}
 use Rattle.atom_values.proofs.PrintLemmas.{no_fraction, some_fraction}
 
@@ -21,16 +26,20 @@ lt_tested m n h = grind (arith, nat_tests)
 -- a front of the numbers from `first` on that pass a test
 passes : (p : ℕ → Bool) (first many k : ℕ) → k < prefix_len p (range_with_len first many) → p (first + k) ≡ true
 passes p first many k h =
-    let within : k < many = omega (arith, prefix_len-le-length p (range_with_len first many), length-range_with_len first many) in
+    let within : k < many =
+    omega (arith, prefix_len-le-length p (range_with_len first many), length-range_with_len first many) in
     rw (get_or-range_with_len first many k 0 within) at (prefix_len_passes p (range_with_len first many) k 0 h)
 
-stops : (p : ℕ → Bool) (first many n : ℕ) → n ≡ prefix_len p (range_with_len first many) → n < many → p (first + n) ≡ false
+stops : (p : ℕ → Bool) (first many n : ℕ) → n ≡ prefix_len p (range_with_len first many) → n < many →
+    p (first + n) ≡ false
 stops p first many n e h =
-    let stop = rw (← e) at (prefix_len_stops p (range_with_len first many) 0 (omega (arith, length-range_with_len first many))) in
+    let stop = rw (← e) at
+    (prefix_len_stops p (range_with_len first many) 0 (omega (arith, length-range_with_len first many))) in
     rw (get_or-range_with_len first many n 0 h) at stop
 
 at_most : (p : ℕ → Bool) (first many : ℕ) → prefix_len p (range_with_len first many) ≤ many
-at_most p first many = omega (arith, prefix_len-le-length p (range_with_len first many), length-range_with_len first many)
+at_most p first many =
+    omega (arith, prefix_len-le-length p (range_with_len first many), length-range_with_len first many)
 
 abbrev year_over : ℕ → ℕ → Bool
 year_over day y = nat_le (days_before_year (y + 1)) day
@@ -100,7 +109,8 @@ day_of_is : (day : ℕ) → day_of day ≡ day + 1 - day_number (year_of day) (m
 unfolding day_of
 day_of_is day = refl
 
-day_bound : (day y m : ℕ) → 1 ≤ m → m ≤ 12 → (m < 12 → day < day_number y (m + 1) 1) → day < days_before_year (y + 1) → day + 1 - day_number y m 1 ≤ days_in_month y m
+day_bound : (day y m : ℕ) → 1 ≤ m → m ≤ 12 → (m < 12 → day < day_number y (m + 1) 1) → day < days_before_year (y + 1) →
+    day + 1 - day_number y m 1 ≤ days_in_month y m
 day_bound day y m low high next end =
     elim (cases_lt m 12) [
       | inl some ↦ omega (arith, next some, day_number-next_month y m low some)
@@ -113,11 +123,13 @@ day_in_month : (day : ℕ) → day < 3_652_425 → day_of day ≤ days_in_month 
 day_in_month day h =
     let next : month_of day < 12 → day < day_number (year_of day) (month_of day + 1) 1 =
     λ lt. rw month_of_is (month_end day (months_over day) refl (omega (arith, month_of_is day))) in
-    rw day_of_is (day_bound day (year_of day) (month_of day) (omega (arith, month_of_is day)) (omega (arith, month_of_is day, months_bound day)) next (year_end day h))
+    rw day_of_is (day_bound day (year_of day) (month_of day) (omega (arith, month_of_is day))
+    (omega (arith, month_of_is day, months_bound day)) next (year_end day h))
 
 day_of_date : (day : ℕ) → day < 3_652_425 → IsDayOfDate day
 day_of_date day h =
-    let start : day_number (year_of day) (month_of day) 1 ≤ day = rw month_of_is (month_start day (months_over day) refl) in
+    let start : day_number (year_of day) (month_of day) 1 ≤ day =
+    rw month_of_is (month_start day (months_over day) refl) in
     record {
       year_in = year_bound day;
       month_in = omega (arith, month_of_is day, months_bound day);

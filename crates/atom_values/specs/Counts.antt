@@ -1,11 +1,15 @@
--- Counters that stay at the greatest u64, and failures that a count explains.
+-- Counters that stay at the greatest u64, and the failures that a counter explains.
 use Rattle.std.specs.Prelude.{ℕ, ◌+◌, ◌-◌, ◌^◌, ◌≤◌, min, Result, OnErr, OnOk, ◌≡◌}
 
--- a counter after one more
-abbrev pub counted : ℕ → ℕ
-counted before = min (before + 1) (2 ^ 64 - 1)
+-- the greatest u64
+abbrev pub counter_limit : ℕ
+counter_limit = 2 ^ 64 - 1
 
--- the counter rose; one that stands at its end counts as risen
+-- a counter after one more count
+abbrev pub counted : ℕ → ℕ
+counted before = min (before + 1) counter_limit
+
+-- the counter rose; at the greatest u64 it counts as risen
 abbrev pub Rose : ℕ → ℕ → Type 0
 Rose before after = counted before ≤ after
 

@@ -2,7 +2,9 @@
 -- clause of `Stamp::parse` says what a text states (`DateText`), and a proof shows that the two agree.
 use Rattle.std.specs.Char.{is_ascii_digit}
 use Rattle.std.specs.List.{list_all}
-use Rattle.std.specs.Prelude.{ℕ, ◌+◌, ◌-◌, ◌*◌, List, [], ◌∷◌, ℤ, pos, neg_ℤ, ◌-ℤ◌, int_le, Bool, ◌&&◌, ◌||◌, ◌==◌, nat_lt, nat_le, if◌then◌else◌, slice_index, true, min, take, drop, map, length, Option, Some, None, bytes_eq, codes}
+use Rattle.std.specs.Prelude.{ℕ, ◌+◌, ◌-◌, ◌*◌, List, [], ◌∷◌, ℤ, pos, neg_ℤ, ◌-ℤ◌, int_le, Bool, ◌&&◌, ◌||◌, ◌==◌}
+use Rattle.std.specs.Prelude.{nat_lt, nat_le, if◌then◌else◌, slice_index, true, min, take, drop, map, length, Option}
+use Rattle.std.specs.Prelude.{Some, None, bytes_eq, codes}
 use Rattle.atom_values.specs.Ascii.{minus, point, digit_zero, upper_z}
 use Rattle.atom_values.specs.Calendar.{day_number, days_in_month}
 use Rattle.atom_values.specs.DateText.{digit_at}

@@ -1,7 +1,8 @@
 -- The date texts of RFC 3339 section 5.6, with upper-case T and Z, and the timestamp that each states.
 use Rattle.std.specs.Char.{is_ascii_digit}
 use Rattle.std.specs.List.{list_all}
-use Rattle.std.specs.Prelude.{◌≡◌, ℕ, ◌+◌, ◌-◌, ◌*◌, ◌≤◌, min, true, List, [], ◌∷◌, ◌++◌, ℤ, pos, neg_ℤ, ◌-ℤ◌, codes, slice_index}
+use Rattle.std.specs.Prelude.{◌≡◌, ℕ, ◌+◌, ◌-◌, ◌*◌, ◌≤◌, min, true, List, [], ◌∷◌, ◌++◌, ℤ, pos, neg_ℤ, ◌-ℤ◌, codes}
+use Rattle.std.specs.Prelude.{slice_index}
 use Rattle.atom_values.specs.Ascii.{plus, minus, point, digit_zero, colon, upper_t}
 use Rattle.atom_values.specs.Calendar.{day_number, days_in_month}
 use Rattle.atom_values.specs.Stamp.{IsStamp, fixed_digits, millis_before_1970}

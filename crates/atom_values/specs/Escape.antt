@@ -1,6 +1,7 @@
 -- How the characters of a text are written in an XML document. Each character that is escaped is one byte
 -- of UTF-8, and no byte of a longer sequence has its value, so a text is escaped byte by byte.
-use Rattle.std.specs.Prelude.{◌≡◌, ◌≢◌, ◌↔◌, ℕ, ◌*◌, List, [], ◌∷◌, ◌++◌, Bool, ◌&&◌, ◌==◌, if◌then◌else◌, Option, Some, IfSome, flat_map, codes}
+use Rattle.std.specs.Prelude.{◌≡◌, ◌≢◌, ◌↔◌, ℕ, ◌*◌, List, [], ◌∷◌, ◌++◌, Bool, ◌&&◌, ◌==◌, if◌then◌else◌, Option, Some}
+use Rattle.std.specs.Prelude.{IfSome, flat_map, codes}
 use Rattle.atom_values.specs.Ascii.{tab, lf, cr, quote, ampersand, less_than, greater_than}
 use Rattle.atom_values.specs.XmlText.{IsAtomText, text_limit}
 

@@ -1,6 +1,7 @@
 -- Timestamps in milliseconds since 1970-01-01T00:00:00Z, and the one form that they are printed in
 -- (RFC 3339 section 5.6, in UTC).
-use Rattle.std.specs.Prelude.{ℕ, zero, suc, ◌+◌, ◌/◌, ◌%◌, List, [], ◌∷◌, ◌++◌, ℤ, pos, neg_ℤ, ◌+ℤ◌, ◌≤ℤ◌, unsigned_abs, ◌==◌, if◌then◌else◌}
+use Rattle.std.specs.Prelude.{ℕ, zero, suc, ◌+◌, ◌/◌, ◌%◌, List, [], ◌∷◌, ◌++◌, ℤ, pos, neg_ℤ, ◌+ℤ◌, ◌≤ℤ◌, unsigned_abs}
+use Rattle.std.specs.Prelude.{◌==◌, if◌then◌else◌}
 use Rattle.atom_values.specs.Ascii.{minus, point, digit_zero, colon, upper_t, upper_z}
 use Rattle.atom_values.specs.Calendar.{year_of, month_of, day_of}
 

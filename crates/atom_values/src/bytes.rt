@@ -7,7 +7,7 @@ use crate::memory::NoMemory;
 use std::alloc::Global;
 use std::marker::Model;
 
-/// A list of bytes that owns its memory.
+/// Bytes that own their memory, as a document's text or a file's content.
 #[derive(Debug, Drop)]
 pub struct Bytes {
     bytes: Vec<u8>,
@@ -20,7 +20,7 @@ impl Model for Bytes {
 }
 
 impl Bytes {
-    /// A copy of these bytes.
+    /// A copy of these bytes. `NoMemory` if there is no memory for it.
     pub fn of(alloc: Global, from: &[u8]) -> Result<Bytes, NoMemory>
         ensures { IfOk result (λ bytes. bytes ≡ from.now) }
     {

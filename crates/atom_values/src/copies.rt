@@ -8,7 +8,7 @@ pub trait Copies {
     // The part of a value that its copy has too: the whole value, except a list's spare room.
     ghost copied: { Self → Self } = { λ value. value };
 
-    /// A copy that equals this value.
+    /// A copy that equals this value. `NoMemory` if there is no memory for it.
     fn copy(&self, alloc: Global) -> Result<Self, NoMemory>
         ensures { IfOk result (λ copy. copied copy ≡ copied self.now) };
 }

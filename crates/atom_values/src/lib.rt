@@ -1,5 +1,19 @@
-//! The values that an Atom feed is made of: lists with a limit, moments, texts and entries.
-//! Each type keeps its rules, and each printed or escaped form is exactly its definition in specs/.
+//! The values of an Atom feed: lists with a limit, timestamps, texts and entries.
+//!
+//! Begin with `AtomText::of` and `Draft::titled`: `Draft::normal` makes an entry of a draft.
+//!
+//! ```
+//! let title = AtomText::of(alloc, b"News & views")?;
+//! let moment = Stamp::parse(b"2003-12-13T18:30:02.25+01:00").ok_or("no date")?;
+//! let entry = Draft::titled(alloc, title).normal(1, moment, None);
+//! let mut out = Vec::new(alloc);
+//! escape_into(&mut out, &entry.title.value, false)?;
+//! assert_eq!(rt; out.as_slice(), b"News &amp; views".as_slice());
+//! ```
+//!
+//! Each type keeps its rules, each printed or escaped form is exactly its definition in `specs/`, and `Stamp::parse`
+//! and `unescape` accept exactly the texts of these definitions.
+//!
 //! Stands on `jiff` for the calendar.
 #![tactic(auto)]
 

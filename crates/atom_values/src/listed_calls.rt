@@ -25,7 +25,7 @@ impl Model for ListedCalls {
 }
 
 impl ListedCalls {
-    /// The calls of an object that has made none.
+    /// The state before the first call. The calls with the numbers in `failing`, counted from 1, will fail.
     pub fn new(failing: Many<u64, 64>) -> ListedCalls
         ensures { result ≡ record { failing = failing.items; made = 0; faults = 0 } }
     {
@@ -51,7 +51,7 @@ impl ListedCalls {
         fails
     }
 
-    /// Counts a failure of another cause, as of an object whose growth found no memory.
+    /// Counts a failure with another cause, as an object that can't grow since memory ran out.
     pub fn count_failure(&mut self)
         ensures state { self.new ≡ record self.old { faults = counted self.old.faults } }
         ensures later { self.old.faults ≤ self.new.faults }

@@ -11,7 +11,8 @@ use std::error::Error;
 use std::fmt;
 use std::marker::Model;
 
-/// A list of at most `MAX` items.
+/// A list of at most `MAX` items, for input whose size must be bounded. Contracts see the items and the spare room,
+/// which is the number of pushes that need no memory.
 #[derive(Debug, Drop)]
 pub struct Many<T, const MAX: u32> {
     items: Vec<T>,
@@ -49,7 +50,7 @@ impl fmt::Display for ListFault {
 impl Error for ListFault {}
 
 impl<T, const MAX: u32> Many<T, MAX> {
-    /// The empty list, without memory of its own.
+    /// The empty list. Takes no memory.
     pub fn new(alloc: Global) -> Many<T, MAX>
         ensures { result.items ≡ [] }
     {
@@ -58,7 +59,7 @@ impl<T, const MAX: u32> Many<T, MAX> {
         }
     }
 
-    /// How many items there are.
+    /// The number of items.
     pub fn len(&self) -> usize
         ensures count { result ≡ length self.now.items }
         ensures within { result ≤ MAX }
@@ -74,7 +75,7 @@ impl<T, const MAX: u32> Many<T, MAX> {
         self.items.as_slice()
     }
 
-    /// The item at a place, from 0.
+    /// The item at an index from 0, or `None` past the end.
     pub fn get(&self, at: usize) -> Option<&T>
         ensures { option_copied result ≡ slice_get self.now.items at }
     {
@@ -83,13 +84,14 @@ impl<T, const MAX: u32> Many<T, MAX> {
 }
 
 impl<T: Drop, const MAX: u32> Many<T, MAX> {
-    /// Adds the item at the end. After a refusal the list is as before and the item is dropped.
-    ///
-    /// `TooMany` comes where the list has `MAX` items, `NoMemory` only where nothing is spare.
+    /// Adds the item at the end. `TooMany` exactly if the list has `MAX` items, `NoMemory` only if there is no spare
+    /// room. An error leaves the list unchanged and drops the item.
     pub fn push(&mut self, item: T) -> Result<(), ListFault>
         ensures ok { OnOk result (self.new.items ≡ self.old.items ++ item ∷ []) }
-        ensures full { (result ≡ Err (ListFault.TooMany (length self.old.items))) ↔ (length self.old.items ≡ MAX) }
-        ensures refusals { IfErr result (λ fault. (fault ≡ ListFault.TooMany (length self.old.items)) ⊎ (fault ≡ ListFault.NoMemory)) }
+        ensures full { (result ≡ Err (ListFault.TooMany (length self.old.items)))
+            ↔ (length self.old.items ≡ MAX) }
+        ensures refusals { IfErr result (λ fault. (fault ≡ ListFault.TooMany (length self.old.items))
+            ⊎ (fault ≡ ListFault.NoMemory)) }
         ensures spare { result ≡ Err ListFault.NoMemory → self.old.spare ≡ 0 }
         ensures used { OnOk result (self.old.spare ≤ self.new.spare + 1) }
         ensures err { OnErr result (self.new.items ≡ self.old.items) }
@@ -104,7 +106,7 @@ impl<T: Drop, const MAX: u32> Many<T, MAX> {
         }
     }
 
-    /// Makes room, so that the next `more` pushes don't answer `NoMemory`.
+    /// Makes room, so that the next `more` pushes don't return `NoMemory`. `NoMemory` if there is no memory for it.
     pub fn reserve(&mut self, more: usize) -> Result<(), NoMemory>
         ensures items { self.new.items ≡ self.old.items }
         ensures ok { OnOk result (more ≤ self.new.spare) }
@@ -146,33 +148,5 @@ impl<T: Copies + Drop, const MAX: u32> Copies for Many<T, MAX> {
             items.push(item.copy(alloc)?)?;
         }
         Ok(Many { items })
-    }
-}
-
-#[cfg(test)]
-mod tests {
-    use super::*;
-    use crate::bytes::Bytes;
-    use std::test::Fail;
-
-    #[test]
-    fn holds_at_most_its_limit(rt: HostRuntime) -> Result<(), Fail> {
-        let mut numbers: Many<u32, 2> = Many::new(rt.alloc());
-        numbers.reserve(1)?;
-        assert_eq!(rt; numbers.push(7), Ok(()));
-        assert_eq!(rt; numbers.push(8), Ok(()));
-        assert_eq!(rt; numbers.push(9), Err(ListFault::TooMany { count: 2 }));
-        assert_eq!(rt; numbers.len(), 2);
-        assert_eq!(rt; numbers.get(1), Some(&8));
-        assert_eq!(rt; numbers.get(2), None);
-        assert_eq!(rt; numbers.as_slice(), [7, 8].as_slice());
-        Ok(())
-    }
-
-    #[test]
-    fn keeps_bytes(rt: HostRuntime) -> Result<(), Fail> {
-        let bytes = Bytes::of(rt.alloc(), b"a\x00\xff")?;
-        assert_eq!(rt; bytes.slice(), b"a\x00\xff".as_slice());
-        Ok(())
     }
 }

@@ -1,5 +1,6 @@
 -- A printed address is the base and a place, and no two addresses print the same.
-use Rattle.std.proofs.Common.{◌≡◌, ℕ, ◌+◌, ◌≤◌, ◌<◌, ◌^◌, List, ◌++◌, length, get_or, length-append, codes, decimal, arith, refl, ap}
+use Rattle.std.proofs.Common.{◌≡◌, ℕ, ◌+◌, ◌≤◌, ◌<◌, ◌^◌, List, ◌++◌, length, get_or, length-append, codes, decimal}
+use Rattle.std.proofs.Common.{arith, refl, ap}
 use native.Mathlib.Bridge.{le_prop}
 use mathlib.Core.Logic.{∥∥₁_elim}
 use Rattle.std.proofs.lemmas.List.{append_cancel_left}
@@ -13,7 +14,8 @@ pub printed-is : (base : List ℕ) (address : Address) → printed base address 
 unfolding printed
 printed-is base address = refl
 
-pub length-printed : (base : List ℕ) (address : Address) → length (printed base address) ≡ length base + length (suffix_text address)
+pub length-printed : (base : List ℕ) (address : Address) →
+    length (printed base address) ≡ length base + length (suffix_text address)
 unfolding printed
 length-printed base address = length-append base (suffix_text address)
 
@@ -29,7 +31,8 @@ same_suffix Feed (Archive n) is_a is_b e = absurd (omega (arith, ap (λ x. get_o
 same_suffix Feed (Member n) is_a is_b e = absurd (omega (arith, ap (λ x. get_or x 0 0) e))
 same_suffix (Archive m) Feed is_a is_b e = absurd (omega (arith, ap (λ x. get_or x 0 0) e))
 same_suffix (Archive m) (Archive n) is_a is_b e =
-    ap (λ k. Archive k) (same_numbers m n is_a.1 is_b.1 (append_cancel_left (codes "archive/") (decimal m) (decimal n) e))
+    ap (λ k. Archive k) (same_numbers m n is_a.1 is_b.1
+    (append_cancel_left (codes "archive/") (decimal m) (decimal n) e))
 same_suffix (Archive m) (Member n) is_a is_b e = absurd (omega (arith, ap (λ x. get_or x 0 0) e))
 same_suffix (Member m) Feed is_a is_b e = absurd (omega (arith, ap (λ x. get_or x 0 0) e))
 same_suffix (Member m) (Archive n) is_a is_b e = absurd (omega (arith, ap (λ x. get_or x 0 0) e))

@@ -1,6 +1,7 @@
 -- Base addresses: `http://`, a host, optionally `:` and a port, `/`, and segments that each end with `/`.
 -- A part of the syntax of RFC 3986 section 3, in which no byte needs an escape.
-use Rattle.std.specs.Prelude.{◌≡◌, ◌≢◌, ℕ, ◌≤◌, List, [], ◌∷◌, ◌++◌, length, Bool, ◌||◌, ◌==◌, Option, Some, None, IfSome, IsTrue, All, flat_map, codes, decimal}
+use Rattle.std.specs.Prelude.{◌≡◌, ◌≢◌, ℕ, ◌≤◌, List, [], ◌∷◌, ◌++◌, length, Bool, ◌||◌, ◌==◌, Option, Some, None}
+use Rattle.std.specs.Prelude.{IfSome, IsTrue, All, flat_map, codes, decimal}
 use Rattle.std.specs.Char.{is_ascii_digit, is_ascii_lowercase, is_ascii_uppercase}
 use Rattle.std.specs.List.{join_with_byte}
 use Rattle.atom_values.specs.Ascii.{minus, point, slash, colon, underscore, tilde}

@@ -95,7 +95,8 @@ pub fn whole_number(text: &[u8]) -> Option<u32>
 /// The port, which is 80 if none is written, and the rest of the text after it.
 pub(crate) fn port(text: &[u8]) -> Option<(u16, &[u8])>
     ensures found { IfSome result (λ x. HasPort text.now x.0 x.1.now) }
-    ensures only { (written : Option ℕ) (path : List ℕ) → IsPort written → text.now ≡ port_text written ++ slash ∷ path
+    ensures only { (written : Option ℕ) (path : List ℕ) → IsPort written
+        → text.now ≡ port_text written ++ slash ∷ path
         → IsSomeAnd result (λ x. (x.0 ≡ unwrap_or written default_port) × (x.1.now ≡ slash ∷ path)) }
 {
     let Some(digits) = after(text, b":") else {

@@ -1,5 +1,6 @@
 -- Identifiers of a feed and of its members: UUIDs (RFC 9562), as sixteen bytes and as texts.
-use Rattle.std.specs.Prelude.{◌≡◌, ◌≢◌, ℕ, ◌+◌, ◌*◌, ◌/◌, ◌%◌, ◌<◌, ◌≤◌, ◌^◌, List, ◌∷◌, ◌++◌, length, take, slice_index, All, codes}
+use Rattle.std.specs.Prelude.{◌≡◌, ◌≢◌, ℕ, ◌+◌, ◌*◌, ◌/◌, ◌%◌, ◌<◌, ◌≤◌, ◌^◌, List, ◌∷◌, ◌++◌, length, take}
+use Rattle.std.specs.Prelude.{slice_index, All, codes}
 use Rattle.std.specs.Int.{to_be_bytes, w32}
 use Rattle.uuid.specs.Text.{hyphenated_text, lower}
 

@@ -33,11 +33,12 @@ impl Model for FeedId {
 }
 
 impl FeedId {
-    /// Parses an identifier in one of the forms that `uuid` reads. `None` exactly if the text has none of these forms or
-    /// its version is 8.
+    /// Parses an identifier in one of the forms that `uuid` reads. `None` exactly if the text has none of these forms
+    /// or its version is 8.
     pub fn parse(text: &[u8]) -> Option<FeedId>
         ensures value { IfSome result (λ id. parsed text.now ≡ Some id) }
-        ensures taken { IsSome result ↔ ((bytes : List ℕ) × (parsed text.now ≡ Some bytes) × (version bytes ≢ member_version)) }
+        ensures taken { IsSome result
+            ↔ ((bytes : List ℕ) × (parsed text.now ≡ Some bytes) × (version bytes ≢ member_version)) }
     {
         let uuid = Uuid::try_parse_ascii(text).ok()?;
         bytes_fit(uuid.as_bytes());

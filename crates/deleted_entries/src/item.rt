@@ -2,7 +2,8 @@ use atom_values::{Copies, Entry, NoMemory, Stamp};
 use std::alloc::Global;
 use std::marker::Model;
 
-/// The record of a deleted member (RFC 6721 section 3). Keeps the member's number, from 1, and the time of the deletion.
+/// The record of a deleted member (RFC 6721 section 3). Keeps the member's number, from 1, and the time of the
+/// deletion.
 #[derive(Clone, Copy, Debug, PartialEq, Eq)]
 pub struct Tombstone {
     pub number: u32,

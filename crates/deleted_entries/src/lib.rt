@@ -9,8 +9,8 @@
 //! assert_eq!(rt; number_of(&feed, &id), Some(1));
 //! ```
 //!
-//! A member's identifier is a UUID of the feed's bits and the member's number, as `specs/FeedId.antt` defines it, and no
-//! other member of the feed has it.
+//! A member's identifier is a UUID of the feed's bits and the member's number, as `specs/FeedId.antt` defines it, and
+//! no other member of the feed has it.
 //!
 //! Stands on `atom_values` and `uuid`.
 #![tactic(auto)]

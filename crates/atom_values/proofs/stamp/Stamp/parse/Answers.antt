@@ -14,5 +14,13 @@ returns c =
     let back : c.split_at.result.1.now ≡ drop 19 text =
     c.split_at.ensures.back ∙ ap (λ n. drop n text) low ∙ drop_min 19 text in
     let value : c.value_of_parts.result ≡ value_of text =
-    c.value_of_parts.ensures ∙ rw (c.split_at-2.ensures.front, c.split_at-2.ensures.back, c.saturating_sub.ensures, c.offset_length.ensures, front, back) in
+    c.value_of_parts.ensures
+    ∙ rw (
+      c.split_at-2.ensures.front,
+      c.split_at-2.ensures.back,
+      c.saturating_sub.ensures,
+      c.offset_length.ensures,
+      front,
+      back,
+    ) in
     record { stated = λ moment. rw value (value_of-states text moment) }

@@ -3,4 +3,5 @@ use Rattle.atom_values.proofs.text.AtomText.checked.Goals as goal
 
 pub returns-in-Some : goal.returns-in-Some
 returns-in-Some c text =
-    IsXmlText-refused c.as_slice.result.now c.in-Some.field-0 c.in-Some.ensures (rw (← c.as_slice.ensures.value) at text.xml)
+    IsXmlText-refused c.as_slice.result.now c.in-Some.field-0 c.in-Some.ensures
+    (rw (← c.as_slice.ensures.value) at text.xml)

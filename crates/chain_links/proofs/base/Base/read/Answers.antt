@@ -12,13 +12,18 @@ returns-in_err-after-clause-only c = λ address is e.
     absurd (none-some _ (c.in_err-after.ensures.only (suffix_text address) split))
 
 pub returns-in_err-after-clause-distinct : goal.returns-in_err-after-clause-distinct
-returns-in_err-after-clause-distinct c = λ one other is_one is_other e. same_address c.args.self.now one other is_one is_other e
+returns-in_err-after-clause-distinct c =
+    λ one other is_one is_other e. same_address c.args.self.now one other is_one is_other e
 
 pub returns-clause-found : goal.returns-clause-found
 returns-clause-found c =
     let base = c.deref.ensures.value ∙ c.self.view_is in
     IfSome_then c.read_suffix.result c.read_suffix.ensures.found
-    (λ address p. (p.0, c.in_ok-after.ensures.found ∙ ap (λ x. x ++ c.in_ok-after.field-0.now) base ∙ ap (λ x. c.args.self.now ++ x) p.1 ∙ sym (printed-is c.args.self.now address)))
+    (λ address p. (
+      p.0,
+      c.in_ok-after.ensures.found ∙ ap (λ x. x ++ c.in_ok-after.field-0.now) base
+          ∙ ap (λ x. c.args.self.now ++ x) p.1 ∙ sym (printed-is c.args.self.now address),
+    ))
 
 pub returns-clause-only : goal.returns-clause-only
 returns-clause-only c = λ address is e.
