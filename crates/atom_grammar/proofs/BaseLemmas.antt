@@ -4,16 +4,16 @@ use Rattle.std.proofs.lemmas.Bool.{true≢false}
 use Rattle.std.proofs.lemmas.Fmt.{decimal_injective}
 use Rattle.std.proofs.lemmas.List.{append_cancel_right}
 use Rattle.std.proofs.lemmas.List.Elements.{All-head, All-tail}
-use Rattle.chain_links.specs.Address.{place_text}
+use Rattle.chain_links.specs.Address.{suffix_text}
 use Rattle.chain_links.specs.Base.{is_label_char, is_segment_char, IsWord, IsPort, AreSegments, IsBase, host_text, port_text, path_text}
-use Rattle.chain_links.proofs.Bases.{spelling}
-use Rattle.chain_links.proofs.Paths.{segments_text}
+use Rattle.chain_links.proofs.BaseLemmas.{spelling}
+use Rattle.chain_links.proofs.PathLemmas.{segments_text}
 use Rattle.atom_writer.specs.declared.doc.Kind.{Kind}
 use Rattle.atom_writer.specs.declared.doc.Kind.TheVariants.{Subscription, Archive as Sealed}
 use Rattle.atom_writer.specs.Pieces.{own_address}
-use Rattle.atom_grammar.specs.declared.named.Own.{Own}
-use Rattle.atom_grammar.specs.Heads.{IsOwn, IsKind}
-use Rattle.atom_grammar.proofs.Until.{Lacks, Lacks-append, Lacks-tested, Lacks-decimal_below, behind_last, last_same, decimal_ends}
+use Rattle.atom_grammar.specs.declared.opening.Own.{Own}
+use Rattle.atom_grammar.specs.FeedParts.{IsOwn, IsKind}
+use Rattle.atom_grammar.proofs.UntilLemmas.{Lacks, Lacks-append, Lacks-tested, Lacks-decimal_below, behind_last, last_same, decimal_ends}
 
 Lacks-word : (c : ℕ) (test : ℕ → Bool) (word : List ℕ) → test c ≡ false → All (λ x. IsTrue (test x)) word → Lacks c word
 Lacks-word c test [] other chars = tt
@@ -47,13 +47,13 @@ Lacks-base text base =
     (Lacks-append 34 (port_text parts.port) (path_text parts.segments) (Lacks-port parts.port base.rules.port) path)) in
     subst (λ t. Lacks 34 t) (sym (spelling text base)) whole
 
-pub Lacks-place : (kind : Kind) → IsKind kind → Lacks 34 (place_text (own_address kind))
+pub Lacks-place : (kind : Kind) → IsKind kind → Lacks 34 (suffix_text (own_address kind))
 Lacks-place Subscription is = Lacks-tested 34 (codes "feed") refl
 Lacks-place (Sealed n) is = Lacks-append 34 (codes "archive/") (decimal n) (Lacks-tested 34 (codes "archive/") refl) (Lacks-decimal_below 34 n (omega arith) (omega (arith, is.1)))
 
 -- the text of a document's own address
 abbrev pub own_text : Own → List ℕ
-own_text own = own.base ++ place_text (own_address own.kind)
+own_text own = own.base ++ suffix_text (own_address own.kind)
 
 feed_archive : (a b : List ℕ) (n : ℕ) → n < 2 ^ 32 → a ++ codes "feed" ≢ b ++ (codes "archive/" ++ decimal n)
 feed_archive a b n small e =
@@ -66,7 +66,7 @@ feed_archive a b n small e =
     absurd (omega arith)
 
 -- two splits of one text
-pub parts_same : (x y : List ℕ) (k l : Kind) → IsKind k → IsKind l → x ++ place_text (own_address k) ≡ y ++ place_text (own_address l) → (x ≡ y) × (k ≡ l)
+pub parts_same : (x y : List ℕ) (k l : Kind) → IsKind k → IsKind l → x ++ suffix_text (own_address k) ≡ y ++ suffix_text (own_address l) → (x ≡ y) × (k ≡ l)
 parts_same x y Subscription Subscription is_k is_l e = (append_cancel_right x y (codes "feed") e, refl)
 parts_same x y Subscription (Sealed n) is_k is_l e = absurd (feed_archive x y n (omega (arith, is_l.1)) e)
 parts_same x y (Sealed m) Subscription is_k is_l e = absurd (feed_archive y x m (omega (arith, is_k.1)) (sym e))

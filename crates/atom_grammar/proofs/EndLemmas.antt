@@ -11,15 +11,15 @@ use Rattle.atom_writer.specs.declared.doc.Kind.{Kind}
 use Rattle.atom_writer.specs.declared.doc.Kind.TheVariants.{Subscription, Archive as Sealed}
 use Rattle.atom_writer.specs.Doc.{DocValue, IsDoc, IsFeedName}
 use Rattle.atom_writer.specs.Pieces.{pieces, joined, span_piece, item_piece}
-use Rattle.atom_grammar.specs.Heads.{prev_piece, IsSpanOf, IsSpan}
+use Rattle.atom_grammar.specs.FeedParts.{prev_piece, IsSpanOf, IsSpan}
 use Rattle.atom_grammar.specs.Parts.{literal}
-use Rattle.atom_grammar.specs.Stages.{IsRefused, IsNamed, AreItems, EndsAt, named_pieces, links_pieces}
-use Rattle.atom_grammar.proofs.Chain.{chain, tail_pieces, end_pieces, tail-first, tail-later, is_span, placed_prev, span_prev-apart, item-second}
-use Rattle.atom_grammar.proofs.HeadReadings.{span-one}
-use Rattle.atom_grammar.proofs.Items.{item-one}
-use Rattle.atom_grammar.proofs.Refused.{other_prev, links-first, links-later}
-use Rattle.atom_grammar.proofs.Starts.{document_of, is_document, head_pieces, tail-is, whole-is}
-use Rattle.atom_grammar.proofs.Stuck.{refused, behind_name, injective}
+use Rattle.atom_grammar.specs.Stages.{IsRefused, IsOpening, AreItems, EndsAt, opening_pieces, links_pieces}
+use Rattle.atom_grammar.proofs.PairLemmas.{chain, tail_pieces, end_pieces, tail-first, tail-later, is_span, placed_prev, span_prev-apart, item-second}
+use Rattle.atom_grammar.proofs.FeedPieceLemmas.{span-one}
+use Rattle.atom_grammar.proofs.ItemLemmas.{item-one}
+use Rattle.atom_grammar.proofs.RefusedLemmas.{other_prev, links-first, links-later}
+use Rattle.atom_grammar.proofs.StartLemmas.{document_of, is_document, head_pieces, tail-is, whole-is}
+use Rattle.atom_grammar.proofs.StuckLemmas.{refused, behind_name, injective}
 
 record IsBehindSpan (name : FeedName) (span : Span) (more : List (List ℕ)) (other : DocValue) : Type 0 where
   same_span : other.span ≡ span
@@ -57,12 +57,12 @@ behind_links name (Sealed number) prev span is_of more other is kind e n same_pr
     ap (λ m. links_pieces name (Sealed number) m ++ end) (sym same_prevs) ∙ sym (tail-is name (Sealed number) other.span other.prev other.items) ∙ e in
     behind_span name other is span is_of.bounds more (append_cancel_left (links_pieces name (Sealed number) prev) end (span_piece span ∷ more) f)
 
-behind_head : (name : FeedName) (kind : Kind) (updated : ℤ) (prev : ℕ) (span : Span) → IsNamed name kind updated → IsSpanOf kind prev span → (more : List (List ℕ)) (other : DocValue) → IsDoc other → pieces other ≡ head_pieces name kind updated prev span ++ more → IsBehindSpan name span more other
+behind_head : (name : FeedName) (kind : Kind) (updated : ℤ) (prev : ℕ) (span : Span) → IsOpening name kind updated → IsSpanOf kind prev span → (more : List (List ℕ)) (other : DocValue) → IsDoc other → pieces other ≡ head_pieces name kind updated prev span ++ more → IsBehindSpan name span more other
 unfolding head_pieces
-behind_head name kind updated prev span named is_of more other is e =
-    let read = named_pieces name kind updated in
+behind_head name kind updated prev span opening is_of more other is e =
+    let read = opening_pieces name kind updated in
     let links = links_pieces name kind prev in
-    let b = behind_name other is name kind updated named (links ++ span_piece span ∷ more)
+    let b = behind_name other is name kind updated opening (links ++ span_piece span ∷ more)
     (e ∙ append_assoc (read ++ links) (span_piece span ∷ []) more ∙ append_assoc read links (span_piece span ∷ more)) in
     behind_links name kind prev span is_of more other is b.same_kind b.tail other.prev refl
 
@@ -110,16 +110,16 @@ unfolding end_pieces
 all-is name read items = sym (append_assoc read (map (item_piece name) items) (codes "</feed>\n" ∷ []))
 
 -- neither one more item nor the end can stand there
-pub refused_items : (name : FeedName) (kind : Kind) (updated : ℤ) (prev : ℕ) (span : Span) → IsNamed name kind updated → prev < 2 ^ 32 → IsSpanOf kind prev span → (input rest : List ℕ) → EndsAt name span input rest → IsRefused (head_pieces name kind updated prev span) input rest
+pub refused_items : (name : FeedName) (kind : Kind) (updated : ℤ) (prev : ℕ) (span : Span) → IsOpening name kind updated → prev < 2 ^ 32 → IsSpanOf kind prev span → (input rest : List ℕ) → EndsAt name span input rest → IsRefused (head_pieces name kind updated prev span) input rest
 unfolding literal
-refused_items name kind updated prev span named small is_of input rest ends =
+refused_items name kind updated prev span opening small is_of input rest ends =
     let read = head_pieces name kind updated prev span in
     let front = map (item_piece name) ends.items in
     let d = document_of name kind span prev updated ends.items in
-    refused d (is_document name kind span prev updated ends.items named small is_of ends.read.lawful) read front (codes "</feed>\n") []
+    refused d (is_document name kind span prev updated ends.items opening small is_of ends.read.lawful) read front (codes "</feed>\n") []
     (whole-is d ∙ all-is name read ends.items) input rest ends.read.split
     (λ other is p after left e at.
-    let b = behind_head name kind updated prev span named is_of (front ++ p ∷ left) other is (e ∙ append_assoc read front (p ∷ left)) in
+    let b = behind_head name kind updated prev span opening is_of (front ++ p ∷ left) other is (e ∙ append_assoc read front (p ∷ left)) in
     ⊎_elim
     (λ o.
     let whole : AreItems other.span other.items = record { each = is.items; room = is.rules.room; distinct = is.rules.distinct } in
@@ -127,7 +127,7 @@ refused_items name kind updated prev span named small is_of input rest ends =
     subst (λ z. AreItems span z) (o.all ∙ sym (append_assoc ends.items (o.item ∷ []) o.more)) (subst (λ s. AreItems s other.items) b.same_span whole) in
     ends.no_more o.item after (are-front span (ends.items ++ o.item ∷ []) o.more all) (at ∙ ap (λ z. z ++ after) o.piece))
     (λ end. ends.no_end tt after tt tt (at ∙ ap (λ z. z ++ after) end))
-    (items_next name named.is_name other.items ends.items is.items ends.read.lawful.each p left b.tail))
+    (items_next name opening.is_name other.items ends.items is.items ends.read.lawful.each p left b.tail))
 
 -- nothing may stand behind the end
 pub refused_behind_end : (d : DocValue) → IsDoc d → (input rest : List ℕ) → input ≡ joined (pieces d) ++ rest → rest ≢ [] → IsRefused [] input rest

@@ -18,13 +18,14 @@ use Rattle.chain_links.specs.declared.address.Address.TheVariants.{Feed, Archive
 use Rattle.deleted_entries.specs.FeedId.{IsFeedId, member_id}
 use Rattle.atom_writer.specs.declared.doc.FeedName.{FeedName}
 use Rattle.atom_writer.specs.Parts.{element as element_text, optional_element as optional_element_text, person_text, link_text, category_text}
-use Rattle.atom_writer.specs.Pieces.{open_attributes, construct as construct_text, optional_construct as optional_construct_text, edit_link, published_text, front_text, back_text, inner_text, entry_piece, tombstone_piece}
+use Rattle.atom_writer.specs.Entries.{open_attributes, construct as construct_text, optional_construct as optional_construct_text, edit_link, published_text, front_text, back_text, inner_text}
+use Rattle.atom_writer.specs.Pieces.{entry_piece, tombstone_piece}
 use Rattle.atom_grammar.specs.Parts.{Part, IsFound, IsReadAlone, starts, lacks, content, moment, address, member, both, behind, ended, optional, many, alone}
 use Rattle.atom_grammar.specs.Items.{element, date, kind, construct, person, persons, link, category, whole_construct, editing, front, back, tombstone, entry}
-use Rattle.atom_grammar.proofs.Readings.{IsClosed, Starts, Renames, renamed_found, renamed_alone, both_alone, behind_alone, ended_alone}
-use Rattle.atom_grammar.proofs.Names.{member_alone, address_alone}
-use Rattle.atom_grammar.proofs.Shapes.{end_tag, date_alone, optional_date_alone, construct_alone, optional_construct_alone, persons_alone, links_alone, categories_alone, construct_starts, person_starts, category_starts}
-use Rattle.atom_grammar.proofs.Texts.{moment_alone, starts_split}
+use Rattle.atom_grammar.proofs.ReadingLemmas.{IsClosed, Starts, Renames, renamed_found, renamed_alone, both_alone, behind_alone, ended_alone}
+use Rattle.atom_grammar.proofs.NameLemmas.{member_alone, address_alone}
+use Rattle.atom_grammar.proofs.ShapeLemmas.{end_tag, date_alone, optional_date_alone, construct_alone, optional_construct_alone, persons_alone, links_alone, categories_alone, construct_starts, person_starts, category_starts}
+use Rattle.atom_grammar.proofs.TextLemmas.{moment_alone, starts_split}
 
 -- a tombstone
 abbrev pub tombstone_parts : FeedName → Part (ℕ × ℤ)

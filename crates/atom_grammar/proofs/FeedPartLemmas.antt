@@ -8,10 +8,10 @@ use Rattle.chain_links.specs.declared.place.Span.{Span}
 use Rattle.deleted_entries.specs.FeedId.{feed_text}
 use Rattle.deleted_entries.proofs.IdLemmas.{length-by_index}
 use Rattle.atom_writer.specs.Pieces.{id_piece, link_piece, span_piece}
-use Rattle.atom_grammar.specs.declared.named.Own.{Own}
-use Rattle.atom_grammar.specs.Heads.{at_base, uuid, feed_id, own_address, own, own_piece, feed_link, link_to, prev_link, prev_piece, span}
+use Rattle.atom_grammar.specs.declared.opening.Own.{Own}
+use Rattle.atom_grammar.specs.FeedParts.{at_base, uuid, feed_id, own_address, own, own_piece, feed_link, link_to, prev_link, prev_piece, span}
 use Rattle.atom_grammar.specs.Parts.{Part, IsFound, IsAbsent, literal, number, address, behind, both, ended}
-use Rattle.atom_grammar.proofs.Readings.{Renames}
+use Rattle.atom_grammar.proofs.ReadingLemmas.{Renames}
 
 abbrev pub Always : {A : Type 0} → A → Type 0
 Always _ = Unit {0}

@@ -10,11 +10,12 @@ use Rattle.chain_links.specs.Address as address
 use Rattle.chain_links.specs.declared.place.Span.{Span}
 use Rattle.atom_writer.specs.Pieces.{id_piece, updated_piece, span_piece, link_piece, own_address}
 use Rattle.atom_grammar.specs.Reading.{IsReadInOneWay}
-use Rattle.atom_grammar.specs.declared.named.Own.{Own}
-use Rattle.atom_grammar.specs.Heads.{own_piece, IsOwn, prev_piece, IsArchiveNumber, IsSpan}
-use Rattle.atom_grammar.proofs.Values.{titled, authored}
-use Rattle.atom_grammar.proofs.Bases.{own_text, own_same, Lacks-base, Lacks-place}
-use Rattle.atom_grammar.proofs.Until.{Lacks, until, Lacks-escaped, Lacks-printed, Lacks-feed_text, Lacks-append, Lacks-decimal_below, escaped_injective, printed_injective, feed_text_injective}
+use Rattle.atom_grammar.specs.declared.opening.Own.{Own}
+use Rattle.atom_grammar.specs.FeedParts.{own_piece, IsOwn, prev_piece, IsArchiveNumber, IsSpan}
+use Rattle.atom_grammar.proofs.ValueLemmas.{titled, authored}
+use Rattle.atom_grammar.proofs.BaseLemmas.{own_text, own_same, Lacks-base, Lacks-place}
+use Rattle.atom_grammar.proofs.MomentLemmas.{printed_injective}
+use Rattle.atom_grammar.proofs.UntilLemmas.{Lacks, until, Lacks-escaped, Lacks-printed, Lacks-feed_text, Lacks-append, Lacks-decimal_below, escaped_injective, feed_text_injective}
 
 -- a value between fixed texts, where the text of none has the byte behind it
 between : {A : Type 0} (Is : A → Type 0) (text : A → List ℕ) (front back : List ℕ) (c : ℕ) → ((v : A) → Is v → Lacks c (text v)) → ((v w : A) → Is v → Is w → text v ≡ text w → v ≡ w) → (v w : A) (x y : List ℕ) → Is v → Is w → (front ++ text v) ++ (c ∷ back) ++ x ≡ (front ++ text w) ++ (c ∷ back) ++ y → (v ≡ w) × (x ≡ y)
@@ -83,7 +84,7 @@ own_after own x = simp append_assoc
 pub own-one : IsReadInOneWay IsOwn own_piece
 own-one input v w x y a b =
     let e = sym (own_after v x) ∙ sym a.split ∙ b.split ∙ own_after w y in
-    let lacks = λ (own : Own) (is : IsOwn own). Lacks-append 34 own.base (address.place_text (own_address own.kind)) (Lacks-base own.base is.base) (Lacks-place own.kind is.kind) in
+    let lacks = λ (own : Own) (is : IsOwn own). Lacks-append 34 own.base (address.suffix_text (own_address own.kind)) (Lacks-base own.base is.base) (Lacks-place own.kind is.kind) in
     let parts = until 34 (own_text v) (own_text w) (codes "/>\n" ++ x) (codes "/>\n" ++ y) (lacks v a.lawful) (lacks w b.lawful)
     (append_cancel_left (codes "<link rel=\"self\" href=\"") (own_text v ++ 34 ∷ (codes "/>\n" ++ x)) (own_text w ++ 34 ∷ (codes "/>\n" ++ y)) e) in
     (own_same v w a.lawful b.lawful parts.0, append_cancel_left (codes "/>\n") x y parts.1)

@@ -13,8 +13,8 @@ use Rattle.deleted_entries.specs.Tombstone.{TombstoneValue}
 use Rattle.atom_grammar.specs.Parts.{IsReadAlone, IsFound, IsAbsent, lacks, starts}
 use Rattle.atom_grammar.specs.Items.{item, entry, tombstone}
 use Rattle.atom_grammar.specs.Reading.{IsReadInOneWay}
-use Rattle.atom_grammar.proofs.Entries.{entry_alone, tombstone_alone}
-use Rattle.atom_grammar.proofs.Names.{base_lacks}
+use Rattle.atom_grammar.proofs.EntryLemmas.{entry_alone, tombstone_alone}
+use Rattle.atom_grammar.proofs.NameLemmas.{base_lacks}
 
 -- a tombstone's piece and an entry's differ
 item_cases : (name : FeedName) → IsFeedId name.id → lacks 34 name.base ≡ true → (v w : Item) (rest left : List ℕ) → IsItem v → IsItem w → item_piece name v ++ rest ≡ item_piece name w ++ left → (v ≡ w) × (rest ≡ left)

@@ -14,15 +14,15 @@ use Rattle.atom_writer.specs.declared.doc.FeedName.{FeedName}
 use Rattle.atom_writer.specs.Doc.{span_len}
 use Rattle.atom_writer.specs.Pieces.{joined, item_piece}
 use Rattle.atom_writer.proofs.PieceLemmas.{joined-map-push}
-use Rattle.atom_grammar.specs.Heads.{ReadsPiece, item_behind}
+use Rattle.atom_grammar.specs.FeedParts.{ReadsPiece, item_behind}
 use Rattle.atom_grammar.specs.Parts.{IsAbsent, IsFound, literal, starts}
 use Rattle.atom_grammar.specs.Stages.{ReadsSome, EndsAt, ReadsItems}
-use Rattle.atom_grammar.specs.declared.stop.Stop.{Stop}
-use Rattle.atom_grammar.specs.declared.stop.Stop.TheVariants.{Unlike, NoMemory}
-use Rattle.atom_grammar.proofs.Chain.{item-second}
-use Rattle.atom_grammar.proofs.Readings.{starts_append}
-use Rattle.atom_grammar.proofs.Starts.{no_items}
-use Rattle.atom_grammar.proofs.Stuck.{start}
+use Rattle.atom_grammar.specs.declared.part_fault.PartFault.{PartFault}
+use Rattle.atom_grammar.specs.declared.part_fault.PartFault.TheVariants.{Mismatch, NoMemory}
+use Rattle.atom_grammar.proofs.PairLemmas.{item-second}
+use Rattle.atom_grammar.proofs.ReadingLemmas.{starts_append}
+use Rattle.atom_grammar.proofs.StartLemmas.{no_items}
+use Rattle.atom_grammar.proofs.StuckLemmas.{start}
 
 apart_back : (x y : ℕ) → nat_eq x y ≡ false → nat_eq y x ≡ false
 apart_back x y h = ne_eqb y x (λ e. false≢true (sym h ∙ eq-eqb x y (sym e)))
@@ -94,13 +94,13 @@ module _ (name : FeedName) (span : Span) (before middle : List ℕ) (items : Lis
     no_end = not_there (codes "</feed>\n") middle goes_on;
   }
 
-  pub item_stopped : (after : List ℕ) (e : Stop) (r : Result (Listed Item) Stop) → starts (codes "</feed>\n") middle ≡ false → ReadsPiece (item_behind name items) middle (Err e) after → IsErrAnd r (λ s. s ≡ e) → ReadsItems name span before r after
+  pub item_stopped : (after : List ℕ) (e : PartFault) (r : Result (Listed Item) PartFault) → starts (codes "</feed>\n") middle ≡ false → ReadsPiece (item_behind name items) middle (Err e) after → IsErrAnd r (λ s. s ≡ e) → ReadsItems name span before r after
   item_stopped after e (Ok x) goes_on s same = absurd same
-  item_stopped after Unlike (Err x) goes_on s same =
-      let P : Stop → Type 0 = λ stop. ReadsItems name span before (Err stop) after in
+  item_stopped after Mismatch (Err x) goes_on s same =
+      let P : PartFault → Type 0 = λ stop. ReadsItems name span before (Err stop) after in
       subst P (sym same) (subst (λ z. EndsAt name span before z) (sym s.0) (no_item s.1 goes_on))
   item_stopped after NoMemory (Err x) goes_on s same =
-      let P : Stop → Type 0 = λ stop. ReadsItems name span before (Err stop) after in
+      let P : PartFault → Type 0 = λ stop. ReadsItems name span before (Err stop) after in
       subst P (sym same) tt
 
 -- each item takes some of the input

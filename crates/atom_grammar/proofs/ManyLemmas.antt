@@ -5,15 +5,15 @@ use Rattle.std.specs.Prelude.{flat_map, codes, IsTrue, Result, Ok, Err}
 use Rattle.std.specs.Result.{IsErrAnd}
 use Rattle.atom_values.specs.declared.many.ListFault.{ListFault}
 use Rattle.atom_values.specs.declared.many.ListFault.TheVariants.{TooMany, NoMemory as Memory}
-use Rattle.atom_grammar.specs.Full.{IsStopOf}
-use Rattle.atom_grammar.specs.declared.stop.Stop.{Stop}
-use Rattle.atom_grammar.specs.declared.stop.Stop.TheVariants.{Unlike, NoMemory}
-use Rattle.atom_grammar.proofs.Texts.{starts_split}
+use Rattle.atom_grammar.specs.ListFaults.{IsFaultOf}
+use Rattle.atom_grammar.specs.declared.part_fault.PartFault.{PartFault}
+use Rattle.atom_grammar.specs.declared.part_fault.PartFault.TheVariants.{Mismatch, NoMemory}
+use Rattle.atom_grammar.proofs.TextLemmas.{starts_split}
 use Rattle.std.proofs.lemmas.List.{append-nil}
 use Rattle.std.proofs.lemmas.List.Concat.{flat_map-append}
 use Rattle.std.proofs.lemmas.List.Elements.{All-head, All-tail, All-nil, All-cons, All-append}
-use Rattle.atom_grammar.specs.Parts.{Part, IsFound, IsAbsent, IsReadAlone, Stops, ReadsAs, starts, many}
-use Rattle.atom_grammar.proofs.Readings.{IsClosed, Starts, found}
+use Rattle.atom_grammar.specs.Parts.{Part, IsFound, IsAbsent, IsReadAlone, IsPartFault, ReadsAs, starts, many}
+use Rattle.atom_grammar.proofs.ReadingLemmas.{IsClosed, Starts, found}
 
 -- the input begins with these items' texts
 pub record IsGathered {A : Type 0} (part : Part A) (input : List ℕ) (items : List A) (rest : List ℕ) : Type 0 where
@@ -102,15 +102,15 @@ gathered_pushed {A} part input middle rest items new x is g f =
     subst P (sym is) (gathered_more part input middle rest items x g f)
 
 -- or the list is full, or memory ran out
-pub push_stopped : {A C : Type 0} (view : C → List A) (most : ℕ) (bytes : List ℕ) (part : Part A) → IsClosed part → Starts bytes part → IsReadAlone part → (input middle rest : List ℕ) (items : List A) (x : A) (fault : ListFault) (r : Result C Stop) → IsGathered part input items middle → IsFound part middle x rest → IsErrAnd r (IsStopOf fault) → (fault ≡ TooMany (length items)) ⊎ (fault ≡ Memory) → (fault ≡ TooMany (length items) → length items ≡ most) → ReadsAs view (many most bytes part) input r rest
+pub push_stopped : {A C : Type 0} (view : C → List A) (most : ℕ) (bytes : List ℕ) (part : Part A) → IsClosed part → Starts bytes part → IsReadAlone part → (input middle rest : List ℕ) (items : List A) (x : A) (fault : ListFault) (r : Result C PartFault) → IsGathered part input items middle → IsFound part middle x rest → IsErrAnd r (IsFaultOf fault) → (fault ≡ TooMany (length items)) ⊎ (fault ≡ Memory) → (fault ≡ TooMany (length items) → length items ≡ most) → ReadsAs view (many most bytes part) input r rest
 push_stopped view most bytes part closed begins one input middle rest items x fault (Ok y) g f same which full = absurd same
 push_stopped view most bytes part closed begins one input middle rest items x fault (Err s) g f same (inl e) full =
-    let P : ListFault → Type 0 = λ k. IsStopOf k s in
-    let Q : Stop → Type 0 = Stops (many most bytes part) input in
-    let unlike : s ≡ Unlike = subst P e same in
+    let P : ListFault → Type 0 = λ k. IsFaultOf k s in
+    let Q : PartFault → Type 0 = IsPartFault (many most bytes part) input in
+    let unlike : s ≡ Mismatch = subst P e same in
     subst Q (sym unlike) (many_full most bytes part closed begins one input rest (items ++ x ∷ []) (gathered_more part input middle rest items x g f) (omega (arith, full e, length-append items (x ∷ []))))
 push_stopped view most bytes part closed begins one input middle rest items x fault (Err s) g f same (inr e) full =
-    let P : ListFault → Type 0 = λ k. IsStopOf k s in
-    let Q : Stop → Type 0 = Stops (many most bytes part) input in
+    let P : ListFault → Type 0 = λ k. IsFaultOf k s in
+    let Q : PartFault → Type 0 = IsPartFault (many most bytes part) input in
     let memory : s ≡ NoMemory = subst P e same in
     subst Q (sym memory) tt

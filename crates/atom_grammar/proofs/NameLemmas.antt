@@ -12,19 +12,19 @@ use Rattle.std.proofs.lemmas.Fmt.{digits_decimal, decimal_injective}
 use mathlib.Core.Logic.{∥∥₁_elim}
 use mathlib.Core.Bool.{Bool-set}
 use Rattle.chain_links.specs.Base.{IsBase, IsPort, IsWord, AreSegments, is_label_char, is_segment_char, host_text, port_text, path_text}
-use Rattle.chain_links.specs.Address.{IsAddress, printed, place_text}
+use Rattle.chain_links.specs.Address.{IsAddress, printed, suffix_text}
 use Rattle.chain_links.specs.declared.address.Address.{Address}
 use Rattle.chain_links.specs.declared.address.Address.TheVariants.{Feed, Archive, Member}
-use Rattle.chain_links.proofs.Addresses.{printed-is, same_address}
-use Rattle.chain_links.proofs.Bases.{spelling}
-use Rattle.chain_links.proofs.Numbers.{read_on}
+use Rattle.chain_links.proofs.AddressLemmas.{printed-is, same_address}
+use Rattle.chain_links.proofs.BaseLemmas.{spelling}
+use Rattle.chain_links.proofs.NumberLemmas.{read_on}
 use Rattle.deleted_entries.specs.FeedId.{IsFeedId, IsMemberId, member_id}
 use Rattle.deleted_entries.proofs.IdLemmas.{length-by_index, one_number}
-use Rattle.atom_grammar.specs.declared.stop.Stop.{Stop}
-use Rattle.atom_grammar.specs.declared.stop.Stop.TheVariants.{Unlike}
+use Rattle.atom_grammar.specs.declared.part_fault.PartFault.{PartFault}
+use Rattle.atom_grammar.specs.declared.part_fault.PartFault.TheVariants.{Mismatch}
 use Rattle.atom_grammar.specs.Parts.{IsFound, IsAbsent, IsReadAlone, Reads, starts, lacks, IsCutAt, number, address, member}
-use Rattle.atom_grammar.proofs.Readings.{found, starts_append}
-use Rattle.atom_grammar.proofs.Texts.{lacks_append, cut_same, no_cut}
+use Rattle.atom_grammar.proofs.ReadingLemmas.{found, starts_append}
+use Rattle.atom_grammar.proofs.TextLemmas.{lacks_append, cut_same, no_cut}
 
 length-member_id : (feed : List ℕ) (n : ℕ) → length (member_id feed n) ≡ 45
 unfolding member_id
@@ -48,7 +48,7 @@ unfolding member
 member_short feed input short n left is _ e =
     omega (arith, ap length e, length-append (member_id feed n) left, length-member_id feed n)
 
-member_by : (feed input : List ℕ) (r : Option ℕ) → ((n : ℕ) → (r ≡ Some n) ↔ IsMemberId feed n (take 45 input)) → Reads (member feed) input (ok_or r Unlike) (drop 45 input)
+member_by : (feed input : List ℕ) (r : Option ℕ) → ((n : ℕ) → (r ≡ Some n) ↔ IsMemberId feed n (take 45 input)) → Reads (member feed) input (ok_or r Mismatch) (drop 45 input)
 unfolding member
 member_by feed input (Some n) exact =
     let is = (exact n).0 refl in
@@ -66,10 +66,10 @@ member_by feed input None exact = λ other left law _ e.
     let h : None ≡ Some other = (exact other).1 record { counted = law.0; below = law.1; text = ap (take 45) e ∙ take_at (member_id feed other) left 45 size } in
     cc
 
-pub member_read : (feed input id rest : List ℕ) (r : Option ℕ) (s : Result ℕ Stop) → s ≡ ok_or r Unlike → id ≡ take 45 input → rest ≡ drop 45 input → ((n : ℕ) → (r ≡ Some n) ↔ IsMemberId feed n id) → Reads (member feed) input s rest
+pub member_read : (feed input id rest : List ℕ) (r : Option ℕ) (s : Result ℕ PartFault) → s ≡ ok_or r Mismatch → id ≡ take 45 input → rest ≡ drop 45 input → ((n : ℕ) → (r ≡ Some n) ↔ IsMemberId feed n id) → Reads (member feed) input s rest
 member_read feed input id rest r s is front back exact =
     let P : List ℕ → Type 0 = λ x. (n : ℕ) → (r ≡ Some n) ↔ IsMemberId feed n x in
-    let Q : Result ℕ Stop → Type 0 = λ x. Reads (member feed) input x (drop 45 input) in
+    let Q : Result ℕ PartFault → Type 0 = λ x. Reads (member feed) input x (drop 45 input) in
     let R : List ℕ → Type 0 = λ x. Reads (member feed) input s x in
     subst R (sym back) (subst Q (sym is) (member_by feed input r (subst P front exact)))
 
@@ -130,13 +130,13 @@ base_lacks base is =
 pub some_base_lacks : (base : List ℕ) → ∥ IsBase base ∥₁ → lacks 34 base ≡ true
 some_base_lacks base h = ∥∥₁_elim h (Bool-set (lacks 34 base) true) (base_lacks base)
 
-place_lacks : (a : Address) → IsAddress a → lacks 34 (place_text a) ≡ true
+place_lacks : (a : Address) → IsAddress a → lacks 34 (suffix_text a) ≡ true
 place_lacks Feed is = refl
 place_lacks (Archive n) is = decimal_lacks n is.1
 place_lacks (Member n) is = decimal_lacks n is.1
 
 printed_lacks : (base : List ℕ) (a : Address) → lacks 34 base ≡ true → IsAddress a → lacks 34 (printed base a) ≡ true
-printed_lacks base a h is = ap (lacks 34) (printed-is base a) ∙ lacks_append 34 base (place_text a) h (place_lacks a is)
+printed_lacks base a h is = ap (lacks 34) (printed-is base a) ∙ lacks_append 34 base (suffix_text a) h (place_lacks a is)
 
 pub address_alone : (base : List ℕ) → lacks 34 base ≡ true → IsReadAlone (address base)
 unfolding address
@@ -148,15 +148,15 @@ address_alone base h v w rest left is_v is_w a b e =
 pub address_elsewhere : (base input : List ℕ) → starts base input ≡ false → IsAbsent (address base) input
 unfolding address
 address_elsewhere base input h other left is _ e =
-    let parts = e ∙ ap (λ x. x ++ left) (printed-is base other) ∙ append_assoc base (place_text other) left in
-    let g : true ≡ false = sym (starts_append base (place_text other ++ left)) ∙ ap (starts base) (sym parts) ∙ h in cc
+    let parts = e ∙ ap (λ x. x ++ left) (printed-is base other) ∙ append_assoc base (suffix_text other) left in
+    let g : true ≡ false = sym (starts_append base (suffix_text other ++ left)) ∙ ap (starts base) (sym parts) ∙ h in cc
 
 -- and there is a quote behind it
 pub address_nowhere : (base input : List ℕ) → lacks 34 input ≡ true → IsAbsent (address base) input
 unfolding address
 address_nowhere base input h other left is before e = no_cut 34 input (printed base other) left h before e
 
-address_by : (base input front rest : List ℕ) (r : Option Address) → lacks 34 base ≡ true → IsCutAt 34 input front rest → IfSome r (λ a. IsAddress a × (front ≡ printed base a)) → ((a : Address) → IsAddress a → front ≡ printed base a → r ≡ Some a) → Reads (address base) input (ok_or r Unlike) rest
+address_by : (base input front rest : List ℕ) (r : Option Address) → lacks 34 base ≡ true → IsCutAt 34 input front rest → IfSome r (λ a. IsAddress a × (front ≡ printed base a)) → ((a : Address) → IsAddress a → front ≡ printed base a → r ≡ Some a) → Reads (address base) input (ok_or r Mismatch) rest
 unfolding address
 address_by base input front rest (Some a) h cut some only =
     found (address base) (address_alone base h) input a rest some.0 cut.begins (cut.split ∙ ap (λ x. x ++ rest) some.1)
@@ -164,9 +164,9 @@ address_by base input front rest None h cut some only = λ other left is before 
     let p = cut_same 34 front (printed base other) rest left cut.free (printed_lacks base other h is) cut.begins before (sym cut.split ∙ e) in
     let g : None ≡ Some other = only other is p.0 in cc
 
-pub address_read : (base input front rest : List ℕ) (r : Option Address) (s : Result Address Stop) → s ≡ ok_or r Unlike → lacks 34 base ≡ true → IsCutAt 34 input front rest → IfSome r (λ a. IsAddress a × (front ≡ printed base a)) → ((a : Address) → IsAddress a → front ≡ printed base a → r ≡ Some a) → Reads (address base) input s rest
+pub address_read : (base input front rest : List ℕ) (r : Option Address) (s : Result Address PartFault) → s ≡ ok_or r Mismatch → lacks 34 base ≡ true → IsCutAt 34 input front rest → IfSome r (λ a. IsAddress a × (front ≡ printed base a)) → ((a : Address) → IsAddress a → front ≡ printed base a → r ≡ Some a) → Reads (address base) input s rest
 address_read base input front rest r s is h cut some only =
-    let Q : Result Address Stop → Type 0 = λ x. Reads (address base) input x rest in
+    let Q : Result Address PartFault → Type 0 = λ x. Reads (address base) input x rest in
     subst Q (sym is) (address_by base input front rest r h cut some only)
 
 pub number_alone : IsReadAlone number
@@ -179,7 +179,7 @@ pub number_nowhere : (input : List ℕ) → lacks 34 input ≡ true → IsAbsent
 unfolding number
 number_nowhere input h other left is before e = no_cut 34 input (decimal other) left h before e
 
-number_by : (input front rest : List ℕ) (r : Option ℕ) → IsCutAt 34 input front rest → IfSome r (λ n. (n < 2 ^ 32) × (front ≡ decimal n)) → ((n : ℕ) → n < 2 ^ 32 → front ≡ decimal n → r ≡ Some n) → Reads number input (ok_or r Unlike) rest
+number_by : (input front rest : List ℕ) (r : Option ℕ) → IsCutAt 34 input front rest → IfSome r (λ n. (n < 2 ^ 32) × (front ≡ decimal n)) → ((n : ℕ) → n < 2 ^ 32 → front ≡ decimal n → r ≡ Some n) → Reads number input (ok_or r Mismatch) rest
 unfolding number
 number_by input front rest (Some n) cut some only =
     found number number_alone input n rest some.0 cut.begins (cut.split ∙ ap (λ x. x ++ rest) some.1)
@@ -187,7 +187,7 @@ number_by input front rest None cut some only = λ other left is before e.
     let p = cut_same 34 front (decimal other) rest left cut.free (decimal_lacks other is) cut.begins before (sym cut.split ∙ e) in
     let h : None ≡ Some other = only other is p.0 in cc
 
-pub number_read : (input front rest : List ℕ) (r : Option ℕ) (s : Result ℕ Stop) → s ≡ ok_or r Unlike → IsCutAt 34 input front rest → IfSome r (λ n. (n < 2 ^ 32) × (front ≡ decimal n)) → ((n : ℕ) → n < 2 ^ 32 → front ≡ decimal n → r ≡ Some n) → Reads number input s rest
+pub number_read : (input front rest : List ℕ) (r : Option ℕ) (s : Result ℕ PartFault) → s ≡ ok_or r Mismatch → IsCutAt 34 input front rest → IfSome r (λ n. (n < 2 ^ 32) × (front ≡ decimal n)) → ((n : ℕ) → n < 2 ^ 32 → front ≡ decimal n → r ≡ Some n) → Reads number input s rest
 number_read input front rest r s is cut some only =
-    let Q : Result ℕ Stop → Type 0 = λ x. Reads number input x rest in
+    let Q : Result ℕ PartFault → Type 0 = λ x. Reads number input x rest in
     subst Q (sym is) (number_by input front rest r cut some only)

@@ -5,21 +5,21 @@ use Rattle.std.proofs.lemmas.List.{take_at, drop_at, take_rest, take-append-drop
 use Rattle.std.proofs.lemmas.List.Elements.{All-head, All-tail, All-from_get_or}
 use Rattle.uuid.proofs.RoundTrips.{parses_hyphenated}
 use Rattle.uuid.specs.Text.{parsed, lower}
-use Rattle.chain_links.specs.Address.{place_text, printed}
+use Rattle.chain_links.specs.Address.{suffix_text, printed}
 use Rattle.chain_links.specs.Base.{IsBase}
-use Rattle.chain_links.proofs.Addresses.{printed-is}
+use Rattle.chain_links.proofs.AddressLemmas.{printed-is}
 use Rattle.deleted_entries.specs.FeedId.{IsFeedId, feed_text}
 use Rattle.atom_writer.specs.declared.doc.Kind.{Kind}
 use Rattle.atom_writer.specs.declared.doc.Kind.TheVariants.{Subscription, Archive as Sealed}
 use Rattle.atom_writer.specs.Pieces.{own_address}
-use Rattle.atom_grammar.specs.declared.named.Own.{Own}
-use Rattle.atom_grammar.specs.Heads.{IsKind, IsOwn, uuid, own_address as own_part}
+use Rattle.atom_grammar.specs.declared.opening.Own.{Own}
+use Rattle.atom_grammar.specs.FeedParts.{IsKind, IsOwn, uuid, own_address as own_part}
 use Rattle.atom_grammar.specs.Parts.{IsFound, IsAbsent, IsCutAt, BeginsWithByte, lacks}
-use Rattle.atom_grammar.proofs.Bases.{own_text, parts_same}
-use Rattle.atom_grammar.proofs.HeadParts.{uuid_length}
-use Rattle.atom_grammar.proofs.Names.{base_lacks, decimal_lacks}
-use Rattle.atom_grammar.proofs.Texts.{cut_same, lacks_append, no_cut, other_byte}
-use Rattle.atom_grammar.proofs.Until.{Lacks, Lacks-decimal_below, behind_last, feed_text_injective}
+use Rattle.atom_grammar.proofs.BaseLemmas.{own_text, parts_same}
+use Rattle.atom_grammar.proofs.FeedPartLemmas.{uuid_length}
+use Rattle.atom_grammar.proofs.NameLemmas.{base_lacks, decimal_lacks}
+use Rattle.atom_grammar.proofs.TextLemmas.{cut_same, lacks_append, no_cut, other_byte}
+use Rattle.atom_grammar.proofs.UntilLemmas.{Lacks, Lacks-decimal_below, behind_last, feed_text_injective}
 
 -- the identifier that a text is read as
 pub id_is : (text id : List ℕ) → IsFeedId id → text ≡ feed_text id → parsed text ≡ Some id
@@ -63,23 +63,23 @@ lacked : (byte : ℕ) (xs : List ℕ) → lacks byte xs ≡ true → Lacks byte 
 lacked byte [] e = tt
 lacked byte (x ∷ xs) e = (other_byte byte x xs e, lacked byte xs (and_parts (not (eqb x byte)) (lacks byte xs) e).1)
 
-archive_split : (base : List ℕ) (n : ℕ) → base ++ place_text (own_address (Sealed n)) ≡ (base ++ codes "archive") ++ 47 ∷ decimal n
+archive_split : (base : List ℕ) (n : ℕ) → base ++ suffix_text (own_address (Sealed n)) ≡ (base ++ codes "archive") ++ 47 ∷ decimal n
 archive_split base n = sym (append_assoc base (codes "archive") (47 ∷ decimal n))
 
 -- what is found where the text ends with `feed`, and where it ends with the place of an archive
-pub feed_is : (text x base : List ℕ) (kind : Kind) → text ≡ x ++ codes "feed" → IsKind kind → text ≡ base ++ place_text (own_address kind) → (x ≡ base) × (Subscription ≡ kind)
+pub feed_is : (text x base : List ℕ) (kind : Kind) → text ≡ x ++ codes "feed" → IsKind kind → text ≡ base ++ suffix_text (own_address kind) → (x ≡ base) × (Subscription ≡ kind)
 feed_is text x base kind found is e = parts_same x base Subscription kind tt is (sym found ∙ e)
 
-pub archive_found : (text front digits base : List ℕ) (n : ℕ) → text ≡ front ++ 47 ∷ digits → front ≡ base ++ codes "archive" → digits ≡ decimal n → text ≡ base ++ place_text (own_address (Sealed n))
+pub archive_found : (text front digits base : List ℕ) (n : ℕ) → text ≡ front ++ 47 ∷ digits → front ≡ base ++ codes "archive" → digits ≡ decimal n → text ≡ base ++ suffix_text (own_address (Sealed n))
 archive_found text front digits base n split a b =
     split ∙ ap (λ x. x ++ 47 ∷ digits) a ∙ ap (λ x. (base ++ codes "archive") ++ 47 ∷ x) b ∙ sym (archive_split base n)
 
-pub archive_is : (text front digits x base : List ℕ) (n : ℕ) (kind : Kind) → text ≡ front ++ 47 ∷ digits → front ≡ x ++ codes "archive" → digits ≡ decimal n → IsKind (Sealed n) → IsKind kind → text ≡ base ++ place_text (own_address kind) → (x ≡ base) × (Sealed n ≡ kind)
+pub archive_is : (text front digits x base : List ℕ) (n : ℕ) (kind : Kind) → text ≡ front ++ 47 ∷ digits → front ≡ x ++ codes "archive" → digits ≡ decimal n → IsKind (Sealed n) → IsKind kind → text ≡ base ++ suffix_text (own_address kind) → (x ≡ base) × (Sealed n ≡ kind)
 archive_is text front digits x base n kind split a b is_n is e =
     parts_same x base (Sealed n) kind is_n is (sym (archive_found text front digits x n split a b) ∙ e)
 
 -- a text that ends in neither way is no document's own address
-pub no_own : (text base : List ℕ) (kind : Kind) → ((front : List ℕ) → text ≢ front ++ codes "feed") → ((n : ℕ) → IsKind (Sealed n) → text ≢ (base ++ codes "archive") ++ 47 ∷ decimal n) → IsKind kind → text ≡ base ++ place_text (own_address kind) → ⊥
+pub no_own : (text base : List ℕ) (kind : Kind) → ((front : List ℕ) → text ≢ front ++ codes "feed") → ((n : ℕ) → IsKind (Sealed n) → text ≢ (base ++ codes "archive") ++ 47 ∷ decimal n) → IsKind kind → text ≡ base ++ suffix_text (own_address kind) → ⊥
 no_own text base Subscription feed archive is e = feed base e
 no_own text base (Sealed n) feed archive is e = archive n is (e ∙ archive_split base n)
 
@@ -91,14 +91,14 @@ pub archive_parts : (text front digits base : List ℕ) (n : ℕ) → text ≡ f
 archive_parts text front digits base n split free is e =
     behind_last 47 front (base ++ codes "archive") digits (decimal n) (lacked 47 digits free) (Lacks-decimal_below 47 n (omega arith) (omega (arith, is.1))) (sym split ∙ e)
 
-kind_lacks : (kind : Kind) → IsKind kind → lacks 34 (place_text (own_address kind)) ≡ true
+kind_lacks : (kind : Kind) → IsKind kind → lacks 34 (suffix_text (own_address kind)) ≡ true
 kind_lacks Subscription is = refl
 kind_lacks (Sealed n) is = decimal_lacks n (omega (arith, is.1))
 
 own_lacks : (own : Own) → IsOwn own → lacks 34 (printed own.base (own_address own.kind)) ≡ true
 own_lacks own is =
     ap (lacks 34) (printed-is own.base (own_address own.kind))
-    ∙ lacks_append 34 own.base (place_text (own_address own.kind)) (base_lacks own.base is.base) (kind_lacks own.kind is.kind)
+    ∙ lacks_append 34 own.base (suffix_text (own_address own.kind)) (base_lacks own.base is.base) (kind_lacks own.kind is.kind)
 
 pub own_nowhere : (input : List ℕ) → lacks 34 input ≡ true → IsAbsent own_part input
 own_nowhere input none other left is before e = no_cut 34 input (printed other.base (own_address other.kind)) left none before e
@@ -109,15 +109,15 @@ own_cut input front rest cut other left is before e =
     let p = cut_same 34 front (printed other.base (own_address other.kind)) rest left cut.free (own_lacks other is) cut.begins before (sym cut.split ∙ e) in
     (p.0 ∙ printed-is other.base (own_address other.kind), p.1)
 
-pub own_unsplit : (input front rest : List ℕ) → IsCutAt 34 input front rest → ((base : List ℕ) (kind : Kind) → IsKind kind → front ≡ base ++ place_text (own_address kind) → ⊥) → IsAbsent own_part input
+pub own_unsplit : (input front rest : List ℕ) → IsCutAt 34 input front rest → ((base : List ℕ) (kind : Kind) → IsKind kind → front ≡ base ++ suffix_text (own_address kind) → ⊥) → IsAbsent own_part input
 own_unsplit input front rest cut none other left is before e = none other.base other.kind is.kind (own_cut input front rest cut other left is before e).0
 
-pub own_unlike : (input front rest base : List ℕ) (kind : Kind) → IsCutAt 34 input front rest → IsKind kind → front ≡ base ++ place_text (own_address kind) → ¬ IsBase base → IsAbsent own_part input
+pub own_unlike : (input front rest base : List ℕ) (kind : Kind) → IsCutAt 34 input front rest → IsKind kind → front ≡ base ++ suffix_text (own_address kind) → ¬ IsBase base → IsAbsent own_part input
 own_unlike input front rest base kind cut is_kind split foreign other left is before e =
     let p = own_cut input front rest cut other left is before e in
     foreign (subst (λ x. IsBase x) (parts_same other.base base other.kind kind is.kind is_kind (sym p.0 ∙ split)).0 is.base)
 
-pub own_read : (input front rest base : List ℕ) (kind : Kind) → IsCutAt 34 input front rest → IsBase base → IsKind kind → front ≡ base ++ place_text (own_address kind) → IsFound own_part input (record { base = base; kind = kind }) rest
+pub own_read : (input front rest base : List ℕ) (kind : Kind) → IsCutAt 34 input front rest → IsBase base → IsKind kind → front ≡ base ++ suffix_text (own_address kind) → IsFound own_part input (record { base = base; kind = kind }) rest
 own_read input front rest base kind cut is_base is_kind split =
     let make : List ℕ → Kind → Own = λ x k. record { base = x; kind = k } in
     record {

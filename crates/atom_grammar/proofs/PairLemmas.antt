@@ -13,12 +13,12 @@ use Rattle.atom_writer.specs.declared.doc.Kind.{Kind}
 use Rattle.atom_writer.specs.declared.doc.Kind.TheVariants.{Subscription, Archive as Sealed}
 use Rattle.atom_writer.specs.Doc.{DocValue, IsDoc, IsFeedName, is_placed}
 use Rattle.atom_writer.specs.Pieces.{pieces, name_pieces, place_pieces, link_piece, prev_pieces, current_pieces, next_pieces, declaration_piece, open_piece, id_piece, updated_piece, span_piece, item_piece, entry_piece, tombstone_piece}
-use Rattle.atom_grammar.specs.declared.named.Own.{Own}
-use Rattle.atom_grammar.specs.Heads.{own_piece, IsOwn, IsKind, prev_piece, IsArchiveNumber, IsSpan}
-use Rattle.atom_grammar.proofs.Values.{titled, authored}
-use Rattle.atom_grammar.proofs.HeadReadings.{id-one, title-one, updated-one, author-one, own-one, prev-one, span-one}
-use Rattle.atom_grammar.proofs.Items.{item-one}
-use Rattle.atom_grammar.proofs.Same.{Same, Same-nil, Same-cons, Same-fixed, Same-append, Same-apart}
+use Rattle.atom_grammar.specs.declared.opening.Own.{Own}
+use Rattle.atom_grammar.specs.FeedParts.{own_piece, IsOwn, IsKind, prev_piece, IsArchiveNumber, IsSpan}
+use Rattle.atom_grammar.proofs.ValueLemmas.{titled, authored}
+use Rattle.atom_grammar.proofs.FeedPieceLemmas.{id-one, title-one, updated-one, author-one, own-one, prev-one, span-one}
+use Rattle.atom_grammar.proofs.ItemLemmas.{item-one}
+use Rattle.atom_grammar.proofs.SameLemmas.{Same, Same-nil, Same-cons, Same-fixed, Same-append, Same-apart}
 
 -- the pieces of the items, and the last
 unfoldable pub end_pieces : FeedName → List Item → List (List ℕ)
@@ -113,17 +113,17 @@ chain-tail name is (Sealed number) s t is_s is_t m n small_m small_n placed_s pl
     (Same-append (archive_links name number m) (span_piece s ∷ end_pieces name xs) (span_piece t ∷ end_pieces name ys)
     (chain-rest name is s t is_s is_t xs ys are_xs are_ys (λ e. value e same)))
 
-named : List ℕ → List ℕ → List ℕ → List ℕ → FeedName
-named base id title author = record { base = base; id = id; title = title; author = author }
+name_of : List ℕ → List ℕ → List ℕ → List ℕ → FeedName
+name_of base id title author = record { base = base; id = id; title = title; author = author }
 
-named-is : (a : FeedName) → named a.base a.id a.title a.author ≡ a
-unfolding named
-named-is a = refl
+name_of-is : (a : FeedName) → name_of a.base a.id a.title a.author ≡ a
+unfolding name_of
+name_of-is a = refl
 
 pub same_name : (a b : FeedName) → a.base ≡ b.base → a.id ≡ b.id → a.title ≡ b.title → a.author ≡ b.author → a ≡ b
 same_name a b base id title author =
-    let e : named a.base a.id a.title a.author ≡ named b.base b.id b.title b.author = cc in
-    sym (named-is a) ∙ e ∙ named-is b
+    let e : name_of a.base a.id a.title a.author ≡ name_of b.base b.id b.title b.author = cc in
+    sym (name_of-is a) ∙ e ∙ name_of-is b
 
 document_of : FeedName → Kind → Span → ℕ → ℤ → List Item → DocValue
 document_of name kind span prev updated items = record { name = name; kind = kind; span = span; prev = prev; updated = updated; items = items }

@@ -5,9 +5,9 @@ use Rattle.std.proofs.lemmas.Bool.{and_from, eq-eqb}
 use Rattle.std.proofs.lemmas.List.{append_cancel_left}
 use Rattle.std.specs.Result.{IsErrAnd}
 use Rattle.std.specs.Prelude.{Result, Ok, Err}
-use Rattle.atom_grammar.specs.declared.stop.Stop.{Stop}
-use Rattle.atom_grammar.specs.declared.stop.Stop.TheVariants.{Unlike, NoMemory}
-use Rattle.atom_grammar.specs.Parts.{Part, IsFound, IsAbsent, IsReadAlone, Stops, ReadsAs, starts, literal, both, behind, ended, optional, optional_text, alone}
+use Rattle.atom_grammar.specs.declared.part_fault.PartFault.{PartFault}
+use Rattle.atom_grammar.specs.declared.part_fault.PartFault.TheVariants.{Mismatch, NoMemory}
+use Rattle.atom_grammar.specs.Parts.{Part, IsFound, IsAbsent, IsReadAlone, IsPartFault, ReadsAs, starts, literal, both, behind, ended, optional, optional_text, alone}
 
 -- what is read, where no two values are read of one text
 pub found : {A : Type 0} (part : Part A) → IsReadAlone part → (input : List ℕ) (value : A) (rest : List ℕ) → part.Is value → part.Before rest → input ≡ part.text value ++ rest → IsFound part input value rest
@@ -66,20 +66,20 @@ unfolding alone
 alone_closed part rest = tt
 
 -- a failure of a part is one of the whole
-pub stopped : {A B C : Type 0} (part : Part A) (view : C → B) (whole : Part B) (at input rest : List ℕ) (e : Stop) (r : Result C Stop) → Stops part at e → IsErrAnd r (λ s. s ≡ e) → (IsAbsent part at → IsAbsent whole input) → ReadsAs view whole input r rest
+pub stopped : {A B C : Type 0} (part : Part A) (view : C → B) (whole : Part B) (at input rest : List ℕ) (e : PartFault) (r : Result C PartFault) → IsPartFault part at e → IsErrAnd r (λ s. s ≡ e) → (IsAbsent part at → IsAbsent whole input) → ReadsAs view whole input r rest
 stopped part view whole at input rest e (Ok x) s same f = absurd same
-stopped part view whole at input rest Unlike (Err x) s same f =
-    let P : Stop → Type 0 = Stops whole input in
+stopped part view whole at input rest Mismatch (Err x) s same f =
+    let P : PartFault → Type 0 = IsPartFault whole input in
     subst P (sym same) (f s)
 stopped part view whole at input rest NoMemory (Err x) s same f =
-    let P : Stop → Type 0 = Stops whole input in
+    let P : PartFault → Type 0 = IsPartFault whole input in
     subst P (sym same) tt
 
 -- memory ran out
-pub no_memory : {B C : Type 0} (view : C → B) (whole : Part B) (input rest : List ℕ) (r : Result C Stop) → IsErrAnd r (λ s. s ≡ NoMemory) → ReadsAs view whole input r rest
+pub no_memory : {B C : Type 0} (view : C → B) (whole : Part B) (input rest : List ℕ) (r : Result C PartFault) → IsErrAnd r (λ s. s ≡ NoMemory) → ReadsAs view whole input r rest
 no_memory view whole input rest (Ok x) same = absurd same
 no_memory view whole input rest (Err x) same =
-    let P : Stop → Type 0 = Stops whole input in
+    let P : PartFault → Type 0 = IsPartFault whole input in
     subst P (sym same) tt
 
 -- the next part is read behind what was read

@@ -6,8 +6,8 @@ use Rattle.atom_writer.specs.Pieces.{pieces, joined, text}
 use Rattle.atom_writer.proofs.PieceLemmas.{joined-append, joined-none, joined-cons}
 use Rattle.atom_grammar.specs.Refusal.{BeginsADocument, BeginsWithPieces, IsPlaceOfRefusal, IsNoDocument, OneReading, PrefixFree}
 use Rattle.atom_grammar.specs.Stages.{IsRefused}
-use Rattle.atom_grammar.proofs.Chain.{chain}
-use Rattle.atom_grammar.proofs.Same.{IsFree}
+use Rattle.atom_grammar.proofs.PairLemmas.{chain}
+use Rattle.atom_grammar.proofs.SameLemmas.{IsFree}
 
 pub prefix_free : PrefixFree
 prefix_free read one other rest a b e =

@@ -11,14 +11,14 @@ use Rattle.atom_writer.specs.declared.doc.Kind.{Kind}
 use Rattle.atom_writer.specs.declared.doc.Kind.TheVariants.{Subscription, Archive as Sealed}
 use Rattle.atom_writer.specs.Doc.{DocValue, IsDoc, is_placed}
 use Rattle.atom_writer.specs.Pieces.{pieces, joined, declaration_piece, open_piece, id_piece, updated_piece, span_piece, current_pieces, prev_pieces, next_pieces}
-use Rattle.atom_grammar.specs.Heads.{feed_id, title, updated, author, own, own_piece, prev_piece, span_of, IsKind, IsArchiveNumber, IsSpanOf}
+use Rattle.atom_grammar.specs.FeedParts.{feed_id, title, updated, author, own, own_piece, prev_piece, span_of, IsKind, IsArchiveNumber, IsSpanOf}
 use Rattle.atom_grammar.specs.Parts.{IsAbsent, literal, alone, ended, behind, content, moment}
-use Rattle.atom_grammar.specs.Stages.{IsRefused, IsNamed, IsPrev, named_pieces, links_pieces}
-use Rattle.atom_grammar.proofs.Chain.{pieces-is, tail_pieces, end_pieces, tail-first, tail-later, own_of, is_own, is_span, placed_prev, span_prev-apart, prev_pieces-some}
-use Rattle.atom_grammar.proofs.HeadReadings.{prev-one}
-use Rattle.atom_grammar.proofs.Starts.{document_of, is_document, no_items, first_span, second, later_span, archive_span, is_archive_span, head-is, tail-is}
-use Rattle.atom_grammar.proofs.Stuck.{start, refused, example_base, example_id, is_example_base, is_example_id, is_empty, behind_name, injective}
-use Rattle.atom_grammar.proofs.Values.{titled, authored}
+use Rattle.atom_grammar.specs.Stages.{IsRefused, IsOpening, IsPrev, opening_pieces, links_pieces}
+use Rattle.atom_grammar.proofs.PairLemmas.{pieces-is, tail_pieces, end_pieces, tail-first, tail-later, own_of, is_own, is_span, placed_prev, span_prev-apart, prev_pieces-some}
+use Rattle.atom_grammar.proofs.FeedPieceLemmas.{prev-one}
+use Rattle.atom_grammar.proofs.StartLemmas.{document_of, is_document, no_items, first_span, second, later_span, archive_span, is_archive_span, head-is, tail-is}
+use Rattle.atom_grammar.proofs.StuckLemmas.{start, refused, example_base, example_id, is_example_base, is_example_id, is_empty, behind_name, injective}
+use Rattle.atom_grammar.proofs.ValueLemmas.{titled, authored}
 
 example : List ℕ → List ℕ → List ℕ → FeedName
 example id title author = record { base = example_base; id = id; title = title; author = author }
@@ -92,20 +92,20 @@ pub other_prev : (other : DocValue) → IsDoc other → (number : ℕ) → other
 other_prev other is number kind = placed_prev number other.span other.prev (subst (λ k. IsTrue (is_placed k other.span other.prev)) kind is.rules.placed)
 
 -- a link of an archive
-pub refused_link : (name : FeedName) (number : ℕ) (updated : ℤ) → IsNamed name (Sealed number) updated → (front : List (List ℕ)) (q : List ℕ) (back : List (List ℕ)) → links_pieces name (Sealed number) (number - 1) ≡ front ++ q ∷ back → (input rest : List ℕ) → input ≡ joined front ++ rest → IsAbsent (literal q) rest → IsRefused (named_pieces name (Sealed number) updated) input rest
+pub refused_link : (name : FeedName) (number : ℕ) (updated : ℤ) → IsOpening name (Sealed number) updated → (front : List (List ℕ)) (q : List ℕ) (back : List (List ℕ)) → links_pieces name (Sealed number) (number - 1) ≡ front ++ q ∷ back → (input rest : List ℕ) → input ≡ joined front ++ rest → IsAbsent (literal q) rest → IsRefused (opening_pieces name (Sealed number) updated) input rest
 unfolding literal
-refused_link name number updated named front q back links input rest split none =
+refused_link name number updated opening front q back links input rest split none =
     let kind = Sealed number in
-    let read = named_pieces name kind updated in
+    let read = opening_pieces name kind updated in
     let span = archive_span number in
     let d = document_of name kind span (number - 1) updated [] in
-    let is_d = is_document name kind span (number - 1) updated [] named (omega (arith, named.is_kind.1)) (is_archive_span number named.is_kind) (no_items span) in
+    let is_d = is_document name kind span (number - 1) updated [] opening (omega (arith, opening.is_kind.1)) (is_archive_span number opening.is_kind) (no_items span) in
     let rest_of = span_piece span ∷ end_pieces name [] in
     refused d is_d read front q (back ++ rest_of)
     (head-is d ∙ ap (λ z. read ++ z) (tail-is name kind span (number - 1) [] ∙ ap (λ z. z ++ rest_of) links ∙ append_assoc front (q ∷ back) rest_of) ∙ sym (append_assoc read front (q ∷ (back ++ rest_of))))
     input rest split
     (λ other is p after left e at.
-    let b = behind_name other is name kind updated named (front ++ p ∷ left) (e ∙ append_assoc read front (p ∷ left)) in
+    let b = behind_name other is name kind updated opening (front ++ p ∷ left) (e ∙ append_assoc read front (p ∷ left)) in
     let end = span_piece other.span ∷ end_pieces name other.items in
     let f : front ++ q ∷ (back ++ end) ≡ front ++ p ∷ left =
     sym (append_assoc front (q ∷ back) end) ∙ ap (λ z. z ++ end) (sym links)
@@ -173,16 +173,16 @@ at_span name (Sealed number) prev rest after p left other is kind small prev_is 
     let same : p ≡ span_piece other.span = cc in
     none other.span after (span_is other is (Sealed number) prev kind same_prevs) tt (at ∙ ap (λ z. z ++ after) same)
 
-pub refused_span : (name : FeedName) (kind : Kind) (updated : ℤ) (prev : ℕ) → IsNamed name kind updated → prev < 2 ^ 32 → (input rest : List ℕ) → input ≡ joined (links_pieces name kind prev) ++ rest → IsPrev name kind prev rest → IsAbsent (span_of kind prev) rest → IsRefused (named_pieces name kind updated) input rest
-refused_span name kind updated prev named small input rest split prev_is none =
-    let read = named_pieces name kind updated in
+pub refused_span : (name : FeedName) (kind : Kind) (updated : ℤ) (prev : ℕ) → IsOpening name kind updated → prev < 2 ^ 32 → (input rest : List ℕ) → input ≡ joined (links_pieces name kind prev) ++ rest → IsPrev name kind prev rest → IsAbsent (span_of kind prev) rest → IsRefused (opening_pieces name kind updated) input rest
+refused_span name kind updated prev opening small input rest split prev_is none =
+    let read = opening_pieces name kind updated in
     let links = links_pieces name kind prev in
     let span = some_span kind prev in
     let d = document_of name kind span prev updated [] in
-    let is_d = is_document name kind span prev updated [] named small (is_some_span name kind prev rest named.is_kind prev_is) (no_items span) in
+    let is_d = is_document name kind span prev updated [] opening small (is_some_span name kind prev rest opening.is_kind prev_is) (no_items span) in
     refused d is_d read links (span_piece span) (end_pieces name [])
     (head-is d ∙ ap (λ z. read ++ z) (tail-is name kind span prev []) ∙ sym (append_assoc read links (span_piece span ∷ end_pieces name [])))
     input rest split
     (λ other is p after left e at.
-    let b = behind_name other is name kind updated named (links ++ p ∷ left) (e ∙ append_assoc read links (p ∷ left)) in
+    let b = behind_name other is name kind updated opening (links ++ p ∷ left) (e ∙ append_assoc read links (p ∷ left)) in
     at_span name kind prev rest after p left other is b.same_kind small prev_is b.tail none at other.prev refl)

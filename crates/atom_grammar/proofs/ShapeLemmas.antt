@@ -15,9 +15,9 @@ use Rattle.atom_values.specs.XmlText.{IsAtomText, is_xml_text}
 use Rattle.atom_writer.specs.Parts.{attribute as attribute_text, optional_attribute as optional_attribute_text, relation_text as written_relation, link_text, category_text}
 use Rattle.atom_grammar.specs.Parts.{Part, IsFound, IsAbsent, IsReadAlone, BeginsWithByte, starts, literal, content, quoted, moment, both, behind, ended, optional, many, alone}
 use Rattle.atom_grammar.specs.Items.{element, attribute, date, kind, construct_parts, construct, person_parts, person, persons, relation_text, relation, optional_attribute, link_parts, link, category_parts, category, links, categories}
-use Rattle.atom_grammar.proofs.Readings.{IsClosed, Starts, found, Renames, renamed_found, renamed_refused, renamed_alone, alone_closed, closed_alone, both_alone, behind_alone, ended_alone, optional_alone, starts_append}
-use Rattle.atom_grammar.proofs.Lists.{many_alone}
-use Rattle.atom_grammar.proofs.Texts.{starts_split, content_alone, quoted_alone, moment_alone}
+use Rattle.atom_grammar.proofs.ReadingLemmas.{IsClosed, Starts, found, Renames, renamed_found, renamed_refused, renamed_alone, alone_closed, closed_alone, both_alone, behind_alone, ended_alone, optional_alone, starts_append}
+use Rattle.atom_grammar.proofs.ManyLemmas.{many_alone}
+use Rattle.atom_grammar.proofs.TextLemmas.{starts_split, content_alone, quoted_alone, moment_alone}
 
 -- an end tag begins so
 pub record IsEnd (end : List ℕ) : Type 0 where

@@ -7,9 +7,9 @@ use Rattle.deleted_entries.specs.declared.item.Item.{Item}
 use Rattle.atom_writer.specs.declared.doc.FeedName.{FeedName}
 use Rattle.atom_writer.specs.declared.doc.Kind.{Kind}
 use Rattle.atom_writer.specs.Doc.{is_placed, span_len}
-use Rattle.atom_grammar.specs.Heads.{span, span_of, item_behind}
+use Rattle.atom_grammar.specs.FeedParts.{span, span_of, item_behind}
 use Rattle.atom_grammar.specs.Items.{item}
-use Rattle.atom_grammar.proofs.Readings.{Renames}
+use Rattle.atom_grammar.proofs.ReadingLemmas.{Renames}
 
 abbrev pub Placed : Kind → ℕ → Span → Type 0
 Placed kind prev span = IsTrue (is_placed kind span prev) × (span_len span ≤ 100)

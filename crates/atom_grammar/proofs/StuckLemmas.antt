@@ -4,7 +4,7 @@ use Rattle.std.proofs.lemmas.List.Elements.{All-nil, All-cons}
 use Rattle.chain_links.specs.Base.{IsBase, base_text, is_label_char, is_segment_char, IsWord}
 use Rattle.deleted_entries.specs.FeedId.{IsFeedId}
 use Rattle.atom_values.specs.XmlText.{IsAtomText}
-use Rattle.atom_values.proofs.XmlTexts.{IsXmlText-nil}
+use Rattle.atom_values.proofs.XmlTextLemmas.{IsXmlText-nil}
 use Rattle.atom_writer.proofs.PieceLemmas.{joined-append, joined-none, joined-one}
 use Rattle.atom_grammar.specs.Reading.{IsReadInOneWay}
 use Rattle.atom_values.specs.Stamp.{IsStamp}
@@ -12,16 +12,16 @@ use Rattle.atom_writer.specs.declared.doc.FeedName.{FeedName}
 use Rattle.atom_writer.specs.declared.doc.Kind.{Kind}
 use Rattle.atom_writer.specs.Doc.{DocValue, IsDoc}
 use Rattle.atom_writer.specs.Pieces.{pieces, joined, name_pieces, declaration_piece, open_piece, id_piece, updated_piece}
-use Rattle.atom_grammar.specs.declared.named.Own.{Own}
-use Rattle.atom_grammar.specs.Heads.{own_piece, IsOwn}
-use Rattle.atom_grammar.specs.Stages.{IsRefused, IsNamed, named_pieces}
-use Rattle.atom_grammar.proofs.Chain.{pieces-is, tail_pieces, own_of, is_own, same_name}
-use Rattle.atom_grammar.proofs.HeadReadings.{id-one, title-one, updated-one, author-one, own-one}
-use Rattle.atom_grammar.proofs.Values.{titled, authored}
+use Rattle.atom_grammar.specs.declared.opening.Own.{Own}
+use Rattle.atom_grammar.specs.FeedParts.{own_piece, IsOwn}
+use Rattle.atom_grammar.specs.Stages.{IsRefused, IsOpening, opening_pieces}
+use Rattle.atom_grammar.proofs.PairLemmas.{pieces-is, tail_pieces, own_of, is_own, same_name}
+use Rattle.atom_grammar.proofs.FeedPieceLemmas.{id-one, title-one, updated-one, author-one, own-one}
+use Rattle.atom_grammar.proofs.ValueLemmas.{titled, authored}
 
-pub named-is : (name : FeedName) (kind : Kind) (updated : ℤ) → named_pieces name kind updated ≡ declaration_piece ∷ open_piece ∷ id_piece name.id ∷ titled name.title ∷ updated_piece updated ∷ authored name.author ∷ own_piece (record { base = name.base; kind = kind }) ∷ []
-unfolding named_pieces name_pieces titled authored
-named-is name kind updated = refl
+pub opening-is : (name : FeedName) (kind : Kind) (updated : ℤ) → opening_pieces name kind updated ≡ declaration_piece ∷ open_piece ∷ id_piece name.id ∷ titled name.title ∷ updated_piece updated ∷ authored name.author ∷ own_piece (record { base = name.base; kind = kind }) ∷ []
+unfolding opening_pieces name_pieces titled authored
+opening-is name kind updated = refl
 
 pub injective : {A : Type 0} (Is : A → Type 0) (text : A → List ℕ) → IsReadInOneWay Is text → (v w : A) → Is v → Is w → text v ≡ text w → v ≡ w
 injective Is text one v w is_v is_w e = (one (text v) v w [] [] (record { lawful = is_v; split = sym (append-nil (text v)) }) (record { lawful = is_w; split = e ∙ sym (append-nil (text w)) })).0
@@ -33,13 +33,13 @@ pub record IsBehindName (name : FeedName) (kind : Kind) (updated : ℤ) (more : 
   pub same_updated : d.updated ≡ updated
   pub tail : tail_pieces name kind d.span d.prev d.items ≡ more
 
-pub behind_name : (d : DocValue) → IsDoc d → (name : FeedName) (kind : Kind) (updated : ℤ) → IsNamed name kind updated → (more : List (List ℕ)) → pieces d ≡ named_pieces name kind updated ++ more → IsBehindName name kind updated more d
+pub behind_name : (d : DocValue) → IsDoc d → (name : FeedName) (kind : Kind) (updated : ℤ) → IsOpening name kind updated → (more : List (List ℕ)) → pieces d ≡ opening_pieces name kind updated ++ more → IsBehindName name kind updated more d
 behind_name d is name kind updated is_named more e =
     let own : Own = record { base = name.base; kind = kind } in
     let tail_d = tail_pieces d.name d.kind d.span d.prev d.items in
     let f : declaration_piece ∷ open_piece ∷ id_piece d.name.id ∷ titled d.name.title ∷ updated_piece d.updated ∷ authored d.name.author ∷ own_piece (own_of d) ∷ tail_d
     ≡ declaration_piece ∷ open_piece ∷ id_piece name.id ∷ titled name.title ∷ updated_piece updated ∷ authored name.author ∷ own_piece own ∷ more =
-    sym (pieces-is d) ∙ e ∙ ap (λ z. z ++ more) (named-is name kind updated) in
+    sym (pieces-is d) ∙ e ∙ ap (λ z. z ++ more) (opening-is name kind updated) in
     let ids : id_piece d.name.id ≡ id_piece name.id = cc in
     let titles : titled d.name.title ≡ titled name.title = cc in
     let stamps : updated_piece d.updated ≡ updated_piece updated = cc in

@@ -9,13 +9,13 @@ use Rattle.std.specs.Prelude.{position}
 use Rattle.std.specs.List.{position_or_len}
 use Rattle.std.proofs.lemmas.List.{take_more, take_all, drop_more, take-append-drop, get_or_at, take_at, drop_at}
 use Rattle.atom_values.specs.Escape.{escaped_byte, escaped, IsReadBack}
-use Rattle.atom_values.specs.Stamp.{IsStamp, since_year_zero, date_text, clock_text, fraction_text, fixed_digits, printed, value_of}
+use Rattle.atom_values.specs.Stamp.{IsStamp, since_year_zero, date_text, clock_text, fraction_text, fixed_digits, printed}
 use Rattle.atom_values.specs.XmlText.{IsAtomText}
-use Rattle.atom_values.proofs.Escapes.{escaped-nil, escaped-cons}
-use Rattle.atom_values.proofs.Unescaped.{IsReadBack-all}
-use Rattle.atom_values.proofs.StampLaw.{value_of-printed}
+use Rattle.atom_values.proofs.EscapeLemmas.{escaped-nil, escaped-cons}
+use Rattle.atom_values.proofs.UnescapeLemmas.{IsReadBack-all}
+use Rattle.atom_grammar.proofs.MomentLemmas.{printed_injective}
 use Rattle.atom_grammar.specs.Parts.{IsFound, IsAbsent, IsReadAlone, BeginsWithByte, starts, lacks, IsCutAt, content, quoted, moment}
-use Rattle.atom_grammar.proofs.Readings.{found, starts_append}
+use Rattle.atom_grammar.proofs.ReadingLemmas.{found, starts_append}
 
 pub starts_split : (bytes text : List ℕ) → starts bytes text ≡ true → (rest : List ℕ) × (text ≡ bytes ++ rest)
 starts_split [] text e = (text, refl)
@@ -203,8 +203,7 @@ pub moment_alone : IsReadAlone moment
 unfolding moment
 moment_alone v w rest left is_v is_w _ _ e =
     let p = printed_same (printed v) (printed w) rest left (printed_sized v) (printed_sized w) e in
-    let h : Some v ≡ Some w = sym (value_of-printed v is_v) ∙ ap value_of p.0 ∙ value_of-printed w is_w in
-    let g : v ≡ w = cc in (g, p.1)
+    (printed_injective v w is_v is_w p.0, p.1)
 
 -- no byte before the first that passes is the delimiter
 lacks_up_to : (byte : ℕ) (xs : List ℕ) (k : ℕ) → k ≤ position_or_len (λ x. eqb x byte) xs → k ≤ length xs → lacks byte (take k xs) ≡ true

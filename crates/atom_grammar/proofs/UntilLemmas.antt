@@ -5,12 +5,12 @@ use Rattle.std.proofs.lemmas.Fmt.{decimal_by_steps}
 use Rattle.uuid.proofs.RoundTrips.{parses_hyphenated}
 use Rattle.uuid.specs.Text.{by_index, hex_digit, nibble, digit_place, is_hyphen_place, parsed, lower}
 use Rattle.atom_values.specs.Escape.{escaped, escaped_byte}
-use Rattle.atom_values.specs.Stamp.{IsStamp, printed, date_text, clock_text, time_text, fixed_digits, value_of, year_of, month_of, day_of, fraction_text, since_year_zero}
+use Rattle.atom_values.specs.Stamp.{IsStamp, printed, date_text, clock_text, time_text, fixed_digits, fraction_text, since_year_zero}
 use Rattle.std.proofs.lemmas.Bool.Decides.{nat_tests}
 use Rattle.atom_values.specs.XmlText.{IsAtomText}
-use Rattle.atom_values.proofs.Escapes.{escaped-nil, escaped-cons}
-use Rattle.atom_values.proofs.StampLaw.{value_of-printed}
-use Rattle.atom_values.proofs.Unescaped.{IsReadBack-all}
+use Rattle.atom_values.proofs.EscapeLemmas.{escaped-nil, escaped-cons}
+use Rattle.atom_values.specs.Calendar.{year_of, month_of, day_of}
+use Rattle.atom_values.proofs.UnescapeLemmas.{IsReadBack-all}
 use Rattle.deleted_entries.specs.FeedId.{IsFeedId, feed_text}
 
 -- the byte isn't in the text
@@ -126,11 +126,6 @@ pub Lacks-feed_text : (id : List ℕ) → IsFeedId id → Lacks 60 (feed_text id
 Lacks-feed_text id is =
     Lacks-by_index 60 36 _ (λ k. chosen-ne (is_hyphen_place k) 45 (hex_digit 97 (nibble id (digit_place k))) 60 (λ e. absurd (omega arith)) (hex_digit-ne (nibble id (digit_place k))))
 
--- a byte that is no digit
-pub Lacks-decimal : (c n : ℕ) → 57 < c → n < 2 ^ 32 → Lacks c (decimal n)
-Lacks-decimal c n above small =
-    decimal_by_steps (λ m ds. Lacks c ds) (λ m below. ((λ e. absurd (omega arith)), tt)) (λ m ds many lacks_ds. Lacks-append c ds ((48 + m % 10) ∷ []) lacks_ds ((λ e. absurd (omega arith)), tt)) n (omega arith)
-
 -- a byte below the digits
 pub Lacks-decimal_below : (c n : ℕ) → c < 48 → n < 2 ^ 32 → Lacks c (decimal n)
 Lacks-decimal_below c n below small =
@@ -139,11 +134,6 @@ Lacks-decimal_below c n below small =
 pub escaped_injective : (s t : List ℕ) → IsAtomText s → IsAtomText t → escaped false s ≡ escaped false t → s ≡ t
 escaped_injective s t is_s is_t e =
     let both : Some s ≡ Some t = ((IsReadBack-all false (escaped false s) s (Some s) refl (refl, is_s)).exact t is_t).1 (sym e) in
-    cc
-
-pub printed_injective : (a b : ℤ) → IsStamp a → IsStamp b → printed a ≡ printed b → a ≡ b
-printed_injective a b is_a is_b e =
-    let both : Some a ≡ Some b = sym (value_of-printed a is_a) ∙ ap value_of e ∙ value_of-printed b is_b in
     cc
 
 pub feed_text_injective : (a b : List ℕ) → IsFeedId a → IsFeedId b → feed_text a ≡ feed_text b → a ≡ b

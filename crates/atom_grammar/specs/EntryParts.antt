@@ -4,8 +4,8 @@ use Rattle.atom_values.specs.declared.category.Category.{Category}
 use Rattle.atom_values.specs.declared.link.Link.{Link}
 use Rattle.atom_values.specs.declared.person.Person.{Person}
 use Rattle.atom_values.specs.declared.text.Text.{Text}
-use Rattle.atom_grammar.specs.declared.halves.Front.{Front}
-use Rattle.atom_grammar.specs.declared.halves.Back.{Back}
+use Rattle.atom_grammar.specs.declared.entry_parts.Front.{Front}
+use Rattle.atom_grammar.specs.declared.entry_parts.Back.{Back}
 
 abbrev pub front_value : Front → (((ℕ × Text) × ℤ) × Option ℤ) × ℤ
 front_value f = ((((f.number, f.title), f.updated), f.published), f.edited)

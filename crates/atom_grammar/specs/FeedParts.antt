@@ -14,9 +14,9 @@ use Rattle.atom_writer.specs.declared.doc.Kind.{Kind}
 use Rattle.atom_writer.specs.declared.doc.Kind.TheVariants.{Subscription, Archive as Sealed}
 use Rattle.atom_writer.specs.Doc.{is_placed, span_len}
 use Rattle.atom_writer.specs.Pieces.{id_piece, link_piece, own_address as place, span_piece, item_piece}
-use Rattle.atom_grammar.specs.declared.named.Own.{Own}
-use Rattle.atom_grammar.specs.declared.stop.Stop.{Stop}
-use Rattle.atom_grammar.specs.declared.stop.Stop.TheVariants.{Unlike, NoMemory}
+use Rattle.atom_grammar.specs.declared.opening.Own.{Own}
+use Rattle.atom_grammar.specs.declared.part_fault.PartFault.{PartFault}
+use Rattle.atom_grammar.specs.declared.part_fault.PartFault.TheVariants.{Mismatch, NoMemory}
 use Rattle.atom_grammar.specs.Items.{element, date}
 use Rattle.atom_grammar.specs.Parts.{Part, Anything, BeginsWithByte, IsFound, IsAbsent, literal}
 
@@ -94,9 +94,9 @@ abbrev pub span_of : Kind → ℕ → Part Span
 span_of kind prev = record { Is = IsSpanOf kind prev; text = span_piece; Before = Anything }
 
 -- a piece is read whole, or the input stays where it begins
-abbrev pub ReadsPiece : {A : Type 0} → Part A → List ℕ → Result A Stop → List ℕ → Type 0
+abbrev pub ReadsPiece : {A : Type 0} → Part A → List ℕ → Result A PartFault → List ℕ → Type 0
 ReadsPiece part before (Ok value) after = IsFound part before value after
-ReadsPiece part before (Err Unlike) after = (after ≡ before) × IsAbsent part before
+ReadsPiece part before (Err Mismatch) after = (after ≡ before) × IsAbsent part before
 ReadsPiece part before (Err NoMemory) after = Unit {0}
 
 -- an item of another number than these have

@@ -2,9 +2,9 @@
 use Rattle.std.specs.Prelude.{◌≡◌}
 use Rattle.atom_values.specs.declared.many.ListFault.{ListFault}
 use Rattle.atom_values.specs.declared.many.ListFault.TheVariants.{TooMany, NoMemory as Memory}
-use Rattle.atom_grammar.specs.declared.stop.Stop.{Stop}
-use Rattle.atom_grammar.specs.declared.stop.Stop.TheVariants.{Unlike, NoMemory}
+use Rattle.atom_grammar.specs.declared.part_fault.PartFault.{PartFault}
+use Rattle.atom_grammar.specs.declared.part_fault.PartFault.TheVariants.{Mismatch, NoMemory}
 
-abbrev pub IsStopOf : ListFault → Stop → Type 0
-IsStopOf (TooMany _) stop = stop ≡ Unlike
-IsStopOf Memory stop = stop ≡ NoMemory
+abbrev pub IsFaultOf : ListFault → PartFault → Type 0
+IsFaultOf (TooMany _) stop = stop ≡ Mismatch
+IsFaultOf Memory stop = stop ≡ NoMemory

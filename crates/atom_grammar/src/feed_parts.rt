@@ -1,14 +1,14 @@
 ghost use Rattle.std.specs.Prelude.{◌≡◌, ℕ, List, ◌∷◌, ◌++◌, true, Some, IfSome, IsSomeAnd, MatchOption};
-ghost use Rattle.chain_links.specs.Address.{place_text};
+ghost use Rattle.chain_links.specs.Address.{suffix_text};
 ghost use Rattle.deleted_entries.specs.FeedId.{IsFeedId, feed_text};
 ghost use Rattle.atom_writer.specs.Pieces.{own_address};
 ghost use Rattle.atom_writer.specs.declared.doc.Kind.{Kind};
-ghost use Rattle.atom_grammar.specs.Heads.{IsKind, uuid, feed_id, own_address as own_text, own, feed_link, span};
+ghost use Rattle.atom_grammar.specs.FeedParts.{IsKind, uuid, feed_id, own_address as own_text, own, feed_link, span};
 ghost use Rattle.atom_grammar.specs.Parts.{Reads, lacks};
 
-use crate::named::Own;
-use crate::reader::{Reader, whole_number};
-use crate::stop::Stop;
+use crate::opening::Own;
+use crate::reader::{Reader, parse_decimal};
+use crate::part_fault::PartFault;
 use atom_writer::Kind;
 use chain_links::{Address, Base, BaseFault, Span};
 use deleted_entries::FeedId;
@@ -20,21 +20,21 @@ const UUID_LEN: usize = 36;
 #[tactic(none)]
 impl Reader<'_> {
     /// The text of the feed's UUID.
-    fn uuid(&mut self) -> Result<FeedId, Stop>
+    fn uuid(&mut self) -> Result<FeedId, PartFault>
         ensures { Reads uuid self.old.rest.now result self.new.rest.now }
     {
         let Some((text, rest)) = self.rest.split_at_checked(UUID_LEN) else {
-            return Err(Stop::Unlike);
+            return Err(PartFault::Mismatch);
         };
         self.rest = rest;
         let Some(id) = read_id(text) else {
-            return Err(Stop::Unlike);
+            return Err(PartFault::Mismatch);
         };
         Ok(id)
     }
 
     /// The piece with the feed's identifier (RFC 4287 section 4.2.6).
-    pub(crate) fn feed_id(&mut self) -> Result<FeedId, Stop>
+    pub(crate) fn feed_id(&mut self) -> Result<FeedId, PartFault>
         ensures { Reads feed_id self.old.rest.now result self.new.rest.now }
     {
         self.literal(b"<id>urn:uuid:")?;
@@ -45,24 +45,24 @@ impl Reader<'_> {
 
     /// The document's own address, up to the quote. The base address is what stands before its last `feed` or
     /// `archive/` and a number.
-    fn own_address(&mut self, alloc: Global) -> Result<Own, Stop>
+    fn own_address(&mut self, alloc: Global) -> Result<Own, PartFault>
         ensures { Reads own_text self.old.rest.now result self.new.rest.now }
     {
         let Some(written) = self.up_to(b'"') else {
-            return Err(Stop::Unlike);
+            return Err(PartFault::Mismatch);
         };
         let Some((base, kind)) = split_own(written) else {
-            return Err(Stop::Unlike);
+            return Err(PartFault::Mismatch);
         };
         match Base::parse(alloc, base) {
             Ok(base) => Ok(Own { base, kind }),
-            Err(BaseFault::BadBase) => Err(Stop::Unlike),
-            Err(BaseFault::NoMemory) => Err(Stop::NoMemory),
+            Err(BaseFault::BadBase) => Err(PartFault::Mismatch),
+            Err(BaseFault::NoMemory) => Err(PartFault::NoMemory),
         }
     }
 
     /// The link to the document itself (RFC 4287 section 4.2.7.2).
-    pub(crate) fn own(&mut self, alloc: Global) -> Result<Own, Stop>
+    pub(crate) fn own(&mut self, alloc: Global) -> Result<Own, PartFault>
         ensures { Reads own self.old.rest.now result self.new.rest.now }
     {
         self.literal(b"<link rel=\"self\" href=\"")?;
@@ -72,7 +72,7 @@ impl Reader<'_> {
     }
 
     /// The link of this relation, and which document of the feed it names (RFC 5005 section 4).
-    pub(crate) fn feed_link(&mut self, rel: &[u8], base: &Base) -> Result<Address, Stop>
+    pub(crate) fn feed_link(&mut self, rel: &[u8], base: &Base) -> Result<Address, PartFault>
         ensures { Reads (feed_link rel.now base.now) self.old.rest.now result self.new.rest.now }
     {
         self.literal(b"<link rel=\"")?;
@@ -84,7 +84,7 @@ impl Reader<'_> {
     }
 
     /// The piece with the span.
-    pub(crate) fn span(&mut self) -> Result<Span, Stop>
+    pub(crate) fn span(&mut self) -> Result<Span, PartFault>
         ensures { Reads span self.old.rest.now result self.new.rest.now }
     {
         self.literal(b"<sp:span first=\"")?;
@@ -119,8 +119,8 @@ fn split_at_last_slash(text: &[u8]) -> Option<(&[u8], &[u8])>
 
 /// The base address and the document that the text is the address of.
 fn split_own(text: &[u8]) -> Option<(&[u8], Kind)>
-    ensures found { IfSome result (λ x. IsKind x.1 × (text.now ≡ x.0.now ++ place_text (own_address x.1))) }
-    ensures only { (base : List ℕ) (kind : Kind) → IsKind kind → text.now ≡ base ++ place_text (own_address kind)
+    ensures found { IfSome result (λ x. IsKind x.1 × (text.now ≡ x.0.now ++ suffix_text (own_address x.1))) }
+    ensures only { (base : List ℕ) (kind : Kind) → IsKind kind → text.now ≡ base ++ suffix_text (own_address kind)
         → IsSomeAnd result (λ x. (x.0.now ≡ base) × (x.1 ≡ kind)) }
 {
     if let Some(base) = text.strip_suffix(b"feed") {
@@ -128,7 +128,7 @@ fn split_own(text: &[u8]) -> Option<(&[u8], Kind)>
     }
     let (front, digits) = split_at_last_slash(text)?;
     let base = front.strip_suffix(b"archive")?;
-    let number = whole_number(digits)?;
+    let number = parse_decimal(digits)?;
     if number == 0 || number == u32::MAX {
         return None;
     }

@@ -11,7 +11,7 @@ pub(crate) struct Own {
 
 /// What the pieces up to the document's own address say.
 #[derive(Drop)]
-pub(crate) struct Named {
+pub(crate) struct Opening {
     pub name: FeedName,
     pub kind: Kind,
     pub updated: Stamp,

@@ -2,33 +2,33 @@ use atom_values::{ListFault, NoMemory};
 
 /// Why the input isn't read on.
 #[derive(Clone, Copy, Debug, PartialEq, Eq)]
-pub(crate) enum Stop {
+pub(crate) enum PartFault {
     /// What is to be read doesn't stand there.
-    Unlike,
+    Mismatch,
     /// Memory ran out.
     NoMemory,
 }
 
-impl From<NoMemory> for Stop {
+impl From<NoMemory> for PartFault {
     ghost use Rattle.std.specs.Prelude.{◌≡◌};
-    ghost use Rattle.atom_grammar.specs.declared.stop.Stop.TheVariants.{NoMemory};
+    ghost use Rattle.atom_grammar.specs.declared.part_fault.PartFault.TheVariants.{NoMemory};
 
     ghost from_gives = { λ _ stop. stop ≡ NoMemory };
 
-    fn from(_error: NoMemory) -> Stop {
-        Stop::NoMemory
+    fn from(_error: NoMemory) -> PartFault {
+        PartFault::NoMemory
     }
 }
 
-impl From<ListFault> for Stop {
-    ghost use Rattle.atom_grammar.specs.Full.{IsStopOf};
+impl From<ListFault> for PartFault {
+    ghost use Rattle.atom_grammar.specs.ListFaults.{IsFaultOf};
 
-    ghost from_gives = { IsStopOf };
+    ghost from_gives = { IsFaultOf };
 
-    fn from(fault: ListFault) -> Stop {
+    fn from(fault: ListFault) -> PartFault {
         match fault {
-            ListFault::TooMany { count: _ } => Stop::Unlike,
-            ListFault::NoMemory => Stop::NoMemory,
+            ListFault::TooMany { count: _ } => PartFault::Mismatch,
+            ListFault::NoMemory => PartFault::NoMemory,
         }
     }
 }

@@ -1,7 +1,7 @@
 use Rattle.std.proofs.Common.{rules}
-use Rattle.atom_grammar.proofs.OwnParts.{all_lack, last_split}
-use Rattle.atom_grammar.proofs.Texts.{none_given}
-use Rattle.atom_grammar.proofs.head.split_at_last_slash.Goals as goal
+use Rattle.atom_grammar.proofs.OwnAddressLemmas.{all_lack, last_split}
+use Rattle.atom_grammar.proofs.TextLemmas.{none_given}
+use Rattle.atom_grammar.proofs.feed_parts.split_at_last_slash.Goals as goal
 
 pub returns-in_err-at : goal.returns-in_err-at
 returns-in_err-at c =

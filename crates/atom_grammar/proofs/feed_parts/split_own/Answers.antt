@@ -1,9 +1,9 @@
 use Rattle.std.proofs.Common.{◌≡◌, Some, None, arith, codes}
 use Rattle.std.proofs.lemmas.Bool.Decides.{Decides-eqb}
 use Rattle.std.proofs.lemmas.Slice.Eq.{strip_suffix_is}
-use Rattle.atom_grammar.proofs.OwnParts.{feed_is, archive_found, archive_is, no_own, no_slash, archive_parts}
-use Rattle.atom_grammar.proofs.head.split_own.Goals.{then-number-eq0-via-then-number-eq0, then-number-eq0-via-else-number-eq0+then-number}
-use Rattle.atom_grammar.proofs.head.split_own.Goals as goal
+use Rattle.atom_grammar.proofs.OwnAddressLemmas.{feed_is, archive_found, archive_is, no_own, no_slash, archive_parts}
+use Rattle.atom_grammar.proofs.feed_parts.split_own.Goals.{then-number-eq0-via-then-number-eq0, then-number-eq0-via-else-number-eq0+then-number}
+use Rattle.atom_grammar.proofs.feed_parts.split_own.Goals as goal
 
 pub returns-in-Some-clause-found : goal.returns-in-Some-clause-found
 returns-in-Some-clause-found c =

@@ -1,8 +1,8 @@
 -- Each piece up to the document's own address is read, or refused where it begins.
 use Rattle.std.proofs.Common.{rules, refl}
 use Rattle.atom_writer.specs.Pieces.{declaration_piece, open_piece}
-use Rattle.atom_grammar.proofs.NamedReads.{stop1, stop2, stop3, stop4, stop5, stop6, stop7, up2, up3, up4, up5, up6, is_text, is_moment, all_named}
-use Rattle.atom_grammar.proofs.read.named.Goals as goal
+use Rattle.atom_grammar.proofs.OpeningLemmas.{stop1, stop2, stop3, stop4, stop5, stop6, stop7, up2, up3, up4, up5, up6, is_text, is_moment, whole_opening}
+use Rattle.atom_grammar.proofs.read.opening.Goals as goal
 
 pub returns-in_err-fixed : goal.returns-in_err-fixed
 unfolding declaration_piece
@@ -91,7 +91,7 @@ returns c =
     let e4 = up4 input c.feed_id.new.self.rest.now c.text.new.self.rest.now c.in_ok-id.id c.in_ok-title.title e3 c.in_ok-title.ensures in
     let e5 = up5 input c.text.new.self.rest.now c.updated.new.self.rest.now c.in_ok-id.id c.in_ok-title.title c.in_ok-updated.updated e4 c.in_ok-updated.ensures in
     let e6 = up6 input c.updated.new.self.rest.now c.text-2.new.self.rest.now c.in_ok-id.id c.in_ok-title.title c.in_ok-author.author c.in_ok-updated.updated e5 c.in_ok-author.ensures in
-    all_named input c.text-2.new.self.rest.now c.own.new.self.rest.now c.in_ok-id.id c.in_ok-title.title c.in_ok-author.author c.in_ok-updated.updated c.in_ok-base.field-0 c.in_ok-id.ensures.lawful
+    whole_opening input c.text-2.new.self.rest.now c.own.new.self.rest.now c.in_ok-id.id c.in_ok-title.title c.in_ok-author.author c.in_ok-updated.updated c.in_ok-base.field-0 c.in_ok-id.ensures.lawful
     (is_text _ _ c.feed_id.new.self.rest.now c.in_ok-title.title c.text.new.self.rest.now c.in_ok-title.ensures)
     (is_text _ _ c.updated.new.self.rest.now c.in_ok-author.author c.text-2.new.self.rest.now c.in_ok-author.ensures)
     (is_moment c.text.new.self.rest.now c.in_ok-updated.updated c.updated.new.self.rest.now c.in_ok-updated.ensures) e6 c.in_ok-base.ensures

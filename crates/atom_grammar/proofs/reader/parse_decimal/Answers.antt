@@ -2,8 +2,8 @@ use Rattle.std.proofs.Common.{Some, sym, ap, ◌∙◌, arith}
 use Rattle.std.proofs.lemmas.Slice.Eq.{bytes_eq-Decides}
 use Rattle.std.proofs.lemmas.Fmt.{decimal_injective}
 use Rattle.std.proofs.lemmas.Bool.{false≢true}
-use Rattle.atom_grammar.proofs.Digits.{zero_is, from_one}
-use Rattle.atom_grammar.proofs.reader.whole_number.Goals as goal
+use Rattle.atom_grammar.proofs.DecimalLemmas.{zero_is, from_one}
+use Rattle.atom_grammar.proofs.reader.parse_decimal.Goals as goal
 
 pub returns-then-eq-clause-found : goal.returns-then-eq-clause-found
 returns-then-eq-clause-found c =
