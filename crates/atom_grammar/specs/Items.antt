@@ -15,7 +15,8 @@ use Rattle.deleted_entries.specs.Tombstone.{TombstoneValue, IsTombstone}
 use Rattle.deleted_entries.specs.declared.item.Item.{Item}
 use Rattle.atom_writer.specs.declared.doc.FeedName.{FeedName}
 use Rattle.atom_writer.specs.Parts.{link_text, category_text}
-use Rattle.atom_writer.specs.Pieces.{open_attributes, edit_link, entry_piece, tombstone_piece, item_piece}
+use Rattle.atom_writer.specs.Entries.{open_attributes, edit_link}
+use Rattle.atom_writer.specs.Pieces.{entry_piece, tombstone_piece, item_piece}
 use Rattle.atom_grammar.specs.Parts.{Part, Anything, starts, content, quoted, moment, member, both, behind, ended, optional, many, alone}
 
 -- a text between these tags

@@ -2,11 +2,11 @@ ghost use Rattle.std.specs.Prelude.{◌≡◌, ◌==◌, not, ◌&&◌, ◌||◌
 ghost use Rattle.atom_values.specs.Link.{has_edit, has_alternate};
 ghost use Rattle.atom_grammar.specs.Items.{editing, front, back, entry};
 ghost use Rattle.atom_grammar.specs.Parts.{Reads, ReadsAs};
-ghost use Rattle.atom_grammar.specs.Whole.{front_value, back_value};
+ghost use Rattle.atom_grammar.specs.EntryParts.{front_value, back_value};
 
-use crate::halves::{Back, Front};
+use crate::entry_parts::{Back, Front};
 use crate::reader::Reader;
-use crate::stop::Stop;
+use crate::part_fault::PartFault;
 use atom_values::{Entry, Link};
 use atom_writer::FeedName;
 use chain_links::Address;
@@ -14,7 +14,7 @@ use std::alloc::Global;
 
 impl Reader<'_> {
     /// What stands in an entry before its authors (RFC 4287 section 4.1.2, RFC 5023 section 10.2).
-    fn front(&mut self, alloc: Global, name: &FeedName) -> Result<Front, Stop>
+    fn front(&mut self, alloc: Global, name: &FeedName) -> Result<Front, PartFault>
         ensures { ReadsAs front_value (front name.now) self.old.rest.now result self.new.rest.now }
     {
         self.literal(b"<id>")?;
@@ -34,7 +34,7 @@ impl Reader<'_> {
     }
 
     /// The link to a member's own address (RFC 5023 section 11.1), and which member's it is.
-    fn editing(&mut self, name: &FeedName) -> Result<u32, Stop>
+    fn editing(&mut self, name: &FeedName) -> Result<u32, PartFault>
         ensures { Reads (editing name.now) self.old.rest.now result self.new.rest.now }
     {
         self.literal(b"<link rel=\"edit\" href=\"")?;
@@ -42,12 +42,12 @@ impl Reader<'_> {
         self.literal(b"\"/>")?;
         match address {
             Address::Member(number) => Ok(number),
-            _ => Err(Stop::Unlike),
+            _ => Err(PartFault::Mismatch),
         }
     }
 
     /// What stands in an entry behind its authors.
-    fn back(&mut self, alloc: Global, name: &FeedName) -> Result<Back, Stop>
+    fn back(&mut self, alloc: Global, name: &FeedName) -> Result<Back, PartFault>
         ensures { ReadsAs back_value (back name.now) self.old.rest.now result self.new.rest.now }
     {
         let contributors = self.persons(alloc, b"<contributor>", b"</contributor>")?;
@@ -69,7 +69,7 @@ impl Reader<'_> {
     }
 
     /// The piece of an entry. Its identifier and its link for editing name one member.
-    pub(crate) fn entry(&mut self, alloc: Global, name: &FeedName) -> Result<Entry, Stop>
+    pub(crate) fn entry(&mut self, alloc: Global, name: &FeedName) -> Result<Entry, PartFault>
         ensures { Reads (entry name.now) self.old.rest.now result self.new.rest.now }
     {
         self.literal(b"<entry>")?;
@@ -78,7 +78,7 @@ impl Reader<'_> {
         let back = self.back(alloc, name)?;
         self.literal(b"</entry>\n")?;
         if !agrees(&back, front.number) {
-            return Err(Stop::Unlike);
+            return Err(PartFault::Mismatch);
         }
         Ok(Entry {
             number: front.number,

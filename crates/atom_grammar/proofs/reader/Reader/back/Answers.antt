@@ -1,6 +1,6 @@
 use Rattle.atom_grammar.specs.Items.{back}
-use Rattle.atom_grammar.specs.Whole.{back_value}
-use Rattle.atom_grammar.proofs.Readings.{stopped, both_found, both_absent, both_stuck}
+use Rattle.atom_grammar.specs.EntryParts.{back_value}
+use Rattle.atom_grammar.proofs.ReadingLemmas.{stopped, both_found, both_absent, both_stuck}
 use Rattle.atom_grammar.proofs.reader.Reader.back.Goals as goal
 
 pub returns-in_err-contributors : goal.returns-in_err-contributors

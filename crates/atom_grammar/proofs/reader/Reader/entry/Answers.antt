@@ -1,8 +1,8 @@
 use Rattle.std.proofs.Common.{sym, ◌∙◌}
 use Rattle.atom_grammar.specs.Items.{entry}
-use Rattle.atom_grammar.specs.Whole.{front_value, back_value}
-use Rattle.atom_grammar.proofs.Entries.{Agrees, entry_renames, agrees_true, agrees_false, front_counted}
-use Rattle.atom_grammar.proofs.Readings.{stopped, renamed_absent, renamed_found, renamed_refused, behind_found, behind_absent, behind_stuck, ended_found, ended_absent, ended_stuck, both_found, both_absent, both_stuck}
+use Rattle.atom_grammar.specs.EntryParts.{front_value, back_value}
+use Rattle.atom_grammar.proofs.EntryLemmas.{Agrees, entry_renames, agrees_true, agrees_false, front_counted}
+use Rattle.atom_grammar.proofs.ReadingLemmas.{stopped, renamed_absent, renamed_found, renamed_refused, behind_found, behind_absent, behind_stuck, ended_found, ended_absent, ended_stuck, both_found, both_absent, both_stuck}
 use Rattle.atom_grammar.proofs.reader.Reader.entry.Goals as goal
 
 pub returns-in_err-literal : goal.returns-in_err-literal

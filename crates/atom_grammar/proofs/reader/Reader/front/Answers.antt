@@ -1,6 +1,6 @@
 use Rattle.atom_grammar.specs.Items.{front}
-use Rattle.atom_grammar.specs.Whole.{front_value}
-use Rattle.atom_grammar.proofs.Readings.{stopped, behind_found, behind_absent, behind_stuck, ended_found, ended_absent, ended_stuck, both_found, both_absent, both_stuck}
+use Rattle.atom_grammar.specs.EntryParts.{front_value}
+use Rattle.atom_grammar.proofs.ReadingLemmas.{stopped, behind_found, behind_absent, behind_stuck, ended_found, ended_absent, ended_stuck, both_found, both_absent, both_stuck}
 use Rattle.atom_grammar.proofs.reader.Reader.front.Goals as goal
 
 pub returns-in_err-literal : goal.returns-in_err-literal
