@@ -1,6 +1,6 @@
 use Rattle.std.proofs.Common.{◌≡◌, ◌-◌, ◌++◌, ℕ, take, drop, [], ◌∷◌, ◌∙◌, ap, arith, length-drop}
 use Rattle.std.proofs.lemmas.List.{append-nil}
-use Rattle.feed_journal.proofs.Scans.{next_found}
+use Rattle.feed_journal.proofs.ScanLemmas.{next_found}
 use Rattle.feed_journal.proofs.scan.next_frame.Goals as goal
 
 pub returns-clause-found : goal.returns-clause-found
