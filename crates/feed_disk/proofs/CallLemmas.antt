@@ -1,4 +1,4 @@
--- What one device call does to the images of an area in memory.
+-- The images of an area in memory after one device call.
 use Rattle.std.proofs.Common.{◌≡◌, ◌≢◌, ◌⊎◌, inl, inr, ⊎_elim, ℕ, ◌+◌, ◌<◌, ◌≤◌, ◌^◌, max, ◌||◌, List, [], ◌∷◌, length}
 use Rattle.std.proofs.Common.{refl, sym, ◌∙◌, ap, subst, arith, Err, Result}
 use Rattle.std.proofs.lemmas.Bool.{cases_lt}
@@ -16,14 +16,14 @@ use Rattle.feed_disk.specs.declared.change.Change.{Change}
 use Rattle.feed_disk.specs.declared.change.Change.TheVariants.{Write, FailedWrite, Sync}
 use Rattle.feed_disk.proofs.TornLemmas.{torn_is_between, between_is_torn, torn_same}
 
--- after a sync there is one image
+-- after a sync the content is the only image
 pub after_sync : (first : List ℕ) (call : ℕ) (older : List Change) (image : List ℕ)
     → MayLeave first (Sync call ∷ older) image → image ≡ content_of first older
 after_sync first call older image may = same_number_lists image (content_of first older)
     (omega (arith, may.no_shorter, may.no_longer))
     (λ offset inside. may.certain offset (omega (arith, may.no_longer)) refl)
 
--- a stop within the newest change may leave what a stop after it may
+-- each image after the newest change is one within it
 pub now_is_within : (first : List ℕ) (changes : List Change) (image : List ℕ) → MayLeave first changes image
     → MayLeaveWithin first changes image
 now_is_within first [] image may = may
@@ -32,7 +32,7 @@ now_is_within first (FailedWrite call at bytes ∷ older) image may = may
 now_is_within first (Sync call ∷ older) image may =
     subst (MayLeave first older) (sym (after_sync first call older image may)) (content_may_be first older)
 
--- after the newest change a stop leaves what a stop now may
+-- each image of a moment after the newest change is one of now
 pub past_newest : (first : List ℕ) (changes : List Change) (k c : ℕ) (i : List ℕ) → UpTo k changes → k < c
     → MayLeaveAt first changes c i → MayLeave first changes i
 past_newest first [] k c i up past may = may
@@ -40,7 +40,7 @@ past_newest first (change ∷ older) k c i up past (inl now) = now.1
 past_newest first (change ∷ older) k c i up past (inr (inl within)) = absurd (omega (arith, within.0))
 past_newest first (change ∷ older) k c i up past (inr (inr before)) = absurd (omega (arith, before.0))
 
--- what a stop now may leave is an image of the last moment
+-- each image of now is one of the last moment
 pub at_newest : (first : List ℕ) (changes : List Change) (k : ℕ) (i : List ℕ) → UpTo k changes
     → MayLeave first changes i → MayLeaveAt first changes k i
 at_newest first [] k i up may = may
@@ -117,7 +117,7 @@ passes_by m n a up is grows same = record {
   content = ap (λ (h : AreaRecordValue). content_of h.first h.changes) same;
 }
 
--- a call that changes it
+-- a call that changes the area
 pub passes_changed : (m n : MemoryValue) (a : Area) (change : Change) (within : List ℕ → Type 0)
     → UpTo m.calls.made (record_of m.areas a).changes → n.calls.made ≡ counted m.calls.made
     → m.calls.made ≤ n.calls.made → call_of change ≡ n.calls.made
@@ -140,7 +140,7 @@ passes_changed m n a change within up is grows numbered new more all =
           (subst (λ (g : AreaRecordValue). MayLeave g.first g.changes i) new may));
     }
 
--- the images of a write are the torn ones, from one image before it to the next
+-- the images after a write are those that it makes of an image before it
 module _ (first : List ℕ) (older : List Change) (at : ℕ) (bytes : List ℕ)
     (fits : at ≤ length (content_of first older)) where
   longest : length (written (newest_of first older) at bytes) ≡ max (length (newest_of first older)) (at + length bytes)
@@ -190,7 +190,7 @@ this_changed areas Journal change = refl
 this_changed areas Sealed change = refl
 this_changed areas Mirror change = refl
 
--- what a call that changes one area does to the others, and what a change may follow
+-- the other areas at a call that changes one, and the changes that a new one may follow
 module _ (m n : MemoryValue) (keeps : KeepsCounts m.areas m.calls) (is : n.calls.made ≡ counted m.calls.made) where
   pub comes_after : (a : Area) → ComesAfter n.calls.made (record_of m.areas a).changes
   comes_after a = after_by m.calls.made n.calls.made (record_of m.areas a).changes keeps.made is (keeps.counts a)
@@ -209,7 +209,7 @@ module _ (m n : MemoryValue) (keeps : KeepsCounts m.areas m.calls) (is : n.calls
         ≡ record (record_of m.areas area) { changes = change ∷ (record_of m.areas area).changes }
     is_changed = ap (λ (areas : Areas). record_of areas area) new ∙ this_changed m.areas area change
 
--- a write, a write that failed, and a sync
+-- a write, a failed write, and a sync
 module _ (m n : MemoryValue) (keeps : KeepsCounts m.areas m.calls) (is : n.calls.made ≡ counted m.calls.made)
     (area : Area) where
   abbrev first : List ℕ
@@ -237,7 +237,7 @@ module _ (m n : MemoryValue) (keeps : KeepsCounts m.areas m.calls) (is : n.calls
         (sym (is_changed m n keeps is area (Write n.calls.made at bytes) new))
         (torn_written first older at bytes there i from)
 
-  -- a call that leaves the area as it was, seen as a write that a stop kept from beginning
+  -- a call that leaves the area as it was, seen as a write that wrote nothing
   pub passes_unwritten : n.areas ≡ m.areas → (at k : ℕ)
       → Passes (state_of m) (state_of n) area (TornFrom at k ((state_of m).image_now area))
   passes_unwritten same at k =

@@ -1,4 +1,4 @@
--- The disk that a stop leaves, area by area.
+-- The disk that a crash leaves, area by area.
 use Rattle.std.proofs.Common.{◌≡◌, inl, inr, ℕ, ◌-◌, ◌<◌, ◌≤◌, ◌^◌, List, [], ◌++◌, length, drop, replicate, refl, sym}
 use Rattle.std.proofs.Common.{◌∙◌, ap, subst, arith}
 use Rattle.std.specs.Prelude.{All}
@@ -35,7 +35,7 @@ module _ (m : MemoryValue) (call : ℕ) (begun : call ≤ m.calls.made) where
   among choice d is Mirror = subst (λ (v : MemoryValue).
       (state_of m).image_at Mirror call ((state_of v).content Mirror)) (sym is) (image_at choice Mirror)
 
-  -- an image of the moment is one that a stop after the changes until then may leave
+  -- each image of a moment is one after the changes until then
   until_may : m.calls.made < 2 ^ 64 - 1 → (a : Area) (i : List ℕ) → UpTo m.calls.made (record_of m.areas a).changes
       → IsRecorded (record_of m.areas a).first (record_of m.areas a).changes
       → MayLeaveBy (record_of m.areas a) m.calls.made call i
@@ -47,7 +47,7 @@ module _ (m : MemoryValue) (call : ℕ) (begun : call ≤ m.calls.made) where
       (subst (λ (c : ℕ). MayLeaveAt (record_of m.areas a).first (record_of m.areas a).changes c i) (sym last.0)
       (at_newest (record_of m.areas a).first (record_of m.areas a).changes m.calls.made i up last.1))
 
-  -- bytes of which the first are for the areas before
+  -- given bytes of which the first n are for the areas before
   abbrev padded : ℕ → List ℕ → List ℕ
   padded n given = replicate n 0 ++ given
 

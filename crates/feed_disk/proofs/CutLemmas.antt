@@ -1,4 +1,4 @@
--- The changes of an area cut at a call and at the last sync.
+-- The changes of an area, divided at a call and at the last sync.
 use Rattle.std.proofs.Common.{◌≡◌, inl, inr, ℕ, suc, zero, ◌+◌, ◌-◌, ◌<◌, ◌≤◌, Bool, true, false, ◌||◌, leb, ltb, List}
 use Rattle.std.proofs.Common.{[], ◌∷◌, ◌++◌, length, get_or, take, drop, replicate, refl, sym, ◌∙◌, ap, subst, arith}
 use Rattle.std.proofs.Common.{length-append, length-take, length-drop, get_or-take, get_or-drop}
@@ -141,7 +141,7 @@ length-marked_by marks bytes (FailedWrite call at from ∷ older) same =
     length-written_marks (marked_by marks older) (applied bytes older) at from (length-marked_by marks bytes older same)
 length-marked_by marks bytes (Sync call ∷ older) same = length-marked_by marks bytes older same
 
--- a write among the changes has this offset, syncs among them or not
+-- a write among the changes has this offset in its range, whether or not a sync follows it
 abbrev is_written_in : List Change → ℕ → Bool
 is_written_in [] offset = false
 is_written_in (Write call at bytes ∷ older) offset = is_within offset at (length bytes) || is_written_in older offset
@@ -184,7 +184,7 @@ marked_write bytes older at from there offset inside before =
           ∙ sym (or_assoc (is_within offset at (length from)) (is_written_in older offset) (leb (length bytes) offset))
     ]
 
--- a offset of the new bytes is marked where a write since the last sync has it, or it lies past the old end
+-- an offset is marked if a write since the last sync has it in its range, or if it is past the old end
 marked_by_at : (bytes : List ℕ) (changes : List Change) → Reaches bytes changes → (offset : ℕ)
     → offset < length (applied bytes changes)
     → get_or (marked_by (replicate (length bytes) false) changes) offset false

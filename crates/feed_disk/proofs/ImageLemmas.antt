@@ -1,4 +1,4 @@
--- The images that a choice makes are those that a stop may leave, and each of these is made by some choice.
+-- Each image that a choice makes is one that a crash may leave.
 use Rattle.std.proofs.Common.{◌≡◌, inl, inr, ℕ, suc, zero, ◌<◌, ◌≤◌, Bool, true, false, ◌||◌, leb, List, [], ◌∷◌}
 use Rattle.std.proofs.Common.{length, get_or, take, refl, sym, ◌∙◌, ap, subst, arith, zero-add, length-take}
 use Rattle.std.proofs.Common.{get_or-take}
@@ -13,7 +13,7 @@ use Rattle.feed_disk.specs.declared.choice.Choice.{Choice}
 use Rattle.feed_disk.specs.declared.choice.Choice.TheVariants.{Old, New, Fill, Given}
 use Rattle.feed_disk.proofs.CutLemmas.{get_or-marked, length-marked}
 
--- what a stop within a call comes behind is of that moment
+-- an image after the changes that count at a call is one of that moment
 counted_at : (first : List ℕ) (call : ℕ) (change : Change) (older : List Change) (i : List ℕ)
     → counts_by call change ≡ true → MayLeave first (change ∷ older) i → MayLeaveAt first (change ∷ older) call i
 counted_at first call (Write number at bytes) older i counts may = elim (cases_lt number call) [
@@ -45,7 +45,7 @@ until_at first call (change ∷ older) i may = elim (cases_Bool (counts_by call 
   ))
 ]
 
--- the new bytes keep what is certain
+-- the new bytes have each certain byte
 length-newest : (first : List ℕ) (changes : List Change)
     → length (synced_of first changes) ≤ length (newest_of first changes)
 length-newest first changes = omega (arith, length-synced first changes, length-content first changes)
@@ -118,7 +118,7 @@ certain_mark first changes size offset inside old out =
 length-marks : (first : List ℕ) (changes : List Change) (size : ℕ) → length (marks_of first changes size) ≡ size
 length-marks first changes size = length-marked (is_uncertain first changes) 0 size
 
--- each choice makes an image that a stop may leave
+-- each choice makes an image that a crash may leave
 pub image_may : (first : List ℕ) (changes : List Change) (choice : Choice)
     → MayLeave first changes (image_of first changes choice)
 image_may first changes Old = record {

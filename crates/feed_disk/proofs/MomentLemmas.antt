@@ -1,4 +1,4 @@
--- How what a run of device calls leaves is made from what each of them leaves.
+-- The images of a run of device calls, made from those of each call. Callers of a `Disk` prove their clauses by these.
 use Rattle.std.proofs.Common.{inl, inr, ⊎_elim, ℕ, ◌-◌, ◌<◌, ◌≤◌, ◌^◌, List, refl, sym, ◌∙◌, subst, arith, Result}
 use Rattle.std.proofs.lemmas.Bool.{cases_lt}
 use Rattle.atom_values.specs.Counts.{Rose}
@@ -22,7 +22,7 @@ leaves_more s m t a P within r run call counts here = record {
   keeps = λ c i may. call.keeps c i (run.keeps c i may);
 }
 
--- two runs, one behind the other
+-- two runs, one after the other
 pub leaves_join : (s m t : DiskState) (a : Area) (P : ℕ → List ℕ → Type 0) → LeavesOnly s m a P → LeavesOnly m t a P
     → LeavesOnly s t a P
 leaves_join s m t a P first second = record {
@@ -79,7 +79,7 @@ alone_joins s m t a first second = record {
   content = second.content ∙ first.content;
 }
 
--- what held of each image as a run began that left the area alone holds of each since
+-- over a run that leaves the area alone, each image keeps a property that each had at the start
 pub alone_leaves : (s t : DiskState) (a : Area) (P : List ℕ → Type 0) → NowOnly s a P → LeavesAlone s t a
     → AlwaysLeaves s t a P
 alone_leaves s t a P held run = record {
@@ -87,7 +87,7 @@ alone_leaves s t a P held run = record {
   now = λ i may. held i (run.now i may);
 }
 
--- a run whose images, those of now among them, all satisfy P
+-- a run whose images all satisfy P, those of now too
 pub always_begins : (s : DiskState) (a : Area) (P : List ℕ → Type 0) → NowOnly s a P → AlwaysLeaves s s a P
 always_begins s a P held = record { moments = leaves_begin s a (λ _. P); now = held }
 

@@ -1,4 +1,4 @@
--- Each image that a stop may leave is made by some given bytes.
+-- Some given bytes make each image that a crash may leave.
 use Rattle.std.proofs.Common.{◌≡◌, inl, inr, ℕ, suc, ◌-◌, ◌<◌, ◌^◌, Bool, true, false, leb, List, [], ◌∷◌, length}
 use Rattle.std.proofs.Common.{get_or, take, refl, sym, ◌∙◌, ap, subst, arith, zero-add, length-take, get_or-take}
 use Rattle.std.specs.Prelude.{All}

@@ -1,4 +1,4 @@
--- A list of changes, the oldest first as it is kept and the newest first as it is read.
+-- A list of changes, which the code keeps oldest first and the definitions read newest first.
 use Rattle.std.proofs.Common.{◌≡◌, ◌⊎◌, inl, inr, ℕ, ◌+◌, ◌<◌, ◌≤◌, List, [], ◌∷◌, ◌++◌, length, get_or, take, drop}
 use Rattle.std.proofs.Common.{sym, ◌∙◌, ap, subst, take-append-drop}
 use Rattle.std.specs.Prelude.{reverse}
@@ -41,7 +41,7 @@ module _ (xs : List Change) (i : ℕ) (x : Change) (within : i < length xs) (is 
   recorded_at first recorded = recorded_older first (reverse (drop (i + 1) xs)) _
       (subst (IsRecorded first) parts recorded)
 
--- where a write of the list begins
+-- a write of the list begins in the bytes before it
 pub reaches_write : (bytes : List ℕ) (change : Change) (older : List Change) (at : ℕ) (from : List ℕ)
     → Reaches bytes (change ∷ older) → ((call : ℕ) × (change ≡ Write call at from))
     ⊎ ((call : ℕ) × (change ≡ FailedWrite call at from)) → at ≤ length (applied bytes older)

@@ -1,4 +1,4 @@
--- What a write may leave, said from one image to the next and said of all since the last sync.
+-- The images after a write: stated from one image to the next, and stated for all writes since the last sync.
 use Rattle.std.proofs.Common.{◌≡◌, inl, inr, ℕ, ◌+◌, ◌-◌, ◌<◌, ◌≤◌, min, max, Bool, true, false, ◌||◌, leb, ltb, List}
 use Rattle.std.proofs.Common.{◌++◌, length, get_or, take, drop, refl, sym, ◌∙◌, ap, arith, length-append, length-take}
 use Rattle.std.proofs.Common.{length-drop, get_or-take, get_or-drop}
@@ -9,7 +9,7 @@ use Rattle.feed_disk.specs.Disk.{Torn}
 use Rattle.feed_disk.specs.AreaRecord.{is_within, IsBetween}
 use Rattle.feed_disk.specs.DiskLaw.{outside_cases}
 
--- a torn image has each byte outside the range
+-- the image keeps each byte outside the range
 torn_at : (at n : ℕ) (d i : List ℕ) → Torn at n d i → (offset : ℕ) → is_within offset at n ≡ false
     → get_or i offset 0 ≡ get_or d offset 0
 torn_at at n d i torn offset out = elim (outside_cases offset at n out) [
@@ -35,7 +35,7 @@ torn_is_between old size size' at n w d i fits between torn = record {
 pub torn_same : (at n : ℕ) (i : List ℕ) → Torn at n i i
 torn_same at n i = record { before = refl; after = refl; no_shorter = omega arith; no_longer = omega arith }
 
--- the image before the write: that after it, with the old bytes in the range
+-- an image before the write: the one after it, with the old bytes in the range
 abbrev before_write : List ℕ → ℕ → ℕ → List ℕ → List ℕ
 before_write old at n i = take at i ++ take n (drop at (old ++ drop (length old) i)) ++ drop (at + n) i
 
@@ -89,7 +89,7 @@ module _ (old i : List ℕ) (at n : ℕ) (longer : length old ≤ length i) (the
     no_longer = omega (arith, length-before_write);
   }
 
-  -- in the range the old bytes stand
+  -- it has the old bytes in the range
   pub old_before_write : (offset : ℕ) → offset < length old → is_within offset at n ≡ true
       → get_or (before_write old at n i) offset 0 ≡ get_or old offset 0
   old_before_write offset inside within =
@@ -119,7 +119,7 @@ module _ (old i : List ℕ) (at n : ℕ) (longer : length old ≤ length i) (the
           → (is_within offset at n || w offset) ≡ false
       or_from_false offset w apart out = ap (λ (b : Bool). b || w offset) apart ∙ out
 
-  -- the image before the write, cut to the size that it may have had
+  -- the same image, cut to a size that it may have had
   abbrev cut_before_write : ℕ → List ℕ
   cut_before_write size = take (min (length i) size) (before_write old at n i)
 
@@ -150,7 +150,7 @@ module _ (old i : List ℕ) (at n : ℕ) (longer : length old ≤ length i) (the
         ∙ kept_before_write size' w between offset inside out;
   }
 
--- an image after the write comes from one before it
+-- each image after the write comes from one before it
 pub between_is_torn : (old : List ℕ) (size size' at n : ℕ) (w : ℕ → Bool) (i : List ℕ) → at ≤ size
     → size' ≤ max size (at + n) → length old ≤ size
     → IsBetween old size' (λ offset. is_within offset at n || w offset) i

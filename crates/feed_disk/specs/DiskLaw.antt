@@ -1,5 +1,4 @@
--- The law `IsDisk` for a disk in memory, with its lemmas. They stand in specs/ because the toolchain accepts no lemma
--- of
+-- The law `IsDisk` for a disk in memory, with its lemmas. They are in specs/ because the toolchain accepts no lemma of
 -- proofs/ as the law of a trait's impl.
 use Rattle.std.proofs.Common.{◌≡◌, ◌⊎◌, inl, inr, ℕ, ◌+◌, ◌-◌, ◌<◌, ◌≤◌, min, false, leb, ltb, List, [], ◌∷◌, ◌++◌}
 use Rattle.std.proofs.Common.{length, get_or, take, drop, refl, ◌∙◌, ap, arith, length-append, length-take, length-drop}
@@ -22,7 +21,7 @@ length-written old at bytes = omega (
   length-drop (at + length bytes) old,
 )
 
--- a offset outside the range
+-- an offset outside the range
 pub outside_cases : (offset at n : ℕ) → is_within offset at n ≡ false → (offset < at) ⊎ (at + n ≤ offset)
 outside_cases offset at n out = elim (and_cases (leb at offset) (ltb offset (at + n)) out) [
   | inl low ↦ inl (leb-false at offset low)
@@ -89,7 +88,7 @@ content_certain first (FailedWrite call at bytes ∷ older) offset there out =
     (or_parts (is_within offset at (length bytes)) (is_written older offset) out).1
 content_certain first (Sync call ∷ older) offset there out = refl
 
--- what a read gives is one of the images
+-- the content is one of the images
 pub content_may_be : (first : List ℕ) (changes : List Change) → MayLeave first changes (content_of first changes)
 content_may_be first changes = record {
   no_shorter = length-synced first changes;

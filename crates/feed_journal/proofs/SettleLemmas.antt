@@ -1,5 +1,6 @@
--- The moments of the beginning of a load.
-use Rattle.std.proofs.Common.{◌≡◌, inl, inr, ℕ, ◌<◌, ◌≤◌, min, leb, List, [], ◌∷◌, length, drop, refl, sym, ◌∙◌, ap, arith, length-drop}
+-- The moments of `settle_area`.
+use Rattle.std.proofs.Common.{◌≡◌, inl, inr, ℕ, ◌<◌, ◌≤◌, min, leb, List, [], ◌∷◌, length, drop, refl, sym, ◌∙◌, ap}
+use Rattle.std.proofs.Common.{arith, length-drop}
 use Rattle.std.proofs.lemmas.Bool.{cases_lt, cond-true, cond-false, le-leb, lt-leb}
 use Rattle.feed_disk.specs.Disk.{DiskState, TornFrom}
 use Rattle.feed_disk.specs.Moments.{AlwaysLeaves}
@@ -20,16 +21,21 @@ padded_short bytes short = cond-false (leb 6 (length bytes)) bytes (0 ∷ drop 1
 
 pub records-padded : (bytes : List ℕ) → records (padded bytes) ≡ records bytes
 records-padded bytes = elim (cases_lt (length bytes) 6) [
-  | inl short ↦ ap records (padded_short bytes short) ∙ short_records (0 ∷ drop 1 bytes) (omega (arith, length-drop 1 bytes)) ∙ sym (short_records bytes short)
+  | inl short ↦ ap records (padded_short bytes short)
+      ∙ short_records (0 ∷ drop 1 bytes) (omega (arith, length-drop 1 bytes)) ∙ sym (short_records bytes short)
   | inr long ↦ ap records (padded_long bytes long)
 ]
 
--- what was an image stands for itself
-pub stands_same : (s t : DiskState) (area : Area) → AlwaysLeaves s t area (s.image_now area) → AlwaysLeaves s t area (StandsFor (s.image_now area))
-stands_same s t area run = always_weaker s t area (s.image_now area) (StandsFor (s.image_now area)) (λ i may. record { of = i; among = may; payloads = refl; whole = λ whole. whole }) run
+-- an image stands for itself
+pub stands_same : (s t : DiskState) (area : Area) → AlwaysLeaves s t area (s.image_now area)
+    → AlwaysLeaves s t area (StandsFor (s.image_now area))
+stands_same s t area run = always_weaker s t area (s.image_now area) (StandsFor (s.image_now area))
+    (λ i may. record { of = i; among = may; payloads = refl; whole = λ whole. whole }) run
 
--- a torn gate at the front of a short area
-pub stands_padded : (s t u : DiskState) (area : Area) → AlwaysLeaves s t area (s.image_now area) → ((i : List ℕ) → t.image_now area i → i ≡ t.content area) → length (t.content area) < 6 → AlwaysLeaves t u area (TornFrom 0 1 (t.image_now area)) → AlwaysLeaves s u area (StandsFor (s.image_now area))
+-- a torn gate at the start of a short area
+pub stands_padded : (s t u : DiskState) (area : Area) → AlwaysLeaves s t area (s.image_now area)
+    → ((i : List ℕ) → t.image_now area i → i ≡ t.content area) → length (t.content area) < 6
+    → AlwaysLeaves t u area (TornFrom 0 1 (t.image_now area)) → AlwaysLeaves s u area (StandsFor (s.image_now area))
 stands_padded s t u area first certain short second =
     always_joins s t u area (StandsFor (s.image_now area)) (stands_same s t area first)
     (always_weaker t u area (TornFrom 0 1 (t.image_now area)) (StandsFor (s.image_now area)) (λ i from.

@@ -3,7 +3,8 @@
 use Rattle.std.specs.Prelude.{◌≡◌, ◌≢◌, ◌⊎◌, ℕ, zero, suc, ◌+◌, ◌-◌, ◌<◌, min, Bool, ◌&&◌, nat_le, ◌==◌, if◌then◌else◌}
 use Rattle.std.specs.Prelude.{slice_index, List, [], ◌∷◌, ◌++◌, length, take, drop}
 use Rattle.std.specs.Int.{w32, to_be_bytes, from_be_bytes}
-use Rattle.feed_journal.specs.Limits.{payload_limit, payload_count_limit, header_length, least_size, open_gate, closed_gate}
+use Rattle.feed_journal.specs.Limits.{payload_limit, payload_count_limit, header_length, least_size, open_gate}
+use Rattle.feed_journal.specs.Limits.{closed_gate}
 
 -- the length after the gate
 abbrev pub length_at : List ℕ → ℕ

@@ -12,9 +12,10 @@
 //! }
 //! ```
 //!
-//! Each payload is in a frame that begins with a gate. An append writes the frame with a closed gate, syncs it,
-//! then opens the gate. So at each moment within it a crash leaves the list before or the list with the new
-//! payload. `Log::load` recovers exactly the payloads of the area, and `Log::read` returns them.
+//! Each payload is in a frame that begins with a gate. An append writes the frame with a closed gate, syncs
+//! it, then opens the gate and syncs that. So at each moment within it a crash leaves the list before or the
+//! list with the new payload. `Log::load` recovers exactly the payloads of the area, and `Log::read` returns
+//! them.
 //!
 //! After `DiskFault` the log is spent: drop it and load it again.
 //!

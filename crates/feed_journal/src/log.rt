@@ -1,5 +1,5 @@
-ghost use Rattle.std.specs.Prelude.{◌≡◌, ◌≢◌, ◌+◌, ◌-◌, ◌*◌, ◌^◌, ◌<◌, ◌≤◌, ℕ, Bool, true, false, List, [], ◌∷◌, ◌++◌};
-ghost use Rattle.std.specs.Prelude.{length, take, drop, slice_get, OnOk, OnErr, IfOk, IsTrue, ◌↔◌};
+ghost use Rattle.std.specs.Prelude.{◌≡◌, ◌≢◌, ◌+◌, ◌-◌, ◌*◌, ◌^◌, ◌<◌, ◌≤◌, ℕ, Bool, true, false};
+ghost use Rattle.std.specs.Prelude.{List, [], ◌∷◌, ◌++◌, length, take, drop, slice_get, OnOk, OnErr, IfOk, IsTrue, ◌↔◌};
 ghost use Rattle.atom_values.specs.Counts.{HasCause, Rose, counted};
 ghost use Rattle.feed_disk.specs.Moments.{AlwaysLeaves, LeavesAlone, NowOnly};
 ghost use Rattle.feed_disk.specs.Raised.{raised};
@@ -59,8 +59,10 @@ impl Log {
     /// A crash at any moment of the call, whatever it returns, leaves the payloads of an image that a crash
     /// before it could leave.
     ///
-    /// Errors: `DiskFault` where the disk's count of faults rose, and `NoMemory`. Neither hides the other. It
-    /// never returns `Changed`. It makes four device calls at most, and one for each payload's header.
+    /// Errors: `DiskFault` where the disk's count of faults rose. `NoMemory`, which hides no failed device
+    /// call. Never `Changed`.
+    ///
+    /// Cost: four device calls at most, and one for each header that is read.
     pub fn load<D: Disk>(alloc: Global, disk: &mut D, area: Area) -> Result<Log, LogFault>
         ensures log { IfOk result (λ log. IsLog log × (log.area ≡ area) × (log.spent ≡ false)) }
 
@@ -108,8 +110,8 @@ impl Log {
         })
     }
 
-    /// Returns the number of device calls that this log has made since its load began, failed ones included. It
-    /// stays at the greatest u64.
+    /// Returns the number of device calls that this log has made since its load began, failed ones included.
+    /// It stays at the greatest u64.
     pub fn calls(&self) -> u64
         ensures { result ≡ self.now.calls }
     {
@@ -155,8 +157,8 @@ impl Log {
     ///
     /// A crash at any moment of the call leaves the list before or the list with the payload.
     ///
-    /// Error: `DiskFault` where the disk's count of faults rose. Then a crash leaves one of the two lists, and
-    /// the log is spent.
+    /// Error: `DiskFault` where the disk's count of faults rose. Then a crash leaves one of the two lists,
+    /// and the log is spent.
     pub fn append<D: Disk>(&mut self, disk: &mut D, framed: &Framed) -> Result<(), DiskFault>
         requires unspent { self.old.spent ≡ false }
         requires reserved { 0 < self.old.spare }
@@ -191,7 +193,8 @@ impl Log {
             D.told → NowOnly (D.state disk.old) self.old.area (Begins before)
             → AlwaysLeaves (D.state disk.old) (D.state disk.new) self.old.area (IsStep before framed.now) }
         ensures rests { OnOk result (D.told
-            → NowOnly (D.state disk.old) self.old.area (Begins (records ((D.state disk.old).content self.old.area)))
+            → NowOnly (D.state disk.old) self.old.area
+            (Begins (records ((D.state disk.old).content self.old.area)))
             → NowOnly (D.state disk.new) self.old.area
             (Begins (records ((D.state disk.new).content self.old.area)))) }
         ensures certain { OnOk result (D.told → (i : List ℕ)
@@ -225,9 +228,9 @@ impl Log {
 
     /// Reads the payload of an index, counted from 0, in one device call.
     ///
-    /// Errors: `DiskFault` where the disk's count of faults rose, after which the log is spent. `Changed` where
-    /// the area has fewer bytes of the payload than the log has for it. `NoMemory`. After `Changed` and
-    /// `NoMemory` the log is as it was but for `calls`.
+    /// Errors: `DiskFault` where the disk's count of faults rose, after which the log is spent. `Changed` if
+    /// the area has fewer bytes of the payload than the log has for it. `NoMemory`. No other error hides a
+    /// failed device call, and after one the log is as it was but for `calls`.
     pub fn read<D: Disk>(&mut self, disk: &mut D, index: u32) -> Result<Vec<u8>, LogFault>
         requires unspent { self.old.spent ≡ false }
         requires within { index < length self.old.extents }

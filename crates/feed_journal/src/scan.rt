@@ -31,8 +31,8 @@ fn length_in(header: [u8; 5], after: u64) -> Option<u32>
     }
 }
 
-/// Reads the header at offset `at` of an area of this size, and returns the length of its frame's payload if it
-/// is that of a frame. It counts this device call.
+/// Reads the header at offset `at` of an area of this size, and returns the payload's length if a frame is
+/// there. It counts this device call.
 fn next_frame<D: Disk>(
     disk: &mut D,
     area: Area,
@@ -89,7 +89,8 @@ pub fn scan<D: Disk>(
     let mut extents = Vec::new(alloc);
     let mut end = 0;
     'frames: loop {
-        if extents.len() >= PAYLOAD_COUNT_LIMIT || size - end <= HEADER_LENGTH {
+        let full = extents.len() >= PAYLOAD_COUNT_LIMIT;
+        if full || size - end <= HEADER_LENGTH {
             return Ok((extents, end));
         }
         let Some(length) = next_frame(disk, area, end, size, calls)? else {

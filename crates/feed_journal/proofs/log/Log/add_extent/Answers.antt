@@ -10,11 +10,17 @@ invariant_of-self c =
     let extents = c.self.inside.extents.items in
     let extent : Extent = record { offset = c.self.inside.size + 4; length = c.args.count } in
     let pushed : c.push.new.self.items ≡ extents ++ extent ∷ [] = grind (arith, common_steps) in
-    let before : c.self.inside.size + c.args.count + 5 ≡ c.self.inside.size + (c.from.result + 5) = omega (arith, c.from.ensures) in
+    let before : c.self.inside.size + c.args.count + 5 ≡ c.self.inside.size + (c.from.result + 5) =
+    omega (arith, c.from.ensures) in
     subst (λ (l : List Extent). KeepsLog l (c.self.inside.size + (c.from.result + 5))) (sym pushed)
     (subst (KeepsLog (extents ++ extent ∷ [])) before (record {
       follow = follow_push 0 extents c.self.inside.size extent c.self.invariant.follow (omega arith) c.requires.small;
-      few = omega (arith, length-append extents (extent ∷ []), ap (λ (v : LogValue). length v.extents) c.self.view_is, c.requires.few);
+      few = omega (
+        arith,
+        length-append extents (extent ∷ []),
+        ap (λ (v : LogValue). length v.extents) c.self.view_is,
+        c.requires.few,
+      );
     }))
 
 pub returns-clause-rules : goal.returns-clause-rules
@@ -22,9 +28,15 @@ returns-clause-rules c =
     let extents = c.self.inside.extents.items in
     let extent : Extent = record { offset = c.self.inside.size + 4; length = c.args.count } in
     let pushed : c.push.new.self.items ≡ extents ++ extent ∷ [] = grind (arith, common_steps) in
-    let before : c.self.inside.size + c.args.count + 5 ≡ c.self.inside.size + (c.from.result + 5) = omega (arith, c.from.ensures) in
+    let before : c.self.inside.size + c.args.count + 5 ≡ c.self.inside.size + (c.from.result + 5) =
+    omega (arith, c.from.ensures) in
     subst (λ (l : List Extent). KeepsLog l (c.self.inside.size + (c.from.result + 5))) (sym pushed)
     (subst (KeepsLog (extents ++ extent ∷ [])) before (record {
       follow = follow_push 0 extents c.self.inside.size extent c.self.invariant.follow (omega arith) c.requires.small;
-      few = omega (arith, length-append extents (extent ∷ []), ap (λ (v : LogValue). length v.extents) c.self.view_is, c.requires.few);
+      few = omega (
+        arith,
+        length-append extents (extent ∷ []),
+        ap (λ (v : LogValue). length v.extents) c.self.view_is,
+        c.requires.few,
+      );
     }))

@@ -10,9 +10,13 @@ pub read_exactly-requires : goal.read_exactly-requires
 read_exactly-requires g c = λ tells.
     let content = (g.D.Disk.state c.args.disk.now).content c.self.inside.area in
     let extents = c.self.inside.extents.items in
-    let listed : payloads_at extents content ≡ records content = subst (λ (v : LogValue). payloads_at v.extents ((g.D.Disk.state c.args.disk.now).content v.area) ≡ records ((g.D.Disk.state c.args.disk.now).content v.area)) (sym c.self.view_is) (c.requires.listed tells) in
-    let inside : c.args.index < length extents = subst (λ (v : LogValue). c.args.index < length v.extents) (sym c.self.view_is) c.requires.within in
-    let within = extents_within _ 0 extents c.self.inside.size content c.self.invariant.follow listed c.args.index c.index-extent.result.now inside in
+    let listed : payloads_at extents content ≡ records content =
+    subst (λ (v : LogValue). payloads_at v.extents ((g.D.Disk.state c.args.disk.now).content v.area)
+    ≡ records ((g.D.Disk.state c.args.disk.now).content v.area)) (sym c.self.view_is) (c.requires.listed tells) in
+    let inside : c.args.index < length extents =
+    subst (λ (v : LogValue). c.args.index < length v.extents) (sym c.self.view_is) c.requires.within in
+    let within = extents_within _ 0 extents c.self.inside.size content c.self.invariant.follow listed c.args.index
+    c.index-extent.result.now inside in
     let there = subst (λ (p : Extent). p.offset + p.length ≤ length content) (sym c.index-extent.ensures) within in
     let long : length c.in_ok-bytes.bytes.items ≡ c.index-extent.result.now.length = search rules in
     omega (arith, there, long)
@@ -22,11 +26,15 @@ returns-in-Ok-true-clause-payload g c = λ tells.
     let s = g.D.Disk.state c.args.disk.now in
     let content = s.content c.self.inside.area in
     let extents = c.self.inside.extents.items in
-    let listed : payloads_at extents content ≡ records content = subst (λ (v : LogValue). payloads_at v.extents (s.content v.area) ≡ records (s.content v.area)) (sym c.self.view_is) (c.requires.listed tells) in
-    let inside : c.args.index < length extents = subst (λ (v : LogValue). c.args.index < length v.extents) (sym c.self.view_is) c.requires.within in
+    let listed : payloads_at extents content ≡ records content =
+    subst (λ (v : LogValue). payloads_at v.extents (s.content v.area) ≡ records (s.content v.area))
+    (sym c.self.view_is) (c.requires.listed tells) in
+    let inside : c.args.index < length extents =
+    subst (λ (v : LogValue). c.args.index < length v.extents) (sym c.self.view_is) c.requires.within in
     let long : length c.in_ok-bytes.bytes.items ≡ c.index-extent.result.now.length = search rules in
     let bytes = (c.in-Ok-true.ensures.bytes tells).1 in
-    subst (λ (v : LogValue). slice_get (records (s.content v.area)) c.args.index ≡ Some c.read_exactly.new.bytes.items) c.self.view_is
+    subst (λ (v : LogValue). slice_get (records (s.content v.area)) c.args.index ≡ Some c.read_exactly.new.bytes.items)
+    c.self.view_is
     (ap (λ (l : List (List ℕ)). slice_get l c.args.index) (sym listed)
     ∙ get-payloads extents content c.args.index c.index-extent.result.now inside
     ∙ ap (λ (p : Extent). Some (take p.length (drop p.offset content))) (sym c.index-extent.ensures)
