@@ -7,9 +7,9 @@ ghost use Rattle.feed_journal.specs.Limits.{payload_count_limit, open_gate};
 ghost use Rattle.feed_journal.specs.Log.{MakesCalls, MakesUpTo};
 ghost use Rattle.feed_journal.specs.Records.{records, size_of, tail_of, Begins, IsStep};
 
-use crate::device_calls::write_and_sync;
 use crate::framed::Framed;
 use crate::limits::OPEN_GATE;
+use crate::synced_write::write_and_sync;
 use atom_values::Failed;
 use feed_disk::{Area, Disk};
 

@@ -23,7 +23,6 @@
 #![tactic(auto)]
 
 mod append;
-mod device_calls;
 mod extent;
 mod fault;
 mod framed;
@@ -31,6 +30,7 @@ mod limits;
 mod log;
 mod scan;
 mod settle;
+mod synced_write;
 
 pub use fault::{DiskFault, LogFault};
 pub use framed::Framed;

@@ -1,4 +1,4 @@
-ghost use Rattle.std.specs.Prelude.{◌≡◌, ◌≢◌, ◌≤◌, ℕ, List, length, OnOk, IfOk};
+ghost use Rattle.std.specs.Prelude.{◌≡◌, ◌≢◌, ◌≤◌, ℕ, List, length, OnOk};
 ghost use Rattle.atom_values.specs.Counts.{HasCause};
 ghost use Rattle.feed_disk.specs.Disk.{written, TornFrom};
 ghost use Rattle.feed_disk.specs.Moments.{AlwaysLeaves, LeavesAlone};
@@ -35,27 +35,4 @@ pub fn write_and_sync<D: Disk>(
     *calls = calls.saturating_add(1);
     disk.sync(area)?;
     Ok(())
-}
-
-/// Syncs an area and returns its size, and counts these two device calls.
-pub fn sync_and_size<D: Disk>(disk: &mut D, area: Area, calls: &mut u64) -> Result<u64, Failed>
-    ensures size { IfOk result (λ n. D.told → n ≡ length ((D.state disk.new).content area)) }
-    ensures content { OnOk result (D.told
-        → (D.state disk.new).content area ≡ (D.state disk.old).content area) }
-    ensures certain { OnOk result (D.told → (i : List ℕ)
-        → (D.state disk.new).image_now area i → i ≡ (D.state disk.new).content area) }
-    ensures moments { AlwaysLeaves (D.state disk.old) (D.state disk.new) area
-        ((D.state disk.old).image_now area) }
-    ensures others { (a : AreaValue) → a ≢ area → LeavesAlone (D.state disk.old) (D.state disk.new) a }
-    ensures ok { OnOk result (MakesCalls (D.state disk.old) (D.state disk.new) calls.old calls.new 2) }
-    ensures calls { MakesUpTo (D.state disk.old) (D.state disk.new) calls.old calls.new 2 }
-    ensures cause { HasCause (D.state disk.old).faults (D.state disk.new).faults result }
-    ensures worked { OnOk result ((D.state disk.new).faults ≡ (D.state disk.old).faults) }
-    ensures read { (D.state disk.new).bytes_read ≡ (D.state disk.old).bytes_read }
-{
-    *calls = calls.saturating_add(1);
-    disk.sync(area)?;
-    *calls = calls.saturating_add(1);
-    let size = disk.size(area)?;
-    Ok(size)
 }
