@@ -49,3 +49,9 @@ upper_t = 84
 
 abbrev pub upper_z : ℕ
 upper_z = 90
+
+abbrev pub underscore : ℕ
+underscore = 95
+
+abbrev pub tilde : ℕ
+tilde = 126

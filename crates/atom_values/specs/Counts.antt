@@ -1,15 +1,20 @@
--- Counters that stay at the greatest u64, and failures that a count explains.
-use Rattle.std.specs.Prelude.{ℕ, ◌+◌, ◌-◌, ◌^◌, ◌≤◌, min, Result, OnErr}
+-- Counters that stay at the greatest u64, and the failures that a counter explains.
+use Rattle.std.specs.Prelude.{ℕ, ◌+◌, ◌-◌, ◌^◌, ◌≤◌, min, Result, OnErr, OnOk, ◌≡◌}
 
--- a counter after one more
+-- the greatest u64
+abbrev pub counter_limit : ℕ
+counter_limit = 2 ^ 64 - 1
+
+-- a counter after one more count
 abbrev pub counted : ℕ → ℕ
-counted before = min (before + 1) (2 ^ 64 - 1)
+counted before = min (before + 1) counter_limit
 
--- the counter rose; one that stands at its end counts as risen
+-- the counter rose; at the greatest u64 it counts as risen
 abbrev pub Rose : ℕ → ℕ → Type 0
 Rose before after = counted before ≤ after
 
--- the count of faults never falls, and a failure comes only where it rose
+-- the count of faults never falls; a failure comes only where it rose, and a call that worked leaves it as it was
 pub record HasCause {T E : Type 0} (before after : ℕ) (result : Result T E) : Type 0 where
   pub later : before ≤ after
   pub failed : OnErr result (Rose before after)
+  pub worked : OnOk result (after ≡ before)

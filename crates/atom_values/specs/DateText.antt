@@ -1,23 +1,27 @@
--- The date texts and what each states (RFC 3339 section 5.6), by their parts.
+-- The date texts of RFC 3339 section 5.6, with upper-case T and Z, and the timestamp that each states.
 use Rattle.std.specs.Char.{is_ascii_digit}
 use Rattle.std.specs.List.{list_all}
-use Rattle.std.specs.Prelude.{◌≡◌, ℕ, ◌+◌, ◌*◌, ◌≤◌, min, true, List, [], ◌∷◌, ◌++◌, ℤ, pos, neg_ℤ, ◌-ℤ◌, codes}
-use Rattle.atom_values.specs.Stamp.{IsStamp, day_number, days_in_month, digit_at, fixed_digits}
+use Rattle.std.specs.Prelude.{◌≡◌, ℕ, ◌+◌, ◌-◌, ◌*◌, ◌≤◌, min, true, List, [], ◌∷◌, ◌++◌, ℤ, pos, neg_ℤ, ◌-ℤ◌, codes}
+use Rattle.std.specs.Prelude.{slice_index}
+use Rattle.atom_values.specs.Ascii.{plus, minus, point, digit_zero, colon, upper_t}
+use Rattle.atom_values.specs.Calendar.{day_number, days_in_month}
+use Rattle.atom_values.specs.Stamp.{IsStamp, fixed_digits, millis_before_1970}
 
--- Z, or hours and minutes that the clock is ahead of UTC or behind it
+-- Z, or the hours and minutes that the clock is ahead of UTC or behind it
 pub data Offset : Type 0 where
   utc : Offset
   ahead : ℕ → ℕ → Offset
   behind : ℕ → ℕ → Offset
 
 abbrev pub hours_minutes : ℕ → ℕ → List ℕ
-hours_minutes hours minutes = fixed_digits 2 hours ++ 58 ∷ [] ++ fixed_digits 2 minutes
+hours_minutes hours minutes = fixed_digits 2 hours ++ colon ∷ [] ++ fixed_digits 2 minutes
 
 abbrev pub offset_text : Offset → List ℕ
 offset_text utc = codes "Z"
-offset_text (ahead hours minutes) = 43 ∷ hours_minutes hours minutes
-offset_text (behind hours minutes) = 45 ∷ hours_minutes hours minutes
+offset_text (ahead hours minutes) = plus ∷ hours_minutes hours minutes
+offset_text (behind hours minutes) = minus ∷ hours_minutes hours minutes
 
+-- the milliseconds that the clock is ahead of UTC
 abbrev pub offset_size : Offset → ℤ
 offset_size utc = pos 0
 offset_size (ahead hours minutes) = pos (3_600_000 * hours + 60_000 * minutes)
@@ -28,7 +32,7 @@ IsOffset utc = Unit {0}
 IsOffset (ahead hours minutes) = (hours ≤ 23) × (minutes ≤ 59)
 IsOffset (behind hours minutes) = (hours ≤ 23) × (minutes ≤ 59)
 
--- what a date text is made of
+-- the parts of a date text; `fraction` has the digits after the point, as bytes
 pub record Parts : Type 0 where
   pub year : ℕ
   pub month : ℕ
@@ -42,13 +46,14 @@ pub record Parts : Type 0 where
 -- a point before the fraction's digits, if it has any
 abbrev pub fraction_part : List ℕ → List ℕ
 fraction_part [] = []
-fraction_part (digit ∷ digits) = 46 ∷ digit ∷ digits
+fraction_part (digit ∷ digits) = point ∷ digit ∷ digits
 
 -- YYYY-MM-DDThh:mm:ss
 abbrev pub date_time_text : Parts → List ℕ
 date_time_text p =
-    fixed_digits 4 p.year ++ 45 ∷ [] ++ fixed_digits 2 p.month ++ 45 ∷ [] ++ fixed_digits 2 p.day
-    ++ 84 ∷ [] ++ fixed_digits 2 p.hour ++ 58 ∷ [] ++ fixed_digits 2 p.minute ++ 58 ∷ [] ++ fixed_digits 2 p.second
+    fixed_digits 4 p.year ++ minus ∷ [] ++ fixed_digits 2 p.month ++ minus ∷ [] ++ fixed_digits 2 p.day
+    ++ upper_t ∷ [] ++ fixed_digits 2 p.hour ++ colon ∷ [] ++ fixed_digits 2 p.minute ++ colon ∷ []
+    ++ fixed_digits 2 p.second
 
 unfoldable pub text_of : Parts → List ℕ
 text_of p = date_time_text p ++ (fraction_part p.fraction ++ offset_text p.offset)
@@ -64,14 +69,18 @@ pub record IsParts (p : Parts) : Type 0 where
   pub digits : list_all is_ascii_digit p.fraction ≡ true
   pub offset_in : IsOffset p.offset
 
+-- the digit at an index of a text; 0 past its end
+abbrev pub digit_at : List ℕ → ℕ → ℕ
+digit_at text i = slice_index text i - digit_zero
+
 -- the milliseconds since 1970: the local time less the offset, where second 60 is read as 59 and
--- only three of the fraction's digits count
+-- only the first three digits of the fraction count
 unfoldable pub moment_of : Parts → ℤ
 moment_of p =
     pos (86_400_000 * day_number p.year p.month p.day + 3_600_000 * p.hour + 60_000 * p.minute + 1_000 * min p.second 59
     + (100 * digit_at p.fraction 0 + 10 * digit_at p.fraction 1 + digit_at p.fraction 2))
-    -ℤ pos 62_167_219_200_000 -ℤ offset_size p.offset
+    -ℤ pos millis_before_1970 -ℤ offset_size p.offset
 
--- the text is a date text whose moment is z, and a stamp has it
+-- the text is a date text of the timestamp z
 abbrev pub States : List ℕ → ℤ → Type 0
 States text z = (p : Parts) × IsParts p × (text ≡ text_of p) × (moment_of p ≡ z) × IsStamp z

@@ -1,28 +1,34 @@
 -- How the characters of a text are written in an XML document. Each character that is escaped is one byte
 -- of UTF-8, and no byte of a longer sequence has its value, so a text is escaped byte by byte.
-use Rattle.std.specs.Prelude.{◌≡◌, ◌≢◌, ◌↔◌, ℕ, List, [], ◌∷◌, ◌++◌, Bool, ◌&&◌, ◌==◌, if◌then◌else◌, Option, Some, IfSome, flat_map, codes}
-use Rattle.atom_values.specs.XmlText.{IsAtomText}
+use Rattle.std.specs.Prelude.{◌≡◌, ◌≢◌, ◌↔◌, ℕ, ◌*◌, List, [], ◌∷◌, ◌++◌, Bool, ◌&&◌, ◌==◌, if◌then◌else◌, Option, Some}
+use Rattle.std.specs.Prelude.{IfSome, flat_map, codes}
+use Rattle.atom_values.specs.Ascii.{tab, lf, cr, quote, ampersand, less_than, greater_than}
+use Rattle.atom_values.specs.XmlText.{IsAtomText, text_limit}
 
 -- & < > and CR are escaped everywhere, and " tab and LF in an attribute (quoted)
 abbrev pub escaped_byte : Bool → ℕ → List ℕ
 escaped_byte quoted b =
-    if b == 38 then codes "&amp;"
-    else (if b == 60 then codes "&lt;"
-    else (if b == 62 then codes "&gt;"
-    else (if b == 13 then codes "&#13;"
-    else (if quoted && (b == 34) then codes "&quot;"
-    else (if quoted && (b == 9) then codes "&#9;"
-    else (if quoted && (b == 10) then codes "&#10;" else b ∷ []))))))
+    if b == ampersand then codes "&amp;"
+    else (if b == less_than then codes "&lt;"
+    else (if b == greater_than then codes "&gt;"
+    else (if b == cr then codes "&#13;"
+    else (if quoted && (b == quote) then codes "&quot;"
+    else (if quoted && (b == tab) then codes "&#9;"
+    else (if quoted && (b == lf) then codes "&#10;" else b ∷ []))))))
 
 -- the escaped text
 unfoldable pub escaped : Bool → List ℕ → List ℕ
 escaped quoted text = flat_map (escaped_byte quoted) text
 
--- these bytes don't begin with the byte as it is written
+-- the greatest number of bytes of an escaped text: each byte is written in at most six
+abbrev pub escaped_limit : ℕ
+escaped_limit = 6 * text_limit
+
+-- the written bytes don't begin with the written form of the byte
 abbrev pub IsNotWritten : Bool → List ℕ → ℕ → Type 0
 IsNotWritten quoted written b = (rest : List ℕ) → escaped_byte quoted b ++ rest ≢ written
 
--- what is read of written bytes: the text that is written so, and nothing where no text is
+-- `found` is the text whose escaped form the written bytes are, and None where there is no such text
 pub record IsReadBack (quoted : Bool) (written : List ℕ) (found : Option (List ℕ)) : Type 0 where
   pub text : IfSome found IsAtomText
   pub exact : (t : List ℕ) → IsAtomText t → (found ≡ Some t) ↔ (escaped quoted t ≡ written)

@@ -1,6 +1,8 @@
 pub mod Ascii
+pub mod Calendar
 pub mod Category
 pub mod Counts
+pub mod DateFormula
 pub mod DateText
 pub mod Entry
 pub mod Escape

@@ -3,20 +3,20 @@ ghost use Rattle.std.specs.Prelude.{◌≡◌, IfOk};
 use crate::memory::NoMemory;
 use std::alloc::Global;
 
-/// Values that own memory, which are copied only where that is asked for.
+/// Values that own memory and are copied by an explicit call, which may run out of memory.
 pub trait Copies {
-    // What a copy has of a value: all of it, but of a list not the room to spare.
-    ghost kept: { Self → Self } = { λ value. value };
+    // The part of a value that its copy has too: the whole value, except a list's spare room.
+    ghost copied: { Self → Self } = { λ value. value };
 
-    /// A copy that equals this value.
+    /// A copy that equals this value. `NoMemory` if there is no memory for it.
     fn copy(&self, alloc: Global) -> Result<Self, NoMemory>
-        ensures { IfOk result (λ copy. kept copy ≡ kept self.now) };
+        ensures { IfOk result (λ copy. copied copy ≡ copied self.now) };
 }
 
 impl<T: Copies> Copies for Option<T> {
     ghost use Rattle.std.specs.Option.{option_map};
 
-    ghost kept = { option_map T.kept };
+    ghost copied = { option_map T.copied };
 
     fn copy(&self, alloc: Global) -> Result<Option<T>, NoMemory> {
         match self {

@@ -1,5 +1,19 @@
-//! The values that an Atom feed is made of: lists with a limit, moments, texts and entries.
-//! Each type keeps its rules, and each printed or escaped form is exactly its definition in specs/.
+//! The values of an Atom feed: lists with a limit, timestamps, texts and entries.
+//!
+//! Begin with `AtomText::of` and `Draft::titled`: `Draft::normal` makes an entry of a draft.
+//!
+//! ```
+//! let title = AtomText::of(alloc, b"News & views")?;
+//! let moment = Stamp::parse(b"2003-12-13T18:30:02.25+01:00").ok_or("no date")?;
+//! let entry = Draft::titled(alloc, title).normal(1, moment, None);
+//! let mut out = Vec::new(alloc);
+//! escape_into(&mut out, &entry.title.value, false)?;
+//! assert_eq!(rt; out.as_slice(), b"News &amp; views".as_slice());
+//! ```
+//!
+//! Each type keeps its rules, each printed or escaped form is exactly its definition in `specs/`, and `Stamp::parse`
+//! and `unescape` accept exactly the texts of these definitions.
+//!
 //! Stands on `jiff` for the calendar.
 #![tactic(auto)]
 
@@ -18,11 +32,11 @@ mod text;
 pub use bytes::Bytes;
 pub use category::Category;
 pub use copies::Copies;
-pub use entry::{Draft, Entry};
+pub use entry::{Draft, Entry, MAX_CATEGORIES, MAX_LINKS, MAX_PERSONS};
 pub use link::Link;
 pub use listed_calls::ListedCalls;
 pub use many::{ListFault, Many};
 pub use memory::{Failed, NoMemory};
 pub use person::Person;
-pub use stamp::{Stamp, printed_is_read, values_are_stated};
+pub use stamp::{Stamp, printed_is_read};
 pub use text::{AtomText, MAX_TEXT, Text, TextFault, TextKind, escape_into, escaped_len, unescape};

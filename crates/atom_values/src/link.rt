@@ -6,9 +6,9 @@ use crate::memory::NoMemory;
 use crate::text::AtomText;
 use std::alloc::Global;
 
-/// A link of an entry (RFC 4287 section 4.2.7). An absent `rel` is the text `alternate`, and `media` is the
-/// attribute `type`.
-#[derive(Debug, Drop)]
+/// A link of an entry (RFC 4287 section 4.2.7). Keeps the values of the element's attributes: `media` is `type`, and
+/// `rel` is `alternate` if the attribute is absent.
+#[derive(Debug, Drop, PartialEq, Eq)]
 pub struct Link {
     pub href: AtomText,
     pub rel: AtomText,
@@ -19,7 +19,7 @@ pub struct Link {
 }
 
 impl Link {
-    /// Whether the link has exactly this relation.
+    /// Whether the link has this relation, byte for byte.
     pub fn has_relation(&self, relation: &[u8]) -> bool
         ensures { result ≡ has_relation relation.now self.now }
     {

@@ -1,4 +1,4 @@
-ghost use Rattle.std.specs.Prelude.{◌≡◌, ◌<◌, ◌^◌, ◌↔◌, IsTrue, Contains};
+ghost use Rattle.std.specs.Prelude.{◌≡◌, ◌<◌, ◌≤◌, ◌^◌, ◌↔◌, IsTrue, Contains};
 ghost use Rattle.atom_values.specs.Counts.{counted};
 ghost use Rattle.atom_values.specs.ListedCalls.{next_call_fails, after_call};
 
@@ -25,7 +25,7 @@ impl Model for ListedCalls {
 }
 
 impl ListedCalls {
-    /// The calls of an object that has made none.
+    /// The state before the first call. The calls with the numbers in `failing`, counted from 1, will fail.
     pub fn new(failing: Many<u64, 64>) -> ListedCalls
         ensures { result ≡ record { failing = failing.items; made = 0; faults = 0 } }
     {
@@ -41,6 +41,7 @@ impl ListedCalls {
         ensures state { self.new ≡ after_call self.old }
         ensures fails { result ≡ next_call_fails self.old }
         ensures listed { IsTrue result ↔ Contains self.old.failing (counted self.old.made) }
+        ensures later { self.old.faults ≤ self.new.faults }
     {
         self.made = self.made.saturating_add(1);
         let fails = self.failing.as_slice().contains(&self.made);
@@ -50,9 +51,10 @@ impl ListedCalls {
         fails
     }
 
-    /// Counts a failure of another cause, as of an object whose growth found no memory.
+    /// Counts a failure with another cause, as an object that can't grow since memory ran out.
     pub fn count_failure(&mut self)
-        ensures { self.new ≡ record self.old { faults = counted self.old.faults } }
+        ensures state { self.new ≡ record self.old { faults = counted self.old.faults } }
+        ensures later { self.old.faults ≤ self.new.faults }
     {
         self.faults = self.faults.saturating_add(1);
     }

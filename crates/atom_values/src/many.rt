@@ -1,13 +1,18 @@
 ghost use Rattle.std.specs.Prelude.{◌≡◌, ℕ, ◌+◌, ◌-◌, ◌<◌, ◌≤◌, ◌↔◌, [], ◌∷◌, ◌++◌, length, ◌⊎◌, IfErr, OnOk, OnErr, slice_get, option_copied, vec_len, vec_capacity};
+ghost use Rattle.std.specs.Cmp.{on_per};
+ghost use Rattle.std.specs.Cmp.Lexicographic.{lists_per, pointwise};
 ghost use Rattle.std.specs.Fn.{CalledAt};
 ghost use Rattle.std.specs.List.Retain.{IsFiltered};
 
 use crate::copies::Copies;
 use crate::memory::NoMemory;
 use std::alloc::Global;
+use std::error::Error;
+use std::fmt;
 use std::marker::Model;
 
-/// A list of at most `MAX` items.
+/// A list of at most `MAX` items, for input whose size must be bounded. Contracts see the items and the spare room,
+/// which is the number of pushes that need no memory.
 #[derive(Debug, Drop)]
 pub struct Many<T, const MAX: u32> {
     items: Vec<T>,
@@ -27,14 +32,25 @@ impl<T, const MAX: u32> Model for Many<T, MAX> {
 /// Why an item was not added to a list.
 #[derive(Clone, Copy, Debug, PartialEq, Eq)]
 pub enum ListFault {
-    /// The list has as many items as it may have, which is `count`.
+    /// The list already has its greatest number of items, which is `count`.
     TooMany { count: usize },
-    /// Memory ran out.
+    /// The item needed memory, and none was left.
     NoMemory,
 }
 
+impl fmt::Display for ListFault {
+    fn fmt<W: fmt::Write>(&self, f: &mut fmt::Formatter<W>) -> fmt::Result {
+        match self {
+            ListFault::TooMany { count } => write!(f, "the list is full with {count} items"),
+            ListFault::NoMemory => write!(f, "out of memory"),
+        }
+    }
+}
+
+impl Error for ListFault {}
+
 impl<T, const MAX: u32> Many<T, MAX> {
-    /// The empty list, without memory of its own.
+    /// The empty list. Takes no memory.
     pub fn new(alloc: Global) -> Many<T, MAX>
         ensures { result.items ≡ [] }
     {
@@ -43,7 +59,7 @@ impl<T, const MAX: u32> Many<T, MAX> {
         }
     }
 
-    /// How many items there are.
+    /// The number of items.
     pub fn len(&self) -> usize
         ensures count { result ≡ length self.now.items }
         ensures within { result ≤ MAX }
@@ -59,7 +75,7 @@ impl<T, const MAX: u32> Many<T, MAX> {
         self.items.as_slice()
     }
 
-    /// The item at a place, from 0.
+    /// The item at an index from 0, or `None` past the end.
     pub fn get(&self, at: usize) -> Option<&T>
         ensures { option_copied result ≡ slice_get self.now.items at }
     {
@@ -68,13 +84,14 @@ impl<T, const MAX: u32> Many<T, MAX> {
 }
 
 impl<T: Drop, const MAX: u32> Many<T, MAX> {
-    /// Adds the item at the end. After a refusal the list is as before and the item is dropped.
-    ///
-    /// `TooMany` comes where the list has `MAX` items, `NoMemory` only where nothing is spare.
+    /// Adds the item at the end. `TooMany` exactly if the list has `MAX` items, `NoMemory` only if there is no spare
+    /// room. An error leaves the list unchanged and drops the item.
     pub fn push(&mut self, item: T) -> Result<(), ListFault>
         ensures ok { OnOk result (self.new.items ≡ self.old.items ++ item ∷ []) }
-        ensures full { (result ≡ Err (ListFault.TooMany (length self.old.items))) ↔ (length self.old.items ≡ MAX) }
-        ensures refusals { IfErr result (λ fault. (fault ≡ ListFault.TooMany (length self.old.items)) ⊎ (fault ≡ ListFault.NoMemory)) }
+        ensures full { (result ≡ Err (ListFault.TooMany (length self.old.items)))
+            ↔ (length self.old.items ≡ MAX) }
+        ensures refusals { IfErr result (λ fault. (fault ≡ ListFault.TooMany (length self.old.items))
+            ⊎ (fault ≡ ListFault.NoMemory)) }
         ensures spare { result ≡ Err ListFault.NoMemory → self.old.spare ≡ 0 }
         ensures used { OnOk result (self.old.spare ≤ self.new.spare + 1) }
         ensures err { OnErr result (self.new.items ≡ self.old.items) }
@@ -89,18 +106,20 @@ impl<T: Drop, const MAX: u32> Many<T, MAX> {
         }
     }
 
-    /// Makes room, so that the next `more` pushes don't answer `NoMemory`.
+    /// Makes room, so that the next `more` pushes don't return `NoMemory`. `NoMemory` if there is no memory for it.
     pub fn reserve(&mut self, more: usize) -> Result<(), NoMemory>
         ensures items { self.new.items ≡ self.old.items }
         ensures ok { OnOk result (more ≤ self.new.spare) }
-        ensures kept { self.old.spare ≤ self.new.spare }
+        ensures spare { self.old.spare ≤ self.new.spare }
     {
         self.items.reserve(more)?;
         Ok(())
     }
 
-    /// Keeps the items that pass the test, in their order. Takes no memory.
-    pub fn retain<F: FnMut(&T) -> bool>(&mut self, keep: F)
+    /// Removes the items that fail the test and leaves the others in order. Takes no memory.
+    ///
+    /// Private to the crate, since its contract says nothing of the spare room.
+    pub(crate) fn retain<F: FnMut(&T) -> bool>(&mut self, keep: F)
         requires { F.IsAlwaysCallable keep }
         ensures { IsFiltered (CalledAt F.FnMut) keep self.old.items self.new.items }
     {
@@ -108,10 +127,20 @@ impl<T: Drop, const MAX: u32> Many<T, MAX> {
     }
 }
 
+impl<T: PartialEq, const MAX: u32> PartialEq for Many<T, MAX> {
+    ghost eq = { λ one other. pointwise T.eq one.items other.items };
+
+    ghost laws = { on_per (λ many. many.items) (lists_per T.laws) };
+
+    fn eq(&self, other: &Many<T, MAX>) -> bool {
+        self.as_slice() == other.as_slice()
+    }
+}
+
 impl<T: Copies + Drop, const MAX: u32> Copies for Many<T, MAX> {
     ghost use Rattle.std.specs.Prelude.{map};
 
-    ghost kept = { λ many. record { items = map T.kept many.items; spare = 0 } };
+    ghost copied = { λ many. record { items = map T.copied many.items; spare = 0 } };
 
     fn copy(&self, alloc: Global) -> Result<Many<T, MAX>, NoMemory> {
         let mut items = Vec::with_capacity(alloc, self.items.len())?;
@@ -119,33 +148,5 @@ impl<T: Copies + Drop, const MAX: u32> Copies for Many<T, MAX> {
             items.push(item.copy(alloc)?)?;
         }
         Ok(Many { items })
-    }
-}
-
-#[cfg(test)]
-mod tests {
-    use super::*;
-    use crate::bytes::Bytes;
-    use std::test::Fail;
-
-    #[test]
-    fn holds_at_most_its_limit(rt: HostRuntime) -> Result<(), Fail> {
-        let mut numbers: Many<u32, 2> = Many::new(rt.alloc());
-        numbers.reserve(1)?;
-        assert_eq!(rt; numbers.push(7), Ok(()));
-        assert_eq!(rt; numbers.push(8), Ok(()));
-        assert_eq!(rt; numbers.push(9), Err(ListFault::TooMany { count: 2 }));
-        assert_eq!(rt; numbers.len(), 2);
-        assert_eq!(rt; numbers.get(1), Some(&8));
-        assert_eq!(rt; numbers.get(2), None);
-        assert_eq!(rt; numbers.as_slice(), [7, 8].as_slice());
-        Ok(())
-    }
-
-    #[test]
-    fn keeps_bytes(rt: HostRuntime) -> Result<(), Fail> {
-        let bytes = Bytes::of(rt.alloc(), b"a\x00\xff")?;
-        assert_eq!(rt; bytes.slice(), b"a\x00\xff".as_slice());
-        Ok(())
     }
 }

@@ -5,13 +5,13 @@ use std::alloc::{AllocError, AllocFailed};
 use std::error::Error;
 use std::fmt;
 
-/// Memory ran out.
+/// The error of a call that ran out of memory.
 #[derive(Clone, Copy, Debug, PartialEq, Eq, Hash)]
 pub struct NoMemory;
 
 impl fmt::Display for NoMemory {
     fn fmt<W: fmt::Write>(&self, f: &mut fmt::Formatter<W>) -> fmt::Result {
-        write!(f, "no memory")
+        write!(f, "out of memory")
     }
 }
 
@@ -29,13 +29,13 @@ impl<T: Drop> From<AllocFailed<T>> for NoMemory {
     }
 }
 
-/// A call on an object outside the program failed.
+/// The error of a failed call on an object outside the program, as a disk or an input.
 #[derive(Clone, Copy, Debug, PartialEq, Eq, Hash)]
 pub struct Failed;
 
 impl fmt::Display for Failed {
     fn fmt<W: fmt::Write>(&self, f: &mut fmt::Formatter<W>) -> fmt::Result {
-        write!(f, "an outside call failed")
+        write!(f, "a call on an outside object failed")
     }
 }
 

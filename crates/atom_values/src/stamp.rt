@@ -2,14 +2,17 @@ ghost use Rattle.std.specs.Prelude.{ℕ, List, ◌≡◌, ◌↔◌, ◌<◌, �
 ghost use Rattle.std.specs.Char.{is_ascii_digit};
 ghost use Rattle.std.specs.List.{list_all};
 ghost use Rattle.atom_values.specs.DateText.{States};
-ghost use Rattle.atom_values.specs.Stamp.{IsStamp, since_year_zero, year_of, month_of, day_of, date_text, clock_text, fraction_text, printed, digit_at, two_digits, shape_of, has_form, is_date, day_number, is_date_time, date_time_millis, is_fraction, fraction_millis, is_offset, offset_length, offset_millis, value_of_parts, value_of};
+ghost use Rattle.atom_values.specs.Calendar.{year_of, month_of, day_of, day_number};
+ghost use Rattle.atom_values.specs.DateFormula.{two_digits, shape_of, has_form, is_date, is_date_time, date_time_millis, is_fraction, fraction_millis, is_offset, offset_length, offset_millis, value_of_parts, value_of};
+ghost use Rattle.atom_values.specs.DateText.{digit_at};
+ghost use Rattle.atom_values.specs.Stamp.{IsStamp, since_year_zero, date_text, clock_text, fraction_text, printed};
 
 use jiff::ToSpan;
 use jiff::civil::{self, Date};
 use std::marker::Model;
 
-/// A moment: whole milliseconds since 1970-01-01T00:00:00Z, from 0000-01-01T00:00:00Z to
-/// 9999-12-31T23:59:59.999Z, as a date of RFC 4287 section 3.3.
+/// A timestamp of a feed (RFC 4287 section 3.3). Keeps whole milliseconds since 1970-01-01T00:00:00Z, from
+/// 0000-01-01T00:00:00Z to 9999-12-31T23:59:59.999Z.
 #[derive(Clone, Copy, Debug, PartialEq, Eq, PartialOrd, Ord, Hash)]
 pub struct Stamp {
     millis: i64,
@@ -29,13 +32,14 @@ impl Model for Stamp {
 }
 
 impl Stamp {
-    /// The earliest moment, 0000-01-01T00:00:00Z, in milliseconds since 1970.
+    /// The earliest timestamp, 0000-01-01T00:00:00Z, in milliseconds since 1970.
     pub const MIN_MILLIS: i64 = -62_167_219_200_000;
 
-    /// The latest moment, 9999-12-31T23:59:59.999Z, in milliseconds since 1970.
+    /// The latest timestamp, 9999-12-31T23:59:59.999Z, in milliseconds since 1970.
     pub const MAX_MILLIS: i64 = 253_402_300_799_999;
 
-    /// The moment so many milliseconds after the start of 1970, where it lies in the years 0 to 9999.
+    /// The timestamp `millis` milliseconds after the start of 1970. `None` exactly if it is outside the years 0 to
+    /// 9999.
     pub fn new(millis: i64) -> Option<Stamp>
         ensures range { IsSome result ↔ IsStamp millis }
         ensures value { IfSome result (λ stamp. stamp ≡ millis) }
@@ -55,21 +59,21 @@ impl Stamp {
         self.millis
     }
 
-    /// The moment that a date text states, to the millisecond (RFC 3339 section 5.6, where `T` and
-    /// `Z` are upper-case). The fraction's digits after the third are cut, and a leap second is
-    /// read as the second before it. `None` exactly where the text is no such text, the calendar
-    /// lacks the date, or the moment lies outside the years 0 to 9999 in UTC.
+    /// Parses a date text (RFC 3339 section 5.6, with upper-case `T` and `Z`), to the millisecond: the digits of the
+    /// fraction after the third are cut, and a leap second is read as the second before it.
+    ///
+    /// `None` exactly if the text hasn't this form, the calendar hasn't the date, or the timestamp is outside the years
+    /// 0 to 9999 in UTC.
     pub fn parse(text: &[u8]) -> Option<Stamp>
-        ensures { result ≡ value_of text.now }
+        ensures stated { (moment : ℤ) → (result ≡ Some moment) ↔ States text.now moment }
     {
         let (date_time, rest) = text.split_at(text.len().min(19));
         let (fraction, offset) = rest.split_at(rest.len().saturating_sub(offset_length(rest)));
         value_of_parts(date_time, fraction, offset)
     }
 
-    /// Writes the one printed form at the front of `into` and answers its length, 20 or 24
-    /// (RFC 3339 section 5.6, in UTC; three fraction digits, or none where the milliseconds are 0).
-    /// The bytes after it stay.
+    /// Writes the printed form at the front of `into` and returns its length, 20 or 24: the date text of RFC 3339
+    /// section 5.6 in UTC, with three fraction digits, or none if the milliseconds are 0. The other bytes stay.
     pub fn print(&self, into: &mut [u8; 24]) -> usize
         ensures length { result ≡ length (printed self.now) }
         ensures text { into.new ≡ printed self.now ++ drop result into.old }
@@ -105,7 +109,7 @@ impl Stamp {
     }
 }
 
-/// The date of a day, 0 for 1 January of year 0.
+/// The date of a day's number, which is 0 for 1 January of year 0.
 fn date_of(day: u32) -> Date
     requires { day < 3_652_425 }
     ensures year { result.year ≡ pos (year_of day) }
@@ -113,17 +117,18 @@ fn date_of(day: u32) -> Date
     ensures day { result.day ≡ day_of day }
 {
     let first = civil::date(0, 1, 1);
+    // The `requires` keeps the sum in jiff's range, so the addition can't fail.
     first.checked_add((day as i64).days()).unwrap()
 }
 
-/// The last decimal digit, as a character.
+/// The last decimal digit of `n`, as a character.
 fn digit(n: u32) -> u8
     ensures { result ≡ 48 + n % 10 }
 {
     b'0' + (n % 10) as u8
 }
 
-/// The date of a day as YYYY-MM-DD.
+/// The date of a day's number as YYYY-MM-DD.
 fn date_digits(day: u32) -> [u8; 10]
     requires { day < 3_652_425 }
     ensures { result ≡ date_text day }
@@ -165,14 +170,14 @@ fn clock_digits(millis: u32) -> [u8; 8]
     ]
 }
 
-/// What stands for a byte in a form: 0 for a digit.
+/// A byte's place in a form: `0` for a digit, and else the byte.
 fn shape_of(byte: u8) -> u8
     ensures { result ≡ shape_of byte }
 {
     if byte.is_ascii_digit() { b'0' } else { byte }
 }
 
-/// Whether the text is of this form, where each 0 of the form stands for a digit.
+/// Whether the text has this form, in which each `0` stands for a digit.
 fn has_form(text: &[u8], form: &[u8]) -> bool
     ensures { result ≡ has_form text.now form.now }
 {
@@ -187,7 +192,7 @@ fn has_form(text: &[u8], form: &[u8]) -> bool
     true
 }
 
-/// The digit at a place, and 0 where the text has no such place.
+/// The digit at an index, and 0 past the text's end.
 fn digit_at(text: &[u8], at: usize) -> u32
     ensures { result ≡ digit_at text.now at }
 {
@@ -197,6 +202,7 @@ fn digit_at(text: &[u8], at: usize) -> u32
     }
 }
 
+/// The number that the two digits at an index make.
 fn two_digits(text: &[u8], at: usize) -> u32
     requires { at < 100 }
     ensures value { result ≡ two_digits text.now at }
@@ -205,12 +211,13 @@ fn two_digits(text: &[u8], at: usize) -> u32
     10 * digit_at(text, at) + digit_at(text, at + 1)
 }
 
-/// The milliseconds from the start of year 0 to a date, if the calendar has it.
+/// The milliseconds from the start of year 0 to a date. `None` if the calendar hasn't the date.
 fn date_millis(year: u32, month: u32, day: u32) -> Option<u64>
     requires year_in { year ≤ 9_999 }
     requires month_in { month ≤ 99 }
     requires day_in { day ≤ 99 }
-    ensures value { result ≡ (if is_date year month day then Some (86_400_000 * day_number year month day) else None) }
+    ensures value { result ≡
+        (if is_date year month day then Some (86_400_000 * day_number year month day) else None) }
     ensures bound { IfSome result (λ millis. millis < 315_569_520_000_000) }
 {
     let Ok(date) = Date::new(year as i16, month as i8, day as i8) else {
@@ -220,9 +227,10 @@ fn date_millis(year: u32, month: u32, day: u32) -> Option<u64>
     Some(1_000 * seconds as u64)
 }
 
-/// The milliseconds from the start of year 0 to a date and time of the form YYYY-MM-DDThh:mm:ss.
+/// The milliseconds from the start of year 0 to a date and time, YYYY-MM-DDThh:mm:ss. `None` for any other text.
 fn date_time_millis(text: &[u8]) -> Option<u64>
-    ensures value { result ≡ (if is_date_time text.now then Some (date_time_millis text.now) else None) }
+    ensures value { result ≡
+        (if is_date_time text.now then Some (date_time_millis text.now) else None) }
     ensures bound { IfSome result (λ millis. millis < 315_569_620_000_000) }
 {
     if !has_form(text, b"0000-00-00T00:00:00") {
@@ -236,16 +244,18 @@ fn date_time_millis(text: &[u8]) -> Option<u64>
     if hour > 23 || minute > 59 || second > 60 {
         return None;
     }
+    // A leap second counts as the second before it.
     Some(date + u64::from(3_600_000 * hour + 60_000 * minute + 1_000 * second.min(59)))
 }
 
+/// Whether each byte is a digit.
 fn is_digits(text: &[u8]) -> bool
     ensures { result ≡ list_all is_ascii_digit text.now }
 {
     text.iter().all(|byte| byte.is_ascii_digit())
 }
 
-/// Nothing, or a point and one or more digits.
+/// Whether the text is empty, or a point and one or more digits.
 fn is_fraction(text: &[u8]) -> bool
     ensures { result ≡ is_fraction text.now }
 {
@@ -255,6 +265,7 @@ fn is_fraction(text: &[u8]) -> bool
     }
 }
 
+/// The milliseconds of a fraction: the value of its first three digits, where a missing digit is 0.
 fn fraction_millis(text: &[u8]) -> u64
     ensures value { result ≡ fraction_millis text.now }
     ensures bound { result < 30_000 }
@@ -262,7 +273,7 @@ fn fraction_millis(text: &[u8]) -> u64
     u64::from(100 * digit_at(text, 1) + 10 * digit_at(text, 2) + digit_at(text, 3))
 }
 
-/// `Z`, or a sign, hours to 23 and minutes to 59.
+/// Whether the text is `Z`, or a sign, hours to 23 and minutes to 59.
 fn is_offset(text: &[u8]) -> bool
     ensures { result ≡ is_offset text.now }
 {
@@ -272,7 +283,7 @@ fn is_offset(text: &[u8]) -> bool
             && two_digits(text, 4) <= 59)
 }
 
-/// The length of the offset at the end of a date text: a `Z`, or else six bytes.
+/// The length of the UTC offset at the end of a date text: 1 for `Z`, and else 6.
 fn offset_length(rest: &[u8]) -> usize
     ensures { result ≡ offset_length rest.now }
 {
@@ -282,7 +293,7 @@ fn offset_length(rest: &[u8]) -> usize
     }
 }
 
-/// How far the clock of an offset is ahead of UTC.
+/// The milliseconds that a UTC offset's clock is ahead of UTC.
 fn offset_millis(text: &[u8]) -> i64
     ensures value { result ≡ offset_millis text.now }
     ensures bound { unsigned_abs result < 2 ^ 40 }
@@ -291,7 +302,7 @@ fn offset_millis(text: &[u8]) -> i64
     if text.starts_with(b"-") { -size } else { size }
 }
 
-/// The moment that the three parts of a date text state.
+/// The timestamp of a date text, by its three parts. `None` if a part hasn't its form or there is no such timestamp.
 fn value_of_parts(date_time: &[u8], fraction: &[u8], offset: &[u8]) -> Option<Stamp>
     ensures { result ≡ value_of_parts date_time.now fraction.now offset.now }
 {
@@ -303,16 +314,8 @@ fn value_of_parts(date_time: &[u8], fraction: &[u8], offset: &[u8]) -> Option<St
     Stamp::new(millis + Stamp::MIN_MILLIS - offset_millis(offset))
 }
 
-/// A law: the value of every printed form is its stamp.
+/// A law without code: the printed form of every timestamp is a date text that states it, so `Stamp::parse` reads it
+/// back.
 pub fn printed_is_read()
-    ensures { (z : ℤ) → IsStamp z → value_of (printed z) ≡ Some z }
+    ensures { (z : ℤ) → IsStamp z → States (printed z) z }
 {}
-
-/// A law: a text has a value exactly where it is a date text of RFC 3339 section 5.6, and its parts
-/// state that value.
-pub fn values_are_stated()
-    ensures { (text : List ℕ) (z : ℤ) → (value_of text ≡ Some z) ↔ States text z }
-{}
-
-#[cfg(test)]
-mod tests;

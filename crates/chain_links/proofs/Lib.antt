@@ -1,9 +1,18 @@
-pub mod Hosts
-pub mod Paths
-pub mod Numbers
-pub mod Bases
-pub mod Addresses
-pub mod Splits
-pub mod Readings
-pub mod Placed
-pub mod Ascii
+-- Base::print, Base::print_into, Base::printed_len, Base::read
+pub mod AddressLemmas
+-- Base::checked
+pub mod AsciiLemmas
+-- Base::parse
+pub mod BaseLemmas
+-- Base::parse: the host
+pub mod HostLemmas
+-- whole_number, Base::parse: the port
+pub mod NumberLemmas
+-- Base::host, Base::port, Base::path
+pub mod PartOffsetLemmas
+-- Base::parse: the path
+pub mod PathLemmas
+-- Base::text: the clause `one_reading`
+pub mod ReadingLemmas
+-- Base::text: labels and segments are read in one way
+pub mod SplitLemmas

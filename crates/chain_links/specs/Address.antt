@@ -1,7 +1,8 @@
 -- The addresses of a feed's documents below a base address.
-use Rattle.std.specs.Prelude.{ℕ, ◌≤◌, ◌<◌, ◌^◌, List, ◌++◌, codes, decimal}
+use Rattle.std.specs.Prelude.{ℕ, ◌+◌, ◌≤◌, ◌<◌, ◌^◌, List, ◌++◌, codes, decimal}
 use Rattle.chain_links.specs.declared.address.Address.{Address}
 use Rattle.chain_links.specs.declared.address.Address.TheVariants.{Feed, Archive, Member}
+use Rattle.chain_links.specs.Base.{base_limit}
 
 -- numbers are from 1
 abbrev pub IsAddress : Address → Type 0
@@ -9,12 +10,20 @@ IsAddress Feed = Unit {0}
 IsAddress (Archive number) = (1 ≤ number) × (number < 2 ^ 32)
 IsAddress (Member number) = (1 ≤ number) × (number < 2 ^ 32)
 
--- a document's place below the base
-abbrev pub place_text : Address → List ℕ
-place_text Feed = codes "feed"
-place_text (Archive number) = codes "archive/" ++ decimal number
-place_text (Member number) = codes "member/" ++ decimal number
+-- the part of a document's address after the base
+abbrev pub suffix_text : Address → List ℕ
+suffix_text Feed = codes "feed"
+suffix_text (Archive number) = codes "archive/" ++ decimal number
+suffix_text (Member number) = codes "member/" ++ decimal number
 
--- the printed address: the base followed by the document's place
+-- the printed address: the base and the suffix
 unfoldable pub printed : List ℕ → Address → List ℕ
-printed base address = base ++ place_text address
+printed base address = base ++ suffix_text address
+
+-- the greatest length of a suffix, which `archive/4294967295` has
+abbrev pub suffix_limit : ℕ
+suffix_limit = 18
+
+-- no printed address is longer
+abbrev pub printed_limit : ℕ
+printed_limit = base_limit + suffix_limit

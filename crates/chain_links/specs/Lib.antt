@@ -1,6 +1,6 @@
+pub mod Address
 pub mod Base
-pub mod Places
 pub mod Checked
 pub mod Front
-pub mod Address
+pub mod PartOffsets
 pub mod Place

@@ -1,11 +1,11 @@
 ghost use Rattle.std.specs.Prelude.{◌≡◌, ◌↔◌, ◌≤◌, ◌+◌, ◌++◌, length, IsTrue, OnOk, OnErr, IfOk, IfErr, IfSome, OnSome, IfNone, unwrap_or};
-ghost use Rattle.chain_links.specs.Base.{BaseParts, IsBase, Spells, host_text, path_text};
-ghost use Rattle.chain_links.specs.Places.{IsPlaced};
+ghost use Rattle.chain_links.specs.Base.{BaseParts, IsBase, Spells, default_port, host_text, path_text};
+ghost use Rattle.chain_links.specs.PartOffsets.{HasParts};
 ghost use Rattle.chain_links.specs.Checked.{IsUrlText};
-ghost use Rattle.chain_links.specs.Address.{IsAddress, printed};
+ghost use Rattle.chain_links.specs.Address.{IsAddress, printed, printed_limit};
 ghost use Rattle.chain_links.specs.declared.address.Address.{Address};
 
-use crate::address::{Address, place_len, put, put_place, read_place};
+use crate::address::{Address, append, append_suffix, read_suffix, suffix_len};
 use crate::front::{after, after_host, is_path, port};
 use atom_values::{Copies, NoMemory};
 use std::alloc::{AllocError, Global};
@@ -14,21 +14,24 @@ use std::marker::Model;
 use std::{fmt, str};
 use url::{ParseError, Url};
 
-/// How many bytes a base address has at most.
+/// The greatest number of bytes of a base address.
 pub const MAX_BASE: usize = 200;
 
 const SCHEME: &[u8] = b"http://";
 
-/// A base address: `http://`, a host, optionally a port, and a path that ends with `/` (a part of RFC 3986 section 3).
+/// A base address, below which the documents of a feed have their addresses.
+///
+/// Keeps the text, which is `http://`, a host, optionally a port, and a path that ends with `/` (a part of RFC 3986
+/// section 3), and the offsets of its parts.
 #[derive(Debug, Drop)]
 pub struct Base {
     text: Vec<u8>,
-    places: Places,
+    parts: PartOffsets,
 }
 
-/// Where the host ends and the path starts in the text, and the port.
+/// The offsets in the text where the host ends and the path starts, and the port's value.
 #[derive(Clone, Copy, Debug)]
-struct Places {
+struct PartOffsets {
     host_end: usize,
     port: u16,
     path_start: usize,
@@ -36,21 +39,21 @@ struct Places {
 
 impl Model for Base {
     ghost use Rattle.std.specs.Prelude.{ℕ, List};
-    ghost use Rattle.chain_links.specs.Places.{IsPlaced};
+    ghost use Rattle.chain_links.specs.PartOffsets.{HasParts};
 
     ghost Value = { List ℕ };
 
     ghost view = { λ b. b.text.items };
 
-    ghost invariant = { λ b. IsPlaced b.text.items b.places.host_end b.places.port b.places.path_start };
+    ghost invariant = { λ b. HasParts b.text.items b.parts.host_end b.parts.port b.parts.path_start };
 }
 
-/// Why a text is no base address.
+/// Why `Base::parse` refused a text.
 #[derive(Clone, Copy, Debug, PartialEq, Eq)]
 pub enum BaseFault {
-    /// The text is not in the grammar of base addresses, or has more than `MAX_BASE` bytes.
+    /// The text isn't in the grammar of base addresses, or has more than `MAX_BASE` bytes.
     BadBase,
-    /// Memory ran out.
+    /// The copy of the text needed memory, and none was left.
     NoMemory,
 }
 
@@ -58,7 +61,7 @@ impl fmt::Display for BaseFault {
     fn fmt<W: fmt::Write>(&self, f: &mut fmt::Formatter<W>) -> fmt::Result {
         match self {
             BaseFault::BadBase => write!(f, "not a base address"),
-            BaseFault::NoMemory => write!(f, "no memory"),
+            BaseFault::NoMemory => write!(f, "out of memory"),
         }
     }
 }
@@ -76,10 +79,10 @@ impl From<AllocError> for BaseFault {
     }
 }
 
-/// Where the parts of a base address stand in its text. `None` where the text is none.
-fn find_places(text: &[u8]) -> Option<Places>
+/// The offsets of a base address' parts in its text. `None` if the text is no base address.
+fn find_parts(text: &[u8]) -> Option<PartOffsets>
     ensures base { OnSome result (IsBase text.now) }
-    ensures placed { IfSome result (λ at. IsPlaced text.now at.host_end at.port at.path_start) }
+    ensures offsets { IfSome result (λ at. HasParts text.now at.host_end at.port at.path_start) }
     ensures none { IfNone result (¬ IsBase text.now) }
 {
     if text.len() > MAX_BASE {
@@ -91,7 +94,7 @@ fn find_places(text: &[u8]) -> Option<Places>
     if !is_path(path) {
         return None;
     }
-    Some(Places {
+    Some(PartOffsets {
         host_end: text.len() - behind.len(),
         port: number,
         path_start: text.len() - path.len(),
@@ -99,25 +102,25 @@ fn find_places(text: &[u8]) -> Option<Places>
 }
 
 impl Base {
-    /// The base address that is written so.
+    /// Parses a base address. `BadBase` exactly if the text is none; `NoMemory` if there is no memory for its copy.
     pub fn parse(alloc: Global, text: &[u8]) -> Result<Base, BaseFault>
         ensures text { IfOk result (λ base. base ≡ text.now) }
         ensures taken { OnOk result (IsBase text.now) }
         ensures refused { result ≡ Err BaseFault.BadBase → ¬ IsBase text.now }
         ensures foreign { ¬ IsBase text.now → result ≡ Err BaseFault.BadBase }
     {
-        let Some(places) = find_places(text) else {
+        let Some(parts) = find_parts(text) else {
             return Err(BaseFault::BadBase);
         };
         let text = Vec::from_slice(alloc, text)?;
-        Ok(Base { text, places })
+        Ok(Base { text, parts })
     }
 
     /// The whole text.
     pub fn text(&self) -> &[u8]
         ensures text { result.now ≡ self.now }
         ensures base { ∥ IsBase self.now ∥₁ }
-        // The text is read in one way alone.
+        // The text has one reading only.
         ensures one_reading { (p q : BaseParts) → Spells p self.now → Spells q self.now → p ≡ q }
     {
         &self.text
@@ -127,29 +130,32 @@ impl Base {
     pub fn host(&self) -> &[u8]
         ensures { (parts : BaseParts) → Spells parts self.now → result.now ≡ host_text parts.labels }
     {
-        &self.text[SCHEME.len()..self.places.host_end]
+        &self.text[SCHEME.len()..self.parts.host_end]
     }
 
-    /// The port, 80 where the text has none (RFC 3986 section 3.2.3).
+    /// The port (RFC 3986 section 3.2.3), which is 80 if the text has none.
     pub fn port(&self) -> u16
-        ensures { (parts : BaseParts) → Spells parts self.now → result ≡ unwrap_or parts.port 80 }
+        ensures { (parts : BaseParts) → Spells parts self.now → result ≡ unwrap_or parts.port default_port }
     {
-        self.places.port
+        self.parts.port
     }
 
-    /// The path, from the `/` behind the host and the port on (RFC 3986 section 3.3).
+    /// The path (RFC 3986 section 3.3), which begins with the `/` after the host and the port.
     pub fn path(&self) -> &[u8]
         ensures { (parts : BaseParts) → Spells parts self.now → result.now ≡ path_text parts.segments }
     {
-        &self.text[self.places.path_start..]
+        &self.text[self.parts.path_start..]
     }
 
-    /// Whether the parser of the URL Standard (section 4.4) reads the text as a URL and prints the same text. It
-    /// doesn't where the port is 80, a segment is `.` or `..`, or the host is a short form of an IPv4 address.
+    /// Whether the parser of the URL Standard (section 4.4) reads the text as a URL and prints the same text. `false`
+    /// if the port is written as 80, a segment is `.` or `..`, or the host is a short form of an IPv4 address.
+    ///
+    /// `NoMemory` if the parser finds no memory for its URL.
     pub fn checked(&self, alloc: Global) -> Result<bool, NoMemory>
         ensures { IfOk result (λ answer. IsTrue answer ↔ IsUrlText self.now) }
     {
         let Ok(text) = str::from_utf8(&self.text) else {
+            // Never reached: a base address is ASCII.
             return Ok(false);
         };
         match Url::parse(alloc, text) {
@@ -159,7 +165,7 @@ impl Base {
         }
     }
 
-    /// The document that the text is the address of, below this base. Takes no memory.
+    /// Parses the address of a document below this base. `None` if the text is no such address. Takes no memory.
     pub fn read(&self, text: &[u8]) -> Option<Address>
         ensures found { IfSome result (λ address. IsAddress address × (text.now ≡ printed self.now address)) }
         ensures only { (address : Address) → IsAddress address → text.now ≡ printed self.now address
@@ -167,11 +173,12 @@ impl Base {
         ensures distinct { (one other : Address) → IsAddress one → IsAddress other
             → printed self.now one ≡ printed self.now other → one ≡ other }
     {
-        read_place(after(text, &self.text)?)
+        read_suffix(after(text, &self.text)?)
     }
 
-    /// The address of a document below this base.
+    /// The address of a document below this base. `NoMemory` if there is no memory for it.
     pub fn print(&self, alloc: Global, address: Address) -> Result<Vec<u8>, NoMemory>
+        requires { IsAddress address }
         ensures { IfOk result (λ text. text.items ≡ printed self.now address) }
     {
         let mut out = Vec::with_capacity(alloc, self.printed_len(address))?;
@@ -179,24 +186,27 @@ impl Base {
         Ok(out)
     }
 
-    /// Appends the address of a document below this base. An `Err` leaves `out` as it was.
+    /// Appends the address of a document below this base to `out`. `NoMemory` if `out` can't grow, which leaves `out`
+    /// unchanged.
     pub fn print_into(&self, out: &mut Vec<u8>, address: Address) -> Result<(), NoMemory>
+        requires { IsAddress address }
         ensures ok { OnOk result (out.new.items ≡ out.old.items ++ printed self.now address) }
         ensures err { OnErr result (out.new.items ≡ out.old.items) }
-        ensures bound { length (printed self.now address) ≤ MAX_BASE + 18 }
+        ensures bound { length (printed self.now address) ≤ printed_limit }
     {
         out.reserve(self.printed_len(address))?;
-        put(out, &self.text);
-        put_place(out, address);
+        append(out, &self.text);
+        append_suffix(out, address);
         Ok(())
     }
 
-    /// How many bytes the address of a document below this base has. Takes no memory.
+    /// The length of the address of a document below this base. Takes no memory.
     pub fn printed_len(&self, address: Address) -> usize
+        requires { IsAddress address }
         ensures length { result ≡ length (printed self.now address) }
-        ensures bound { result ≤ MAX_BASE + 18 }
+        ensures bound { result ≤ printed_limit }
     {
-        self.text.len() + place_len(address)
+        self.text.len() + suffix_len(address)
     }
 }
 
@@ -204,7 +214,7 @@ impl Copies for Base {
     fn copy(&self, alloc: Global) -> Result<Base, NoMemory> {
         Ok(Base {
             text: Vec::from_slice(alloc, &self.text)?,
-            places: self.places,
+            parts: self.parts,
         })
     }
 }

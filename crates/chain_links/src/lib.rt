@@ -1,6 +1,18 @@
-//! The addresses of a feed's documents, and how the documents of a chain adjoin (RFC 5005 section 4).
-//! Exactly the base addresses of the grammar are taken, and each document has one printed address.
-//! Stands on `atom_values`; prints numbers with `itoa`, and asks the parser of `url`.
+//! The addresses of a feed's documents, and the order of the documents in a chain (RFC 5005 section 4).
+//!
+//! Begin with `Base::parse`: a `Base` prints the address of each document and reads it back.
+//!
+//! ```
+//! let base = Base::parse(alloc, b"http://feed.example/")?;
+//! let text = base.print(alloc, Address::Archive(7))?;
+//! assert_eq!(rt; text.as_slice(), b"http://feed.example/archive/7".as_slice());
+//! assert_eq!(rt; base.read(&text), Some(Address::Archive(7)));
+//! ```
+//!
+//! `Base::parse` accepts exactly the base addresses of `specs/Base.antt`. Each document has one printed address, and
+//! `Base::read` accepts no other text for it. `follows` says whether one document comes right before another.
+//!
+//! Stands on `atom_values`, on `itoa` for decimal numbers, and on the parser of `url` for `Base::checked`.
 #![tactic(auto)]
 
 mod address;
@@ -12,6 +24,3 @@ pub use address::Address;
 pub use base::{Base, BaseFault, MAX_BASE};
 pub use front::whole_number;
 pub use place::{Place, Span, follows};
-
-#[cfg(test)]
-mod tests;

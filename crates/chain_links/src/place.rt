@@ -1,17 +1,18 @@
 ghost use Rattle.std.specs.Prelude.{◌↔◌, IsTrue};
+ghost use Rattle.chain_links.specs.Address.{IsAddress};
 ghost use Rattle.chain_links.specs.Place.{Adjoins};
 
 use crate::address::Address;
 
-/// The operations that a document covers, by their numbers from 1: `first` to `last`. An empty history has the
-/// span from 1 to 0.
+/// The range of operations that a document covers: operations are numbered from 1, and `first` and `last` are both
+/// included. An empty history has the span from 1 to 0.
 #[derive(Clone, Copy, Debug, PartialEq, Eq)]
 pub struct Span {
     pub first: u32,
     pub last: u32,
 }
 
-/// Where a document stands in the chain: its own address, its span, and the number of the archive before it, or 0.
+/// A document's place in the chain: its own address, its span, and the number of the archive before it, or 0.
 #[derive(Clone, Copy, Debug, PartialEq, Eq)]
 pub struct Place {
     pub address: Address,
@@ -19,10 +20,11 @@ pub struct Place {
     pub prev: u32,
 }
 
-/// Whether the older document is the archive that the newer one names before it, and its span ends right before the
-/// newer one's begins (RFC 5005 section 4).
+/// Whether `older` comes right before `newer` in the chain (RFC 5005 section 4): `older` is the archive that
+/// `newer.prev` names, and its span ends right before that of `newer` begins. The clause says nothing of an archive
+/// with number 0, which has no address.
 pub fn follows(older: &Place, newer: &Place) -> bool
-    ensures { IsTrue result ↔ Adjoins older.now newer.now }
+    ensures { IsAddress older.now.address → IsTrue result ↔ Adjoins older.now newer.now }
 {
     let first = newer.span.first;
     let last = older.span.last;

@@ -1,1 +1,2 @@
+-- id_of, number_of
 pub mod IdLemmas

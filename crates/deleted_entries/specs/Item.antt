@@ -1,4 +1,4 @@
--- What contracts see of the items of a document.
+-- The items of a document in contracts.
 use Rattle.std.specs.Prelude.{ℕ}
 use Rattle.atom_values.specs.Entry.{IsEntry}
 use Rattle.deleted_entries.specs.declared.item.Item.{Item}

@@ -1,3 +1,3 @@
 pub mod FeedId
-pub mod Tombstone
 pub mod Item
+pub mod Tombstone

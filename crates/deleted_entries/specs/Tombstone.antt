@@ -1,8 +1,8 @@
--- What contracts see of a tombstone (RFC 6721 section 3).
+-- Tombstones in contracts (RFC 6721 section 3).
 use Rattle.std.specs.Prelude.{ℕ, ◌≤◌, ◌<◌, ◌^◌, ℤ}
 use Rattle.atom_values.specs.Stamp.{IsStamp}
 
--- member `number` was deleted at this moment
+-- member `number` was deleted at `when`
 pub record TombstoneValue : Type 0 where
   pub number : ℕ
   pub when : ℤ

@@ -1,6 +1,6 @@
 ghost use Rattle.std.specs.Prelude.{◌≡◌, ◌≤◌, ◌≢◌, ◌↔◌, ◌<◌, ◌^◌, ℕ, List, Some, All, length, drop, IsSome, IfSome};
 ghost use Rattle.std.specs.Int.{from_be_bytes, w32};
-ghost use Rattle.deleted_entries.specs.FeedId.{IsFeedId, IsMemberId, version, feed_text, member_id};
+ghost use Rattle.deleted_entries.specs.FeedId.{IsFeedId, IsMemberId, version, member_version, feed_text, member_id};
 ghost use Rattle.uuid.specs.Text.{parsed};
 
 use std::marker::Model;
@@ -9,10 +9,11 @@ use uuid::{Builder, Uuid};
 /// The version of the members' UUIDs.
 const MEMBER_VERSION: u8 = 8;
 
-/// How many bytes a member's identifier has.
+/// The length of a member's identifier in bytes.
 pub const ID_LEN: usize = 45;
 
-/// A feed's identifier: a UUID (RFC 9562) of any version but 8, which is that of the members.
+/// A feed's identifier, from which those of its members are made: a UUID (RFC 9562) of any version but 8, which is that
+/// of the members.
 #[derive(Clone, Copy, Debug, PartialEq, Eq)]
 pub struct FeedId {
     uuid: Uuid,
@@ -32,10 +33,12 @@ impl Model for FeedId {
 }
 
 impl FeedId {
-    /// The identifier that the text spells in one of the forms that `uuid` reads, where its version is not 8.
+    /// Parses an identifier in one of the forms that `uuid` reads. `None` exactly if the text has none of these forms
+    /// or its version is 8.
     pub fn parse(text: &[u8]) -> Option<FeedId>
-        ensures spelt { IfSome result (λ id. parsed text.now ≡ Some id) }
-        ensures taken { IsSome result ↔ ((bytes : List ℕ) × (parsed text.now ≡ Some bytes) × (version bytes ≢ 8)) }
+        ensures value { IfSome result (λ id. parsed text.now ≡ Some id) }
+        ensures taken { IsSome result
+            ↔ ((bytes : List ℕ) × (parsed text.now ≡ Some bytes) × (version bytes ≢ member_version)) }
     {
         let uuid = Uuid::try_parse_ascii(text).ok()?;
         bytes_fit(uuid.as_bytes());
@@ -46,7 +49,7 @@ impl FeedId {
         }
     }
 
-    /// The text in lower case with hyphens (RFC 9562 section 4).
+    /// The identifier's text in lower case with hyphens (RFC 9562 section 4).
     pub fn print(&self) -> [u8; 36]
         ensures text { result ≡ feed_text self.now }
         ensures rules { IsFeedId self.now }
@@ -59,16 +62,18 @@ impl FeedId {
     }
 }
 
-// Each byte fits, which a clause can't say of an array: this walk reads them, and is compiled away.
+// For the proof alone: no clause can say that the bytes of an array fit, and a loop that reads them can. It is compiled
+// away.
 fn bytes_fit(bytes: &[u8; 16])
     ensures { (length bytes.now ≡ 16) × All (λ b. b < 256) bytes.now }
 {
     'bytes: for i in 0..16 {
+        // The read tells the proof that the byte is below 256.
         let _ = bytes[i];
     }
 }
 
-/// The identifier of the feed's member of this number: `urn:uuid:` and a UUID of version 8 (RFC 9562 section 5.8).
+/// The identifier of the feed's member `number`: `urn:uuid:` and a UUID of version 8 (RFC 9562 section 5.8).
 /// No other member of the feed has it.
 pub fn id_of(feed: &FeedId, number: u32) -> [u8; ID_LEN]
     requires { 1 ≤ number }
@@ -88,11 +93,12 @@ pub fn id_of(feed: &FeedId, number: u32) -> [u8; ID_LEN]
     id
 }
 
-/// The number of the feed's member that has this identifier, or `None` where it is no member's. The text must be the
-/// one that `id_of` makes, to the byte.
+/// The number of the feed's member that has this identifier. `None` exactly if `id_of` makes the text for no number of
+/// this feed.
 pub fn number_of(feed: &FeedId, id: &[u8]) -> Option<u32>
     ensures { (number : ℕ) → (result ≡ Some number) ↔ IsMemberId feed.now number id.now }
 {
+    // The read brings the feed's invariant into the proof.
     let _ = &feed.uuid;
     let uuid = Uuid::try_parse_ascii(id).ok()?;
     let number = last_number(&uuid);
@@ -103,7 +109,7 @@ pub fn number_of(feed: &FeedId, id: &[u8]) -> Option<u32>
     }
 }
 
-/// The number in the last 32 bits.
+/// The number in the last 32 bits of a UUID.
 fn last_number(uuid: &Uuid) -> u32
     ensures { result ≡ from_be_bytes w32 (drop 12 uuid.now) }
 {

@@ -2,7 +2,8 @@ use atom_values::{Copies, Entry, NoMemory, Stamp};
 use std::alloc::Global;
 use std::marker::Model;
 
-/// That a member was deleted (RFC 6721 section 3): its number, from 1, and when.
+/// The record of a deleted member (RFC 6721 section 3). Keeps the member's number, from 1, and the time of the
+/// deletion.
 #[derive(Clone, Copy, Debug, PartialEq, Eq)]
 pub struct Tombstone {
     pub number: u32,
@@ -22,12 +23,12 @@ impl Model for Tombstone {
     ghost inverse = { λ v. record { number = v.number; when = v.when } };
 }
 
-/// What a document says of a member.
+/// A document's item for one member.
 #[derive(Debug, Drop)]
 pub enum Item {
-    /// The member's entry.
+    /// The entry of a member that exists.
     Kept(Entry),
-    /// That the member was deleted.
+    /// The tombstone of a deleted member.
     Gone(Tombstone),
 }
 

@@ -1,7 +1,8 @@
 use Rattle.std.proofs.Common.{arith, ◌≡◌, ◌+◌, ◌/◌, ◌%◌}
 use Rattle.jiff_core.proofs.CalendarLemmas.{days_in_month_bounds}
 use Rattle.jiff_core.proofs.SignedLemmas.{signed_casts}
-use Rattle.atom_values.specs.Stamp.{date_text, year_of, month_of, day_of}
+use Rattle.atom_values.specs.Calendar.{year_of, month_of, day_of}
+use Rattle.atom_values.specs.Stamp.{date_text}
 use Rattle.atom_values.proofs.stamp.date_digits.Goals as goal
 
 pub returns : goal.returns

@@ -1,5 +1,5 @@
 use Rattle.std.proofs.Common.{◌≡◌, ℕ, ◌<◌, get_or}
-use Rattle.atom_values.specs.Stamp.{shape_of}
+use Rattle.atom_values.specs.DateFormula.{shape_of}
 use Rattle.atom_values.proofs.stamp.has_form.Given as goal
 
 abbrev pub invariant-loop-i : goal.invariant-loop-i

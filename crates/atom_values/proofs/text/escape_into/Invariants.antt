@@ -1,6 +1,6 @@
 use Rattle.std.proofs.Common.{◌+◌, ◌≤◌, length, vec_capacity}
 use Rattle.atom_values.specs.Escape.{escaped}
-use Rattle.atom_values.proofs.Escapes.{IsWritten}
+use Rattle.atom_values.proofs.EscapeLemmas.{IsWritten}
 use Rattle.atom_values.proofs.text.escape_into.Given as goal
 
 abbrev pub invariant-loop-at : goal.invariant-loop-at

@@ -1,10 +1,12 @@
 use Rattle.std.proofs.Common.{◌≡◌, length, get_or, ap, sym, ◌∙◌, rules, arith}
 use Rattle.std.proofs.lemmas.List.{take_all}
 use Rattle.atom_values.specs.Escape.{escaped, escaped_byte}
-use Rattle.atom_values.proofs.Escapes.{length-escaped_byte, length-escaped_more, escaped-nil}
+use Rattle.atom_values.proofs.EscapeLemmas.{length-escaped_byte, length-escaped_more, escaped-nil}
 use Rattle.atom_values.proofs.text.escaped_len.Goals as goal
 
-width : (c : goal.After-map_or-total) → c.map_or-total.result ≡ length (escaped_byte c.args.quoted (get_or c.bytes-byte-items.result.now c.loop-byte.byte-index 0))
+width : (c : goal.After-map_or-total) →
+    c.map_or-total.result
+    ≡ length (escaped_byte c.args.quoted (get_or c.bytes-byte-items.result.now c.loop-byte.byte-index 0))
 width c = search rules
 
 pub loop-byte-init : goal.loop-byte-init
@@ -21,10 +23,13 @@ pub loop-byte-preserved : goal.loop-byte-preserved
 loop-byte-preserved c =
     let is = width c in
     let short = length-escaped_byte c.args.quoted (get_or c.bytes-byte-items.result.now c.loop-byte.byte-index 0) in
-    let more = length-escaped_more c.args.quoted c.bytes-byte-items.result.now c.loop-byte.byte-index c.loop-byte-test.true in
+    let more = length-escaped_more c.args.quoted c.bytes-byte-items.result.now c.loop-byte.byte-index
+    c.loop-byte-test.true in
     record { sum = omega arith; bound = omega arith }
 
 pub returns-clause-length : goal.returns-clause-length
 returns-clause-length c =
     c.loop-byte.invariant.sum
-    ∙ ap (λ xs. length (escaped c.args.quoted xs)) (take_all c.loop-byte.byte-index c.bytes-byte-items.result.now c.loop-byte-test.false ∙ c.bytes-byte-items.ensures.bytes)
+    ∙ ap (λ xs. length (escaped c.args.quoted xs))
+    (take_all c.loop-byte.byte-index c.bytes-byte-items.result.now c.loop-byte-test.false
+    ∙ c.bytes-byte-items.ensures.bytes)

@@ -5,7 +5,8 @@ use Rattle.std.specs.Str.Lossy.{utf8_valid_len}
 use Rattle.std.proofs.lemmas.Fn.{always_returns_same}
 use Rattle.std.proofs.lemmas.List.{length-append}
 use Rattle.atom_values.specs.XmlText.{is_xml_char}
-use Rattle.atom_values.proofs.XmlTexts.{xml_text_len-refused, IsXmlText-clean, xml_text_len-broken, IsXmlText-nil}
+use Rattle.atom_values.proofs.XmlTextLemmas.{IsLongestXmlPrefix-refused, IsXmlText-clean, IsLongestXmlPrefix-broken}
+use Rattle.atom_values.proofs.XmlTextLemmas.{IsXmlText-nil}
 use Rattle.atom_values.proofs.text.first_fault.Goals as goal
 
 pub returns-in_err-chunk : goal.returns-in_err-chunk
@@ -20,15 +21,18 @@ returns-in-Some c =
     let parts : c.args.bytes.now ≡ c.valid-text.result.now ++ more = cc in
     let by = c.in-Some.ensures.cases in
     let found = by.1 (λ d. not (is_xml_char d)) (always_returns_same _ _ _ (λ a r f k. search rules)) in
-    xml_text_len-refused c.args.bytes.now c.valid-text.result.now more c.in-Some.at by.0 parts c.valid-text.utf8 found by.3
+    IsLongestXmlPrefix-refused c.args.bytes.now c.valid-text.result.now more c.in-Some.at by.0 parts c.valid-text.utf8
+    found by.3
 
 pub returns-in-None : goal.returns-in-None
 returns-in-None c =
     let steps = c.in_ok-chunk.ensures.steps in
     let more = c.in_ok-chunk.chunk.invalid.now ++ c.next.new.self.rest.now in
     let parts : c.args.bytes.now ≡ c.valid-text.result.now ++ more = cc in
-    let clean = c.in-None.ensures.cases (λ d. not (is_xml_char d)) (always_returns_same _ _ _ (λ a r f k. search rules)) in
-    let empty : length c.in_ok-chunk.chunk.invalid.now ≡ 0 = ap length (sym c.invalid.ensures) ∙ eqb-true _ 0 (sym c.is_empty.ensures ∙ c.if-is_empty.true) in
+    let clean = c.in-None.ensures.cases (λ d. not (is_xml_char d))
+    (always_returns_same _ _ _ (λ a r f k. search rules)) in
+    let empty : length c.in_ok-chunk.chunk.invalid.now ≡ 0 = ap length (sym c.invalid.ensures)
+    ∙ eqb-true _ 0 (sym c.is_empty.ensures ∙ c.if-is_empty.true) in
     let last = steps.2 empty in
     let total = length-append c.in_ok-chunk.chunk.invalid.now c.next.new.self.rest.now in
     IsXmlText-clean c.args.bytes.now c.valid-text.result.now more parts c.valid-text.utf8 clean (omega arith)
@@ -38,9 +42,11 @@ returns-in-None-2 c =
     let steps = c.in_ok-chunk.ensures.steps in
     let more = c.in_ok-chunk.chunk.invalid.now ++ c.next.new.self.rest.now in
     let parts : c.args.bytes.now ≡ c.valid-text.result.now ++ more = cc in
-    let clean = c.in-None.ensures.cases (λ d. not (is_xml_char d)) (always_returns_same _ _ _ (λ a r f k. search rules)) in
+    let clean = c.in-None.ensures.cases (λ d. not (is_xml_char d))
+    (always_returns_same _ _ _ (λ a r f k. search rules)) in
     let some = eqb-false _ 0 (sym c.is_empty.ensures ∙ c.if-is_empty.false) in
     let invalid = ap length c.invalid.ensures in
     let total = length-append c.in_ok-chunk.chunk.invalid.now c.next.new.self.rest.now in
     let longest = ap length c.valid-text.ensures ∙ steps.3.0 ∙ ap utf8_valid_len c.utf8_chunks.ensures.rest in
-    xml_text_len-broken c.args.bytes.now c.valid-text.result.now more parts c.valid-text.utf8 clean (omega (arith, some)) longest
+    IsLongestXmlPrefix-broken c.args.bytes.now c.valid-text.result.now more parts c.valid-text.utf8 clean
+    (omega (arith, some)) longest

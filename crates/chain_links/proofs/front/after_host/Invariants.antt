@@ -1,5 +1,5 @@
 use Rattle.std.proofs.Common.{◌≡◌, true, drop}
-use Rattle.chain_links.proofs.Hosts.{behind_host}
+use Rattle.chain_links.proofs.HostLemmas.{behind_host}
 use Rattle.chain_links.proofs.front.after_host.Given as goal
 
 abbrev pub invariant-loop-i : goal.invariant-loop-i

@@ -1,5 +1,5 @@
 use Rattle.std.proofs.Common.{◌≡◌, true, drop}
-use Rattle.chain_links.proofs.Paths.{is_behind}
+use Rattle.chain_links.proofs.PathLemmas.{is_behind}
 use Rattle.chain_links.proofs.front.is_path.Given as goal
 
 abbrev pub invariant-loop-byte : goal.invariant-loop-byte

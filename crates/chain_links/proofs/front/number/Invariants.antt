@@ -1,5 +1,5 @@
 use Rattle.std.proofs.Common.{◌≡◌, ◌<◌, ◌^◌, drop}
-use Rattle.chain_links.proofs.Numbers.{number_after}
+use Rattle.chain_links.proofs.NumberLemmas.{number_after}
 use Rattle.chain_links.proofs.front.number.Given as goal
 
 abbrev pub invariant-loop-i : goal.invariant-loop-i

@@ -1,5 +1,5 @@
 use Rattle.std.proofs.Common.{length, ap, arith}
-use Rattle.atom_values.proofs.XmlTexts.{IsXmlText-nil}
+use Rattle.atom_values.proofs.XmlTextLemmas.{IsXmlText-nil}
 use Rattle.atom_values.proofs.text.AtomText.empty.Goals as goal
 
 pub invariant_of-result : goal.invariant_of-result

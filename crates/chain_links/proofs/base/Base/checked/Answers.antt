@@ -2,7 +2,7 @@
 use Rattle.std.proofs.Common.{IsUtf8, List, ℕ, subst, sym}
 use mathlib.Core.HLevel.{⊥_prop}
 use mathlib.Core.Logic.{∥∥₁_elim}
-use Rattle.chain_links.proofs.Ascii.{base_utf8}
+use Rattle.chain_links.proofs.AsciiLemmas.{base_utf8}
 use Rattle.chain_links.proofs.base.Base.checked.Goals as goal
 
 pub returns-in_default : goal.returns-in_default

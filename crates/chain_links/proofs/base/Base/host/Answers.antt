@@ -1,8 +1,9 @@
-use Rattle.chain_links.proofs.Placed.{spells_same, host_at}
+use Rattle.chain_links.proofs.PartOffsetLemmas.{spells_same, host_at}
 use Rattle.chain_links.proofs.base.Base.host.Goals as goal
 
 pub returns : goal.returns
 returns c = λ parts spells.
     let inside = spells_same parts c.args.self.now c.self.inside.text.items c.self.view_is spells in
     rw c.deref.ensures.value
-    (host_at parts c.self.inside.text.items c.self.inside.places.host_end c.self.inside.places.port c.self.inside.places.path_start inside (c.self.invariant.parts parts inside))
+    (host_at parts c.self.inside.text.items c.self.inside.parts.host_end c.self.inside.parts.port
+    c.self.inside.parts.path_start inside (c.self.invariant.parts parts inside))

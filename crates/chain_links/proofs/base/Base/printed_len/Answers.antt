@@ -1,5 +1,5 @@
 use Rattle.std.proofs.Common.{length, arith, ap}
-use Rattle.chain_links.proofs.Addresses.{length-printed, base_short}
+use Rattle.chain_links.proofs.AddressLemmas.{length-printed, base_short}
 use Rattle.chain_links.proofs.base.Base.printed_len.Goals as goal
 
 pub returns-clause-length : goal.returns-clause-length

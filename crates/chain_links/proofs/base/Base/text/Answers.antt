@@ -1,4 +1,4 @@
-use Rattle.chain_links.proofs.Readings.{same_parts}
+use Rattle.chain_links.proofs.ReadingLemmas.{same_parts}
 use Rattle.chain_links.proofs.base.Base.text.Goals as goal
 
 pub returns-clause-one_reading : goal.returns-clause-one_reading

@@ -1,5 +1,6 @@
 -- The walk over a path passes exactly the texts of segments.
-use Rattle.std.proofs.Common.{◌≡◌, ◌≢◌, ℕ, List, [], ◌∷◌, ◌++◌, Bool, true, false, cond, ◌==◌, ◌||◌, not, IsTrue, All, flat_map, refl, sym, ap, ◌∙◌, eqb-true, ⊎_elim, append_assoc}
+use Rattle.std.proofs.Common.{◌≡◌, ◌≢◌, ℕ, List, [], ◌∷◌, ◌++◌, Bool, true, false, cond, ◌==◌, ◌||◌, not, IsTrue, All}
+use Rattle.std.proofs.Common.{flat_map, refl, sym, ap, ◌∙◌, eqb-true, ⊎_elim, append_assoc}
 use Rattle.std.proofs.lemmas.Bool.{cases_Bool, cond-true, true≢false}
 use Rattle.std.proofs.lemmas.List.Elements.{All-nil, All-cons, All-head, All-tail}
 use Rattle.chain_links.specs.Base.{is_segment_char, IsWord, AreSegments}
@@ -57,7 +58,8 @@ begun c cs e t =
 nothing : Whole []
 nothing = record { segments = []; words = All-nil (IsWord is_segment_char); spelt = refl }
 
-closes : (c : ℕ) (cs : List ℕ) → cond (not (c == 47)) false (is_behind true cs) ≡ true → (c ≡ 47) × (is_behind true cs ≡ true)
+closes : (c : ℕ) (cs : List ℕ) → cond (not (c == 47)) false (is_behind true cs) ≡ true →
+    (c ≡ 47) × (is_behind true cs ≡ true)
 closes c cs e =
     ⊎_elim
     (λ slash. (eqb-true c 47 slash, rw slash at e))
@@ -78,16 +80,19 @@ both (c ∷ cs) =
     ))
     (cases_Bool (is_segment_char c))
 
-pub path_found : (text : List ℕ) → is_behind true text ≡ true → (segments : List (List ℕ)) × AreSegments segments × (segments_text segments ≡ text)
+pub path_found : (text : List ℕ) → is_behind true text ≡ true → (segments : List (List ℕ)) × AreSegments segments
+    × (segments_text segments ≡ text)
 path_found text e = let t = (both text).1 e in (t.segments, t.words, t.spelt)
 
 -- over the characters of a segment and the `/` behind it
-over_segment : (fresh : Bool) (first rest : List ℕ) → (fresh ≡ true → first ≢ []) → All (λ c. IsTrue (is_segment_char c)) first → is_behind fresh (first ++ 47 ∷ rest) ≡ is_behind true rest
+over_segment : (fresh : Bool) (first rest : List ℕ) → (fresh ≡ true → first ≢ []) →
+    All (λ c. IsTrue (is_segment_char c)) first → is_behind fresh (first ++ 47 ∷ rest) ≡ is_behind true rest
 over_segment true [] rest begun chars = absurd (begun refl refl)
 over_segment false [] rest begun chars = refl
 over_segment fresh (c ∷ cs) rest begun chars =
     cond-true (is_segment_char c) _ _ (All-head (λ x. IsTrue (is_segment_char x)) c cs chars)
-    ∙ over_segment false cs rest (λ n. absurd (true≢false (sym n))) (All-tail (λ x. IsTrue (is_segment_char x)) c cs chars)
+    ∙ over_segment false cs rest (λ n. absurd (true≢false (sym n)))
+    (All-tail (λ x. IsTrue (is_segment_char x)) c cs chars)
 
 over_segments : (segments : List (List ℕ)) → AreSegments segments → is_behind true (segments_text segments) ≡ true
 over_segments [] words = refl
@@ -97,5 +102,6 @@ over_segments (s ∷ ss) words =
     ∙ over_segment true s (segments_text ss) (λ _. w.0) w.1
     ∙ over_segments ss (All-tail (IsWord is_segment_char) s ss words)
 
-pub path_only : (text : List ℕ) (segments : List (List ℕ)) → AreSegments segments → segments_text segments ≡ text → is_behind true text ≡ true
+pub path_only : (text : List ℕ) (segments : List (List ℕ)) → AreSegments segments → segments_text segments ≡ text →
+    is_behind true text ≡ true
 path_only text segments words e = ap (is_behind true) (sym e) ∙ over_segments segments words
