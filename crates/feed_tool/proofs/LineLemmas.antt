@@ -20,7 +20,7 @@ use Rattle.atom_values.specs.XmlText.{is_xml_text, IsAtomText, IsTextFault}
 use Rattle.member_rules.specs.declared.ask.Ask.{Ask}
 use Rattle.member_rules.specs.declared.ask.Ask.TheVariants.{Create, Replace, Delete}
 use Rattle.atom_values.specs.Ascii.{lf, space}
-use Rattle.feed_tool.specs.Line.{change_by, change_of, draft_of, line_ask, member_number, parted, prefix_limit, title_limit}
+use Rattle.feed_tool.specs.Line.{change_by, change_of, draft_of, line_ask, member_number, parted, prefix_limit, line_title_limit}
 use Rattle.feed_tool.specs.Lines.{HasNo, HasNoLf, IsFirst, ended_lines, lines, onto_ended, onto_first}
 
 -- a byte that is no LF goes on with a line
@@ -78,17 +78,17 @@ lines-joined (l ∷ ls) rest h =
     ∙ ap (λ more. l ∷ more) (lines-joined ls rest (All-tail HasNoLf l ls h))
 
 -- the draft of a title
-pub draft_of-long : (title : List ℕ) → title_limit < length title → draft_of title ≡ None
+pub draft_of-long : (title : List ℕ) → line_title_limit < length title → draft_of title ≡ None
 unfolding draft_of
-draft_of-long title h = let long : nat_le (length title) title_limit ≡ false = lt-leb (length title) title_limit h in rw long refl
+draft_of-long title h = let long : nat_le (length title) line_title_limit ≡ false = lt-leb (length title) line_title_limit h in rw long refl
 
 pub draft_of-no_text : (title : List ℕ) → is_xml_text title ≡ false → draft_of title ≡ None
 unfolding draft_of
-draft_of-no_text title h = elim (nat_le (length title) title_limit) as (λ b. (if b && is_xml_text title then Some (titled title) else None) ≡ None) [ true ↦ rw h refl | false ↦ refl ]
+draft_of-no_text title h = elim (nat_le (length title) line_title_limit) as (λ b. (if b && is_xml_text title then Some (titled title) else None) ≡ None) [ true ↦ rw h refl | false ↦ refl ]
 
-pub draft_of-text : (title : List ℕ) → length title ≤ title_limit → IsAtomText title → draft_of title ≡ Some (titled title)
+pub draft_of-text : (title : List ℕ) → length title ≤ line_title_limit → IsAtomText title → draft_of title ≡ Some (titled title)
 unfolding draft_of
-draft_of-text title short h = let few : nat_le (length title) title_limit ≡ true = le-leb (length title) title_limit short in rw (few, h.xml) refl
+draft_of-text title short h = let few : nat_le (length title) line_title_limit ≡ true = le-leb (length title) line_title_limit short in rw (few, h.xml) refl
 
 -- a member's number
 digits-are : (n : ℕ) → n < 2 ^ 32 → digits_value 10 (decimal n) ≡ n
@@ -159,7 +159,7 @@ no_draft : (number : Option ℕ) → option_and_then (λ (n : ℕ). option_map (
 no_draft None = refl
 no_draft (Some n) = refl
 
-change_by-long : (parts : List ℕ × List ℕ) → title_limit + 11 < length parts.0 + 1 + length parts.1 → change_by parts ≡ None
+change_by-long : (parts : List ℕ × List ℕ) → line_title_limit + 11 < length parts.0 + 1 + length parts.1 → change_by parts ≡ None
 change_by-long parts h =
     ⊎_elim
     (λ (number : 10 < length parts.0). rw (member_number-long parts.0 number) refl)
@@ -168,11 +168,11 @@ change_by-long parts h =
     ap (λ (d : Option DraftValue). option_and_then (λ (n : ℕ). option_map (Replace n) d) (member_number parts.0)) draft ∙ no_draft (member_number parts.0))
     (cases_lt 10 (length parts.0))
 
-change-step : (words : List ℕ) (found : Option (List ℕ × List ℕ)) → IfSome found (HasSize words) → title_limit + 11 < length words → option_and_then change_by found ≡ None
+change-step : (words : List ℕ) (found : Option (List ℕ × List ℕ)) → IfSome found (HasSize words) → line_title_limit + 11 < length words → option_and_then change_by found ≡ None
 change-step words None h long = refl
 change-step words (Some parts) h long = change_by-long parts (omega (arith, h))
 
-change_of-long : (words : List ℕ) → title_limit + 11 < length words → change_of words ≡ None
+change_of-long : (words : List ℕ) → line_title_limit + 11 < length words → change_of words ≡ None
 unfolding change_of
 change_of-long words long = change-step words (parted words) (parted-size words) long
 
@@ -197,7 +197,7 @@ change_of-draft words digits title number draft e low high is some =
     change_of-parts words digits title e ∙ (rw (member_number-some digits number low high is, some) refl)
 
 -- a line that is longer than the longest good one is bad
-pub line_ask-long : (line : List ℕ) → title_limit + 18 < length line → line_ask line ≡ None
+pub line_ask-long : (line : List ℕ) → line_title_limit + 18 < length line → line_ask line ≡ None
 unfolding line_ask
 line_ask-long line h =
     let add : option_map Create (draft_of (drop 4 line)) ≡ None = ap (option_map Create) (draft_of-long (drop 4 line) (omega (arith, length-drop 4 line))) in
@@ -244,7 +244,7 @@ unfolding line_ask
 line_ask-none line a b c = rw (swapped-false (take 4 line) (codes "add ") a, swapped-false (take 7 line) (codes "change ") b, swapped-false (take 7 line) (codes "remove ") c) refl
 
 -- a fault other than out of memory refuses a short text
-pub refused_text : (bytes : List ℕ) (fault : TextFault) → fault ≢ NoMemory → length bytes ≤ title_limit → IsTextFault bytes fault → is_xml_text bytes ≡ false
+pub refused_text : (bytes : List ℕ) (fault : TextFault) → fault ≢ NoMemory → length bytes ≤ line_title_limit → IsTextFault bytes fault → is_xml_text bytes ≡ false
 refused_text bytes (TooLong n) other short h = absurd (omega (arith, h.0))
 refused_text bytes (NotXmlChar at) other short h = false_from_ne_true _ (λ t.
     h.1.longest (length bytes) h.1.before_end (omega arith) (rw (take_all (length bytes) bytes (omega arith)) t))

@@ -10,12 +10,12 @@ use Rattle.member_rules.specs.declared.ask.Ask.{Ask}
 use Rattle.member_rules.specs.declared.ask.Ask.TheVariants.{Create, Replace, Delete}
 
 -- how many bytes a title may have
-abbrev pub title_limit : ℕ
-title_limit = 1_024
+abbrev pub line_title_limit : ℕ
+line_title_limit = 1_024
 
 -- the draft of a title, which has at most 1,024 bytes of XML characters
 unfoldable pub draft_of : List ℕ → Option DraftValue
-draft_of title = if nat_le (length title) title_limit && is_xml_text title then Some (titled title) else None
+draft_of title = if nat_le (length title) line_title_limit && is_xml_text title then Some (titled title) else None
 
 -- a member's number: decimal, from 1 to 4294967295, without leading zeros
 unfoldable pub member_number : List ℕ → Option ℕ
@@ -46,4 +46,4 @@ line_ask line =
 
 -- how many bytes of a line decide what it asks for: `change`, ten digits, two spaces and a title, and one byte more
 abbrev pub prefix_limit : ℕ
-prefix_limit = title_limit + 19
+prefix_limit = line_title_limit + 19

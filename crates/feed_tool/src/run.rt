@@ -58,6 +58,8 @@ pub fn run<C: Clock, I: Source, O: Sink>(
         → (I.state input.new).faults ≡ (I.state input.old).faults }
     ensures output_fault { result.status ≡ code_of status.OutputFault
         → Rose (O.state output.old).faults (O.state output.new).faults }
+    ensures output_whole { result.status ≡ code_of status.Done
+        → (O.state output.new).faults ≡ (O.state output.old).faults }
     ensures first_fault { I.told → IfSome (command_of (map string_bytes words.now)) (λ command.
         (AsksClock command → C.told) → result.status ≡ code_of status.InputFault
         → IsUnrefusedBy command (C.coming clock.old) (I.state input.old) (I.state input.new)) }

@@ -1,6 +1,8 @@
 //! A clock, an input and an output in memory, for tests. Contracts can see their content, and listed calls of them fail.
 
-ghost use Rattle.std.specs.Prelude.{◌≡◌, ◌+◌, ◌-◌, ◌<◌, ◌≤◌, [], length, drop, min, slice_index};
+ghost use Rattle.std.specs.Prelude.{◌≡◌, ◌↔◌, ◌+◌, ◌-◌, ◌<◌, ◌≤◌, ◌++◌, [], length, take, drop, min, slice_index, IfOk, OnOk, OnErr, IsErr, IsTrue};
+ghost use Rattle.atom_values.specs.Counts.{HasCause};
+ghost use Rattle.atom_values.specs.ListedCalls.{after_call, next_call_fails};
 ghost use Rattle.feed_tool.specs.Outside.{SourceState, SinkState};
 
 use crate::outside::{Clock, Sink, Source};
@@ -67,7 +69,21 @@ impl Source for ListSource {
 
     ghost state = { λ s. record { left = drop s.at s.bytes; faults = s.calls.faults } };
 
-    fn read(&mut self, into: &mut [u8]) -> Result<usize, Failed> {
+    fn read(&mut self, into: &mut [u8]) -> Result<usize, Failed>
+        // It fails exactly the listed calls.
+        ensures listed { IsErr result ↔ IsTrue (next_call_fails self.old.calls) }
+        ensures calls { self.new.calls ≡ after_call self.old.calls }
+
+        // The clauses of the trait.
+        ensures within { IfOk result (λ count. count ≤ length into.old) }
+        ensures bytes { IfOk result (λ count. Unit {0}
+            → drop self.old.at self.old.bytes ≡ take count into.new ++ drop self.new.at self.new.bytes) }
+        ensures end { IfOk result (λ count. Unit {0}
+            → count ≡ 0 → 0 < length into.old → drop self.old.at self.old.bytes ≡ []) }
+        ensures err { OnErr result (Unit {0}
+            → drop self.new.at self.new.bytes ≡ drop self.old.at self.old.bytes) }
+        ensures counts { HasCause self.old.calls.faults self.new.calls.faults result }
+    {
         if self.calls.next_fails() {
             return Err(Failed);
         }
@@ -112,7 +128,19 @@ impl Sink for ListSink {
     ghost state = { λ s. record { taken = s.taken.items; faults = s.calls.faults } };
 
     // Out of memory is counted as a failed call, since the trait has no answer for it.
-    fn write(&mut self, from: &[u8]) -> Result<usize, Failed> {
+    fn write(&mut self, from: &[u8]) -> Result<usize, Failed>
+        // It fails the listed calls, and others only if memory ran out.
+        ensures listed { IsTrue (next_call_fails self.old.calls) → IsErr result }
+        ensures calls { OnOk result (self.new.calls ≡ after_call self.old.calls) }
+
+        // The clauses of the trait.
+        ensures within { IfOk result (λ count. count ≤ length from.now) }
+        ensures some { IfOk result (λ count. 0 < length from.now → 0 < count) }
+        ensures bytes { IfOk result (λ count. Unit {0}
+            → self.new.taken.items ≡ self.old.taken.items ++ take count from.now) }
+        ensures err { OnErr result (Unit {0} → self.new.taken.items ≡ self.old.taken.items) }
+        ensures counts { HasCause self.old.calls.faults self.new.calls.faults result }
+    {
         if self.calls.next_fails() {
             return Err(Failed);
         }

@@ -25,4 +25,4 @@ unreachable-requires c = false≢true (c.in_default-parse.ensures.taken.1 (feed_
 pub returns : goal.returns
 unfolding test_head
 returns c =
-    rw (c.in-Ok.ensures.text, same_id c.in-Some.id c.in-Some.ensures.spelt, c.in-Ok-of.ensures.text, c.in-Ok-of-2.ensures.text, rw c.unwrap-created.ensures at c.new.ensures.value) refl
+    rw (c.in-Ok.ensures.text, same_id c.in-Some.id c.in-Some.ensures.value, c.in-Ok-of.ensures.text, c.in-Ok-of-2.ensures.text, rw c.unwrap-created.ensures at c.new.ensures.value) refl
