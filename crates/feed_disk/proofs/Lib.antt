@@ -1,10 +1,20 @@
-pub mod Clock
-pub mod Cut
-pub mod Fills
-pub mod Images
-pub mod Moments
-pub mod Reached
-pub mod Split
-pub mod Steps
-pub mod Stops
-pub mod Torn
+-- the clauses of `MemoryDisk`'s device calls (`area`, `areas`, `others`, `torn`, `certain`)
+pub mod CallLemmas
+-- the rule of `MemoryDisk` on its clock
+pub mod ClockLemmas
+-- `MemoryDisk::image`: `among` and `reached`
+pub mod CrashLemmas
+-- `MemoryDisk::image`: `disk`, the part on bytes and marks since the last sync
+pub mod CutLemmas
+-- `MemoryDisk::image`: `disk`, for `Choice::Fill`
+pub mod FillLemmas
+-- `MemoryDisk::image`: `among`, for one area
+pub mod ImageLemmas
+-- for callers of a `Disk`: the clauses on moments and images of several device calls
+pub mod MomentLemmas
+-- `MemoryDisk::image`: `reached`, for one area
+pub mod ReachLemmas
+-- `MemoryDisk::image`: `disk`, the part on lists of changes
+pub mod SplitLemmas
+-- `MemoryDisk::write`: `area` and `torn`
+pub mod TornLemmas

@@ -1,47 +1,51 @@
--- What a disk is to a contract: its content, its clock, its count of faults, and what a stop may leave of it.
+-- A disk as contracts see it: its content, its counters, and the images that a crash may leave.
 use Rattle.std.specs.Prelude.{◌≡◌, ◌⊎◌, ℕ, ◌+◌, ◌≤◌, max, List, ◌++◌, length, take, drop, Result, OnOk, OnErr}
 use Rattle.atom_values.specs.Counts.{counted, Rose}
 use Rattle.feed_disk.specs.declared.area.Area.{Area}
 
--- A moment c runs from the return of device call c - 1 to the return of device call c.
+-- Moment c runs from the return of device call c - 1 to the return of device call c. An image of an area is a list of
+-- bytes that the area may have after a crash.
 pub record DiskState : Type 1 where
   -- the bytes that a read gives
   pub content : Area → List ℕ
-  -- how many device calls were made
+  -- the number of device calls made
   pub clock : ℕ
+  -- the number of device calls that failed
   pub faults : ℕ
-  -- a stop at this moment may leave this image of the area
+  -- the number of bytes that reads have returned
+  pub bytes_read : ℕ
+  -- a crash at this moment may leave this image of the area
   pub image_at : Area → ℕ → List ℕ → Type 0
-  -- a stop after the last call may
+  -- a crash after the last call may leave this image of the area
   pub image_now : Area → List ℕ → Type 0
 
--- the law of each disk
+-- the law of every disk
 pub record IsDisk (told : Type 0) (s : DiskState) : Type 0 where
   -- no moment is later than the clock
   pub begun : (a : Area) (c : ℕ) (i : List ℕ) → s.image_at a c i → c ≤ s.clock
-  -- each image of now is one of the last moment
+  -- each image of now is an image of the last moment
   pub last : (a : Area) (i : List ℕ) → s.image_now a i → s.image_at a s.clock i
-  -- the disk as it reads is one of its images
+  -- the content is an image of now
   pub content : told → (a : Area) → s.image_now a (s.content a)
 
--- a list with these items in the place of those from at on, and past its end
+-- a list after these items were written over it from an offset, and past its end
 abbrev pub written : {T : Type 0} → List T → ℕ → List T → List T
 written old at bytes = take at old ++ bytes ++ drop (at + length bytes) old
 
--- what a write of n bytes at this place may leave of an image: any bytes in the range and past the old end,
--- any size from the old one to the new one, and the same elsewhere
+-- A write of n bytes at this offset may make `new` of the image `old`: any bytes in the range and past the old end,
+-- any size from the old one to the new one, and the same bytes elsewhere.
 pub record Torn (at n : ℕ) (old new : List ℕ) : Type 0 where
   pub before : take at new ≡ take at old
   pub after : drop (at + n) new ≡ drop (at + n) old
   pub no_shorter : length old ≤ length new
   pub no_longer : length new ≤ max (length old) (at + n)
 
--- an image after such a write over one of these images
+-- an image that a write may make of one of these images
 abbrev pub TornFrom : ℕ → ℕ → (List ℕ → Type 0) → List ℕ → Type 0
 TornFrom at n images i = (d : List ℕ) × images d × Torn at n d i
 
--- One device call leads from s to t in this area. A stop within it leaves an image of `within`,
--- which has each image that a stop before it could leave; the moments before it stay as they were.
+-- One device call leads from s to t in this area. A crash within it leaves an image of `within`, and each image that a
+-- crash before it could leave is one of them. Earlier moments stay as they were.
 pub record Passes (s t : DiskState) (a : Area) (within : List ℕ → Type 0) : Type 0 where
   pub moments : (c : ℕ) (i : List ℕ) → t.image_at a c i → s.image_at a c i ⊎ ((c ≡ t.clock) × within i)
   pub keeps : (c : ℕ) (i : List ℕ) → s.image_at a c i → t.image_at a c i
@@ -54,8 +58,8 @@ pub record PassesBy (s t : DiskState) (a : Area) : Type 0 where
   pub still : (i : List ℕ) → s.image_now a i → t.image_now a i
   pub content : t.content a ≡ s.content a
 
--- one device call on the clock, and on the count of faults
-pub record Counts {T E : Type 0} (s t : DiskState) (result : Result T E) : Type 0 where
+-- the clock counts one device call, and the faults rise where it failed and stay where it worked
+pub record CountsCall {T E : Type 0} (s t : DiskState) (result : Result T E) : Type 0 where
   pub clock : t.clock ≡ counted s.clock
   pub later : s.clock ≤ t.clock
   pub faults : s.faults ≤ t.faults

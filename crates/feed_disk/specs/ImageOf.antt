@@ -1,39 +1,40 @@
--- What a stop within a call leaves of an area, by the choice of what stands where nothing is certain.
-use Rattle.std.specs.Prelude.{ℕ, ◌+◌, ◌-◌, zero, suc, min, Bool, true, false, ◌||◌, nat_lt, nat_le, if◌then◌else◌, count_by, List, [], ◌∷◌, length, take}
-use Rattle.feed_disk.specs.History.{synced_of, newest_of, is_written}
+-- The image of one area that a crash within a call leaves, by a `Choice`.
+use Rattle.std.specs.Prelude.{ℕ, ◌+◌, ◌-◌, zero, suc, min, Bool, true, false, ◌||◌, nat_lt, nat_le, if◌then◌else◌}
+use Rattle.std.specs.Prelude.{count_by, List, [], ◌∷◌, length, take}
+use Rattle.feed_disk.specs.AreaRecord.{synced_of, newest_of, is_written}
 use Rattle.feed_disk.specs.declared.change.Change.{Change}
 use Rattle.feed_disk.specs.declared.change.Change.TheVariants.{Write, FailedWrite, Sync}
 use Rattle.feed_disk.specs.declared.choice.Choice.{Choice}
 use Rattle.feed_disk.specs.declared.choice.Choice.TheVariants.{Old, New, Fill, Given}
 
--- a stop within this call leaves what the change did, or what it was doing: a sync does nothing before its end
+-- A crash within this call comes after the change, or within it. A sync does nothing before its end.
 abbrev pub counts_by : ℕ → Change → Bool
 counts_by call (Write number at bytes) = nat_le number call
 counts_by call (FailedWrite number at bytes) = nat_le number call
 counts_by call (Sync number) = nat_lt number call
 
--- the changes that a stop within this call comes behind, the newest first
+-- the changes that count at a crash within this call, the newest first
 abbrev pub until : ℕ → List Change → List Change
 until call [] = []
 until call (change ∷ older) = if counts_by call change then change ∷ older else until call older
 
--- nothing is certain at this place: it lies in a range that was written since the last sync, or past the old end
+-- the byte at this offset is uncertain: a write since the last sync has it in its range, or it is past the synced end
 abbrev pub is_uncertain : List ℕ → List Change → ℕ → Bool
-is_uncertain first changes place = is_written changes place || nat_le (length (synced_of first changes)) place
+is_uncertain first changes offset = is_written changes offset || nat_le (length (synced_of first changes)) offset
 
--- the test at each of these many places from one place on
+-- the test at each of n offsets from one on
 abbrev pub marked : (ℕ → Bool) → ℕ → ℕ → List Bool
-marked test place zero = []
-marked test place (suc n) = test place ∷ marked test (place + 1) n
+marked test offset zero = []
+marked test offset (suc n) = test offset ∷ marked test (offset + 1) n
 
--- these bytes with one byte at each marked place
+-- the bytes with `fill` at each marked offset
 abbrev pub filled : List Bool → ℕ → List ℕ → List ℕ
 filled [] fill bytes = bytes
 filled (mark ∷ marks) fill [] = []
 filled (false ∷ marks) fill (byte ∷ bytes) = byte ∷ filled marks fill bytes
 filled (true ∷ marks) fill (byte ∷ bytes) = fill ∷ filled marks fill bytes
 
--- these bytes with the given ones at the marked places, in order, for as long as there are some
+-- the bytes with the given ones at the marked offsets, in order; after the last given one they stay
 abbrev pub overlaid : List Bool → List ℕ → List ℕ → List ℕ
 overlaid [] given bytes = bytes
 overlaid (mark ∷ marks) given [] = []
@@ -41,22 +42,26 @@ overlaid (false ∷ marks) given (byte ∷ bytes) = byte ∷ overlaid marks give
 overlaid (true ∷ marks) [] (byte ∷ bytes) = byte ∷ overlaid marks [] bytes
 overlaid (true ∷ marks) (one ∷ given) (byte ∷ bytes) = one ∷ overlaid marks given bytes
 
--- so many bytes past the old end, cut to what may be there
+-- the size of the area with `size` bytes past the synced end, or with as many as it may have
 abbrev pub grown : List ℕ → List Change → ℕ → ℕ
-grown first changes size = length (synced_of first changes) + min size (length (newest_of first changes) - length (synced_of first changes))
+grown first changes size =
+    length (synced_of first changes) + min size (length (newest_of first changes) - length (synced_of first changes))
 
--- which of the first bytes of the area are uncertain
+-- which of the first `size` bytes of the area are uncertain
 abbrev pub marks_of : List ℕ → List Change → ℕ → List Bool
 marks_of first changes size = marked (is_uncertain first changes) 0 size
 
--- what the choice makes of an area that was this at first and had these changes
+-- the image by the choice, of an area that began with `first` and had these changes
 abbrev pub image_of : List ℕ → List Change → Choice → List ℕ
 image_of first changes Old = synced_of first changes
 image_of first changes New = newest_of first changes
-image_of first changes (Fill fill) = filled (marks_of first changes (length (newest_of first changes))) fill (newest_of first changes)
-image_of first changes (Given size bytes) = overlaid (marks_of first changes (grown first changes size)) bytes (take (grown first changes size) (newest_of first changes))
+image_of first changes (Fill fill) =
+    filled (marks_of first changes (length (newest_of first changes))) fill (newest_of first changes)
+image_of first changes (Given size bytes) =
+    let end = grown first changes size in
+    overlaid (marks_of first changes end) bytes (take end (newest_of first changes))
 
--- how many given bytes the area takes
+-- the number of given bytes that the area takes
 abbrev pub uses : List ℕ → List Change → Choice → ℕ
 uses first changes Old = 0
 uses first changes New = 0

@@ -1,10 +1,9 @@
-pub mod Counts
+pub mod AreaRecord
 pub mod Disk
-pub mod History
-pub mod HistoryLaws
+pub mod DiskLaw
 pub mod Image
 pub mod ImageOf
 pub mod Memory
-pub mod MemoryLaws
 pub mod Moments
 pub mod Pending
+pub mod Raised

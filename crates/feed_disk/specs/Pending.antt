@@ -1,4 +1,4 @@
--- The changes of an area cut at its last sync.
+-- The changes of an area, divided at its last sync.
 use Rattle.std.specs.Prelude.{⊤, ℕ, ◌≤◌, Bool, true, false, List, [], ◌∷◌, length, replicate}
 use Rattle.feed_disk.specs.Disk.{written}
 use Rattle.feed_disk.specs.declared.change.Change.{Change}
@@ -9,28 +9,28 @@ is_sync (Write call at bytes) = false
 is_sync (FailedWrite call at bytes) = false
 is_sync (Sync call) = true
 
--- those since the last sync, the newest first
+-- the changes since the last sync, the newest first
 abbrev pub pending_of : List Change → List Change
 pending_of [] = []
 pending_of (Write call at bytes ∷ older) = Write call at bytes ∷ pending_of older
 pending_of (FailedWrite call at bytes ∷ older) = FailedWrite call at bytes ∷ pending_of older
 pending_of (Sync call ∷ older) = []
 
--- the others, with that sync
+-- the last sync and the changes before it
 abbrev pub settled_of : List Change → List Change
 settled_of [] = []
 settled_of (Write call at bytes ∷ older) = settled_of older
 settled_of (FailedWrite call at bytes ∷ older) = settled_of older
 settled_of (Sync call ∷ older) = Sync call ∷ older
 
--- the bytes after each of these writes, those that failed too
+-- the bytes after each of these writes, failed ones included
 abbrev pub applied : List ℕ → List Change → List ℕ
 applied bytes [] = bytes
 applied bytes (Write call at from ∷ older) = written (applied bytes older) at from
 applied bytes (FailedWrite call at from ∷ older) = written (applied bytes older) at from
 applied bytes (Sync call ∷ older) = applied bytes older
 
--- the marks with one more for each byte of a range
+-- the marks after each byte of these writes' ranges was marked
 abbrev pub marked_by : List Bool → List Change → List Bool
 marked_by marks [] = marks
 marked_by marks (Write call at from ∷ older) = written (marked_by marks older) at (replicate (length from) true)

@@ -1,4 +1,4 @@
-/// One of the three areas of a disk, each of them a sequence of bytes.
+/// One of the three areas of a disk. Each is a sequence of bytes.
 #[derive(Clone, Copy, Debug, PartialEq, Eq, Hash)]
 pub enum Area {
     /// The log of the accepted operations.

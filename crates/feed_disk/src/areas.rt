@@ -1,26 +1,26 @@
 ghost use Rattle.std.specs.Prelude.{◌≡◌, ℕ, ◌≤◌, length, OnOk, OnErr};
-ghost use Rattle.feed_disk.specs.History.{content_of, ComesAfter};
+ghost use Rattle.feed_disk.specs.AreaRecord.{content_of, ComesAfter};
 
 use crate::area::Area;
-use crate::history::History;
+use crate::area_record::AreaRecord;
 use atom_values::NoMemory;
 use std::alloc::Global;
 
 /// The records of the three areas.
 #[derive(Debug, Drop)]
 pub struct Areas {
-    pub journal: History,
-    pub sealed: History,
-    pub mirror: History,
+    pub journal: AreaRecord,
+    pub sealed: AreaRecord,
+    pub mirror: AreaRecord,
 }
 
 impl Areas {
-    ghost use Rattle.feed_disk.specs.Memory.{history_of, changed};
+    ghost use Rattle.feed_disk.specs.Memory.{record_of, changed};
     ghost use Rattle.feed_disk.specs.declared.change.Change.TheVariants.{Write, FailedWrite, Sync};
 
-    /// The record of an area.
-    pub fn get(&self, area: Area) -> &History
-        ensures { result.now ≡ history_of self.now area }
+    /// Returns the record of an area.
+    pub fn get(&self, area: Area) -> &AreaRecord
+        ensures { result.now ≡ record_of self.now area }
     {
         match area {
             Area::Journal => &self.journal,
@@ -29,7 +29,7 @@ impl Areas {
         }
     }
 
-    /// Writes the bytes into an area, from a place on.
+    /// Records a write from offset `at` on, by the device call of this number.
     pub fn write(
         &mut self,
         alloc: Global,
@@ -38,8 +38,9 @@ impl Areas {
         at: usize,
         from: &[u8],
     ) -> Result<(), NoMemory>
-        requires place { at ≤ length (content_of (history_of self.old area).first (history_of self.old area).changes) }
-        requires later { ComesAfter call (history_of self.old area).changes }
+        requires offset { let old = record_of self.old area in
+            at ≤ length (content_of old.first old.changes) }
+        requires later { ComesAfter call (record_of self.old area).changes }
         ensures ok { OnOk result (self.new ≡ changed self.old area (Write call at from.now)) }
         ensures err { OnErr result (self.new ≡ self.old) }
     {
@@ -50,7 +51,7 @@ impl Areas {
         }
     }
 
-    /// Keeps that these bytes were to be written into an area, from a place on.
+    /// Records a failed write from offset `at` on, by the device call of this number.
     pub fn fail_write(
         &mut self,
         alloc: Global,
@@ -59,8 +60,9 @@ impl Areas {
         at: usize,
         from: &[u8],
     ) -> Result<(), NoMemory>
-        requires place { at ≤ length (content_of (history_of self.old area).first (history_of self.old area).changes) }
-        requires later { ComesAfter call (history_of self.old area).changes }
+        requires offset { let old = record_of self.old area in
+            at ≤ length (content_of old.first old.changes) }
+        requires later { ComesAfter call (record_of self.old area).changes }
         ensures ok { OnOk result (self.new ≡ changed self.old area (FailedWrite call at from.now)) }
         ensures err { OnErr result (self.new ≡ self.old) }
     {
@@ -71,9 +73,9 @@ impl Areas {
         }
     }
 
-    /// Makes certain what an area reads as.
+    /// Records a sync, by the device call of this number.
     pub fn sync(&mut self, area: Area, call: u64) -> Result<(), NoMemory>
-        requires { ComesAfter call (history_of self.old area).changes }
+        requires { ComesAfter call (record_of self.old area).changes }
         ensures ok { OnOk result (self.new ≡ changed self.old area (Sync call)) }
         ensures err { OnErr result (self.new ≡ self.old) }
     {

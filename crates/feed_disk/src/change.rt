@@ -1,12 +1,12 @@
 use atom_values::Bytes;
 
-/// A device call that changed an area, or what is certain of it.
+/// A device call that changed an area or synced it.
 #[derive(Debug, Drop)]
 pub enum Change {
-    /// The bytes were written from the place `at` on.
+    /// The bytes were written from offset `at` on.
     Write { call: u64, at: u64, bytes: Bytes },
-    /// They were to be written, and the call failed.
+    /// The call that was to write them failed.
     FailedWrite { call: u64, at: u64, bytes: Bytes },
-    /// What the area read as became certain.
+    /// The area was synced.
     Sync { call: u64 },
 }

@@ -1,15 +1,19 @@
 use atom_values::Bytes;
 
-/// What stands where nothing is certain, in the disk that a stop leaves.
+/// The bytes and the size of a simulated crash: how `MemoryDisk::image` fills what is not synced.
+///
+/// The old bytes and the old size are those of the last sync. The new ones are those after each write since,
+/// failed writes included. A byte is uncertain if such a write has it in its range, or if it is past the old
+/// end.
 #[derive(Debug, Drop)]
 pub enum Choice {
-    /// The old bytes, and the old size.
+    /// The old bytes and the old size.
     Old,
-    /// The new bytes, and the new size.
+    /// The new bytes and the new size.
     New,
-    /// This byte, with the new size.
+    /// This byte for each uncertain one, and the new size.
     Fill(u8),
-    /// The given bytes, in order of area and place, with `size` bytes past the old end of each area, or as
-    /// many as may be there. Where the given bytes end, the new bytes stand.
+    /// The given bytes for the uncertain ones, in order of area and offset. Each area has `size` bytes past
+    /// its old end, or as many as it may have. After the last given byte the new bytes stay.
     Given { size: u64, bytes: Bytes },
 }

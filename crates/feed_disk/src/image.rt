@@ -1,7 +1,9 @@
-ghost use Rattle.std.specs.Prelude.{◌≡◌, ℕ, ◌+◌, ◌-◌, ◌≤◌, min, ◌<◌, ◌^◌, Bool, true, false, ◌++◌, length, take, drop, reverse, replicate, count_by, IfOk, OnOk, OnErr};
+ghost use Rattle.std.specs.Prelude.{◌≡◌, ℕ, ◌+◌, ◌-◌, ◌≤◌, min, ◌<◌, ◌^◌, Bool, true, false, ◌++◌};
+ghost use Rattle.std.specs.Prelude.{length, take, drop, reverse, replicate, count_by, IfOk, OnOk, OnErr};
 ghost use Rattle.feed_disk.specs.Disk.{written};
-ghost use Rattle.feed_disk.specs.History.{content_of, synced_of, newest_of, IsLawful};
-ghost use Rattle.feed_disk.specs.ImageOf.{counts_by, until, filled, overlaid, marks_of, grown, image_of, giving, uses};
+ghost use Rattle.feed_disk.specs.AreaRecord.{content_of, synced_of, newest_of, IsRecorded};
+ghost use Rattle.feed_disk.specs.ImageOf.{counts_by, until, filled, overlaid, marks_of, grown, image_of};
+ghost use Rattle.feed_disk.specs.ImageOf.{giving, uses};
 ghost use Rattle.feed_disk.specs.Pending.{is_sync, pending_of, settled_of, applied, marked_by, Reaches};
 
 use crate::change::Change;
@@ -10,7 +12,7 @@ use crate::overwrite::overwrite;
 use atom_values::NoMemory;
 use std::alloc::Global;
 
-/// Whether a stop within this call comes behind the change.
+/// Returns whether the change counts at a crash within this call.
 fn counts(change: &Change, call: u64) -> bool
     ensures { result ≡ counts_by call change.now }
 {
@@ -22,7 +24,7 @@ fn counts(change: &Change, call: u64) -> bool
     }
 }
 
-/// How many of the changes a stop within this call comes behind.
+/// Returns how many of the changes count at a crash within this call. They are the first ones.
 pub fn count_until(changes: &[Change], call: u64) -> usize
     ensures within { result ≤ length changes.now }
     ensures changes { reverse (take result changes.now) ≡ until call (reverse changes.now) }
@@ -34,13 +36,14 @@ pub fn count_until(changes: &[Change], call: u64) -> usize
     count
 }
 
+/// Returns whether the change is a sync.
 fn is_a_sync(change: &Change) -> bool
     ensures { result ≡ is_sync change.now }
 {
     matches!(change, Change::Sync { .. })
 }
 
-/// How many of the changes come before the last sync or are it.
+/// Returns the number of changes up to the last sync, which is counted too.
 fn count_settled(changes: &[Change]) -> usize
     ensures within { result ≤ length changes.now }
     ensures settled { reverse (take result changes.now) ≡ settled_of (reverse changes.now) }
@@ -53,9 +56,9 @@ fn count_settled(changes: &[Change]) -> usize
     count
 }
 
-/// What a read gives after these changes.
+/// Returns the bytes that a read gives after these changes.
 fn content_after(alloc: Global, first: &[u8], changes: &[Change]) -> Result<Vec<u8>, NoMemory>
-    requires { IsLawful first.now (reverse changes.now) }
+    requires { IsRecorded first.now (reverse changes.now) }
     ensures { IfOk result (λ bytes. bytes.items ≡ content_of first.now (reverse changes.now)) }
 {
     let mut bytes = Vec::from_slice(alloc, first)?;
@@ -72,7 +75,7 @@ fn content_after(alloc: Global, first: &[u8], changes: &[Change]) -> Result<Vec<
     Ok(bytes)
 }
 
-/// Makes each of these writes, those that failed too, and marks each byte of their ranges.
+/// Makes each of these writes, failed ones included, and marks each byte of their ranges.
 fn apply(bytes: &mut Vec<u8>, marks: &mut Vec<bool>, changes: &[Change]) -> Result<(), NoMemory>
     requires reaches { Reaches bytes.old.items (reverse changes.now) }
     requires marks { length marks.old.items ≡ length bytes.old.items }
@@ -101,9 +104,9 @@ fn apply(bytes: &mut Vec<u8>, marks: &mut Vec<bool>, changes: &[Change]) -> Resu
     Ok(())
 }
 
-/// Marks each of so many places from one on.
+/// Marks the range of `count` offsets from `at` on.
 fn mark(marks: &mut Vec<bool>, at: usize, count: usize) -> Result<(), NoMemory>
-    requires place { at ≤ length marks.old.items }
+    requires offset { at ≤ length marks.old.items }
     requires fits { at + count < 2 ^ 64 }
     ensures { OnOk result (marks.new.items ≡ written marks.old.items at (replicate count true)) }
 {
@@ -114,14 +117,14 @@ fn mark(marks: &mut Vec<bool>, at: usize, count: usize) -> Result<(), NoMemory>
     Ok(())
 }
 
-/// The bytes with one byte at each marked place.
+/// Returns the bytes with `byte` at each marked offset.
 fn fill(alloc: Global, bytes: &[u8], marks: &[bool], byte: u8) -> Result<Vec<u8>, NoMemory>
     requires { length marks.now ≡ length bytes.now }
     ensures { IfOk result (λ made. made.items ≡ filled marks.now byte bytes.now) }
 {
     let mut made = Vec::new(alloc);
-    for (place, old) in bytes.iter().enumerate() {
-        if marks[place] {
+    for (offset, old) in bytes.iter().enumerate() {
+        if marks[offset] {
             made.push(byte)?;
         } else {
             made.push(*old)?;
@@ -130,7 +133,7 @@ fn fill(alloc: Global, bytes: &[u8], marks: &[bool], byte: u8) -> Result<Vec<u8>
     Ok(made)
 }
 
-/// The bytes with the given ones at the marked places, in order, and how many places are marked.
+/// Returns the bytes with the given ones at the marked offsets, in order, and the number of marked offsets.
 fn overlay(
     alloc: Global,
     bytes: &[u8],
@@ -143,8 +146,8 @@ fn overlay(
 {
     let mut made = Vec::new(alloc);
     let mut used = 0;
-    for (place, old) in bytes.iter().enumerate() {
-        if marks[place] {
+    for (offset, old) in bytes.iter().enumerate() {
+        if marks[offset] {
             made.push(given.get(used).copied().unwrap_or(*old))?;
             used += 1;
         } else {
@@ -154,15 +157,15 @@ fn overlay(
     Ok((made, used))
 }
 
-/// What a read gave at the last sync.
+/// Returns the bytes that a read gave at the last sync.
 fn old_bytes(alloc: Global, first: &[u8], changes: &[Change]) -> Result<Vec<u8>, NoMemory>
-    requires { IsLawful first.now (reverse changes.now) }
+    requires { IsRecorded first.now (reverse changes.now) }
     ensures { IfOk result (λ bytes. bytes.items ≡ synced_of first.now (reverse changes.now)) }
 {
     content_after(alloc, first, &changes[..count_settled(changes)])
 }
 
-/// The new bytes of an area, which of them are uncertain, and the old size.
+/// The new bytes of an area, a mark at each uncertain one, and the old size.
 #[derive(Drop)]
 struct Uncertain {
     bytes: Vec<u8>,
@@ -172,12 +175,14 @@ struct Uncertain {
     ghost grows: { old_size ≤ length bytes.items },
 }
 
-/// The old bytes with each write since the last sync.
+/// Returns the old bytes after each write since the last sync.
 fn new_bytes(alloc: Global, first: &[u8], changes: &[Change]) -> Result<Uncertain, NoMemory>
-    requires { IsLawful first.now (reverse changes.now) }
+    requires { IsRecorded first.now (reverse changes.now) }
     ensures bytes { IfOk result (λ made. made.bytes.items ≡ newest_of first.now (reverse changes.now)) }
-    ensures marks { IfOk result (λ made. made.marks.items ≡ marks_of first.now (reverse changes.now) (length (newest_of first.now (reverse changes.now)))) }
-    ensures old_size { IfOk result (λ made. made.old_size ≡ length (synced_of first.now (reverse changes.now))) }
+    ensures marks { IfOk result (λ made. made.marks.items
+        ≡ marks_of first.now (reverse changes.now) (length (newest_of first.now (reverse changes.now)))) }
+    ensures old_size { IfOk result (λ made. made.old_size
+        ≡ length (synced_of first.now (reverse changes.now))) }
 {
     let mut bytes = old_bytes(alloc, first, changes)?;
     let old_size = bytes.len();
@@ -190,8 +195,8 @@ fn new_bytes(alloc: Global, first: &[u8], changes: &[Change]) -> Result<Uncertai
     })
 }
 
-/// What a stop after these changes leaves, by the choice with these bytes as the given ones, and how many of
-/// them it has room for.
+/// Returns the image that a crash after these changes leaves by the choice, with `given` as the given bytes,
+/// and the number of given bytes that it takes.
 pub fn image_by(
     alloc: Global,
     first: &[u8],
@@ -199,8 +204,9 @@ pub fn image_by(
     choice: &Choice,
     given: &[u8],
 ) -> Result<(Vec<u8>, usize), NoMemory>
-    requires { IsLawful first.now (reverse changes.now) }
-    ensures image { IfOk result (λ made. made.0.items ≡ image_of first.now (reverse changes.now) (giving choice.now given.now)) }
+    requires { IsRecorded first.now (reverse changes.now) }
+    ensures image { IfOk result (λ made. made.0.items
+        ≡ image_of first.now (reverse changes.now) (giving choice.now given.now)) }
     ensures used { IfOk result (λ made. made.1 ≡ uses first.now (reverse changes.now) choice.now) }
 {
     match choice {
@@ -217,7 +223,7 @@ pub fn image_by(
     }
 }
 
-/// What the given bytes make of the area, with so many bytes past the old end.
+/// Returns the image for `Choice::Given`, and the number of uncertain bytes in it.
 fn given_image(
     alloc: Global,
     first: &[u8],
@@ -225,16 +231,20 @@ fn given_image(
     size: u64,
     given: &[u8],
 ) -> Result<(Vec<u8>, usize), NoMemory>
-    requires { IsLawful first.now (reverse changes.now) }
-    ensures image { IfOk result (λ made. made.0.items ≡ overlaid (marks_of first.now (reverse changes.now) (grown first.now (reverse changes.now) size)) given.now (take (grown first.now (reverse changes.now) size) (newest_of first.now (reverse changes.now)))) }
-    ensures used { IfOk result (λ made. made.1 ≡ count_by (λ mark. mark) (marks_of first.now (reverse changes.now) (grown first.now (reverse changes.now) size))) }
+    requires { IsRecorded first.now (reverse changes.now) }
+    ensures image { IfOk result (λ made. let changes = reverse changes.now in
+        let end = grown first.now changes size in
+        made.0.items
+        ≡ overlaid (marks_of first.now changes end) given.now (take end (newest_of first.now changes))) }
+    ensures used { IfOk result (λ made. let changes = reverse changes.now in
+        made.1 ≡ count_by (λ mark. mark) (marks_of first.now changes (grown first.now changes size))) }
 {
     let made = new_bytes(alloc, first, changes)?;
     let end = end_by(&made, size);
     overlay(alloc, &made.bytes[..end], &made.marks[..end], given)
 }
 
-/// The size of the area with so many bytes past the old end, or with as many as may be there.
+/// Returns the size of the area with `size` bytes past the old end, or with as many as it may have.
 fn end_by(made: &Uncertain, size: u64) -> usize
     ensures within { result ≤ length made.now.bytes.items }
     ensures end { result ≡ made.now.old_size + min size (length made.now.bytes.items - made.now.old_size) }

@@ -1,14 +1,27 @@
-//! A disk of three areas that may stop at any moment: the trait, and a disk in memory that meets it.
-//! Its contracts say for each moment what a stop may leave of each area.
-//! It stands on the lists, bytes and failures of `atom_values`.
+//! A disk of three areas whose contracts say what a crash leaves.
+//!
+//! Begin with `MemoryDisk::new`, write and sync as on any `Disk`, and ask `MemoryDisk::image` for the disk
+//! that a crash leaves:
+//!
+//! ```
+//! let mut disk = MemoryDisk::new(alloc, journal, sealed, mirror, Many::new(alloc));
+//! disk.write(Area::Journal, 0, b"unsynced")?;
+//! let after = disk.image(disk.calls(), &Choice::Old)?;
+//! ```
+//!
+//! The trait `Disk` promises for each moment, within and between device calls, which images a crash may leave
+//! of each area. `MemoryDisk` is proved to keep that promise. `MemoryDisk::image` makes one of those images,
+//! and some choice makes each of them. A disk whose content contracts can't see promises its counters alone.
+//!
+//! The crate stands on the lists, the bytes and `ListedCalls` of `atom_values`.
 #![tactic(auto)]
 
 mod area;
+mod area_record;
 mod areas;
 mod change;
 mod choice;
 mod disk;
-mod history;
 mod image;
 mod memory;
 mod overwrite;
@@ -17,6 +30,3 @@ pub use area::Area;
 pub use choice::Choice;
 pub use disk::Disk;
 pub use memory::MemoryDisk;
-
-#[cfg(test)]
-mod tests;

@@ -3,7 +3,8 @@ ghost use Rattle.feed_disk.specs.Disk.{written};
 
 use atom_values::NoMemory;
 
-/// Writes the bytes over what is there from a place on, and past the end.
+/// Writes `from` over the bytes from offset `at` on, and past the end. After `NoMemory` the bytes are as they
+/// were.
 pub fn overwrite(bytes: &mut Vec<u8>, at: usize, from: &[u8]) -> Result<(), NoMemory>
     requires { at ≤ length bytes.old.items }
     ensures ok { OnOk result (bytes.new.items ≡ written bytes.old.items at from.now) }

@@ -1,9 +1,18 @@
-pub mod Appends
-pub mod Listed
-pub mod Loads
-pub mod Places
-pub mod Reading
-pub mod Run
-pub mod Scans
-pub mod Settles
-pub mod Standing
+-- `Log::append`: `moments`, for the two writes, and the content after them
+pub mod AppendLemmas
+-- `Log::append`: `moments` for the four device calls, and the clauses on their number
+pub mod CallLemmas
+-- the rule of `Log`, and the clauses `listed`
+pub mod ExtentLemmas
+-- `Log::append`: `list`, `listed`, `size` and `rests`
+pub mod ListLemmas
+-- `Log::load`: `size` and `rests`
+pub mod LoadLemmas
+-- `Log::read`: `payload` and `never`
+pub mod ReadLemmas
+-- the payloads of an area, for all of these
+pub mod RecordLemmas
+-- `Log::load`: `listed`
+pub mod ScanLemmas
+-- `Log::load`: `moments`, `same` and `content`
+pub mod SettleLemmas

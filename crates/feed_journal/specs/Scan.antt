@@ -1,14 +1,26 @@
--- What is read of an area to find its frames.
-use Rattle.std.specs.Prelude.{◌≡◌, ℕ, true, false, List, ◌∷◌, take, drop, slice_index, Option, None, Some, if◌then◌else◌, ◌==◌, ◌&&◌, nat_le, nat_lt}
-use Rattle.std.specs.Int.{w32, to_be_bytes, from_be_bytes}
+-- The reading of one frame's header.
+use Rattle.std.specs.Prelude.{◌≡◌, ℕ, true, false, List, ◌∷◌, take, drop, slice_index, Option, None, Some}
+use Rattle.std.specs.Prelude.{if◌then◌else◌}
+use Rattle.std.specs.Prelude.{◌==◌, ◌&&◌, nat_le, nat_lt}
+use Rattle.std.specs.Int.{w32, to_be_bytes}
+use Rattle.feed_journal.specs.Limits.{payload_limit, header_length, open_gate}
 use Rattle.feed_journal.specs.Records.{has_frame, length_at}
 
--- the length that these five bytes give a frame with so many bytes behind them
+-- the payload's length by this header of a frame, if it is that of a payload before the last of the bytes after it
 abbrev pub IsHeader : List ℕ → ℕ → Option ℕ → Type 0
-IsHeader header behind found =
-    found ≡ (if (slice_index header 0 == 1) && nat_le (from_be_bytes w32 (take 4 (drop 1 header))) 67108864 && nat_lt (from_be_bytes w32 (take 4 (drop 1 header))) behind then Some (from_be_bytes w32 (take 4 (drop 1 header))) else None)
+IsHeader header after found =
+    let n = length_at header in
+    found ≡ (if (slice_index header 0 == open_gate) && nat_le n payload_limit && nat_lt n after then Some n else None)
 
--- a frame stands at the front with a payload of this length, or none does
+-- the bytes begin with a frame whose payload has this length, or with no frame
 abbrev pub IsNext : List ℕ → Option ℕ → Type 0
 IsNext bytes None = has_frame bytes ≡ false
-IsNext bytes (Some n) = (has_frame bytes ≡ true) × (length_at bytes ≡ n) × (take 5 bytes ≡ 1 ∷ to_be_bytes w32 n)
+IsNext bytes (Some n) =
+    (has_frame bytes ≡ true)
+    × (length_at bytes ≡ n)
+    × (take header_length bytes ≡ open_gate ∷ to_be_bytes w32 n)
+
+-- the number of bytes of a header that was found
+abbrev pub header_bytes : Option ℕ → ℕ
+header_bytes None = 0
+header_bytes (Some n) = header_length

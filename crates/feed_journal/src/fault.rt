@@ -1,12 +1,13 @@
 ghost use Rattle.std.specs.Prelude.{◌≡◌};
-ghost use Rattle.feed_journal.specs.declared.fault.LogFault.TheVariants.{DiskFault as LogDiskFault, NoMemory as LogNoMemory};
+ghost use Rattle.feed_journal.specs.declared.fault.LogFault.TheVariants.{DiskFault as LogDiskFault};
+ghost use Rattle.feed_journal.specs.declared.fault.LogFault.TheVariants.{NoMemory as LogNoMemory};
 
 use atom_values::{Failed, NoMemory};
 use std::alloc::{AllocError, AllocFailed};
 use std::error::Error;
 use std::fmt;
 
-/// A call of the disk failed. The log that made it is spent: it is dropped and loaded again.
+/// A device call failed. The log that made it is spent: drop it and load it again.
 #[derive(Clone, Copy, Debug, PartialEq, Eq, Hash)]
 pub struct DiskFault;
 
@@ -24,12 +25,12 @@ impl From<Failed> for DiskFault {
     }
 }
 
-/// Why a log was not loaded, or a payload not read.
+/// Why `Log::load` or `Log::read` returned no value.
 #[derive(Clone, Copy, Debug, PartialEq, Eq, Hash)]
 pub enum LogFault {
-    /// A call of the disk failed.
+    /// A device call failed.
     DiskFault,
-    /// The payload of this index, from 0, is shorter than it was.
+    /// The area has fewer bytes of the payload of this index, counted from 0, than the log has for it.
     Changed { index: u32 },
     /// Memory ran out.
     NoMemory,

@@ -1,20 +1,37 @@
-//! A log of payloads in one area of a disk: each payload stands in a frame whose gate is opened last.
-//! At each moment within an append a stop leaves the list before or the list with the new payload.
-//! It stands on the disk of `feed_disk` and the lists of `atom_values`.
+//! A log of payloads in one area of a disk, which a crash leaves whole.
+//!
+//! Begin with `Log::load`. Before an append, make the payload's form and the room, so that the append itself
+//! takes no memory:
+//!
+//! ```
+//! let mut log = Log::load(alloc, &mut disk, Area::Journal)?;
+//! let framed = Framed::of(alloc, b"payload")?;
+//! log.reserve()?;
+//! if log.fits(&framed, capacity) {
+//!     log.append(&mut disk, &framed)?;
+//! }
+//! ```
+//!
+//! Each payload is in a frame that begins with a gate. An append writes the frame with a closed gate, syncs
+//! it, then opens the gate and syncs that. So at each moment within it a crash leaves the list before or the
+//! list with the new payload. `Log::load` recovers exactly the payloads of the area, and `Log::read` returns
+//! them.
+//!
+//! After `DiskFault` the log is spent: drop it and load it again.
+//!
+//! The crate stands on the trait `Disk` of `feed_disk` and the failures of `atom_values`.
 #![tactic(auto)]
 
 mod append;
+mod extent;
 mod fault;
 mod framed;
-mod load;
+mod limits;
 mod log;
-mod place;
-mod put;
 mod scan;
+mod settle;
+mod synced_write;
 
 pub use fault::{DiskFault, LogFault};
 pub use framed::Framed;
 pub use log::Log;
-
-#[cfg(test)]
-mod tests;

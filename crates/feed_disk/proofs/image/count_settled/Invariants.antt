@@ -7,7 +7,8 @@ abbrev pub invariant-loop-count : goal.invariant-loop-count
 invariant-loop-count l = record {
   within : l.count ≤ length l.changes;
   settled : settled_of (reverse (take l.count l.changes)) ≡ settled_of (reverse l.changes);
-  pending : reverse (drop l.count l.changes) ++ pending_of (reverse (take l.count l.changes)) ≡ pending_of (reverse l.changes);
+  pending : reverse (drop l.count l.changes) ++ pending_of (reverse (take l.count l.changes))
+      ≡ pending_of (reverse l.changes);
 }
 
 abbrev pub decreases-loop-count : goal.decreases-loop-count

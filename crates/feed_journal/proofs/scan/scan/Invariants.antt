@@ -1,17 +1,21 @@
-use Rattle.std.proofs.Common.{◌≡◌, ◌+◌, ◌-◌, ◌<◌}
+use Rattle.std.proofs.Common.{◌≡◌, ◌+◌, ◌-◌, ◌*◌, ◌<◌, ◌≤◌, length}
+use Rattle.feed_disk.specs.Raised.{raised}
+use Rattle.feed_journal.specs.Limits.{header_length}
 use Rattle.feed_disk.specs.Moments.{LeavesAlone}
 use Rattle.feed_disk.specs.declared.area.Area.{Area}
 use Rattle.feed_journal.specs.Log.{KeepsLog, MakesSome}
-use Rattle.feed_journal.proofs.Scans.{Found}
+use Rattle.feed_journal.proofs.ScanLemmas.{Found}
 use Rattle.feed_journal.proofs.scan.scan.Given as goal
 
 abbrev pub invariant-frames : goal.invariant-frames
 invariant-frames g l = record {
-  kept : KeepsLog l.places.items (l.end + 1);
+  rules : KeepsLog l.extents.items (l.end + 1);
   within : l.end < l.size;
-  found : g.D.Disk.told → Found l.places.items l.end ((g.D.Disk.state l.fn.disk).content l.area);
+  found : g.D.Disk.told → Found l.extents.items l.end ((g.D.Disk.state l.fn.disk).content l.area);
   areas : (a : Area) → LeavesAlone (g.D.Disk.state l.fn.disk) (g.D.Disk.state l.disk) a;
   made : MakesSome (g.D.Disk.state l.fn.disk) (g.D.Disk.state l.disk) l.fn.calls l.calls;
+  read : raised (g.D.Disk.state l.fn.disk).bytes_read (header_length * length l.extents.items)
+      ≤ (g.D.Disk.state l.disk).bytes_read;
   faults : (g.D.Disk.state l.disk).faults ≡ (g.D.Disk.state l.fn.disk).faults;
 }
 

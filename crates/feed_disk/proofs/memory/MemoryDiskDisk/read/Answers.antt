@@ -1,16 +1,25 @@
 use Rattle.std.proofs.Common.{◌∙◌, ap}
 use Rattle.feed_disk.specs.Memory.{MemoryValue}
-use Rattle.feed_disk.proofs.Steps.{passes_by_all}
+use Rattle.feed_disk.proofs.CallLemmas.{passes_by_all, counts_failed}
 use Rattle.feed_disk.proofs.memory.MemoryDiskDisk.read.Goals as goal
 
-pub returns-then-begin-clause-areas : goal.returns-then-begin-clause-areas
-returns-then-begin-clause-areas c =
-    passes_by_all c.args.self.now c.fail.new.self c.begin.ensures.kept c.begin.ensures.clock
-    (ap (λ (m : MemoryValue). m.clock) c.fail.ensures ∙ ap (λ (m : MemoryValue). m.clock) c.begin.ensures.counted)
-    (ap (λ (m : MemoryValue). m.areas) c.fail.ensures ∙ ap (λ (m : MemoryValue). m.areas) c.begin.ensures.counted)
+pub returns-then-count_call-clause-areas : goal.returns-then-count_call-clause-areas
+returns-then-count_call-clause-areas c =
+    passes_by_all c.args.self.now c.count_call.new.self c.count_call.ensures.rules c.count_call.ensures.made
+    c.count_call.ensures.areas
+
+pub returns-then-count_call-clause-counts : goal.returns-then-count_call-clause-counts
+returns-then-count_call-clause-counts c =
+    counts_failed c.args.self.now c.count_call.new.self _ c.count_call.ensures.rules c.count_call.ensures.made
+    (ap (λ (m : MemoryValue). m.calls.faults) (c.count_call.ensures.failed c.if-count_call.true))
 
 pub returns-clause-areas : goal.returns-clause-areas
 returns-clause-areas c =
-    passes_by_all c.args.self.now c.begin.new.self c.begin.ensures.kept c.begin.ensures.clock
-    (ap (λ (m : MemoryValue). m.clock) c.begin.ensures.counted)
-    (ap (λ (m : MemoryValue). m.areas) c.begin.ensures.counted)
+    let n : MemoryValue = record {
+      areas = c.self.inside.areas;
+      calls = c.self.inside.calls;
+      bytes_read = c.saturating_add-self-inside.result;
+    } in
+    passes_by_all c.args.self.now n c.count_call.ensures.rules
+    (ap (λ (m : MemoryValue). m.calls.made) c.self.view_is ∙ c.count_call.ensures.made)
+    (ap (λ (m : MemoryValue). m.areas) c.self.view_is ∙ c.count_call.ensures.areas)
