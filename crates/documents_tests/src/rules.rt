@@ -1,1 +1,441 @@
-// Tests to come.
+//! Tests of `member_rules`. Expected answers come from RFC 5023 sections 9.2 to 9.4 and from the plain functions.
+ghost use Rattle.std.specs.Prelude.{◌≤◌, [], pos, IfOk, OnOk};
+ghost use Rattle.member_rules.specs.Table.{IsTableOf};
+
+use atom_values::{AtomText, Copies, Draft, Entry, Stamp, Text, TextKind};
+use atom_writer::FeedName;
+use chain_links::Base;
+use deleted_entries::{FeedId, Tombstone};
+use member_rules::{
+    Ask, Head, Members, Op, Removal, RuleFault, decide, plain_count, plain_last_moment,
+    plain_live_count, plain_state,
+};
+use std::alloc::Global;
+use std::process::Abort;
+use std::test::Fail;
+
+/// The greatest moment: 9999-12-31T23:59:59.999Z.
+const LAST: u64 = 253_402_300_799_999;
+
+/// The identifier of member 1 in the feed of the tests.
+const OWN: &[u8] = b"urn:uuid:6d1f0c5a-93be-8c27-8000-000000000001";
+
+pub(crate) fn moment(millis: i64) -> Result<Stamp, Fail> {
+    Ok(Stamp::new(millis).ok_or("no moment")?)
+}
+
+pub(crate) fn feed_name(alloc: Global) -> Result<FeedName, Fail> {
+    Ok(FeedName {
+        base: Base::parse(alloc, b"http://feed.example/")?,
+        id: FeedId::parse(b"6d1f0c5a-93be-4c27-8d10-2b7f9e4a5c36").ok_or("no feed identifier")?,
+        title: AtomText::of(alloc, b"Feed")?,
+        author: AtomText::of(alloc, b"Editor")?,
+    })
+}
+
+pub(crate) fn draft(alloc: Global) -> Result<Draft, Fail> {
+    let title = AtomText::of(alloc, b"A")?;
+    Ok(Draft::titled(alloc, title))
+}
+
+/// A member's entry, accepted at the moment `edited`.
+pub(crate) fn entry(alloc: Global, number: u32, edited: i64, updated: i64) -> Result<Entry, Fail>
+    requires { 1 ≤ number }
+{
+    let mut draft = draft(alloc)?;
+    draft.updated = Some(moment(updated)?);
+    Ok(draft.normal(number, moment(edited)?, None))
+}
+
+/// A feed with its history, and the table of the members after that history.
+#[derive(Drop)]
+struct Feed {
+    name: FeedName,
+    members: Members,
+    history: Vec<Op>,
+}
+
+/// A feed that was made at the start of 1970.
+fn empty(alloc: Global) -> Result<Feed, Fail>
+    ensures { IfOk result (λ feed. IsTableOf feed.members (pos 0) feed.history.items) }
+{
+    let created = Stamp::new(0).ok_or("no moment")?;
+    Ok(Feed {
+        name: feed_name(alloc)?,
+        members: Members::new(alloc, created),
+        history: Vec::new(alloc),
+    })
+}
+
+/// Decides the ask, and commits the operation that it becomes, which may follow once.
+fn apply(rt: &impl Abort, feed: &mut Feed, ask: Ask, now: u64) -> Result<Option<RuleFault>, Fail>
+    requires { IsTableOf feed.old.members (pos 0) feed.old.history.items }
+    ensures { OnOk result (IsTableOf feed.new.members (pos 0) feed.new.history.items) }
+{
+    assert!(rt; feed.history.len() < 10_000);
+    feed.members.prepare()?;
+    match decide(&feed.members, &feed.name, ask, now) {
+        Ok(operation) => {
+            assert!(rt; feed.members.may_follow(&operation));
+            feed.members.commit(&operation);
+            assert!(rt; !feed.members.may_follow(&operation));
+            feed.history.push(operation)?;
+            Ok(None)
+        }
+        Err(fault) => Ok(Some(fault)),
+    }
+}
+
+fn fault_text(alloc: Global, fault: &RuleFault) -> Result<String, Fail> {
+    let text = match fault {
+        RuleFault::NotFound { number } => format!(in alloc; "NotFound {number}"),
+        RuleFault::Deleted { number, when } => {
+            format!(in alloc; "Deleted {number} {}", when.millis())
+        }
+        RuleFault::OtherId { number, given } => {
+            format!(in alloc; "OtherId {number} {}", given.bytes().len())
+        }
+        RuleFault::ClockSpent { last, now } => {
+            format!(in alloc; "ClockSpent {} {now}", last.millis())
+        }
+        RuleFault::TooLarge { length } => format!(in alloc; "TooLarge {length}"),
+        RuleFault::NoMemory => format!(in alloc; "NoMemory"),
+    };
+    Ok(text?)
+}
+
+/// The operation by its kind, its number, its moment and the stamp that it carries.
+fn operation_text(alloc: Global, operation: &Op) -> Result<String, Fail> {
+    let (name, stamp) = match operation {
+        Op::Add(entry) => ("Add", entry.updated),
+        Op::Change(entry) => ("Change", entry.updated),
+        Op::Remove(removal) => ("Remove", removal.tombstone.when),
+    };
+    let (number, moment) = (operation.number(), operation.moment().millis());
+    Ok(format!(in alloc; "{name} {number} {moment} {}", stamp.millis())?)
+}
+
+#[derive(Clone, Copy)]
+enum Verb {
+    Create,
+    Replace,
+    Delete,
+}
+
+use Verb::{Create, Delete, Replace};
+
+/// An ask: what is asked, of which member, and the clock in milliseconds.
+type Step = (Verb, u32, u64);
+
+/// The identifier and the `updated` that the drafts of some cases have.
+#[derive(Clone, Copy)]
+struct Drafts {
+    id: Option<&'static [u8]>,
+    updated: Option<i64>,
+}
+
+fn case_draft(alloc: Global, drafts: &Drafts) -> Result<Draft, Fail> {
+    let mut draft = draft(alloc)?;
+    if let Some(id) = drafts.id {
+        draft.id = Some(AtomText::of(alloc, id)?);
+    }
+    if let Some(updated) = drafts.updated {
+        draft.updated = Stamp::new(updated);
+    }
+    Ok(draft)
+}
+
+fn case_ask(alloc: Global, drafts: &Drafts, verb: Verb, number: u32) -> Result<Ask, Fail> {
+    let draft = case_draft(alloc, drafts)?;
+    Ok(match verb {
+        Create => Ask::Create(draft),
+        Replace => Ask::Replace { number, draft },
+        Delete => Ask::Delete { number },
+    })
+}
+
+/// The answer to the last step, as text.
+fn last_answer(
+    rt: &impl Abort,
+    alloc: Global,
+    drafts: &Drafts,
+    steps: &[Step],
+) -> Result<String, Fail> {
+    let mut feed = empty(alloc)?;
+    let mut answer = None;
+    for (verb, number, now) in steps {
+        let ask = case_ask(alloc, drafts, *verb, *number)?;
+        answer = apply(rt, &mut feed, ask, *now)?;
+    }
+    match (&answer, feed.history.last()) {
+        (Some(fault), _) => fault_text(alloc, fault),
+        (None, Some(operation)) => operation_text(alloc, operation),
+        (None, None) => Err("no step")?,
+    }
+}
+
+/// Compares the last answer of each case.
+fn expect(
+    rt: &impl Abort,
+    alloc: Global,
+    drafts: &Drafts,
+    cases: &[(&'static [Step], &'static str)],
+) -> Result<(), Fail> {
+    for (steps, expected) in cases {
+        let answer = last_answer(rt, alloc, drafts, steps)?;
+        assert_eq!(rt; answer.as_str(), *expected);
+    }
+    Ok(())
+}
+
+#[test]
+fn answers_the_operation(rt: HostRuntime) -> Result<(), Fail> {
+    let cases: [(&'static [Step], &'static str); 6] = [
+        (
+            &[(Create, 0, LAST)],
+            "Add 1 253402300799999 253402300799999",
+        ),
+        (&[(Create, 0, 5), (Create, 0, 5)], "Add 2 6 6"),
+        (&[(Create, 0, 5), (Create, 0, 3)], "Add 2 6 6"),
+        (&[(Create, 0, 5), (Replace, 1, 9)], "Change 1 9 9"),
+        (&[(Create, 0, 5), (Delete, 1, 9)], "Remove 1 9 9"),
+        (
+            &[(Create, 0, 5), (Delete, 1, 9), (Create, 0, 10)],
+            "Add 2 10 10",
+        ),
+    ];
+    let drafts = Drafts {
+        id: None,
+        updated: None,
+    };
+    expect(&rt, rt.alloc(), &drafts, &cases)?;
+
+    // A tombstone isn't before the entry's `updated`.
+    let dated: [(&'static [Step], &'static str); 3] = [
+        (&[(Create, 0, 5), (Delete, 1, 9)], "Remove 1 9 1000"),
+        (&[(Create, 0, 5), (Delete, 1, 2_000)], "Remove 1 2000 2000"),
+        (
+            &[(Create, 0, 5), (Delete, 1, 9), (Delete, 1, 10)],
+            "Deleted 1 1000",
+        ),
+    ];
+    let drafts = Drafts {
+        id: None,
+        updated: Some(1_000),
+    };
+    expect(&rt, rt.alloc(), &drafts, &dated)
+}
+
+#[test]
+fn answers_the_first_refusal(rt: HostRuntime) -> Result<(), Fail> {
+    let cases: [(&'static [Step], &'static str); 11] = [
+        (&[(Delete, 0, 5)], "NotFound 0"),
+        (&[(Delete, 1, u64::MAX)], "NotFound 1"),
+        (&[(Create, 0, 5), (Replace, 0, 6)], "NotFound 0"),
+        (&[(Create, 0, 5), (Replace, 2, 6)], "NotFound 2"),
+        (
+            &[(Create, 0, 5), (Delete, 1, 9), (Delete, 1, 10)],
+            "Deleted 1 9",
+        ),
+        (
+            &[(Create, 0, 5), (Delete, 1, 9), (Replace, 1, u64::MAX)],
+            "Deleted 1 9",
+        ),
+        (&[(Create, 0, 5), (Replace, 1, 9)], "OtherId 1 6"),
+        (&[(Create, 0, 5), (Replace, 1, u64::MAX)], "OtherId 1 6"),
+        (
+            &[(Create, 0, LAST), (Create, 0, LAST)],
+            "ClockSpent 253402300799999 253402300799999",
+        ),
+        (
+            &[(Create, 0, LAST), (Delete, 1, 0)],
+            "ClockSpent 253402300799999 0",
+        ),
+        (
+            &[(Create, 0, u64::MAX)],
+            "ClockSpent 0 18446744073709551615",
+        ),
+    ];
+    let drafts = Drafts {
+        id: Some(b"tag:me"),
+        updated: None,
+    };
+    expect(&rt, rt.alloc(), &drafts, &cases)?;
+
+    // The member's own identifier isn't refused.
+    let own: [(&'static [Step], &'static str); 2] = [
+        (&[(Create, 0, 5), (Replace, 1, 9)], "Change 1 9 9"),
+        (
+            &[(Create, 0, 5), (Replace, 1, u64::MAX)],
+            "ClockSpent 5 18446744073709551615",
+        ),
+    ];
+    let drafts = Drafts {
+        id: Some(OWN),
+        updated: None,
+    };
+    expect(&rt, rt.alloc(), &drafts, &own)
+}
+
+/// A text of ampersands, each of which takes five bytes in a document, followed by letters.
+fn letters(alloc: Global, ampersands: usize, others: usize) -> Result<Option<Text>, Fail> {
+    let mut bytes = Vec::new(alloc);
+    bytes.resize(ampersands, b'&')?;
+    bytes.resize(ampersands.saturating_add(others), b'a')?;
+    Ok(Some(Text {
+        kind: TextKind::Plain,
+        value: AtomText::of(alloc, bytes.as_slice())?,
+    }))
+}
+
+#[test]
+fn entries_have_a_greatest_length(rt: HostRuntime) -> Result<(), Fail> {
+    for (ampersands, others, expected) in [
+        (0, 0, "Add 1 1000 1000"),
+        (10_000, 16_298, "Add 1 1000 1000"),
+        (10_000, 16_299, "TooLarge 394241"),
+        (65_536, 0, "TooLarge 655622"),
+    ] {
+        let mut draft = draft(rt.alloc())?;
+        draft.content = letters(rt.alloc(), 65_536, 0)?;
+        draft.summary = letters(rt.alloc(), ampersands, others)?;
+        let feed = empty(rt.alloc())?;
+        assert!(rt; feed.members.count() == 0);
+        let answer = match decide(&feed.members, &feed.name, Ask::Create(draft), 1_000) {
+            Ok(operation) => operation_text(rt.alloc(), &operation)?,
+            Err(fault) => fault_text(rt.alloc(), &fault)?,
+        };
+        assert_eq!(rt; answer.as_str(), expected);
+    }
+    Ok(())
+}
+
+/// An operation on the member, at this moment. Its entry or its tombstone has this stamp.
+fn operation(alloc: Global, step: Step, stamp: i64) -> Result<Op, Fail> {
+    let (verb, number, now) = step;
+    let accepted = moment(i64::try_from(now).unwrap_or(i64::MAX))?;
+    Ok(match verb {
+        Create => Op::Add(entry(alloc, number.max(1), accepted.millis(), stamp)?),
+        Replace => Op::Change(entry(alloc, number.max(1), accepted.millis(), stamp)?),
+        Delete => Op::Remove(Removal {
+            tombstone: Tombstone {
+                number: number.max(1),
+                when: moment(stamp)?.max(accepted),
+            },
+            moment: accepted,
+        }),
+    })
+}
+
+#[test]
+fn tells_which_operations_may_follow(rt: HostRuntime) -> Result<(), Fail> {
+    let mut feed = empty(rt.alloc())?;
+    let drafts = Drafts {
+        id: None,
+        updated: Some(1_000),
+    };
+    let ask = case_ask(rt.alloc(), &drafts, Create, 0)?;
+    assert!(rt; apply(&rt, &mut feed, ask, 5)?.is_none());
+    let cases: [(Step, i64, bool); 11] = [
+        ((Create, 2, 6), 0, true),
+        ((Create, 2, 5), 0, false),
+        ((Create, 1, 6), 0, false),
+        ((Create, 3, 6), 0, false),
+        ((Replace, 1, 6), 1_000, true),
+        ((Replace, 1, 6), 999, false),
+        ((Replace, 2, 6), 1_000, false),
+        ((Delete, 1, 6), 1_000, true),
+        ((Delete, 1, 6), 999, false),
+        ((Delete, 1, 6), 1_001, false),
+        ((Delete, 2, 6), 1_000, false),
+    ];
+    for (step, stamp, expected) in cases {
+        let operation = operation(rt.alloc(), step, stamp)?;
+        assert_eq!(rt;
+            feed.members.may_follow(&operation),
+            expected,
+            "{operation:?}"
+        );
+    }
+    Ok(())
+}
+
+#[test]
+fn copies_are_equal(rt: HostRuntime) -> Result<(), Fail> {
+    let alloc = rt.alloc();
+    let drafts = Drafts {
+        id: Some(OWN),
+        updated: Some(7),
+    };
+    for verb in [Create, Replace, Delete] {
+        let operation = operation(alloc, (verb, 3, 5), 7)?;
+        let copy = operation.copy(alloc)?;
+        let text = format!(in alloc; "{operation:?}")?;
+        assert_eq!(rt; format!(in alloc; "{copy:?}")?.as_str(), text.as_str());
+        let ask = case_ask(alloc, &drafts, verb, 3)?;
+        let copy = ask.copy(alloc)?;
+        let text = format!(in alloc; "{ask:?}")?;
+        assert_eq!(rt; format!(in alloc; "{copy:?}")?.as_str(), text.as_str());
+    }
+    let head = Head {
+        name: feed_name(alloc)?,
+        window: 4,
+        capacity: 65_536,
+        created: Stamp::new(0).unwrap(),
+    };
+    let copy = head.copy(alloc)?;
+    let text = format!(in alloc; "{head:?}")?;
+    assert_eq!(rt; format!(in alloc; "{copy:?}")?.as_str(), text.as_str());
+    Ok(())
+}
+
+/// The next number of a fixed sequence.
+fn next(seed: u64) -> u64 {
+    seed.wrapping_mul(6_364_136_223_846_793_005)
+        .wrapping_add(1_442_695_040_888_963_407)
+}
+
+fn some_ask(alloc: Global, seed: u64, number: u32) -> Result<Ask, Fail> {
+    let drafts = Drafts {
+        id: None,
+        updated: if seed >> 60 == 0 { Some(9_000) } else { None },
+    };
+    let verb = match (seed >> 20) % 4 {
+        0 => Replace,
+        1 => Delete,
+        _ => Create,
+    };
+    case_ask(alloc, &drafts, verb, number)
+}
+
+/// Compares the table with the plain functions, which read the whole history.
+fn compare(rt: &impl Abort, feed: &Feed, number: u32) -> Result<(), Fail> {
+    let (members, history) = (&feed.members, feed.history.as_slice());
+    assert!(rt; history.len() < 10_000);
+    let created = Stamp::new(0).ok_or("no moment")?;
+    assert_eq!(rt; members.state(number), plain_state(history, number));
+    assert_eq!(rt; members.count(), plain_count(history));
+    assert_eq!(rt; members.last_moment(), plain_last_moment(created, history));
+    if history.len() % 250 == 0 {
+        assert_eq!(rt; members.live_count(), plain_live_count(history));
+    }
+    Ok(())
+}
+
+#[test]
+fn table_is_the_plain_fold(rt: HostRuntime) -> Result<(), Fail> {
+    let mut feed = empty(rt.alloc())?;
+    let mut seed = 1;
+    for round in 0..3_000 {
+        seed = next(seed);
+        // The number of a live member, of a deleted one, the next one or 0.
+        let number = ((seed >> 33) % (u64::from(feed.members.count()) + 2)) as u32;
+        let ask = some_ask(rt.alloc(), seed, number)?;
+        apply(&rt, &mut feed, ask, (seed >> 40) % (10 * round + 1))?;
+        compare(&rt, &feed, number)?;
+    }
+    // Enough members were deleted for the comparison to mean something.
+    assert!(rt; feed.members.live_count() > 100);
+    assert!(rt; feed.members.count() > feed.members.live_count().saturating_add(100));
+    Ok(())
+}

@@ -1,1 +1,155 @@
-// Tests to come.
+//! Tests of `archive_sealer`. Expected documents come from RFC 5005 section 4 and RFC 6721.
+ghost use Rattle.std.specs.Prelude.{◌≡◌, ◌+◌, ◌≤◌, length, IfOk};
+
+use crate::rules::{entry, feed_name, moment};
+use archive_sealer::{archive, full_windows, subscription};
+use atom_values::Stamp;
+use atom_writer::Doc;
+use deleted_entries::{Item, Tombstone};
+use member_rules::{Head, Op, Removal};
+use std::alloc::Global;
+use std::test::Fail;
+
+/// A history and one of its documents. The operations go round the members: each member is made and then changed, at
+/// the moments 1, 2 and so on. The last operation removes member 1 where `removed` says so.
+#[derive(Clone, Copy)]
+struct Case {
+    members: u8,
+    count: u8,
+    removed: bool,
+    window: u8,
+    /// The number of the archive, or 0 for the subscription document.
+    archive: u32,
+    expected: &'static str,
+}
+
+fn head(alloc: Global, window: u8) -> Result<Head, Fail> {
+    if !(1..=100).contains(&window) {
+        Err("no window")?;
+    }
+    Ok(Head {
+        name: feed_name(alloc)?,
+        window: u32::from(window),
+        capacity: 4_096,
+        created: Stamp::new(0).unwrap(),
+    })
+}
+
+fn history(alloc: Global, case: &Case) -> Result<Vec<Op>, Fail>
+    ensures { IfOk result (λ history. length history.items ≤ 256) }
+{
+    let mut operations = Vec::new(alloc);
+    for made in 0..case.count {
+        let at = i64::from(made) + 1;
+        let number = u32::from(made % case.members.max(1)) + 1;
+        let entry = entry(alloc, number, at, at)?;
+        operations.push(if made < case.members {
+            Op::Add(entry)
+        } else {
+            Op::Change(entry)
+        })?;
+    }
+    if case.removed {
+        let moment = moment(i64::from(case.count) + 1)?;
+        let tombstone = Tombstone {
+            number: 1,
+            when: moment,
+        };
+        operations.push(Op::Remove(Removal { tombstone, moment }))?;
+    }
+    Ok(operations)
+}
+
+fn document(alloc: Global, case: &Case) -> Result<Doc, Fail> {
+    let head = head(alloc, case.window)?;
+    let history = history(alloc, case)?;
+    let history = history.as_slice();
+    if case.archive == 0 {
+        return Ok(subscription(alloc, &head, history)?);
+    }
+    if case.archive > full_windows(&head, history) {
+        Err("that window isn't full")?;
+    }
+    Ok(archive(alloc, &head, history, case.archive)?)
+}
+
+/// The document's kind, span, `prev` and `updated`, and its items: the number and the moment of each, with a `-` for a
+/// tombstone.
+fn doc_text(alloc: Global, doc: &Doc) -> Result<String, Fail> {
+    let (span, updated) = (doc.span, doc.updated.millis());
+    let mut text = format!(in alloc;
+        "{:?} {}-{} prev {} updated {updated}:",
+        doc.kind, span.first, span.last, doc.prev
+    )?;
+    for item in doc.items.as_slice() {
+        let item = match item {
+            Item::Kept(entry) => format!(in alloc; " {}@{}", entry.number, entry.edited.millis()),
+            Item::Gone(gone) => format!(in alloc; " -{}@{}", gone.number, gone.when.millis()),
+        };
+        text.push_str(item?.as_str())?;
+    }
+    Ok(text)
+}
+
+#[test]
+fn documents_of_histories(rt: HostRuntime) -> Result<(), Fail> {
+    let added = Case {
+        members: 100,
+        count: 0,
+        removed: false,
+        window: 4,
+        archive: 0,
+        expected: "Subscription 1-0 prev 0 updated 0:",
+    };
+    let changed = Case {
+        members: 2,
+        count: 5,
+        window: 100,
+        // Only the last version of a member that was changed twice counts.
+        expected: "Subscription 1-5 prev 0 updated 5: 1@5 2@4",
+        ..added
+    };
+    let removed = Case {
+        members: 1,
+        count: 3,
+        removed: true,
+        expected: "Subscription 1-4 prev 0 updated 4: -1@4",
+        ..changed
+    };
+    // A full window stays open until the next operation.
+    let full = Case {
+        count: 4,
+        expected: "Subscription 1-4 prev 0 updated 4: 4@4 3@3 2@2 1@1",
+        ..added
+    };
+    let past_full = Case {
+        count: 5,
+        expected: "Subscription 5-5 prev 1 updated 5: 5@5",
+        ..added
+    };
+    let archive_of_four = Case {
+        archive: 1,
+        expected: "Archive(1) 1-4 prev 0 updated 4: 4@4 3@3 2@2 1@1",
+        ..past_full
+    };
+    let archive_of_one = Case {
+        count: 3,
+        window: 1,
+        archive: 2,
+        expected: "Archive(2) 2-2 prev 1 updated 2: 2@2",
+        ..added
+    };
+    for case in [
+        added,
+        changed,
+        removed,
+        full,
+        past_full,
+        archive_of_four,
+        archive_of_one,
+    ] {
+        let doc = document(rt.alloc(), &case)?;
+        assert_eq!(rt; doc_text(rt.alloc(), &doc)?.as_str(), case.expected);
+    }
+    Ok(())
+}
