@@ -7,8 +7,8 @@ use Rattle.atom_values.specs.XmlText.{IsAtomText}
 use Rattle.chain_links.specs.Address.{IsAddress, printed}
 use Rattle.chain_links.specs.declared.address.Address.{Address}
 use Rattle.deleted_entries.specs.FeedId.{member_id}
-use Rattle.atom_grammar.specs.declared.stop.Stop.{Stop}
-use Rattle.atom_grammar.specs.declared.stop.Stop.TheVariants.{Unlike, NoMemory}
+use Rattle.atom_grammar.specs.declared.part_fault.PartFault.{PartFault}
+use Rattle.atom_grammar.specs.declared.part_fault.PartFault.TheVariants.{Mismatch, NoMemory}
 
 -- a kind of part: its lawful values, the text of each, and before what it may stand
 pub record Part (A : Type 0) : Type 1 where
@@ -29,16 +29,16 @@ IsAbsent {A} part input =
     (other : A) (left : List ℕ) → part.Is other → part.Before left → input ≢ part.text other ++ left
 
 -- why nothing is read: it doesn't stand there, or memory ran out
-abbrev pub Stops : {A : Type 0} → Part A → List ℕ → Stop → Type 0
-Stops part input Unlike = IsAbsent part input
-Stops part input NoMemory = Unit {0}
+abbrev pub IsPartFault : {A : Type 0} → Part A → List ℕ → PartFault → Type 0
+IsPartFault part input Mismatch = IsAbsent part input
+IsPartFault part input NoMemory = Unit {0}
 
 -- what is read at the front of the input, where the value is seen so, and what is left behind it
-abbrev pub ReadsAs : {A B : Type 0} → (A → B) → Part B → List ℕ → Result A Stop → List ℕ → Type 0
+abbrev pub ReadsAs : {A B : Type 0} → (A → B) → Part B → List ℕ → Result A PartFault → List ℕ → Type 0
 ReadsAs view part input (Ok value) rest = IsFound part input (view value) rest
-ReadsAs view part input (Err stop) rest = Stops part input stop
+ReadsAs view part input (Err stop) rest = IsPartFault part input stop
 
-abbrev pub Reads : {A : Type 0} → Part A → List ℕ → Result A Stop → List ℕ → Type 0
+abbrev pub Reads : {A : Type 0} → Part A → List ℕ → Result A PartFault → List ℕ → Type 0
 Reads part input result rest = ReadsAs (λ value. value) part input result rest
 
 -- the second list begins with the first

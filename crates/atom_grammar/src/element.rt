@@ -3,7 +3,7 @@ ghost use Rattle.atom_grammar.specs.Items.{element, attribute, date, kind, const
 ghost use Rattle.atom_grammar.specs.Parts.{Reads, starts, optional};
 
 use crate::reader::Reader;
-use crate::stop::Stop;
+use crate::part_fault::PartFault;
 use atom_values::{AtomText, Stamp, Text, TextKind};
 use std::alloc::Global;
 
@@ -14,7 +14,7 @@ impl Reader<'_> {
         alloc: Global,
         start: &[u8],
         end: &[u8],
-    ) -> Result<AtomText, Stop>
+    ) -> Result<AtomText, PartFault>
         requires { IsTrue (starts (codes "</") end.now) }
         ensures { Reads (element start.now end.now) self.old.rest.now result self.new.rest.now }
     {
@@ -30,7 +30,7 @@ impl Reader<'_> {
         alloc: Global,
         start: &[u8],
         end: &[u8],
-    ) -> Result<Option<AtomText>, Stop>
+    ) -> Result<Option<AtomText>, PartFault>
         requires { IsTrue (starts (codes "</") end.now) }
         ensures { Reads (optional start.now (element start.now end.now)) self.old.rest.now result self.new.rest.now }
     {
@@ -41,7 +41,7 @@ impl Reader<'_> {
     }
 
     /// The value of an attribute, whose name and opening quote are `start`.
-    pub(crate) fn attribute(&mut self, alloc: Global, start: &[u8]) -> Result<AtomText, Stop>
+    pub(crate) fn attribute(&mut self, alloc: Global, start: &[u8]) -> Result<AtomText, PartFault>
         ensures { Reads (attribute start.now) self.old.rest.now result self.new.rest.now }
     {
         self.literal(start)?;
@@ -55,7 +55,7 @@ impl Reader<'_> {
         &mut self,
         alloc: Global,
         start: &[u8],
-    ) -> Result<Option<AtomText>, Stop>
+    ) -> Result<Option<AtomText>, PartFault>
         ensures { Reads (optional start.now (attribute start.now)) self.old.rest.now result self.new.rest.now }
     {
         if !self.at(start) {
@@ -65,7 +65,7 @@ impl Reader<'_> {
     }
 
     /// The moment between these tags.
-    pub(crate) fn date(&mut self, start: &[u8], end: &[u8]) -> Result<Stamp, Stop>
+    pub(crate) fn date(&mut self, start: &[u8], end: &[u8]) -> Result<Stamp, PartFault>
         ensures { Reads (date start.now end.now) self.old.rest.now result self.new.rest.now }
     {
         self.literal(start)?;
@@ -75,7 +75,7 @@ impl Reader<'_> {
     }
 
     /// The moment between these tags, where the open tag stands next.
-    pub(crate) fn optional_date(&mut self, start: &[u8], end: &[u8]) -> Result<Option<Stamp>, Stop>
+    pub(crate) fn optional_date(&mut self, start: &[u8], end: &[u8]) -> Result<Option<Stamp>, PartFault>
         ensures { Reads (optional start.now (date start.now end.now)) self.old.rest.now result self.new.rest.now }
     {
         if !self.at(start) {
@@ -85,7 +85,7 @@ impl Reader<'_> {
     }
 
     /// What a text is to be read as (RFC 4287 section 3.1.1).
-    fn kind(&mut self) -> Result<TextKind, Stop>
+    fn kind(&mut self) -> Result<TextKind, PartFault>
         ensures { Reads kind self.old.rest.now result self.new.rest.now }
     {
         if !self.at(b" type=\"html\"") {
@@ -101,7 +101,7 @@ impl Reader<'_> {
         alloc: Global,
         start: &[u8],
         end: &[u8],
-    ) -> Result<Text, Stop>
+    ) -> Result<Text, PartFault>
         requires { IsTrue (starts (codes "</") end.now) }
         ensures { Reads (construct start.now end.now) self.old.rest.now result self.new.rest.now }
     {
@@ -119,7 +119,7 @@ impl Reader<'_> {
         alloc: Global,
         start: &[u8],
         end: &[u8],
-    ) -> Result<Option<Text>, Stop>
+    ) -> Result<Option<Text>, PartFault>
         requires { IsTrue (starts (codes "</") end.now) }
         ensures { Reads (optional start.now (construct start.now end.now)) self.old.rest.now result self.new.rest.now }
     {

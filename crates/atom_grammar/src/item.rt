@@ -2,14 +2,14 @@ ghost use Rattle.atom_grammar.specs.Items.{tombstone, item};
 ghost use Rattle.atom_grammar.specs.Parts.{Reads};
 
 use crate::reader::Reader;
-use crate::stop::Stop;
+use crate::part_fault::PartFault;
 use atom_writer::FeedName;
 use deleted_entries::{Item, Tombstone};
 use std::alloc::Global;
 
 impl Reader<'_> {
     /// The piece of a tombstone (RFC 6721 section 3).
-    fn tombstone(&mut self, name: &FeedName) -> Result<Tombstone, Stop>
+    fn tombstone(&mut self, name: &FeedName) -> Result<Tombstone, PartFault>
         ensures { Reads (tombstone name.now) self.old.rest.now result self.new.rest.now }
     {
         self.literal(b"<at:deleted-entry ref=\"")?;
@@ -21,7 +21,7 @@ impl Reader<'_> {
     }
 
     /// The piece of an item.
-    pub(crate) fn item(&mut self, alloc: Global, name: &FeedName) -> Result<Item, Stop>
+    pub(crate) fn item(&mut self, alloc: Global, name: &FeedName) -> Result<Item, PartFault>
         ensures { Reads (item name.now) self.old.rest.now result self.new.rest.now }
     {
         if self.at(b"<entry>") {

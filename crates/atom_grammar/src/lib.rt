@@ -6,17 +6,17 @@
 mod category;
 mod element;
 mod entry;
-mod halves;
-mod head;
+mod entry_parts;
+mod feed_parts;
 mod item;
 mod laws;
 mod link;
-mod named;
+mod opening;
 mod person;
 mod pieces;
 mod read;
 mod reader;
-mod stop;
+mod part_fault;
 
 pub use laws::{pieces_are_prefix_free, texts_have_one_reading};
 pub use read::{MAX_DOCUMENT, ReadFault, read_doc};

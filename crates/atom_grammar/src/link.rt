@@ -5,7 +5,7 @@ ghost use Rattle.atom_grammar.specs.Items.{relation, link, links};
 ghost use Rattle.atom_grammar.specs.Parts.{Reads, ReadsAs};
 
 use crate::reader::Reader;
-use crate::stop::Stop;
+use crate::part_fault::PartFault;
 use atom_values::{AtomText, Link, Many, NoMemory};
 use std::alloc::Global;
 
@@ -14,20 +14,20 @@ const ALTERNATE: &[u8] = b"alternate";
 
 impl Reader<'_> {
     /// The relation of a link. `alternate` is never written.
-    fn relation(&mut self, alloc: Global) -> Result<AtomText, Stop>
+    fn relation(&mut self, alloc: Global) -> Result<AtomText, PartFault>
         ensures { Reads relation self.old.rest.now result self.new.rest.now }
     {
         let Some(relation) = self.optional_attribute(alloc, b" rel=\"")? else {
             return Ok(alternate(alloc)?);
         };
         if relation.bytes() == ALTERNATE {
-            return Err(Stop::Unlike);
+            return Err(PartFault::Mismatch);
         }
         Ok(relation)
     }
 
     /// A link of an entry (RFC 4287 section 4.2.7).
-    fn link(&mut self, alloc: Global) -> Result<Link, Stop>
+    fn link(&mut self, alloc: Global) -> Result<Link, PartFault>
         ensures { Reads link self.old.rest.now result self.new.rest.now }
     {
         self.literal(b"<link")?;
@@ -49,7 +49,7 @@ impl Reader<'_> {
     }
 
     /// As many links as stand next, at most 32.
-    pub(crate) fn links(&mut self, alloc: Global) -> Result<Many<Link, 32>, Stop>
+    pub(crate) fn links(&mut self, alloc: Global) -> Result<Many<Link, 32>, PartFault>
         ensures { ReadsAs (λ (m : Listed Link). m.items) links self.old.rest.now result self.new.rest.now }
     {
         let mut links = Many::new(alloc);

@@ -2,13 +2,13 @@ ghost use Rattle.std.specs.Prelude.{◌≡◌, ◌⊎◌, ℕ, ◌≤◌, length
 ghost use Rattle.atom_writer.specs.Doc.{DocValue, IsDoc, span_len};
 ghost use Rattle.atom_writer.specs.declared.doc.Kind.TheVariants.{Archive};
 ghost use Rattle.atom_writer.specs.Pieces.{text};
-ghost use Rattle.atom_grammar.specs.Heads.{IsKind};
+ghost use Rattle.atom_grammar.specs.FeedParts.{IsKind};
 ghost use Rattle.atom_grammar.specs.Refusal.{IsPlaceOfRefusal, IsNoDocument};
-ghost use Rattle.atom_grammar.specs.Stages.{ReadsNamed, ReadsLinks, ReadsPrevLink, ReadsItems, ReadsDocument};
+ghost use Rattle.atom_grammar.specs.Stages.{ReadsOpening, ReadsLinks, ReadsPrevLink, ReadsItems, ReadsDocument};
 
-use crate::named::{Named, Own};
+use crate::opening::{Opening, Own};
 use crate::pieces::{END, Pieces, operations};
-use crate::stop::Stop;
+use crate::part_fault::PartFault;
 use atom_values::Many;
 use atom_writer::{Doc, FeedName, Kind};
 use chain_links::{Address, Span};
@@ -17,8 +17,9 @@ use std::alloc::Global;
 
 const DECLARATION: &[u8] = b"<?xml version=\"1.0\" encoding=\"utf-8\"?>\n";
 
-const OPEN_TAG: &[u8] =
-    b"<feed xmlns=\"http://www.w3.org/2005/Atom\" xmlns:fh=\"http://purl.org/syndication/history/1.0\" xmlns:at=\"http://purl.org/atompub/tombstones/1.0\" xmlns:app=\"http://www.w3.org/2007/app\" xmlns:sp=\"urn:archived-feed:span:1\">\n";
+const OPEN_TAG: &[u8] = b"<feed xmlns=\"http://www.w3.org/2005/Atom\" \
+xmlns:fh=\"http://purl.org/syndication/history/1.0\" xmlns:at=\"http://purl.org/atompub/tombstones/1.0\" \
+xmlns:app=\"http://www.w3.org/2007/app\" xmlns:sp=\"urn:archived-feed:span:1\">\n";
 
 /// How many bytes a document has at most.
 pub const MAX_DOCUMENT: usize = 67_108_864;
@@ -48,37 +49,37 @@ pub fn read_doc(alloc: Global, bytes: &[u8]) -> Result<Doc, ReadFault>
     let mut pieces = Pieces { rest: bytes };
     match document(alloc, &mut pieces) {
         Ok(doc) => Ok(doc),
-        Err(Stop::Unlike) => Err(ReadFault::NotADocument {
+        Err(PartFault::Mismatch) => Err(ReadFault::NotADocument {
             at: bytes.len() - pieces.rest.len(),
         }),
-        Err(Stop::NoMemory) => Err(ReadFault::NoMemory),
+        Err(PartFault::NoMemory) => Err(ReadFault::NoMemory),
     }
 }
 
 /// A document, which nothing follows.
 #[tactic(none)]
-fn document(alloc: Global, pieces: &mut Pieces) -> Result<Doc, Stop>
+fn document(alloc: Global, pieces: &mut Pieces) -> Result<Doc, PartFault>
     ensures { ReadsDocument pieces.old.rest.now result pieces.new.rest.now }
 {
-    let Named {
+    let Opening {
         name,
         kind,
         updated,
-    } = named(alloc, pieces)?;
+    } = opening(alloc, pieces)?;
     let prev = links(pieces, &name, kind)?;
     let span = pieces.span(kind, prev)?;
     let items = items(alloc, pieces, &name, span)?;
     pieces.fixed(END)?;
     if !pieces.rest.is_empty() {
-        return Err(Stop::Unlike);
+        return Err(PartFault::Mismatch);
     }
-    Doc::new(name, kind, span, prev, updated, items).ok_or(Stop::Unlike)
+    Doc::new(name, kind, span, prev, updated, items).ok_or(PartFault::Mismatch)
 }
 
 /// The pieces that name the feed, and the link to the document itself.
 #[tactic(none)]
-fn named(alloc: Global, pieces: &mut Pieces) -> Result<Named, Stop>
-    ensures { ReadsNamed pieces.old.rest.now result pieces.new.rest.now }
+fn opening(alloc: Global, pieces: &mut Pieces) -> Result<Opening, PartFault>
+    ensures { ReadsOpening pieces.old.rest.now result pieces.new.rest.now }
 {
     pieces.fixed(DECLARATION)?;
     pieces.fixed(OPEN_TAG)?;
@@ -93,7 +94,7 @@ fn named(alloc: Global, pieces: &mut Pieces) -> Result<Named, Stop>
         title,
         author,
     };
-    Ok(Named {
+    Ok(Opening {
         name,
         kind,
         updated,
@@ -103,15 +104,15 @@ fn named(alloc: Global, pieces: &mut Pieces) -> Result<Named, Stop>
 /// The links to the documents beside this one and the mark of an archive (RFC 5005 section 4), and which archive is
 /// before it, or 0.
 #[tactic(none)]
-fn links(pieces: &mut Pieces, name: &FeedName, kind: Kind) -> Result<u32, Stop>
+fn links(pieces: &mut Pieces, name: &FeedName, kind: Kind) -> Result<u32, PartFault>
     requires { IsKind kind }
     ensures { ReadsLinks name.now kind pieces.old.rest.now result pieces.new.rest.now }
 {
     match kind {
         Kind::Subscription => match pieces.prev_link(&name.base) {
             Ok(prev) => Ok(prev),
-            Err(Stop::Unlike) => Ok(0),
-            Err(Stop::NoMemory) => Err(Stop::NoMemory),
+            Err(PartFault::Mismatch) => Ok(0),
+            Err(PartFault::NoMemory) => Err(PartFault::NoMemory),
         },
         Kind::Archive(number) => archive_links(pieces, name, number),
     }
@@ -119,7 +120,7 @@ fn links(pieces: &mut Pieces, name: &FeedName, kind: Kind) -> Result<u32, Stop>
 
 /// Those of an archive.
 #[tactic(none)]
-fn archive_links(pieces: &mut Pieces, name: &FeedName, number: u32) -> Result<u32, Stop>
+fn archive_links(pieces: &mut Pieces, name: &FeedName, number: u32) -> Result<u32, PartFault>
     requires { IsKind (Archive number) }
     ensures { ReadsLinks name.now (Archive number) pieces.old.rest.now result pieces.new.rest.now }
 {
@@ -133,7 +134,7 @@ fn archive_links(pieces: &mut Pieces, name: &FeedName, number: u32) -> Result<u3
 
 /// The link of an archive to the archive `prev`, where that isn't 0.
 #[tactic(none)]
-fn archive_prev(pieces: &mut Pieces, name: &FeedName, prev: u32) -> Result<(), Stop>
+fn archive_prev(pieces: &mut Pieces, name: &FeedName, prev: u32) -> Result<(), PartFault>
     ensures { ReadsPrevLink name.now prev pieces.old.rest.now result pieces.new.rest.now }
 {
     if prev == 0 {
@@ -149,19 +150,19 @@ fn items(
     pieces: &mut Pieces,
     name: &FeedName,
     span: Span,
-) -> Result<Many<Item, 100>, Stop>
+) -> Result<Many<Item, 100>, PartFault>
     requires { span_len span ≤ 100 }
     ensures { ReadsItems name.now span pieces.old.rest.now result pieces.new.rest.now }
 {
     let mut items = Many::new(alloc);
     while !pieces.at_end() {
         if items.len() as u64 == operations(span) {
-            return Err(Stop::Unlike);
+            return Err(PartFault::Mismatch);
         }
         let item = pieces.item(alloc, name, items.as_slice())?;
         // The list has room for each operation of the span, so only memory can be missing.
         if items.push(item).is_err() {
-            return Err(Stop::NoMemory);
+            return Err(PartFault::NoMemory);
         }
     }
     Ok(items)

@@ -2,7 +2,7 @@ ghost use Rattle.std.specs.Prelude.{◌≡◌, ◌==◌, if◌then◌else◌, po
 ghost use Rattle.atom_values.specs.Stamp.{IsStamp, printed};
 ghost use Rattle.atom_grammar.specs.Parts.{Reads, starts, literal, content, quoted, moment, number, address, member, lacks, IsCutAt};
 
-use crate::stop::Stop;
+use crate::part_fault::PartFault;
 use atom_values::{AtomText, Stamp, unescape};
 use chain_links::{Address, Base};
 use deleted_entries::{FeedId, ID_LEN, number_of};
@@ -37,7 +37,7 @@ impl<'a> Reader<'a> {
     }
 
     /// Goes over these bytes.
-    pub(crate) fn literal(&mut self, bytes: &[u8]) -> Result<(), Stop>
+    pub(crate) fn literal(&mut self, bytes: &[u8]) -> Result<(), PartFault>
         ensures { Reads (literal bytes.now) self.old.rest.now result self.new.rest.now }
     {
         match self.rest.strip_prefix(bytes) {
@@ -45,7 +45,7 @@ impl<'a> Reader<'a> {
                 self.rest = rest;
                 Ok(())
             }
-            None => Err(Stop::Unlike),
+            None => Err(PartFault::Mismatch),
         }
     }
 
@@ -60,77 +60,77 @@ impl<'a> Reader<'a> {
     }
 
     /// A text as it is written in an element, up to the next tag.
-    pub(crate) fn content(&mut self, alloc: Global) -> Result<AtomText, Stop>
+    pub(crate) fn content(&mut self, alloc: Global) -> Result<AtomText, PartFault>
         ensures { Reads content self.old.rest.now result self.new.rest.now }
     {
         let Some(written) = self.up_to(b'<') else {
-            return Err(Stop::Unlike);
+            return Err(PartFault::Mismatch);
         };
         let Some(text) = unescape(alloc, written, false)? else {
-            return Err(Stop::Unlike);
+            return Err(PartFault::Mismatch);
         };
         Ok(text)
     }
 
     /// A text as it is written in an attribute, up to the quote.
-    pub(crate) fn quoted(&mut self, alloc: Global) -> Result<AtomText, Stop>
+    pub(crate) fn quoted(&mut self, alloc: Global) -> Result<AtomText, PartFault>
         ensures { Reads quoted self.old.rest.now result self.new.rest.now }
     {
         let Some(written) = self.up_to(b'"') else {
-            return Err(Stop::Unlike);
+            return Err(PartFault::Mismatch);
         };
         let Some(text) = unescape(alloc, written, true)? else {
-            return Err(Stop::Unlike);
+            return Err(PartFault::Mismatch);
         };
         Ok(text)
     }
 
     /// A moment in its printed form (RFC 3339 section 5.6).
-    pub(crate) fn moment(&mut self) -> Result<Stamp, Stop>
+    pub(crate) fn moment(&mut self) -> Result<Stamp, PartFault>
         ensures { Reads moment self.old.rest.now result self.new.rest.now }
     {
         let Some((written, rest)) = self.rest.split_at_checked(moment_len(self.rest)) else {
-            return Err(Stop::Unlike);
+            return Err(PartFault::Mismatch);
         };
         let Some(moment) = printed_moment(written) else {
-            return Err(Stop::Unlike);
+            return Err(PartFault::Mismatch);
         };
         self.rest = rest;
         Ok(moment)
     }
 
     /// A decimal number below 2 ^ 32 without leading zeros, up to the quote.
-    pub(crate) fn number(&mut self) -> Result<u32, Stop>
+    pub(crate) fn number(&mut self) -> Result<u32, PartFault>
         ensures { Reads number self.old.rest.now result self.new.rest.now }
     {
         let Some(digits) = self.up_to(b'"') else {
-            return Err(Stop::Unlike);
+            return Err(PartFault::Mismatch);
         };
-        whole_number(digits).ok_or(Stop::Unlike)
+        parse_decimal(digits).ok_or(PartFault::Mismatch)
     }
 
     /// The address of a document below the base, up to the quote.
-    pub(crate) fn address(&mut self, base: &Base) -> Result<Address, Stop>
+    pub(crate) fn address(&mut self, base: &Base) -> Result<Address, PartFault>
         ensures { Reads (address base.now) self.old.rest.now result self.new.rest.now }
     {
         if !self.at(base.text()) {
-            return Err(Stop::Unlike);
+            return Err(PartFault::Mismatch);
         }
         let Some(written) = self.up_to(b'"') else {
-            return Err(Stop::Unlike);
+            return Err(PartFault::Mismatch);
         };
-        base.read(written).ok_or(Stop::Unlike)
+        base.read(written).ok_or(PartFault::Mismatch)
     }
 
     /// The identifier of a member of the feed, which is its number (RFC 4287 section 4.2.6).
-    pub(crate) fn member(&mut self, feed: &FeedId) -> Result<u32, Stop>
+    pub(crate) fn member(&mut self, feed: &FeedId) -> Result<u32, PartFault>
         ensures { Reads (member feed.now) self.old.rest.now result self.new.rest.now }
     {
         let Some((id, rest)) = self.rest.split_at_checked(ID_LEN) else {
-            return Err(Stop::Unlike);
+            return Err(PartFault::Mismatch);
         };
         self.rest = rest;
-        number_of(feed, id).ok_or(Stop::Unlike)
+        number_of(feed, id).ok_or(PartFault::Mismatch)
     }
 }
 
@@ -164,7 +164,7 @@ fn printed_moment(text: &[u8]) -> Option<Stamp>
 }
 
 /// The decimal number without leading zeros that the whole text is.
-pub(crate) fn whole_number(text: &[u8]) -> Option<u32>
+pub(crate) fn parse_decimal(text: &[u8]) -> Option<u32>
     ensures found { IfSome result (λ n. (n < 2 ^ 32) × (text.now ≡ decimal n)) }
     ensures only { (n : ℕ) → n < 2 ^ 32 → text.now ≡ decimal n → result ≡ Some n }
 {

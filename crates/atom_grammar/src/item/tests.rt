@@ -1,5 +1,5 @@
 use crate::reader::Reader;
-use crate::stop::Stop;
+use crate::part_fault::PartFault;
 use atom_values::{AtomText, Entry, TextKind};
 use atom_writer::FeedName;
 use chain_links::Base;
@@ -23,8 +23,8 @@ fn read(alloc: Global, text: &[u8]) -> Result<Option<Item>, Fail> {
     let mut reader = Reader::new(text);
     match reader.item(alloc, &name) {
         Ok(item) if reader.left() == 0 => Ok(Some(item)),
-        Ok(_) | Err(Stop::Unlike) => Ok(None),
-        Err(Stop::NoMemory) => Err(Fail::from("no memory")),
+        Ok(_) | Err(PartFault::Mismatch) => Ok(None),
+        Err(PartFault::NoMemory) => Err(Fail::from("no memory")),
     }
 }
 

@@ -1,7 +1,7 @@
 use Rattle.std.proofs.Common.{sym, ◌∙◌, arith, refl, subst, Err}
-use Rattle.atom_grammar.specs.Heads.{ReadsPiece, item_behind}
+use Rattle.atom_grammar.specs.FeedParts.{ReadsPiece, item_behind}
 use Rattle.atom_grammar.specs.Parts.{IsFound}
-use Rattle.atom_grammar.proofs.ItemLoop.{none_read, one_more, no_room, item_stopped, item_shorter, pushed_items}
+use Rattle.atom_grammar.proofs.ItemListLemmas.{none_read, one_more, no_room, item_stopped, item_shorter, pushed_items}
 use Rattle.atom_grammar.proofs.read.items.Goals as goal
 
 pub new-items-requires : goal.new-items-requires

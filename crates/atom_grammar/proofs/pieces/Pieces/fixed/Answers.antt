@@ -1,6 +1,6 @@
 use Rattle.std.proofs.lemmas.Result.{err_from_is_err_and}
 use Rattle.atom_grammar.specs.Parts.{literal}
-use Rattle.atom_grammar.proofs.PieceReads.{found_here, stops_here}
+use Rattle.atom_grammar.proofs.PieceLemmas.{found_here, stops_here}
 use Rattle.atom_grammar.proofs.pieces.Pieces.fixed.Goals as goal
 
 pub returns-in_err-literal : goal.returns-in_err-literal

@@ -1,10 +1,10 @@
 use Rattle.std.proofs.Common.{refl, sym, ◌∙◌, true, false}
 use Rattle.std.proofs.lemmas.Bool.{false≢true}
-use Rattle.atom_grammar.specs.Heads.{item_behind}
+use Rattle.atom_grammar.specs.FeedParts.{item_behind}
 use Rattle.atom_grammar.specs.Items.{item}
-use Rattle.atom_grammar.proofs.PieceReads.{found_here, stops_piece}
-use Rattle.atom_grammar.proofs.Readings.{renamed_found, renamed_absent, renamed_refused}
-use Rattle.atom_grammar.proofs.Spans.{Apart, item_narrowed, among}
+use Rattle.atom_grammar.proofs.PieceLemmas.{found_here, stops_piece}
+use Rattle.atom_grammar.proofs.ReadingLemmas.{renamed_found, renamed_absent, renamed_refused}
+use Rattle.atom_grammar.proofs.SpanLemmas.{Apart, item_narrowed, among}
 use Rattle.atom_grammar.proofs.pieces.Pieces.item.Goals as goal
 
 pub returns-in_err-item : goal.returns-in_err-item

@@ -1,7 +1,7 @@
 use Rattle.std.proofs.Common.{◌≡◌, ◌≢◌, refl, rules, tests}
-use Rattle.atom_grammar.specs.Heads.{link_to, feed_link}
-use Rattle.atom_grammar.proofs.HeadParts.{to_found, to_absent, to_other}
-use Rattle.atom_grammar.proofs.PieceReads.{found_here, stops_piece}
+use Rattle.atom_grammar.specs.FeedParts.{link_to, feed_link}
+use Rattle.atom_grammar.proofs.FeedPartLemmas.{to_found, to_absent, to_other}
+use Rattle.atom_grammar.proofs.PieceLemmas.{found_here, stops_piece}
 use Rattle.atom_grammar.proofs.pieces.Pieces.link_to.Goals as goal
 
 pub returns-in_err-address : goal.returns-in_err-address

@@ -1,6 +1,6 @@
 use Rattle.std.proofs.lemmas.Result.{err_from_is_err_and}
-use Rattle.atom_grammar.specs.Heads.{own}
-use Rattle.atom_grammar.proofs.PieceReads.{found_here, stops_here}
+use Rattle.atom_grammar.specs.FeedParts.{own}
+use Rattle.atom_grammar.proofs.PieceLemmas.{found_here, stops_here}
 use Rattle.atom_grammar.proofs.pieces.Pieces.own.Goals as goal
 
 pub returns-in_err-own : goal.returns-in_err-own

@@ -1,7 +1,7 @@
 use Rattle.std.proofs.Common.{refl, codes}
-use Rattle.atom_grammar.specs.Heads.{prev_link, feed_link}
-use Rattle.atom_grammar.proofs.HeadParts.{prev_found, prev_absent, prev_other}
-use Rattle.atom_grammar.proofs.PieceReads.{found_here, stops_piece}
+use Rattle.atom_grammar.specs.FeedParts.{prev_link, feed_link}
+use Rattle.atom_grammar.proofs.FeedPartLemmas.{prev_found, prev_absent, prev_other}
+use Rattle.atom_grammar.proofs.PieceLemmas.{found_here, stops_piece}
 use Rattle.atom_grammar.proofs.pieces.Pieces.prev_link.Goals as goal
 
 pub returns-in_err-number : goal.returns-in_err-number

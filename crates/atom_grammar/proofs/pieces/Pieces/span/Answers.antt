@@ -1,9 +1,9 @@
 use Rattle.std.proofs.Common.{refl, sym, ◌∙◌, arith}
 use Rattle.std.proofs.lemmas.Bool.{false≢true}
-use Rattle.atom_grammar.specs.Heads.{span, span_of}
-use Rattle.atom_grammar.proofs.PieceReads.{found_here, stops_piece}
-use Rattle.atom_grammar.proofs.Readings.{renamed_found, renamed_absent, renamed_refused}
-use Rattle.atom_grammar.proofs.Spans.{Placed, span_narrowed}
+use Rattle.atom_grammar.specs.FeedParts.{span, span_of}
+use Rattle.atom_grammar.proofs.PieceLemmas.{found_here, stops_piece}
+use Rattle.atom_grammar.proofs.ReadingLemmas.{renamed_found, renamed_absent, renamed_refused}
+use Rattle.atom_grammar.proofs.SpanLemmas.{Placed, span_narrowed}
 use Rattle.atom_grammar.proofs.pieces.Pieces.span.Goals.{then-not-is_placed-via-then-not-is_placed, then-not-is_placed-via-else-not-is_placed+then-operations-from}
 use Rattle.atom_grammar.proofs.pieces.Pieces.span.Goals as goal
 

@@ -1,6 +1,6 @@
 use Rattle.std.proofs.lemmas.Result.{err_from_is_err_and}
 use Rattle.atom_grammar.specs.Items.{element}
-use Rattle.atom_grammar.proofs.PieceReads.{found_here, stops_here}
+use Rattle.atom_grammar.proofs.PieceLemmas.{found_here, stops_here}
 use Rattle.atom_grammar.proofs.pieces.Pieces.text.Goals as goal
 
 pub element-requires : goal.element-requires

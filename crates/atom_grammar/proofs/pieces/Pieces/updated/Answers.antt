@@ -1,6 +1,6 @@
 use Rattle.std.proofs.lemmas.Result.{err_from_is_err_and}
-use Rattle.atom_grammar.specs.Heads.{updated}
-use Rattle.atom_grammar.proofs.PieceReads.{found_here, stops_here}
+use Rattle.atom_grammar.specs.FeedParts.{updated}
+use Rattle.atom_grammar.proofs.PieceLemmas.{found_here, stops_here}
 use Rattle.atom_grammar.proofs.pieces.Pieces.updated.Goals as goal
 
 pub returns-in_err-moment : goal.returns-in_err-moment

@@ -1,6 +1,6 @@
 use Rattle.std.proofs.Common.{sym, ap, ◌∙◌}
 use Rattle.atom_grammar.specs.Parts.{starts}
-use Rattle.atom_grammar.proofs.Names.{address_elsewhere, address_nowhere, address_read, some_base_lacks}
+use Rattle.atom_grammar.proofs.NameLemmas.{address_elsewhere, address_nowhere, address_read, some_base_lacks}
 use Rattle.atom_grammar.proofs.reader.Reader.address.Goals as goal
 
 pub returns-then-not-at : goal.returns-then-not-at

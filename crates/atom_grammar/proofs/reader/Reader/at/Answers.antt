@@ -1,7 +1,7 @@
 use Rattle.std.proofs.Common.{length, drop}
 use Rattle.std.proofs.lemmas.Bool.Decides.{Decides-eqb}
 use Rattle.std.proofs.lemmas.Slice.Eq.{starts_is}
-use Rattle.atom_grammar.proofs.Texts.{starts_by}
+use Rattle.atom_grammar.proofs.TextLemmas.{starts_by}
 use Rattle.atom_grammar.proofs.reader.Reader.at.Goals as goal
 
 pub returns : goal.returns

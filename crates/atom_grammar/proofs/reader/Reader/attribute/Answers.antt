@@ -1,6 +1,6 @@
 use Rattle.atom_grammar.specs.Items.{attribute}
-use Rattle.atom_grammar.proofs.Shapes.{attribute_ends}
-use Rattle.atom_grammar.proofs.Readings.{stopped, alone_absent, alone_found, behind_found, behind_absent, behind_stuck, ended_found, ended_absent, ended_stuck}
+use Rattle.atom_grammar.proofs.ShapeLemmas.{attribute_ends}
+use Rattle.atom_grammar.proofs.ReadingLemmas.{stopped, alone_absent, alone_found, behind_found, behind_absent, behind_stuck, ended_found, ended_absent, ended_stuck}
 use Rattle.atom_grammar.proofs.reader.Reader.attribute.Goals as goal
 
 pub returns-in_err-literal : goal.returns-in_err-literal

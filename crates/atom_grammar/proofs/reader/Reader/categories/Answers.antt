@@ -3,9 +3,9 @@ use Rattle.std.specs.Prelude.{codes}
 use Rattle.atom_values.specs.Listed.{Listed}
 use Rattle.atom_values.specs.declared.category.Category.{Category}
 use Rattle.atom_grammar.specs.Items.{category, categories}
-use Rattle.atom_grammar.proofs.Lists.{many_stuck, many_found, shorter, few_pushed, gathered_pushed, push_stopped}
-use Rattle.atom_grammar.proofs.Readings.{stopped}
-use Rattle.atom_grammar.proofs.Shapes.{category_closed, category_starts, category_alone}
+use Rattle.atom_grammar.proofs.ManyLemmas.{many_stuck, many_found, shorter, few_pushed, gathered_pushed, push_stopped}
+use Rattle.atom_grammar.proofs.ReadingLemmas.{stopped}
+use Rattle.atom_grammar.proofs.ShapeLemmas.{category_closed, category_starts, category_alone}
 use Rattle.atom_grammar.proofs.reader.Reader.categories.Goals as goal
 
 pub returns-in_err-category : goal.returns-in_err-category

@@ -1,6 +1,6 @@
 use Rattle.atom_grammar.specs.Items.{construct}
-use Rattle.atom_grammar.proofs.Shapes.{construct_renames, end_tag}
-use Rattle.atom_grammar.proofs.Readings.{stopped, renamed_absent, renamed_found, behind_found, behind_absent, behind_stuck, ended_found, ended_absent, ended_stuck, both_found, both_absent, both_stuck}
+use Rattle.atom_grammar.proofs.ShapeLemmas.{construct_renames, end_tag}
+use Rattle.atom_grammar.proofs.ReadingLemmas.{stopped, renamed_absent, renamed_found, behind_found, behind_absent, behind_stuck, ended_found, ended_absent, ended_stuck, both_found, both_absent, both_stuck}
 use Rattle.atom_grammar.proofs.reader.Reader.construct.Goals as goal
 
 pub returns-in_err-literal : goal.returns-in_err-literal

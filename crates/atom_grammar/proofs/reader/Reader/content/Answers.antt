@@ -1,7 +1,7 @@
 use Rattle.std.proofs.Common.{false}
 use Rattle.atom_grammar.specs.Parts.{content}
-use Rattle.atom_grammar.proofs.Readings.{no_memory}
-use Rattle.atom_grammar.proofs.Texts.{content_nowhere, content_refused, content_found, read_none, read_some}
+use Rattle.atom_grammar.proofs.ReadingLemmas.{no_memory}
+use Rattle.atom_grammar.proofs.TextLemmas.{content_nowhere, content_refused, content_found, read_none, read_some}
 use Rattle.atom_grammar.proofs.reader.Reader.content.Goals as goal
 
 pub returns-in_default : goal.returns-in_default

@@ -1,6 +1,6 @@
 use Rattle.atom_grammar.specs.Items.{date}
-use Rattle.atom_grammar.proofs.Shapes.{date_ends}
-use Rattle.atom_grammar.proofs.Readings.{stopped, alone_absent, alone_found, behind_found, behind_absent, behind_stuck, ended_found, ended_absent, ended_stuck}
+use Rattle.atom_grammar.proofs.ShapeLemmas.{date_ends}
+use Rattle.atom_grammar.proofs.ReadingLemmas.{stopped, alone_absent, alone_found, behind_found, behind_absent, behind_stuck, ended_found, ended_absent, ended_stuck}
 use Rattle.atom_grammar.proofs.reader.Reader.date.Goals as goal
 
 pub returns-in_err-literal : goal.returns-in_err-literal

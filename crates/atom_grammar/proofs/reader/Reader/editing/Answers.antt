@@ -1,6 +1,6 @@
 use Rattle.atom_grammar.specs.Items.{editing}
-use Rattle.atom_grammar.proofs.Entries.{editing_renames, editing_found, not_member}
-use Rattle.atom_grammar.proofs.Readings.{stopped, renamed_absent, renamed_refused, behind_found, behind_absent, behind_stuck, ended_found, ended_absent, ended_stuck}
+use Rattle.atom_grammar.proofs.EntryLemmas.{editing_renames, editing_found, not_member}
+use Rattle.atom_grammar.proofs.ReadingLemmas.{stopped, renamed_absent, renamed_refused, behind_found, behind_absent, behind_stuck, ended_found, ended_absent, ended_stuck}
 use Rattle.atom_grammar.proofs.reader.Reader.editing.Goals as goal
 
 pub returns-in_err-literal : goal.returns-in_err-literal

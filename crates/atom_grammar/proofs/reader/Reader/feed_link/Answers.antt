@@ -1,6 +1,6 @@
-use Rattle.atom_grammar.specs.Heads.{feed_link}
-use Rattle.atom_grammar.proofs.HeadParts.{link_renames}
-use Rattle.atom_grammar.proofs.Readings.{stopped, renamed_absent, renamed_found, behind_found, behind_absent, behind_stuck, ended_found, ended_absent, ended_stuck}
+use Rattle.atom_grammar.specs.FeedParts.{feed_link}
+use Rattle.atom_grammar.proofs.FeedPartLemmas.{link_renames}
+use Rattle.atom_grammar.proofs.ReadingLemmas.{stopped, renamed_absent, renamed_found, behind_found, behind_absent, behind_stuck, ended_found, ended_absent, ended_stuck}
 use Rattle.atom_grammar.proofs.reader.Reader.feed_link.Goals as goal
 
 pub returns-in_err-literal : goal.returns-in_err-literal

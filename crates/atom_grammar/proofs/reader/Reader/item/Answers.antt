@@ -1,7 +1,7 @@
 use Rattle.std.proofs.Common.{sym, ◌∙◌}
 use Rattle.atom_grammar.specs.Items.{item}
-use Rattle.atom_grammar.proofs.Items.{item_kept, item_gone, item_not_kept, item_not_gone}
-use Rattle.atom_grammar.proofs.Readings.{stopped}
+use Rattle.atom_grammar.proofs.ItemLemmas.{item_kept, item_gone, item_not_kept, item_not_gone}
+use Rattle.atom_grammar.proofs.ReadingLemmas.{stopped}
 use Rattle.atom_grammar.proofs.reader.Reader.item.Goals as goal
 
 pub returns-in_err-entry : goal.returns-in_err-entry

@@ -1,7 +1,7 @@
 use Rattle.std.proofs.Common.{sym, ◌∙◌}
 use Rattle.atom_grammar.specs.Items.{kind}
-use Rattle.atom_grammar.proofs.Readings.{stopped}
-use Rattle.atom_grammar.proofs.Shapes.{kind_plain, kind_html, kind_absent}
+use Rattle.atom_grammar.proofs.ReadingLemmas.{stopped}
+use Rattle.atom_grammar.proofs.ShapeLemmas.{kind_plain, kind_html, kind_absent}
 use Rattle.atom_grammar.proofs.reader.Reader.kind.Goals as goal
 
 pub returns-then-not-at : goal.returns-then-not-at

@@ -3,9 +3,9 @@ use Rattle.std.specs.Prelude.{codes}
 use Rattle.atom_values.specs.Listed.{Listed}
 use Rattle.atom_values.specs.declared.link.Link.{Link}
 use Rattle.atom_grammar.specs.Items.{link, links}
-use Rattle.atom_grammar.proofs.Lists.{many_stuck, many_found, shorter, few_pushed, gathered_pushed, push_stopped}
-use Rattle.atom_grammar.proofs.Readings.{stopped}
-use Rattle.atom_grammar.proofs.Shapes.{link_closed, link_starts, link_alone}
+use Rattle.atom_grammar.proofs.ManyLemmas.{many_stuck, many_found, shorter, few_pushed, gathered_pushed, push_stopped}
+use Rattle.atom_grammar.proofs.ReadingLemmas.{stopped}
+use Rattle.atom_grammar.proofs.ShapeLemmas.{link_closed, link_starts, link_alone}
 use Rattle.atom_grammar.proofs.reader.Reader.links.Goals as goal
 
 pub returns-in_err-link : goal.returns-in_err-link

@@ -2,7 +2,7 @@ use Rattle.std.proofs.Common.{None, Some}
 use Rattle.std.proofs.lemmas.Bool.Decides.{Decides-eqb}
 use Rattle.std.proofs.lemmas.Slice.Eq.{strip_prefix_is}
 use Rattle.atom_grammar.specs.Parts.{literal}
-use Rattle.atom_grammar.proofs.Readings.{found, literal_alone}
+use Rattle.atom_grammar.proofs.ReadingLemmas.{found, literal_alone}
 use Rattle.atom_grammar.proofs.reader.Reader.literal.Goals as goal
 
 pub returns-in-Some : goal.returns-in-Some

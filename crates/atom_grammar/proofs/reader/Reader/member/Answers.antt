@@ -1,4 +1,4 @@
-use Rattle.atom_grammar.proofs.Names.{member_short, member_read}
+use Rattle.atom_grammar.proofs.NameLemmas.{member_short, member_read}
 use Rattle.atom_grammar.proofs.reader.Reader.member.Goals as goal
 
 pub returns-in_default : goal.returns-in_default

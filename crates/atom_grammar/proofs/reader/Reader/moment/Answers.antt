@@ -1,4 +1,4 @@
-use Rattle.atom_grammar.proofs.Texts.{moment_short, moment_refused, moment_found}
+use Rattle.atom_grammar.proofs.TextLemmas.{moment_short, moment_refused, moment_found}
 use Rattle.atom_grammar.proofs.reader.Reader.moment.Goals as goal
 
 pub returns-in_default : goal.returns-in_default

@@ -1,8 +1,8 @@
 use Rattle.std.proofs.Common.{sym, ◌∙◌}
 use Rattle.atom_grammar.specs.Parts.{optional}
 use Rattle.atom_grammar.specs.Items.{construct}
-use Rattle.atom_grammar.proofs.Readings.{stopped, optional_none, optional_some, optional_absent}
-use Rattle.atom_grammar.proofs.Shapes.{construct_starts, construct_closed}
+use Rattle.atom_grammar.proofs.ReadingLemmas.{stopped, optional_none, optional_some, optional_absent}
+use Rattle.atom_grammar.proofs.ShapeLemmas.{construct_starts, construct_closed}
 use Rattle.atom_grammar.proofs.reader.Reader.optional_construct.Goals as goal
 
 pub returns-then-not-at : goal.returns-then-not-at

@@ -1,8 +1,8 @@
 use Rattle.std.proofs.Common.{sym, ◌∙◌}
 use Rattle.atom_grammar.specs.Parts.{optional}
 use Rattle.atom_grammar.specs.Items.{date}
-use Rattle.atom_grammar.proofs.Readings.{stopped, optional_none, optional_some, optional_absent, alone_closed}
-use Rattle.atom_grammar.proofs.Shapes.{date_starts}
+use Rattle.atom_grammar.proofs.ReadingLemmas.{stopped, optional_none, optional_some, optional_absent, alone_closed}
+use Rattle.atom_grammar.proofs.ShapeLemmas.{date_starts}
 use Rattle.atom_grammar.proofs.reader.Reader.optional_date.Goals as goal
 
 pub returns-then-not-at : goal.returns-then-not-at

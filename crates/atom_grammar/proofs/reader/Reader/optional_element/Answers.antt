@@ -1,8 +1,8 @@
 use Rattle.std.proofs.Common.{sym, ◌∙◌}
 use Rattle.atom_grammar.specs.Parts.{optional}
 use Rattle.atom_grammar.specs.Items.{element}
-use Rattle.atom_grammar.proofs.Readings.{stopped, optional_none, optional_some, optional_absent, alone_closed}
-use Rattle.atom_grammar.proofs.Shapes.{element_starts}
+use Rattle.atom_grammar.proofs.ReadingLemmas.{stopped, optional_none, optional_some, optional_absent, alone_closed}
+use Rattle.atom_grammar.proofs.ShapeLemmas.{element_starts}
 use Rattle.atom_grammar.proofs.reader.Reader.optional_element.Goals as goal
 
 pub returns-then-not-at : goal.returns-then-not-at

@@ -2,9 +2,9 @@ use Rattle.std.proofs.Common.{sym, ap, ◌∙◌, Err}
 use Rattle.atom_values.specs.Listed.{Listed}
 use Rattle.atom_values.specs.declared.person.Person.{Person}
 use Rattle.atom_grammar.specs.Items.{person, persons}
-use Rattle.atom_grammar.proofs.Lists.{many_stuck, many_found, shorter, few_pushed, gathered_pushed, push_stopped}
-use Rattle.atom_grammar.proofs.Readings.{stopped}
-use Rattle.atom_grammar.proofs.Shapes.{person_closed, person_starts, person_alone, end_tag}
+use Rattle.atom_grammar.proofs.ManyLemmas.{many_stuck, many_found, shorter, few_pushed, gathered_pushed, push_stopped}
+use Rattle.atom_grammar.proofs.ReadingLemmas.{stopped}
+use Rattle.atom_grammar.proofs.ShapeLemmas.{person_closed, person_starts, person_alone, end_tag}
 use Rattle.atom_grammar.proofs.reader.Reader.persons.Goals as goal
 
 pub returns-in_err-person : goal.returns-in_err-person

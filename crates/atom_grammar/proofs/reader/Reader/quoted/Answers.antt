@@ -1,7 +1,7 @@
 use Rattle.std.proofs.Common.{true}
 use Rattle.atom_grammar.specs.Parts.{quoted}
-use Rattle.atom_grammar.proofs.Readings.{no_memory}
-use Rattle.atom_grammar.proofs.Texts.{quoted_nowhere, quoted_refused, quoted_found, read_none, read_some}
+use Rattle.atom_grammar.proofs.ReadingLemmas.{no_memory}
+use Rattle.atom_grammar.proofs.TextLemmas.{quoted_nowhere, quoted_refused, quoted_found, read_none, read_some}
 use Rattle.atom_grammar.proofs.reader.Reader.quoted.Goals as goal
 
 pub returns-in_default : goal.returns-in_default

@@ -1,8 +1,8 @@
 use Rattle.std.proofs.Common.{sym, ap, ◌∙◌}
 use Rattle.std.specs.Prelude.{codes, bytes_eq}
 use Rattle.atom_grammar.specs.Items.{relation}
-use Rattle.atom_grammar.proofs.Readings.{stopped, renamed_absent}
-use Rattle.atom_grammar.proofs.Shapes.{relation_renames, relation_none, relation_some, relation_refused}
+use Rattle.atom_grammar.proofs.ReadingLemmas.{stopped, renamed_absent}
+use Rattle.atom_grammar.proofs.ShapeLemmas.{relation_renames, relation_none, relation_some, relation_refused}
 use Rattle.atom_grammar.proofs.reader.Reader.relation.Goals as goal
 
 pub returns-in_err-relation : goal.returns-in_err-relation

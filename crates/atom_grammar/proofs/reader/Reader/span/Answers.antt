@@ -1,6 +1,6 @@
-use Rattle.atom_grammar.specs.Heads.{span}
-use Rattle.atom_grammar.proofs.HeadParts.{span_renames}
-use Rattle.atom_grammar.proofs.Readings.{stopped, renamed_absent, renamed_found, behind_found, behind_absent, behind_stuck, ended_found, ended_absent, ended_stuck, both_found, both_absent, both_stuck}
+use Rattle.atom_grammar.specs.FeedParts.{span}
+use Rattle.atom_grammar.proofs.FeedPartLemmas.{span_renames}
+use Rattle.atom_grammar.proofs.ReadingLemmas.{stopped, renamed_absent, renamed_found, behind_found, behind_absent, behind_stuck, ended_found, ended_absent, ended_stuck, both_found, both_absent, both_stuck}
 use Rattle.atom_grammar.proofs.reader.Reader.span.Goals as goal
 
 pub returns-in_err-literal : goal.returns-in_err-literal

@@ -1,7 +1,7 @@
 use Rattle.atom_grammar.specs.Items.{tombstone}
-use Rattle.atom_grammar.proofs.Entries.{tombstone_renames}
-use Rattle.atom_grammar.proofs.Names.{member_counted}
-use Rattle.atom_grammar.proofs.Readings.{stopped, renamed_absent, renamed_found, behind_found, behind_absent, behind_stuck, ended_found, ended_absent, ended_stuck, both_found, both_absent, both_stuck}
+use Rattle.atom_grammar.proofs.EntryLemmas.{tombstone_renames}
+use Rattle.atom_grammar.proofs.NameLemmas.{member_counted}
+use Rattle.atom_grammar.proofs.ReadingLemmas.{stopped, renamed_absent, renamed_found, behind_found, behind_absent, behind_stuck, ended_found, ended_absent, ended_stuck, both_found, both_absent, both_stuck}
 use Rattle.atom_grammar.proofs.reader.Reader.tombstone.Goals as goal
 
 pub returns-in_err-literal : goal.returns-in_err-literal

@@ -1,5 +1,5 @@
 use Rattle.std.proofs.Common.{arith}
-use Rattle.atom_grammar.proofs.Texts.{never, place_within, cut_given, none_given}
+use Rattle.atom_grammar.proofs.TextLemmas.{never, place_within, cut_given, none_given}
 use Rattle.atom_grammar.proofs.reader.Reader.up_to.Goals as goal
 
 pub returns-in_err-at : goal.returns-in_err-at

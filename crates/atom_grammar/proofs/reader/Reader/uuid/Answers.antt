@@ -1,4 +1,4 @@
-use Rattle.atom_grammar.proofs.OwnParts.{uuid_short, uuid_refused, uuid_found}
+use Rattle.atom_grammar.proofs.OwnAddressLemmas.{uuid_short, uuid_refused, uuid_found}
 use Rattle.atom_grammar.proofs.reader.Reader.uuid.Goals as goal
 
 pub returns-in_default : goal.returns-in_default
