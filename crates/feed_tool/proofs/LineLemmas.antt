@@ -16,7 +16,7 @@ use Rattle.atom_values.specs.Category.{IsCategory}
 use Rattle.atom_values.specs.Entry.{DraftValue, IsDraft, titled}
 use Rattle.atom_values.specs.Link.{IsLink}
 use Rattle.atom_values.specs.Person.{IsPerson}
-use Rattle.atom_values.specs.XmlText.{is_xml_text, xml_text_len, xml_len_up_to, IsAtomText, IsTextFault}
+use Rattle.atom_values.specs.XmlText.{is_xml_text, IsAtomText, IsTextFault}
 use Rattle.member_rules.specs.declared.ask.Ask.{Ask}
 use Rattle.member_rules.specs.declared.ask.Ask.TheVariants.{Create, Replace, Delete}
 use Rattle.atom_values.specs.Ascii.{lf, space}
@@ -89,22 +89,6 @@ draft_of-no_text title h = elim (nat_le (length title) title_limit) as (λ b. (i
 pub draft_of-text : (title : List ℕ) → length title ≤ title_limit → IsAtomText title → draft_of title ≡ Some (titled title)
 unfolding draft_of
 draft_of-text title short h = let few : nat_le (length title) title_limit ≡ true = le-leb (length title) title_limit short in rw (few, h.xml) refl
-
--- what a title's draft keeps
-pub titled-rules : (title : List ℕ) → IsAtomText title → IsDraft (titled title)
-titled-rules title h = record {
-  id = tt;
-  title = h;
-  updated = tt;
-  published = tt;
-  authors = (omega arith, All-nil IsPerson);
-  contributors = (omega arith, All-nil IsPerson);
-  links = (omega arith, All-nil IsLink);
-  categories = (omega arith, All-nil IsCategory);
-  rights = tt;
-  summary = tt;
-  content = tt;
-}
 
 -- a member's number
 digits-are : (n : ℕ) → n < 2 ^ 32 → digits_value 10 (decimal n) ≡ n
@@ -259,20 +243,11 @@ pub line_ask-none : (line : List ℕ) → bytes_eq (take 4 line) (codes "add ") 
 unfolding line_ask
 line_ask-none line a b c = rw (swapped-false (take 4 line) (codes "add ") a, swapped-false (take 7 line) (codes "change ") b, swapped-false (take 7 line) (codes "remove ") c) refl
 
-xml_len-whole : (bytes : List ℕ) (n : ℕ) → n ≡ length bytes → is_xml_text bytes ≡ true → xml_len_up_to bytes n ≡ n
-xml_len-whole bytes zero e h = refl
-xml_len-whole bytes (suc n) e h =
-    let whole : take (suc n) bytes ≡ bytes = take_all (suc n) bytes (omega arith) in
-    rw (whole, h) refl
-
-xml_text_len-whole : (bytes : List ℕ) → is_xml_text bytes ≡ true → xml_text_len bytes ≡ length bytes
-unfolding xml_text_len
-xml_text_len-whole bytes h = xml_len-whole bytes (length bytes) refl h
-
--- what refuses a short text other than want of memory
+-- a fault other than out of memory refuses a short text
 pub refused_text : (bytes : List ℕ) (fault : TextFault) → fault ≢ NoMemory → length bytes ≤ title_limit → IsTextFault bytes fault → is_xml_text bytes ≡ false
 refused_text bytes (TooLong n) other short h = absurd (omega (arith, h.0))
-refused_text bytes (NotXmlChar at) other short h = false_from_ne_true _ (λ t. let whole = xml_text_len-whole bytes t in omega (arith, h.1, h.2))
+refused_text bytes (NotXmlChar at) other short h = false_from_ne_true _ (λ t.
+    h.1.longest (length bytes) h.1.before_end (omega arith) (rw (take_all (length bytes) bytes (omega arith)) t))
 refused_text bytes NoMemory other short h = absurd (other refl)
 
 pub other_fault : (fault : TextFault) → ((n : ℕ) × (fault ≡ TooLong n)) ⊎ ((n : ℕ) × (fault ≡ NotXmlChar n)) → fault ≢ NoMemory

@@ -1,7 +1,5 @@
-ghost use Rattle.std.specs.Prelude.{◌≡◌, None, Some, IfOk, IfSome, MatchOption, option_map};
+ghost use Rattle.std.specs.Prelude.{◌≡◌, None, Some, IfOk, MatchOption, option_map};
 ghost use Rattle.atom_values.specs.Ascii.{space};
-ghost use Rattle.atom_values.specs.Entry.{IsDraft};
-ghost use Rattle.member_rules.specs.Decide.{IsAsk};
 ghost use Rattle.member_rules.specs.declared.ask.Ask.TheVariants.{Delete};
 ghost use Rattle.feed_tool.specs.Line as lines;
 ghost use Rattle.feed_tool.specs.Lines.{HasNo, IsFirst};
@@ -20,8 +18,7 @@ pub const PREFIX_LIMIT: usize = TITLE_LIMIT + 19;
 
 /// The draft with this plain title alone. `None`: the title has more than `TITLE_LIMIT` bytes, or isn't XML text.
 fn draft_of(alloc: Global, title: &[u8]) -> Result<Option<Draft>, NoMemory>
-    ensures draft { IfOk result (λ draft. draft ≡ lines.draft_of title.now) }
-    ensures rules { IfOk result (λ draft. IfSome draft IsDraft) }
+    ensures { IfOk result (λ draft. draft ≡ lines.draft_of title.now) }
 {
     if title.len() > TITLE_LIMIT {
         return Ok(None);
@@ -53,8 +50,7 @@ fn parted(words: &[u8]) -> Option<(&[u8], &[u8])>
 
 /// The change that the words ask for: a member's number and a title, with one space between them.
 fn change_of(alloc: Global, words: &[u8]) -> Result<Option<Ask>, NoMemory>
-    ensures ask { IfOk result (λ ask. ask ≡ lines.change_of words.now) }
-    ensures rules { IfOk result (λ ask. IfSome ask IsAsk) }
+    ensures { IfOk result (λ ask. ask ≡ lines.change_of words.now) }
 {
     let Some((digits, title)) = parted(words) else {
         return Ok(None);
@@ -71,8 +67,7 @@ fn change_of(alloc: Global, words: &[u8]) -> Result<Option<Ask>, NoMemory>
 /// Returns what a line of `apply` asks for: `add TITLE`, `change N TITLE` or `remove N`, with N from 1 to 4294967295 and a
 /// title of at most `TITLE_LIMIT` bytes of XML text. `None`: any other line.
 pub fn line_ask(alloc: Global, line: &[u8]) -> Result<Option<Ask>, NoMemory>
-    ensures ask { IfOk result (λ ask. ask ≡ lines.line_ask line.now) }
-    ensures rules { IfOk result (λ ask. IfSome ask IsAsk) }
+    ensures { IfOk result (λ ask. ask ≡ lines.line_ask line.now) }
 {
     if let Some(title) = line.strip_prefix(b"add ") {
         return match draft_of(alloc, title)? {
@@ -91,8 +86,7 @@ pub fn line_ask(alloc: Global, line: &[u8]) -> Result<Option<Ask>, NoMemory>
 
 /// The removal of the member whose number these digits are.
 fn removal_of(digits: &[u8]) -> Option<Ask>
-    ensures ask { result ≡ option_map Delete (lines.member_number digits.now) }
-    ensures rules { IfSome result IsAsk }
+    ensures { result ≡ option_map Delete (lines.member_number digits.now) }
 {
     let number = whole_number(digits)?;
     Some(Ask::Delete { number })
