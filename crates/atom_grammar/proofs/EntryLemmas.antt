@@ -1,7 +1,7 @@
 -- Tombstones and entries are read in one way.
 use Rattle.std.proofs.Common.{◌≡◌, ℕ, ◌<◌, ◌≤◌, ◌^◌, true, false, List, [], ◌∷◌, ◌++◌, Option, Some, None, refl, sym, ap, subst, ◌∙◌, append_assoc}
 use Rattle.std.specs.Prelude.{codes, flat_map, ℤ}
-use Rattle.std.proofs.Common.{◌&&◌, ◌||◌, not, eqb, is_some}
+use Rattle.std.proofs.Common.{Bool, ◌&&◌, ◌||◌, not, eqb, is_some}
 use Rattle.std.proofs.lemmas.Bool.{and_parts, and_from, eqb-true, eq-eqb, not-true, not_from_false, false≢true}
 use Rattle.atom_values.specs.Link.{has_edit, has_alternate}
 use Rattle.std.proofs.lemmas.List.Elements.{All-head}
@@ -9,7 +9,7 @@ use Rattle.atom_values.specs.declared.category.Category.{Category}
 use Rattle.atom_values.specs.declared.link.Link.{Link}
 use Rattle.atom_values.specs.declared.person.Person.{Person}
 use Rattle.atom_values.specs.declared.text.Text.{Text}
-use Rattle.atom_values.specs.Entry.{EntryValue, IsWhole}
+use Rattle.atom_values.specs.Entry.{EntryValue, IsWhole, person_limit, category_limit}
 use Rattle.atom_values.specs.Escape.{escaped}
 use Rattle.atom_values.specs.Stamp.{printed as printed_stamp}
 use Rattle.chain_links.specs.Address.{IsAddress, printed}
@@ -21,7 +21,8 @@ use Rattle.atom_writer.specs.Parts.{element as element_text, optional_element as
 use Rattle.atom_writer.specs.Entries.{open_attributes, construct as construct_text, optional_construct as optional_construct_text, edit_link, published_text, front_text, back_text, inner_text}
 use Rattle.atom_writer.specs.Pieces.{entry_piece, tombstone_piece}
 use Rattle.atom_grammar.specs.Parts.{Part, IsFound, IsReadAlone, starts, lacks, content, moment, address, member, both, behind, ended, optional, many, alone}
-use Rattle.atom_grammar.specs.Items.{element, date, kind, construct, person, persons, link, category, whole_construct, editing, front, back, tombstone, entry}
+use Rattle.atom_grammar.specs.EntryParts.{DatesValue, FrontValue, TextsValue, DetailsValue, BackValue, EntryPartsValue, edit_in, links_in, details_in, content_in, entry_of}
+use Rattle.atom_grammar.specs.Items.{element, date, kind, construct, person, persons, link, category, categories, whole_construct, identifier, dates, editing, texts, details, front, back, tombstone, entry}
 use Rattle.atom_grammar.proofs.ReadingLemmas.{IsClosed, Starts, Renames, renamed_found, renamed_alone, both_alone, behind_alone, ended_alone}
 use Rattle.atom_grammar.proofs.NameLemmas.{member_alone, address_alone}
 use Rattle.atom_grammar.proofs.ShapeLemmas.{end_tag, date_alone, optional_date_alone, construct_alone, optional_construct_alone, persons_alone, links_alone, categories_alone, construct_starts, person_starts, category_starts}
@@ -110,32 +111,40 @@ editing_found name input rest a n f e =
     let P : ℕ → Type 0 = λ x. IsFound (editing name) input x rest in
     subst P (ap member_number e) (renamed_found _ _ _ _ _ (editing_renames name) _ _ _ f (subst M (sym e) tt))
 
--- before the authors
+-- the parts before the authors
+pub dates_alone : IsReadAlone dates
+dates_alone =
+    both_alone _ _ (date_alone (codes "<updated>") (codes "</updated>"))
+    (both_alone _ _ (optional_date_alone (codes "<published>") (codes "</published>"))
+    (date_alone (codes "<app:edited>") (codes "</app:edited>")))
+
 pub front_closed : (name : FeedName) → IsClosed (front name)
 unfolding both optional alone ended construct member behind moment
-front_closed name rest = (tt, λ _ _. (refl, λ _ _. (tt, λ _ _. (tt, λ _ _. tt))))
+front_closed name rest = ((((tt, λ _ _. refl), λ _ _. tt), λ _ _. tt), λ _ _. tt)
 
-pub front_counted : (name : FeedName) (input rest : List ℕ) (f : (((ℕ × Text) × ℤ) × Option ℤ) × ℤ) → IsFound (front name) input f rest → 1 ≤ f.0.0.0.0
+pub front_counted : (name : FeedName) (input rest : List ℕ) (f : FrontValue) → IsFound (front name) input f rest → 1 ≤ f.0
 unfolding both ended behind member
-front_counted name input rest f found = found.lawful.0.0.0.0.0
+front_counted name input rest f found = found.lawful.0.0
 
 pub front_alone : (name : FeedName) → IsFeedId name.id → IsReadAlone (front name)
 front_alone name is =
-    both_alone _ _ (both_alone _ _ (both_alone _ _ (both_alone _ _
-    (ended_alone _ (codes "</id>") (behind_alone (codes "<id>") _ (member_alone name.id is)))
-    (construct_alone (codes "<title") (codes "</title>") (end_tag (codes "</title>") refl)))
-    (date_alone (codes "<updated>") (codes "</updated>")))
-    (optional_date_alone (codes "<published>") (codes "</published>")))
-    (date_alone (codes "<app:edited>") (codes "</app:edited>"))
+    both_alone _ _ (ended_alone _ (codes "</id>") (behind_alone (codes "<id>") _ (member_alone name.id is)))
+    (both_alone _ _ (construct_alone (codes "<title") (codes "</title>") (end_tag (codes "</title>") refl)) dates_alone)
 
--- behind them
+-- the parts after the authors
+pub texts_alone : IsReadAlone texts
+texts_alone =
+    both_alone _ _ (optional_construct_alone (codes "<rights") (codes "</rights>") (end_tag (codes "</rights>") refl))
+    (both_alone _ _ (optional_construct_alone (codes "<summary") (codes "</summary>") (end_tag (codes "</summary>") refl))
+    (optional_construct_alone (codes "<content") (codes "</content>") (end_tag (codes "</content>") refl)))
+
+pub details_alone : IsReadAlone details
+details_alone = both_alone _ _ links_alone (both_alone _ _ categories_alone texts_alone)
+
 pub back_alone : (name : FeedName) → lacks 34 name.base ≡ true → IsReadAlone (back name)
 back_alone name h =
-    both_alone _ _ (both_alone _ _ (both_alone _ _ (both_alone _ _ (both_alone _ _ (both_alone _ _
-    (persons_alone (codes "<contributor>") (codes "</contributor>") (end_tag (codes "</contributor>") refl)) (editing_alone name h)) links_alone) categories_alone)
-    (optional_construct_alone (codes "<rights") (codes "</rights>") (end_tag (codes "</rights>") refl)))
-    (optional_construct_alone (codes "<summary") (codes "</summary>") (end_tag (codes "</summary>") refl)))
-    (optional_construct_alone (codes "<content") (codes "</content>") (end_tag (codes "</content>") refl))
+    both_alone _ _ (persons_alone (codes "<contributor>") (codes "</contributor>") (end_tag (codes "</contributor>") refl))
+    (both_alone _ _ (editing_alone name h) details_alone)
 
 -- a part that begins with other bytes
 other_starts : {A : Type 0} (bytes start : List ℕ) (part : Part A) → Starts start part → ((rest : List ℕ) → starts bytes (start ++ rest) ≡ false) → (v : A) (rest : List ℕ) → part.Is v → starts bytes (part.text v ++ rest) ≡ false
@@ -160,85 +169,91 @@ construct_over : (bytes start end : List ℕ) → ((rest : List ℕ) → starts 
 construct_over bytes start end other o rest is h =
     optional_over bytes start (construct start end) (construct_starts start end) other o rest is h
 
--- what may stand behind an entry's content
+-- what begins with neither the bytes nor the part's start still doesn't begin with the bytes behind the part
+abbrev Over : {A : Type 0} → List ℕ → Part A → Type 0
+Over {A} bytes part = (v : A) (rest : List ℕ) → part.Is v → starts bytes rest ≡ false → starts bytes (part.text v ++ rest) ≡ false
+
+abbrev Apart : List ℕ → List ℕ → Type 0
+Apart bytes start = (rest : List ℕ) → starts bytes (start ++ rest) ≡ false
+
+both_over : {A B : Type 0} (bytes : List ℕ) (first : Part A) (second : Part B) → Over bytes first → Over bytes second → Over bytes (both first second)
+unfolding both
+both_over bytes first second over_first over_second v rest is h =
+    ap (starts bytes) (append_assoc (first.text v.0) (second.text v.1) rest)
+    ∙ over_first v.0 (second.text v.1 ++ rest) is.0 (over_second v.1 rest is.1 h)
+
+-- the text constructs
+later_over : (bytes : List ℕ) → Apart bytes (codes "<summary") → Apart bytes (codes "<content")
+    → Over bytes (both (whole_construct (codes "<summary") (codes "</summary>")) (whole_construct (codes "<content") (codes "</content>")))
+later_over bytes summary content =
+    both_over bytes _ _ (construct_over bytes (codes "<summary") (codes "</summary>") summary)
+    (construct_over bytes (codes "<content") (codes "</content>") content)
+
+texts_over : (bytes : List ℕ) → Apart bytes (codes "<rights") → Apart bytes (codes "<summary") → Apart bytes (codes "<content") → Over bytes texts
+texts_over bytes rights summary content =
+    both_over bytes _ _ (construct_over bytes (codes "<rights") (codes "</rights>") rights) (later_over bytes summary content)
+
+-- no part of the details begins the bytes
+pub record Ends (rest : List ℕ) : Type 0 where
+  pub no_link : starts (codes "<link") rest ≡ false
+  pub no_category : starts (codes "<category") rest ≡ false
+  pub no_rights : starts (codes "<rights") rest ≡ false
+  pub no_summary : starts (codes "<summary") rest ≡ false
+  pub no_content : starts (codes "<content") rest ≡ false
+
+texts_before : (rest : List ℕ) → Ends rest → texts.Before rest
+unfolding both optional
+texts_before rest ends = (
+  (ends.no_content, λ o is. construct_over (codes "<summary") (codes "<content") (codes "</content>") (λ _. refl) o rest is ends.no_summary),
+  λ v is. later_over (codes "<rights") (λ _. refl) (λ _. refl) v rest is ends.no_rights,
+)
+
+details_before : (rest : List ℕ) → Ends rest → details.Before rest
+unfolding both many
+details_before rest ends = (
+  (texts_before rest ends, λ v is. texts_over (codes "<category") (λ _. refl) (λ _. refl) (λ _. refl) v rest is ends.no_category),
+  λ v is.
+      both_over (codes "<link") categories texts
+          (many_over (codes "<link") category_limit (codes "<category") category category_starts (λ _. refl))
+          (texts_over (codes "<link") (λ _. refl) (λ _. refl) (λ _. refl)) v rest is ends.no_link,
+)
+
+-- the end of an entry
 abbrev closing : List ℕ
 closing = codes "</entry>\n"
 
-abbrev constructs : Option Text → Option Text → Option Text → List ℕ → List ℕ
-constructs c s t r =
-    (whole_construct (codes "<rights") (codes "</rights>")).text t ++ ((whole_construct (codes "<summary") (codes "</summary>")).text s
-    ++ ((whole_construct (codes "<content") (codes "</content>")).text c ++ (closing ++ r)))
+pub back_before : (name : FeedName) (rest : List ℕ) → (back name).Before (closing ++ rest)
+unfolding both editing edit_link many
+back_before name rest = (
+  (
+    details_before (closing ++ rest)
+        (record { no_link = refl; no_category = refl; no_rights = refl; no_summary = refl; no_content = refl }),
+    λ _ _. tt,
+  ),
+  λ _ _. refl,
+)
 
-no_category : (c s t : Option Text) (r : List ℕ) → (whole_construct (codes "<content") (codes "</content>")).Is c → (whole_construct (codes "<summary") (codes "</summary>")).Is s → (whole_construct (codes "<rights") (codes "</rights>")).Is t → starts (codes "<category") (constructs c s t r) ≡ false
-no_category c s t r lc ls lt =
-    construct_over (codes "<category") (codes "<rights") (codes "</rights>") (λ _. refl) t _ lt
-    (construct_over (codes "<category") (codes "<summary") (codes "</summary>") (λ _. refl) s _ ls
-    (construct_over (codes "<category") (codes "<content") (codes "</content>") (λ _. refl) c (closing ++ r) lc refl))
-
-no_link : (c s t : Option Text) (r : List ℕ) → (whole_construct (codes "<content") (codes "</content>")).Is c → (whole_construct (codes "<summary") (codes "</summary>")).Is s → (whole_construct (codes "<rights") (codes "</rights>")).Is t → starts (codes "<link") (constructs c s t r) ≡ false
-no_link c s t r lc ls lt =
-    construct_over (codes "<link") (codes "<rights") (codes "</rights>") (λ _. refl) t _ lt
-    (construct_over (codes "<link") (codes "<summary") (codes "</summary>") (λ _. refl) s _ ls
-    (construct_over (codes "<link") (codes "<content") (codes "</content>") (λ _. refl) c (closing ++ r) lc refl))
-
-pub back_before : (name : FeedName) (r : List ℕ) → (back name).Before (closing ++ r)
-unfolding both editing edit_link many optional
-back_before name r =
-    let end : List ℕ = closing ++ r in (
-      refl,
-      λ c lc.
-          let c1 : List ℕ = (whole_construct (codes "<content") (codes "</content>")).text c ++ end in (
-            construct_over (codes "<summary") (codes "<content") (codes "</content>") (λ _. refl) c end lc refl,
-            λ s ls.
-                let s1 : List ℕ = (whole_construct (codes "<summary") (codes "</summary>")).text s ++ c1 in (
-                  construct_over (codes "<rights") (codes "<summary") (codes "</summary>") (λ _. refl) s c1 ls
-                      (construct_over (codes "<rights") (codes "<content") (codes "</content>") (λ _. refl) c end lc refl),
-                  λ t lt.
-                      let t1 : List ℕ = (whole_construct (codes "<rights") (codes "</rights>")).text t ++ s1 in (
-                        no_category c s t r lc ls lt,
-                        λ k lk. (
-                          many_over (codes "<link") 64 (codes "<category") category category_starts (λ _. refl) k t1 lk (no_link c s t r lc ls lt),
-                          λ l _.
-                              (tt, λ n _. refl),
-                        ),
-                      ),
-                ),
-          ),
-    )
-
-abbrev pub entry_parts : FeedName → Part ((((((ℕ × Text) × ℤ) × Option ℤ) × ℤ) × List Person) × ((((((List Person × ℕ) × List Link) × List Category) × Option Text) × Option Text) × Option Text))
+abbrev pub entry_parts : FeedName → Part EntryPartsValue
 entry_parts name =
-    ended (both (both (behind (codes "<entry>") (front name)) (persons (codes "<author>") (codes "</author>"))) (back name)) (codes "</entry>\n")
+    behind (codes "<entry>") (both (front name) (both (persons (codes "<author>") (codes "</author>")) (ended (back name) closing)))
 
--- what begins a text of parts begins the first of them
-both_never : {A B : Type 0} (bytes : List ℕ) (first : Part A) (second : Part B) → ((v : A) (rest : List ℕ) → first.Is v → starts bytes (first.text v ++ rest) ≡ false) → (v : A × B) (rest : List ℕ) → (both first second).Is v → starts bytes ((both first second).text v ++ rest) ≡ false
-unfolding both
-both_never bytes first second never v rest is =
-    ap (starts bytes) (append_assoc (first.text v.0) (second.text v.1) rest) ∙ never v.0 (second.text v.1 ++ rest) is.0
-
-contributors_never : (name : FeedName) (v : List Person × ℕ) (rest : List ℕ) → (both (persons (codes "<contributor>") (codes "</contributor>")) (editing name)).Is v → starts (codes "<author>") ((both (persons (codes "<contributor>") (codes "</contributor>")) (editing name)).text v ++ rest) ≡ false
+-- the contributors and the link for editing don't begin as an author does
+back_never : (name : FeedName) (b : BackValue) (rest : List ℕ) → (back name).Is b → starts (codes "<author>") ((back name).text b ++ rest) ≡ false
 unfolding both editing edit_link
-contributors_never name v rest is =
-    ap (starts (codes "<author>")) (append_assoc ((persons (codes "<contributor>") (codes "</contributor>")).text v.0) (edit_link name v.1) rest)
-    ∙ many_over (codes "<author>") 16 (codes "<contributor>") (person (codes "<contributor>") (codes "</contributor>")) (person_starts (codes "<contributor>") (codes "</contributor>") (end_tag (codes "</contributor>") refl)) (λ _. refl) v.0 (edit_link name v.1 ++ rest) is.0 refl
-
-back_never : (name : FeedName) (b : ((((((List Person × ℕ) × List Link) × List Category) × Option Text) × Option Text) × Option Text)) (rest : List ℕ) → (back name).Is b → starts (codes "<author>") ((back name).text b ++ rest) ≡ false
 back_never name b rest is =
-    both_never (codes "<author>") _ _ (both_never (codes "<author>") _ _ (both_never (codes "<author>") _ _ (both_never (codes "<author>") _ _ (both_never (codes "<author>") _ _ (contributors_never name))))) b rest is
+    ap (starts (codes "<author>")) (append_assoc ((persons (codes "<contributor>") (codes "</contributor>")).text b.0) ((both (editing name) details).text b.1) rest)
+    ∙ many_over (codes "<author>") person_limit (codes "<contributor>") (person (codes "<contributor>") (codes "</contributor>")) (person_starts (codes "<contributor>") (codes "</contributor>") (end_tag (codes "</contributor>") refl)) (λ _. refl) b.0 ((both (editing name) details).text b.1 ++ rest) is.0 refl
 
--- the contributors and the link for editing don't begin so
-no_author : (name : FeedName) (b : ((((((List Person × ℕ) × List Link) × List Category) × Option Text) × Option Text) × Option Text)) (rest : List ℕ) → (back name).Is b → (persons (codes "<author>") (codes "</author>")).Before ((back name).text b ++ rest)
+no_author : (name : FeedName) (b : BackValue) (rest : List ℕ) → (back name).Is b → (persons (codes "<author>") (codes "</author>")).Before (((back name).text b ++ closing) ++ rest)
 unfolding many
-no_author name b rest is = back_never name b rest is
+no_author name b rest is =
+    ap (starts (codes "<author>")) (append_assoc ((back name).text b) closing rest) ∙ back_never name b (closing ++ rest) is
 
 pub entry_ends : (name : FeedName) → IsClosed (entry_parts name)
-entry_ends name r = unfold ended both behind in
-    (back_before name r, λ b lb. (no_author name b (closing ++ r) lb, λ a _. front_closed name _))
+entry_ends name rest = unfold ended both behind in
+    ((back_before name rest, λ b is. no_author name b rest is), λ _ _. front_closed name _)
 
 -- Texts that are put together in another order.
-three : (a b c d : List ℕ) → ((a ++ b) ++ c) ++ d ≡ a ++ ((b ++ c) ++ d)
-three a b c d = simp append_assoc
-
 last : (a b c d : List ℕ) → ((a ++ b) ++ c) ++ d ≡ a ++ (b ++ (c ++ d))
 last a b c d = simp append_assoc
 
@@ -285,24 +300,34 @@ unfolding published_text optional alone ended behind moment
 published_same None = refl
 published_same (Some z) = refl
 
-abbrev pub front_of : EntryValue → (((ℕ × Text) × ℤ) × Option ℤ) × ℤ
-front_of e = ((((e.number, e.title), e.updated), e.published), e.edited)
+abbrev pub front_of : EntryValue → FrontValue
+front_of e = (e.number, (e.title, (e.updated, (e.published, e.edited))))
 
-abbrev pub back_of : EntryValue → (((((List Person × ℕ) × List Link) × List Category) × Option Text) × Option Text) × Option Text
-back_of e = ((((((e.contributors, e.number), e.links), e.categories), e.rights), e.summary), e.content)
+abbrev pub back_of : EntryValue → BackValue
+back_of e = (e.contributors, (e.number, (e.links, (e.categories, (e.rights, (e.summary, e.content))))))
+
+abbrev pub parts_of : EntryValue → EntryPartsValue
+parts_of e = (front_of e, (e.authors, back_of e))
+
+front_order : (a b c t d u e p f g h : List ℕ)
+    → a ++ b ++ c ++ t ++ d ++ u ++ e ++ p ++ f ++ g ++ h ≡ ((a ++ b) ++ c) ++ (t ++ (((d ++ u) ++ e) ++ (p ++ ((f ++ g) ++ h))))
+front_order a b c t d u e p f g h = simp append_assoc
 
 front_same : (name : FeedName) (e : EntryValue) → front_text name e ≡ (front name).text (front_of e)
 unfolding front_text both ended behind member alone moment
 front_same name e =
-    let id = codes "<id>" ++ member_id name.id e.number ++ codes "</id>" in
     let t = construct_same (codes "title") (codes "<title") (codes "</title>") refl refl e.title in
     let p = published_same e.published in
-    let title = (construct (codes "<title") (codes "</title>")).text e.title in
-    let published = (optional (codes "<published>") (date (codes "<published>") (codes "</published>"))).text e.published in
-    let edited = codes "<app:edited>" ++ printed_stamp e.edited ++ codes "</app:edited>" in
-    (λ i. id ++ t i ++ codes "<updated>" ++ printed_stamp e.updated ++ codes "</updated>" ++ p i ++ codes "<app:edited>" ++ printed_stamp e.edited ++ codes "</app:edited>")
-    ∙ three (id ++ title ++ codes "<updated>" ++ printed_stamp e.updated ++ codes "</updated>" ++ published) (codes "<app:edited>") (printed_stamp e.edited) (codes "</app:edited>")
-    ∙ ap (λ (x : List ℕ). x ++ published ++ edited) (three (id ++ title) (codes "<updated>") (printed_stamp e.updated) (codes "</updated>"))
+    (λ i. codes "<id>" ++ member_id name.id e.number ++ codes "</id>" ++ t i ++ codes "<updated>" ++ printed_stamp e.updated
+        ++ codes "</updated>" ++ p i ++ codes "<app:edited>" ++ printed_stamp e.edited ++ codes "</app:edited>")
+    ∙ front_order (codes "<id>") (member_id name.id e.number) (codes "</id>")
+        ((construct (codes "<title") (codes "</title>")).text e.title)
+        (codes "<updated>") (printed_stamp e.updated) (codes "</updated>")
+        ((optional (codes "<published>") (date (codes "<published>") (codes "</published>"))).text e.published)
+        (codes "<app:edited>") (printed_stamp e.edited) (codes "</app:edited>")
+
+back_order : (a b c d e f g : List ℕ) → a ++ b ++ c ++ d ++ e ++ f ++ g ≡ a ++ (b ++ (c ++ (d ++ (e ++ (f ++ g)))))
+back_order a b c d e f g = simp append_assoc
 
 back_same : (name : FeedName) (e : EntryValue) → back_text name e ≡ (back name).text (back_of e)
 unfolding back_text both many editing link category
@@ -311,76 +336,74 @@ back_same name e =
     let r = optional_construct_same (codes "rights") (codes "<rights") (codes "</rights>") refl refl e.rights in
     let s = optional_construct_same (codes "summary") (codes "<summary") (codes "</summary>") refl refl e.summary in
     let t = optional_construct_same (codes "content") (codes "<content") (codes "</content>") refl refl e.content in
-    λ i. c i ++ edit_link name e.number ++ flat_map link_text e.links ++ flat_map category_text e.categories ++ r i ++ s i ++ t i
+    (λ i. c i ++ edit_link name e.number ++ flat_map link_text e.links ++ flat_map category_text e.categories ++ r i ++ s i ++ t i)
+    ∙ back_order ((persons (codes "<contributor>") (codes "</contributor>")).text e.contributors) (edit_link name e.number)
+        (flat_map link_text e.links) (flat_map category_text e.categories)
+        ((whole_construct (codes "<rights") (codes "</rights>")).text e.rights)
+        ((whole_construct (codes "<summary") (codes "</summary>")).text e.summary)
+        ((whole_construct (codes "<content") (codes "</content>")).text e.content)
 
-inside : (a b c d : List ℕ) → a ++ ((b ++ c) ++ d) ≡ ((a ++ b) ++ c) ++ d
-inside a b c d = simp append_assoc
+entry_order : (o f a b c : List ℕ) → (o ++ (f ++ a ++ b)) ++ c ≡ o ++ (f ++ (a ++ (b ++ c)))
+entry_order o f a b c = simp append_assoc
 
-entry_same : (name : FeedName) (e : EntryValue) → entry_piece name e ≡ (entry_parts name).text ((front_of e, e.authors), back_of e)
+entry_same : (name : FeedName) (e : EntryValue) → entry_piece name e ≡ (entry_parts name).text (parts_of e)
 unfolding entry_piece inner_text ended both behind
 entry_same name e =
     let f = front_same name e in
     let a = persons_same (codes "author") (codes "<author>") (codes "</author>") refl refl e.authors in
     let b = back_same name e in
-    (λ i. codes "<entry>" ++ (f i ++ a i ++ b i) ++ codes "</entry>\n")
-    ∙ ap (λ (x : List ℕ). x ++ codes "</entry>\n") (inside (codes "<entry>") ((front name).text (front_of e)) ((persons (codes "<author>") (codes "</author>")).text e.authors) ((back name).text (back_of e)))
+    (λ i. codes "<entry>" ++ (f i ++ a i ++ b i) ++ closing)
+    ∙ entry_order (codes "<entry>") ((front name).text (front_of e)) ((persons (codes "<author>") (codes "</author>")).text e.authors)
+        ((back name).text (back_of e)) closing
 
--- what the parts of an entry keep together
-pub record Agrees (p : ((((((ℕ × Text) × ℤ) × Option ℤ) × ℤ) × List Person) × ((((((List Person × ℕ) × List Link) × List Category) × Option Text) × Option Text) × Option Text))) : Type 0 where
-  pub edit : p.1.0.0.0.0.0.1 ≡ p.0.0.0.0.0.0
-  pub whole : IsWhole p.0.0.0.0.0.0 p.1.0.0.0.0.1 p.1.1
+-- the rule that the parts of an entry keep together
+pub record Agrees (p : EntryPartsValue) : Type 0 where
+  pub edit : p.1.1.1.0 ≡ p.0.0
+  pub whole : IsWhole p.0.0 p.1.1.1.1.0 p.1.1.1.1.1.1.1.1
 
--- what the test of the reader says
-pub agrees_true : (p : ((((((ℕ × Text) × ℤ) × Option ℤ) × ℤ) × List Person) × ((((((List Person × ℕ) × List Link) × List Category) × Option Text) × Option Text) × Option Text))) → 1 ≤ p.0.0.0.0.0.0 → (eqb p.1.0.0.0.0.0.1 p.0.0.0.0.0.0 && not (has_edit p.1.0.0.0.0.1) && (is_some p.1.1 || has_alternate p.1.0.0.0.0.1)) ≡ true → Agrees p
+-- the reader's test of that rule
+abbrev pub agreement : EntryPartsValue → Bool
+agreement p = eqb (edit_in p) p.0.0 && not (has_edit (links_in p)) && (is_some (content_in p) || has_alternate (links_in p))
+
+pub agrees_true : (p : EntryPartsValue) → 1 ≤ p.0.0 → agreement p ≡ true → Agrees p
 agrees_true p counted h =
-    let a = and_parts (eqb p.1.0.0.0.0.0.1 p.0.0.0.0.0.0 && not (has_edit p.1.0.0.0.0.1)) (is_some p.1.1 || has_alternate p.1.0.0.0.0.1) h in
-    let b = and_parts (eqb p.1.0.0.0.0.0.1 p.0.0.0.0.0.0) (not (has_edit p.1.0.0.0.0.1)) a.0 in
+    let a = and_parts (eqb (edit_in p) p.0.0 && not (has_edit (links_in p))) (is_some (content_in p) || has_alternate (links_in p)) h in
+    let b = and_parts (eqb (edit_in p) p.0.0) (not (has_edit (links_in p))) a.0 in
     record { edit = eqb-true _ _ b.0; whole = record { counted = counted; no_edit_link = not-true _ b.1; shown = a.1 } }
 
-pub agrees_false : (p : ((((((ℕ × Text) × ℤ) × Option ℤ) × ℤ) × List Person) × ((((((List Person × ℕ) × List Link) × List Category) × Option Text) × Option Text) × Option Text))) → (eqb p.1.0.0.0.0.0.1 p.0.0.0.0.0.0 && not (has_edit p.1.0.0.0.0.1) && (is_some p.1.1 || has_alternate p.1.0.0.0.0.1)) ≡ false → Agrees p → ⊥
+pub agrees_false : (p : EntryPartsValue) → agreement p ≡ false → Agrees p → ⊥
 agrees_false p h a =
     false≢true (sym h ∙ and_from _ _ (and_from _ _ (eq-eqb _ _ a.edit) (not_from_false _ a.whole.no_edit_link)) a.whole.shown)
 
-abbrev pub entry_there : ((((((ℕ × Text) × ℤ) × Option ℤ) × ℤ) × List Person) × ((((((List Person × ℕ) × List Link) × List Category) × Option Text) × Option Text) × Option Text)) → EntryValue
-entry_there p = record {
-  number = p.0.0.0.0.0.0;
-  edited = p.0.0.1;
-  title = p.0.0.0.0.0.1;
-  updated = p.0.0.0.0.1;
-  published = p.0.0.0.1;
-  authors = p.0.1;
-  contributors = p.1.0.0.0.0.0.0;
-  links = p.1.0.0.0.0.1;
-  categories = p.1.0.0.0.1;
-  rights = p.1.0.0.1;
-  summary = p.1.0.1;
-  content = p.1.1;
-}
+-- the parts whose link for editing names this number
+abbrev with_edit : EntryPartsValue → ℕ → EntryPartsValue
+with_edit p number = (p.0, (p.1.0, (p.1.1.0, (number, details_in p))))
 
-pub entry_renames : (name : FeedName) → Renames (entry_parts name) (entry name) Agrees entry_there (λ e. ((front_of e, e.authors), back_of e))
+pub entry_renames : (name : FeedName) → Renames (entry_parts name) (entry name) Agrees entry_of parts_of
 unfolding entry ended both behind member construct alone moment optional many editing link category person
 entry_renames name = record {
-  is = λ p law k. record {
-    whole = k.whole;
-    number = law.0.0.0.0.0.0.1;
-    edited = law.0.0.1;
-    title = law.0.0.0.0.0.1;
-    updated = law.0.0.0.0.1;
-    published = law.0.0.0.1;
-    authors = law.0.1;
-    contributors = law.1.0.0.0.0.0.0;
-    links = law.1.0.0.0.0.1;
-    categories = law.1.0.0.0.1;
-    rights = law.1.0.0.1;
-    summary = law.1.0.1;
-    content = law.1.1;
-  };
-  text = λ p law k.
-      ap (λ (n : ℕ). (entry_parts name).text (p.0, ((((((p.1.0.0.0.0.0.0, n), p.1.0.0.0.0.1), p.1.0.0.0.1), p.1.0.0.1), p.1.0.1), p.1.1))) k.edit
-      ∙ sym (entry_same name (entry_there p));
+  is = λ p law k.
+      let dates = law.0.1.1 in
+      let details = law.1.1.1.1 in
+      record {
+        whole = k.whole;
+        number = law.0.0.1;
+        edited = dates.1.1;
+        title = law.0.1.0;
+        updated = dates.0;
+        published = dates.1.0;
+        authors = law.1.0;
+        contributors = law.1.1.0;
+        links = details.0;
+        categories = details.1.0;
+        rights = details.1.1.0;
+        summary = details.1.1.1.0;
+        content = details.1.1.1.1;
+      };
+  text = λ p law k. ap (λ (n : ℕ). (entry_parts name).text (with_edit p n)) k.edit ∙ sym (entry_same name (entry_of p));
   was = λ e law. (
-    ((((((law.whole.counted, law.number), law.title), law.updated), law.published), law.edited), law.authors),
-    ((((((law.contributors, (law.whole.counted, law.number)), law.links), law.categories), law.rights), law.summary), law.content),
+    ((law.whole.counted, law.number), (law.title, (law.updated, (law.published, law.edited)))),
+    (law.authors, (law.contributors, ((law.whole.counted, law.number), (law.links, (law.categories, (law.rights, (law.summary, law.content))))))),
   );
   keeps = λ e law. record { edit = refl; whole = law.whole };
   same = λ e _. entry_same name e;
@@ -391,5 +414,6 @@ entry_renames name = record {
 pub entry_alone : (name : FeedName) → IsFeedId name.id → lacks 34 name.base ≡ true → IsReadAlone (entry name)
 entry_alone name is h =
     renamed_alone _ _ _ _ _ (entry_renames name)
-    (ended_alone _ (codes "</entry>\n") (both_alone _ _ (both_alone _ _ (behind_alone (codes "<entry>") _ (front_alone name is))
-    (persons_alone (codes "<author>") (codes "</author>") (end_tag (codes "</author>") refl))) (back_alone name h)))
+    (behind_alone (codes "<entry>") _ (both_alone _ _ (front_alone name is)
+    (both_alone _ _ (persons_alone (codes "<author>") (codes "</author>") (end_tag (codes "</author>") refl))
+    (ended_alone _ closing (back_alone name h)))))

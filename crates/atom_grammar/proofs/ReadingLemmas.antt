@@ -145,6 +145,43 @@ unfolding ended
 ended_absent part bytes input none other left is before e =
     none other (bytes ++ left) is before (e ∙ append_assoc (part.text other) bytes left)
 
+-- After some parts of `whole` were read at `input`, `left` remains to be read at `middle`. Its value completes that of the
+-- whole.
+pub record Continues {A B : Type 0} (whole : Part B) (input : List ℕ) (left : Part A) (middle : List ℕ) (complete : A → B) : Type 0 where
+  pub found : (value : A) (rest : List ℕ) → IsFound left middle value rest → IsFound whole input (complete value) rest
+  pub absent : IsAbsent left middle → IsAbsent whole input
+
+-- nothing was read so far
+pub begun : {B : Type 0} (whole : Part B) (input : List ℕ) → Continues whole input whole input (λ value. value)
+begun whole input = record { found = λ value rest f. f; absent = λ none. none }
+
+-- one more part was read
+pub then : {A B C : Type 0} {whole : Part C} {input middle after : List ℕ} {first : Part A} {second : Part B} {complete : A × B → C} {value : A}
+    → Continues whole input (both first second) middle complete → IsFound first middle value after
+    → Continues whole input second after (λ more. complete (value, more))
+then {value} so f = record {
+  found = λ more rest s. so.found (value, more) rest (both_found _ _ _ _ _ _ _ f s);
+  absent = λ none. so.absent (both_stuck _ _ _ _ _ f none);
+}
+
+-- the bytes before a part were read
+pub then_bytes : {A C : Type 0} {whole : Part C} {input middle after : List ℕ} {part : Part A} {complete : A → C}
+    (bytes : List ℕ) → Continues whole input (behind bytes part) middle complete → IsFound (literal bytes) middle tt after
+    → Continues whole input part after complete
+then_bytes bytes so l = record {
+  found = λ value rest f. so.found value rest (behind_found _ _ _ _ _ _ l f);
+  absent = λ none. so.absent (behind_stuck _ _ _ _ l none);
+}
+
+-- the part before the last bytes was read
+pub then_end : {A C : Type 0} {whole : Part C} {input middle after : List ℕ} {part : Part A} {complete : A → C} {value : A}
+    (bytes : List ℕ) → Continues whole input (ended part bytes) middle complete → IsFound part middle value after
+    → Continues whole input (literal bytes) after (λ _. complete value)
+then_end {value} bytes so f = record {
+  found = λ done rest l. so.found value rest (ended_found _ _ _ _ _ _ f l);
+  absent = λ none. so.absent (ended_stuck _ _ _ _ _ f none);
+}
+
 -- one part's values are another's, seen in another way
 pub record Renames {A B : Type 0} (from : Part B) (to : Part A) (Keeps : B → Type 0) (there : B → A) (back : A → B) : Type 0 where
   pub is : (b : B) → from.Is b → Keeps b → to.Is (there b)

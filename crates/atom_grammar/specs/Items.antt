@@ -6,7 +6,7 @@ use Rattle.atom_values.specs.declared.person.Person.{Person}
 use Rattle.atom_values.specs.declared.text.Text.{Text}
 use Rattle.atom_values.specs.declared.text.TextKind.{TextKind}
 use Rattle.atom_values.specs.Category.{IsCategory}
-use Rattle.atom_values.specs.Entry.{EntryValue, IsEntry, IsText}
+use Rattle.atom_values.specs.Entry.{EntryValue, IsEntry, IsText, person_limit, link_limit, category_limit}
 use Rattle.atom_values.specs.Link.{IsLink}
 use Rattle.atom_values.specs.Person.{IsPerson}
 use Rattle.atom_values.specs.XmlText.{IsAtomText}
@@ -17,6 +17,7 @@ use Rattle.atom_writer.specs.declared.doc.FeedName.{FeedName}
 use Rattle.atom_writer.specs.Parts.{link_text, category_text}
 use Rattle.atom_writer.specs.Entries.{open_attributes, edit_link}
 use Rattle.atom_writer.specs.Pieces.{entry_piece, tombstone_piece, item_piece}
+use Rattle.atom_grammar.specs.EntryParts.{DatesValue, FrontValue, TextsValue, DetailsValue, BackValue}
 use Rattle.atom_grammar.specs.Parts.{Part, Anything, starts, content, quoted, moment, member, both, behind, ended, optional, many, alone}
 
 -- a text between these tags
@@ -60,7 +61,7 @@ person start end = record {
 }
 
 abbrev pub persons : List ℕ → List ℕ → Part (List Person)
-persons start end = many 16 start (person start end)
+persons start end = many person_limit start (person start end)
 
 -- the relation of a link, which is written where it isn't `alternate`
 abbrev pub relation_text : List ℕ → List ℕ
@@ -93,10 +94,10 @@ unfoldable pub tombstone : FeedName → Part TombstoneValue
 tombstone name = record { Is = IsTombstone; text = tombstone_piece name; Before = Anything }
 
 abbrev pub links : Part (List Link)
-links = many 32 (codes "<link") link
+links = many link_limit (codes "<link") link
 
 abbrev pub categories : Part (List Category)
-categories = many 64 (codes "<category") category
+categories = many category_limit (codes "<category") category
 
 -- the number of the member that the link names for editing
 unfoldable pub editing : FeedName → Part ℕ
@@ -105,20 +106,32 @@ editing name = record { Is = λ n. (1 ≤ n) × (n < 2 ^ 32); text = edit_link n
 abbrev pub whole_construct : List ℕ → List ℕ → Part (Option Text)
 whole_construct start end = optional start (construct start end)
 
--- what stands before the authors of an entry
-abbrev pub front : FeedName → Part ((((ℕ × Text) × ℤ) × Option ℤ) × ℤ)
-front name =
-    both (both (both (both (ended (behind (codes "<id>") (member name.id)) (codes "</id>"))
-    (construct (codes "<title") (codes "</title>"))) (date (codes "<updated>") (codes "</updated>")))
-    (optional (codes "<published>") (date (codes "<published>") (codes "</published>"))))
-    (date (codes "<app:edited>") (codes "</app:edited>"))
+-- the identifier of a member, by the member's number
+abbrev pub identifier : FeedName → Part ℕ
+identifier name = ended (behind (codes "<id>") (member name.id)) (codes "</id>")
 
--- and behind them
-abbrev pub back : FeedName → Part ((((((List Person × ℕ) × List Link) × List Category) × Option Text) × Option Text) × Option Text)
-back name =
-    both (both (both (both (both (both (persons (codes "<contributor>") (codes "</contributor>")) (editing name)) links) categories)
-    (whole_construct (codes "<rights") (codes "</rights>"))) (whole_construct (codes "<summary") (codes "</summary>")))
-    (whole_construct (codes "<content") (codes "</content>"))
+abbrev pub dates : Part DatesValue
+dates =
+    both (date (codes "<updated>") (codes "</updated>"))
+    (both (optional (codes "<published>") (date (codes "<published>") (codes "</published>")))
+    (date (codes "<app:edited>") (codes "</app:edited>")))
+
+-- the parts of an entry before its authors
+abbrev pub front : FeedName → Part FrontValue
+front name = both (identifier name) (both (construct (codes "<title") (codes "</title>")) dates)
+
+abbrev pub texts : Part TextsValue
+texts =
+    both (whole_construct (codes "<rights") (codes "</rights>"))
+    (both (whole_construct (codes "<summary") (codes "</summary>")) (whole_construct (codes "<content") (codes "</content>")))
+
+-- the parts after the link for editing
+abbrev pub details : Part DetailsValue
+details = both links (both categories texts)
+
+-- the parts after the authors
+abbrev pub back : FeedName → Part BackValue
+back name = both (persons (codes "<contributor>") (codes "</contributor>")) (both (editing name) details)
 
 unfoldable pub entry : FeedName → Part EntryValue
 entry name = record { Is = IsEntry; text = entry_piece name; Before = Anything }

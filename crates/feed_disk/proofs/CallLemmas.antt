@@ -190,16 +190,8 @@ this_changed areas Journal change = refl
 this_changed areas Sealed change = refl
 this_changed areas Mirror change = refl
 
--- the other areas at a call that changes one, and the changes that a new one may follow
+-- the other areas at a call that changes one
 module _ (m n : MemoryValue) (keeps : KeepsCounts m.areas m.calls) (is : n.calls.made ≡ counted m.calls.made) where
-  pub comes_after : (a : Area) → ComesAfter n.calls.made (record_of m.areas a).changes
-  comes_after a = after_by m.calls.made n.calls.made (record_of m.areas a).changes keeps.made is (keeps.counts a)
-    where
-      after_by : (k k' : ℕ) (changes : List Change) → k < 2 ^ 64 → k' ≡ counted k → UpTo k changes
-          → ComesAfter k' changes
-      after_by k k' [] fits is up = tt
-      after_by k k' (change ∷ older) fits is up = (omega arith, λ below. omega arith)
-
   module _ (area : Area) (change : Change) (new : n.areas ≡ changed m.areas area change) where
     pub others_pass : (a : Area) → a ≢ area → PassesBy (state_of m) (state_of n) a
     others_pass a other = passes_by m n a (keeps.counts a) is (omega (arith, is, keeps.made))

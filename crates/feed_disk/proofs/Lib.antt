@@ -10,7 +10,7 @@ pub mod CutLemmas
 pub mod FillLemmas
 -- `MemoryDisk::image`: `among`, for one area
 pub mod ImageLemmas
--- for callers of a `Disk`: the clauses on moments and images of several device calls
+-- for callers of a `Disk`: moments and images of several device calls; some lemmas only crates above cite
 pub mod MomentLemmas
 -- `MemoryDisk::image`: `reached`, for one area
 pub mod ReachLemmas

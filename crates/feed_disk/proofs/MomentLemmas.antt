@@ -100,9 +100,9 @@ always_more s m t a P within r run call counts here = record {
 }
 
 -- a call that doesn't change the area, or makes it more certain
-pub always_kept : {T E : Type 0} (s m t : DiskState) (a : Area) (P : List ℕ → Type 0) (r : Result T E)
+pub always_same : {T E : Type 0} (s m t : DiskState) (a : Area) (P : List ℕ → Type 0) (r : Result T E)
     → AlwaysLeaves s m a P → Passes m t a (m.image_now a) → CountsCall m t r → AlwaysLeaves s t a P
-always_kept s m t a P r run call counts = always_more s m t a P (m.image_now a) r run call counts run.now
+always_same s m t a P r run call counts = always_more s m t a P (m.image_now a) r run call counts run.now
 
 pub always_joins : (s m t : DiskState) (a : Area) (P : List ℕ → Type 0) → AlwaysLeaves s m a P → AlwaysLeaves m t a P
     → AlwaysLeaves s t a P

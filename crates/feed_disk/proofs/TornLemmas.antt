@@ -106,10 +106,10 @@ module _ (old i : List ℕ) (at n : ℕ) (longer : length old ≤ length i) (the
       ∙ ap (λ (k : ℕ). get_or fulls k 0) is
       ∙ get_or_append_left old (drop (length old) i) 0 offset inside
 
-  kept_before_write : (size : ℕ) (w : ℕ → Bool) → IsBetween old size (λ offset. is_within offset at n || w offset) i
+  certain_before_write : (size : ℕ) (w : ℕ → Bool) → IsBetween old size (λ offset. is_within offset at n || w offset) i
       → (offset : ℕ) → offset < length old → w offset ≡ false
       → get_or (before_write old at n i) offset 0 ≡ get_or old offset 0
-  kept_before_write size w between offset inside out = elim (cases_Bool (is_within offset at n)) [
+  certain_before_write size w between offset inside out = elim (cases_Bool (is_within offset at n)) [
     | inl within ↦ old_before_write offset inside within
     | inr apart ↦ sym (torn_at at n (before_write old at n i) i torn_before_write offset apart)
         ∙ between.certain offset inside (or_from_false offset w apart out)
@@ -147,7 +147,7 @@ module _ (old i : List ℕ) (at n : ℕ) (longer : length old ≤ length i) (the
     no_longer = omega (arith, length-cut size);
     certain = λ offset inside out.
         get_or-take (min (length i) size) (before_write old at n i) offset 0 (omega arith)
-        ∙ kept_before_write size' w between offset inside out;
+        ∙ certain_before_write size' w between offset inside out;
   }
 
 -- each image after the write comes from one before it
