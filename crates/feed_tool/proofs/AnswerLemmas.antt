@@ -1,7 +1,7 @@
 -- Each command has one answer.
 use Rattle.std.proofs.Common.{◌≡◌, inl, inr, ℕ, List, sym, ap, ◌∙◌, arith}
 use Rattle.atom_grammar.specs.Refusal.{IsPlaceOfRefusal}
-use Rattle.atom_grammar.proofs.Refusals.{one_reading}
+use Rattle.atom_grammar.proofs.RefusalLemmas.{one_reading}
 use Rattle.feed_tool.specs.declared.fault.Refusal.TheVariants.{BadDocument}
 use Rattle.feed_tool.specs.declared.status.Status.TheVariants.{Done}
 use Rattle.feed_tool.specs.declared.words.Command.TheVariants.{Apply, Show}
