@@ -47,11 +47,17 @@ own_renames = record {
 }
 
 abbrev pub link_parts : List ℕ → List ℕ → Part Address
-link_parts rel base = ended (behind (codes "<link rel=\"") (behind rel (behind (codes "\" href=\"") (address base)))) (codes "\"/>\n")
+link_parts rel base =
+    ended (behind (codes "<link rel=\"") (behind rel (behind (codes "\" href=\"") (address base)))) (codes "\"/>\n")
 
-link_text : (rel base : List ℕ) (v : Address) → codes "<link rel=\"" ++ (rel ++ (codes "\" href=\"" ++ printed base v)) ++ codes "\"/>\n" ≡ link_piece rel (at_base base) v
+link_text : (rel base : List ℕ) (v : Address)
+    → codes "<link rel=\"" ++ (rel ++ (codes "\" href=\"" ++ printed base v)) ++ codes "\"/>\n"
+    ≡ link_piece rel (at_base base) v
 unfolding link_piece
-link_text rel base v = ap (λ z. z ++ codes "\"/>\n") (sym (append_assoc (codes "<link rel=\"") rel (codes "\" href=\"" ++ printed base v)) ∙ sym (append_assoc (codes "<link rel=\"" ++ rel) (codes "\" href=\"") (printed base v)))
+link_text rel base v =
+    ap
+    (λ z. z ++ codes "\"/>\n") (sym (append_assoc (codes "<link rel=\"") rel (codes "\" href=\"" ++ printed base v))
+    ∙ sym (append_assoc (codes "<link rel=\"" ++ rel) (codes "\" href=\"") (printed base v)))
 
 pub link_renames : (rel base : List ℕ) → Renames (link_parts rel base) (feed_link rel base) Always (λ v. v) (λ v. v)
 unfolding ended behind address
@@ -66,7 +72,8 @@ link_renames rel base = record {
 }
 
 abbrev pub span_parts : Part (ℕ × ℕ)
-span_parts = ended (both (behind (codes "<sp:span first=\"") number) (behind (codes "\" last=\"") number)) (codes "\"/>\n")
+span_parts =
+    ended (both (behind (codes "<sp:span first=\"") number) (behind (codes "\" last=\"") number)) (codes "\"/>\n")
 
 abbrev span_at : ℕ × ℕ → Span
 span_at p = record { first = p.0; last = p.1 }
@@ -74,9 +81,15 @@ span_at p = record { first = p.0; last = p.1 }
 abbrev ends_of : Span → ℕ × ℕ
 ends_of s = (s.first, s.last)
 
-span_text : (p : ℕ × ℕ) → (codes "<sp:span first=\"" ++ decimal p.0) ++ (codes "\" last=\"" ++ decimal p.1) ++ codes "\"/>\n" ≡ span_piece (span_at p)
+span_text : (p : ℕ × ℕ)
+    → (codes "<sp:span first=\"" ++ decimal p.0) ++ (codes "\" last=\"" ++ decimal p.1) ++ codes "\"/>\n"
+    ≡ span_piece (span_at p)
 unfolding span_piece
-span_text p = ap (λ z. z ++ codes "\"/>\n") (sym (append_assoc (codes "<sp:span first=\"" ++ decimal p.0) (codes "\" last=\"") (decimal p.1)))
+span_text p =
+    ap
+    (λ z. z
+    ++ codes
+    "\"/>\n") (sym (append_assoc (codes "<sp:span first=\"" ++ decimal p.0) (codes "\" last=\"") (decimal p.1)))
 
 pub span_renames : Renames span_parts span Always span_at ends_of
 unfolding ended behind both number
@@ -87,7 +100,9 @@ span_renames = record {
   keeps = λ s is. tt;
   same = λ s is. sym (span_text (ends_of s));
   again = λ s is. refl;
-  before = λ rest b. ((codes "/>\n" ++ rest, refl), λ v is. (codes " last=\"" ++ decimal v ++ (codes "\"/>\n" ++ rest), refl));
+  before =
+      λ rest b.
+      ((codes "/>\n" ++ rest, refl), λ v is. (codes " last=\"" ++ decimal v ++ (codes "\"/>\n" ++ rest), refl));
 }
 
 -- a UUID has 36 bytes
@@ -95,23 +110,32 @@ pub uuid_length : (id : List ℕ) → length (feed_text id) ≡ 36
 uuid_length id = length-by_index 36 _
 
 -- the link to one document
-pub to_found : (rel base input : List ℕ) (a to : Address) (rest : List ℕ) → a ≡ to → IsFound (feed_link rel base) input a rest → IsFound (link_to rel base to) input tt rest
+pub to_found : (rel base input : List ℕ) (a to : Address) (rest : List ℕ) → a ≡ to
+    → IsFound (feed_link rel base) input a rest → IsFound (link_to rel base to) input tt rest
 unfolding literal
 to_found rel base input a to rest same f = record {
   lawful = tt;
   split = f.split ∙ ap (λ z. link_piece rel (at_base base) z ++ rest) same;
-  only = λ other left is before e. (refl, append_cancel_left (link_piece rel (at_base base) to) rest left (ap (λ z. link_piece rel (at_base base) z ++ rest) (sym same) ∙ sym f.split ∙ e));
+  only =
+      λ other left is before e. (
+        refl,
+        append_cancel_left (link_piece rel (at_base base) to) rest left
+            (ap (λ z. link_piece rel (at_base base) z ++ rest) (sym same) ∙ sym f.split ∙ e),
+      );
 }
 
-pub to_absent : (rel base input : List ℕ) (to : Address) → IsAddress to → IsAbsent (feed_link rel base) input → IsAbsent (link_to rel base to) input
+pub to_absent : (rel base input : List ℕ) (to : Address) → IsAddress to → IsAbsent (feed_link rel base) input
+    → IsAbsent (link_to rel base to) input
 unfolding literal
 to_absent rel base input to is none other left _ _ e = none to left is tt e
 
-pub to_other : (rel base input : List ℕ) (a to : Address) (rest : List ℕ) → IsAddress to → a ≢ to → IsFound (feed_link rel base) input a rest → IsAbsent (link_to rel base to) input
+pub to_other : (rel base input : List ℕ) (a to : Address) (rest : List ℕ) → IsAddress to → a ≢ to
+    → IsFound (feed_link rel base) input a rest → IsAbsent (link_to rel base to) input
 unfolding literal
 to_other rel base input a to rest is differ f other left _ _ e = differ (f.only to left is tt e).0
 
-pub prev_found : (base input : List ℕ) (a : Address) (n : ℕ) (rest : List ℕ) → a ≡ Archive n → IsFound (feed_link (codes "prev-archive") base) input a rest → IsFound (prev_link base) input n rest
+pub prev_found : (base input : List ℕ) (a : Address) (n : ℕ) (rest : List ℕ) → a ≡ Archive n
+    → IsFound (feed_link (codes "prev-archive") base) input a rest → IsFound (prev_link base) input n rest
 unfolding prev_piece
 prev_found base input a n rest same f = record {
   lawful = subst (λ z. IsAddress z) same f.lawful;
@@ -123,10 +147,12 @@ prev_found base input a n rest same f = record {
       (numbers, p.1);
 }
 
-pub prev_absent : (base input : List ℕ) → IsAbsent (feed_link (codes "prev-archive") base) input → IsAbsent (prev_link base) input
+pub prev_absent : (base input : List ℕ) → IsAbsent (feed_link (codes "prev-archive") base) input
+    → IsAbsent (prev_link base) input
 unfolding prev_piece
 prev_absent base input none other left is before e = none (Archive other) left is tt e
 
-pub prev_other : (base input : List ℕ) (a : Address) (rest : List ℕ) → ((n : ℕ) → a ≢ Archive n) → IsFound (feed_link (codes "prev-archive") base) input a rest → IsAbsent (prev_link base) input
+pub prev_other : (base input : List ℕ) (a : Address) (rest : List ℕ) → ((n : ℕ) → a ≢ Archive n)
+    → IsFound (feed_link (codes "prev-archive") base) input a rest → IsAbsent (prev_link base) input
 unfolding prev_piece
 prev_other base input a rest differ f other left is before e = differ other (f.only (Archive other) left is tt e).0

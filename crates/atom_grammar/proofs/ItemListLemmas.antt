@@ -27,7 +27,8 @@ use Rattle.atom_grammar.proofs.StuckLemmas.{start}
 apart_back : (x y : ℕ) → nat_eq x y ≡ false → nat_eq y x ≡ false
 apart_back x y h = ne_eqb y x (λ e. false≢true (sym h ∙ eq-eqb x y (sym e)))
 
-each-push : (x y : ℕ) (xs : List ℕ) → AllByRecursion (λ z. nat_eq x z ≡ false) xs → nat_eq x y ≡ false → AllByRecursion (λ z. nat_eq x z ≡ false) (xs ++ y ∷ [])
+each-push : (x y : ℕ) (xs : List ℕ) → AllByRecursion (λ z. nat_eq x z ≡ false) xs → nat_eq x y ≡ false
+    → AllByRecursion (λ z. nat_eq x z ≡ false) (xs ++ y ∷ [])
 each-push x y [] h one = (one, tt)
 each-push x y (z ∷ xs) h one = (h.0, each-push x y xs h.1 one)
 
@@ -35,7 +36,8 @@ each-last : (x y : ℕ) (xs : List ℕ) → AllByRecursion (λ z. nat_eq x z ≡
 each-last x y [] h = h.0
 each-last x y (z ∷ xs) h = each-last x y xs h.1
 
-distinct-push : (xs : List ℕ) (y : ℕ) → IsDistinct nat_eq xs → list_any (nat_eq y) xs ≡ false → IsDistinct nat_eq (xs ++ y ∷ [])
+distinct-push : (xs : List ℕ) (y : ℕ) → IsDistinct nat_eq xs → list_any (nat_eq y) xs ≡ false
+    → IsDistinct nat_eq (xs ++ y ∷ [])
 unfolding IsDistinct
 distinct-push [] y h none = (tt, tt)
 distinct-push (x ∷ xs) y h none =
@@ -45,7 +47,8 @@ distinct-push (x ∷ xs) y h none =
 distinct-last : (xs : List ℕ) (y : ℕ) → IsDistinct nat_eq (xs ++ y ∷ []) → list_any (nat_eq y) xs ≡ false
 unfolding IsDistinct
 distinct-last [] y h = refl
-distinct-last (x ∷ xs) y h = or_from (nat_eq y x) (list_any (nat_eq y) xs) (apart_back x y (each-last x y xs h.0)) (distinct-last xs y h.1)
+distinct-last (x ∷ xs) y h =
+    or_from (nat_eq y x) (list_any (nat_eq y) xs) (apart_back x y (each-last x y xs h.0)) (distinct-last xs y h.1)
 
 all-last : (xs : List Item) (y : Item) → All IsItem (xs ++ y ∷ []) → IsItem y
 all-last [] y h = All-head IsItem y [] h
@@ -56,20 +59,30 @@ unfolding literal
 not_there bytes input none other left _ _ e = false≢true (sym none ∙ ap (starts bytes) e ∙ starts_append bytes left)
 
 -- nothing is read yet
-pub none_read : (name : FeedName) (span : Span) (before : List ℕ) (items : List Item) → items ≡ [] → ReadsSome name span before items before
+pub none_read : (name : FeedName) (span : Span) (before : List ℕ) (items : List Item) → items ≡ []
+    → ReadsSome name span before items before
 none_read name span before items none =
-    subst (λ z. ReadsSome name span before z before) (sym none) (record { lawful = no_items span; split = start before })
+    subst (λ z. ReadsSome name span before z before) (sym none) (record {
+      lawful = no_items span;
+      split =
+          start before;
+    })
 
-module _ (name : FeedName) (span : Span) (before middle : List ℕ) (items : List Item) (read : ReadsSome name span before items middle) where
+module _ (name : FeedName) (span : Span) (before middle : List ℕ) (items : List Item)
+    (read : ReadsSome name span before items middle) where
   -- one more is read
-  pub one_more : (item : Item) (after : List ℕ) (longer : List Item) → length items ≢ span_len span → IsFound (item_behind name items) middle item after → longer ≡ items ++ item ∷ [] → ReadsSome name span before longer after
+  pub one_more : (item : Item) (after : List ℕ) (longer : List Item) → length items ≢ span_len span
+      → IsFound (item_behind name items) middle item after → longer ≡ items ++ item ∷ []
+      → ReadsSome name span before longer after
   one_more item after longer room f pushed =
       subst (λ z. ReadsSome name span before z after) (sym pushed)
       (record {
         lawful = record {
           each = All-push IsItem items item read.lawful.each f.lawful.item;
           room = omega (arith, read.lawful.room, length-append items (item ∷ []));
-          distinct = subst (λ z. IsDistinct nat_eq z) (sym (map-append item_number items (item ∷ []))) (distinct-push (map item_number items) (item_number item) read.lawful.distinct f.lawful.apart);
+          distinct =
+              subst (λ z. IsDistinct nat_eq z) (sym (map-append item_number items (item ∷ [])))
+              (distinct-push (map item_number items) (item_number item) read.lawful.distinct f.lawful.apart);
         };
         split = read.split ∙ ap (λ z. joined (map (item_piece name) items) ++ z) f.split
             ∙ sym (append_assoc (joined (map (item_piece name) items)) (item_piece name item) after)
@@ -77,7 +90,8 @@ module _ (name : FeedName) (span : Span) (before middle : List ℕ) (items : Lis
       })
 
   -- no item may follow, since the span has no more operations
-  pub no_room : length items ≡ span_len span → starts (codes "</feed>\n") middle ≡ false → EndsAt name span before middle
+  pub no_room : length items ≡ span_len span → starts (codes "</feed>\n") middle ≡ false
+      → EndsAt name span before middle
   no_room full goes_on = record {
     items = items;
     read = read;
@@ -86,15 +100,24 @@ module _ (name : FeedName) (span : Span) (before middle : List ℕ) (items : Lis
   }
 
   -- or none that may stands there
-  pub no_item : IsAbsent (item_behind name items) middle → starts (codes "</feed>\n") middle ≡ false → EndsAt name span before middle
+  pub no_item : IsAbsent (item_behind name items) middle → starts (codes "</feed>\n") middle ≡ false
+      → EndsAt name span before middle
   no_item none goes_on = record {
     items = items;
     read = read;
-    no_more = λ item rest are e. none item rest (record { item = all-last items item are.each; apart = distinct-last (map item_number items) (item_number item) (subst (λ z. IsDistinct nat_eq z) (map-append item_number items (item ∷ [])) are.distinct) }) tt e;
+    no_more =
+        λ item rest are e. none item rest (record {
+          item = all-last items item are.each;
+          apart =
+              distinct-last (map item_number items) (item_number item)
+              (subst (λ z. IsDistinct nat_eq z) (map-append item_number items (item ∷ [])) are.distinct);
+        }) tt e;
     no_end = not_there (codes "</feed>\n") middle goes_on;
   }
 
-  pub item_stopped : (after : List ℕ) (e : PartFault) (r : Result (Listed Item) PartFault) → starts (codes "</feed>\n") middle ≡ false → ReadsPiece (item_behind name items) middle (Err e) after → IsErrAnd r (λ s. s ≡ e) → ReadsItems name span before r after
+  pub item_stopped : (after : List ℕ) (e : PartFault) (r : Result (Listed Item) PartFault)
+      → starts (codes "</feed>\n") middle ≡ false → ReadsPiece (item_behind name items) middle (Err e) after
+      → IsErrAnd r (λ s. s ≡ e) → ReadsItems name span before r after
   item_stopped after e (Ok x) goes_on s same = absurd same
   item_stopped after Mismatch (Err x) goes_on s same =
       let P : PartFault → Type 0 = λ stop. ReadsItems name span before (Err stop) after in
@@ -104,8 +127,10 @@ module _ (name : FeedName) (span : Span) (before middle : List ℕ) (items : Lis
       subst P (sym same) tt
 
 -- each item takes some of the input
-pub item_shorter : (name : FeedName) (items : List Item) (middle after : List ℕ) (item : Item) → IsFound (item_behind name items) middle item after → length after < length middle
-item_shorter name items middle after item f = omega (arith, ap length f.split, length-append (item_piece name item) after, (item-second name item).0)
+pub item_shorter : (name : FeedName) (items : List Item) (middle after : List ℕ) (item : Item)
+    → IsFound (item_behind name items) middle item after → length after < length middle
+item_shorter name items middle after item f =
+    omega (arith, ap length f.split, length-append (item_piece name item) after, (item-second name item).0)
 
 -- a push that is no error
 pub pushed_items : (r : Result (Unit {0}) ListFault) (b : Bool) → b ≡ is_err r → b ≡ false → {P : Type 0} → OnOk r P → P

@@ -17,7 +17,8 @@ stated text z law e = subst (λ (t : List ℕ). States t z) (sym e) (printed-sta
 
 -- two timestamps with one printed form are equal
 pub printed_injective : (a b : ℤ) → IsStamp a → IsStamp b → printed a ≡ printed b → a ≡ b
-printed_injective a b is_a is_b e = one_moment (printed b) a b (stated (printed b) a is_a (sym e)) (printed-states b is_b)
+printed_injective a b is_a is_b e =
+    one_moment (printed b) a b (stated (printed b) a is_a (sym e)) (printed-states b is_b)
 
 -- a text that states a timestamp is read
 pub not_none : (text : List ℕ) (z : ℤ) → ((m : ℤ) → (None ≡ Some m) ↔ States text m) → IsStamp z → text ≡ printed z → ⊥

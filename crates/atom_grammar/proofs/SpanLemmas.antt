@@ -28,7 +28,8 @@ span_narrowed kind prev = record {
 abbrev pub Apart : List Item → Item → Type 0
 Apart before next = list_any (nat_eq (item_number next)) (map item_number before) ≡ false
 
-pub item_narrowed : (name : FeedName) (before : List Item) → Renames (item name) (item_behind name before) (Apart before) (λ v. v) (λ v. v)
+pub item_narrowed : (name : FeedName) (before : List Item)
+    → Renames (item name) (item_behind name before) (Apart before) (λ v. v) (λ v. v)
 unfolding item
 item_narrowed name before = record {
   is = λ v is keeps. record { item = is; apart = keeps };
@@ -40,10 +41,14 @@ item_narrowed name before = record {
   before = λ rest b. tt;
 }
 
-numbers_any : (number : ℕ) (items : List Item) → list_any (λ item. nat_eq number (item_number item)) items ≡ list_any (nat_eq number) (map item_number items)
+numbers_any : (number : ℕ) (items : List Item)
+    → list_any (λ item. nat_eq number (item_number item)) items ≡ list_any (nat_eq number) (map item_number items)
 numbers_any number [] = refl
 numbers_any number (item ∷ items) = ap (λ b. nat_eq number (item_number item) || b) (numbers_any number items)
 
 -- whether an item of the number is among them
-pub among : (before : List Item) (item : Item) (number : ℕ) (answer : Bool) → number ≡ item_number item → answer ≡ list_any (λ other. nat_eq number (item_number other)) before → answer ≡ list_any (nat_eq (item_number item)) (map item_number before)
-among before item number answer same is = is ∙ numbers_any number before ∙ ap (λ n. list_any (nat_eq n) (map item_number before)) same
+pub among : (before : List Item) (item : Item) (number : ℕ) (answer : Bool) → number ≡ item_number item
+    → answer ≡ list_any (λ other. nat_eq number (item_number other)) before
+    → answer ≡ list_any (nat_eq (item_number item)) (map item_number before)
+among before item number answer same is =
+    is ∙ numbers_any number before ∙ ap (λ n. list_any (nat_eq n) (map item_number before)) same

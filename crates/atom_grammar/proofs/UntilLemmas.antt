@@ -5,7 +5,7 @@ use Rattle.std.proofs.lemmas.Fmt.{decimal_by_steps}
 use Rattle.uuid.proofs.RoundTrips.{parses_hyphenated}
 use Rattle.uuid.specs.Text.{by_index, hex_digit, nibble, digit_place, is_hyphen_place, parsed, lower}
 use Rattle.atom_values.specs.Escape.{escaped, escaped_byte}
-use Rattle.atom_values.specs.Stamp.{IsStamp, printed, date_text, clock_text, time_text, fixed_digits, fraction_text, since_year_zero}
+use Rattle.atom_values.specs.Stamp.{printed, date_text, clock_text, time_text, fixed_digits, fraction_text, since_year_zero}
 use Rattle.std.proofs.lemmas.Bool.Decides.{nat_tests}
 use Rattle.atom_values.specs.XmlText.{IsAtomText}
 use Rattle.atom_values.proofs.EscapeLemmas.{escaped-nil, escaped-cons}
@@ -77,37 +77,53 @@ Lacks-escaped_byte b =
 
 pub Lacks-escaped : (t : List ℕ) → Lacks 60 (escaped false t)
 Lacks-escaped [] = rw (escaped-nil false) tt
-Lacks-escaped (x ∷ t) = rw (escaped-cons false x t) (Lacks-append 60 (escaped_byte false x) (escaped false t) (Lacks-escaped_byte x) (Lacks-escaped t))
+Lacks-escaped (x ∷ t) =
+    rw (escaped-cons false x t)
+    (Lacks-append 60 (escaped_byte false x) (escaped false t) (Lacks-escaped_byte x) (Lacks-escaped t))
 
 Lacks-fixed_digits : (width n : ℕ) → Lacks 60 (fixed_digits width n)
 Lacks-fixed_digits zero n = tt
-Lacks-fixed_digits (suc width) n = Lacks-append 60 (fixed_digits width (n / 10)) ((48 + n % 10) ∷ []) (Lacks-fixed_digits width (n / 10)) ((λ e. absurd (omega arith)), tt)
+Lacks-fixed_digits (suc width) n =
+    Lacks-append 60 (fixed_digits width (n / 10)) ((48 + n % 10) ∷ []) (Lacks-fixed_digits width (n / 10))
+    ((λ e. absurd (omega arith)), tt)
 
-Lacks-then : (c x : ℕ) (xs ys : List ℕ) → lacks c (x ∷ []) ≡ true → Lacks c xs → Lacks c ys → Lacks c (xs ++ x ∷ [] ++ ys)
-Lacks-then c x xs ys e a b = Lacks-append c (xs ++ x ∷ []) ys (Lacks-append c xs (x ∷ []) a (Lacks-tested c (x ∷ []) e)) b
+Lacks-then : (c x : ℕ) (xs ys : List ℕ) → lacks c (x ∷ []) ≡ true → Lacks c xs → Lacks c ys
+    → Lacks c (xs ++ x ∷ [] ++ ys)
+Lacks-then c x xs ys e a b =
+    Lacks-append c (xs ++ x ∷ []) ys (Lacks-append c xs (x ∷ []) a (Lacks-tested c (x ∷ []) e)) b
 
 Lacks-date_text : (day : ℕ) → Lacks 60 (date_text day)
 unfolding date_text
 Lacks-date_text day =
-    Lacks-then 60 45 (fixed_digits 4 (year_of day) ++ 45 ∷ [] ++ fixed_digits 2 (month_of day)) (fixed_digits 2 (day_of day)) refl
-    (Lacks-then 60 45 (fixed_digits 4 (year_of day)) (fixed_digits 2 (month_of day)) refl (Lacks-fixed_digits 4 (year_of day)) (Lacks-fixed_digits 2 (month_of day))) (Lacks-fixed_digits 2 (day_of day))
+    Lacks-then 60 45 (fixed_digits 4 (year_of day) ++ 45 ∷ [] ++ fixed_digits 2 (month_of day))
+    (fixed_digits 2 (day_of day)) refl
+    (Lacks-then 60 45 (fixed_digits 4 (year_of day)) (fixed_digits 2 (month_of day)) refl
+    (Lacks-fixed_digits 4 (year_of day)) (Lacks-fixed_digits 2 (month_of day)))
+    (Lacks-fixed_digits 2 (day_of day))
 
 Lacks-clock_text : (millis : ℕ) → Lacks 60 (clock_text millis)
 unfolding clock_text
 Lacks-clock_text millis =
-    Lacks-then 60 58 (fixed_digits 2 (millis / 3_600_000) ++ 58 ∷ [] ++ fixed_digits 2 (millis / 60_000 % 60)) (fixed_digits 2 (millis / 1_000 % 60)) refl
-    (Lacks-then 60 58 (fixed_digits 2 (millis / 3_600_000)) (fixed_digits 2 (millis / 60_000 % 60)) refl (Lacks-fixed_digits 2 (millis / 3_600_000)) (Lacks-fixed_digits 2 (millis / 60_000 % 60))) (Lacks-fixed_digits 2 (millis / 1_000 % 60))
+    Lacks-then 60 58 (fixed_digits 2 (millis / 3_600_000) ++ 58 ∷ [] ++ fixed_digits 2 (millis / 60_000 % 60))
+    (fixed_digits 2 (millis / 1_000 % 60)) refl
+    (Lacks-then 60 58 (fixed_digits 2 (millis / 3_600_000)) (fixed_digits 2 (millis / 60_000 % 60)) refl
+    (Lacks-fixed_digits 2 (millis / 3_600_000)) (Lacks-fixed_digits 2 (millis / 60_000 % 60)))
+    (Lacks-fixed_digits 2 (millis / 1_000 % 60))
 
 Lacks-fraction_text : (millis : ℕ) → Lacks 60 (fraction_text millis)
-Lacks-fraction_text millis = Lacks-chosen 60 (millis == 0) [] (46 ∷ fixed_digits 3 millis) tt (λ _. ((λ e. absurd (omega arith)), Lacks-fixed_digits 3 millis))
+Lacks-fraction_text millis =
+    Lacks-chosen 60 (millis == 0) [] (46 ∷ fixed_digits 3 millis) tt
+    (λ _. ((λ e. absurd (omega arith)), Lacks-fixed_digits 3 millis))
 
 pub Lacks-printed : (z : ℤ) → Lacks 60 (printed z)
 unfolding printed
 Lacks-printed z =
     let millis = since_year_zero z in
     Lacks-append 60 (date_text (millis / 86_400_000) ++ 84 ∷ [] ++ time_text (millis % 86_400_000)) (90 ∷ [])
-    (Lacks-then 60 84 (date_text (millis / 86_400_000)) (time_text (millis % 86_400_000)) refl (Lacks-date_text (millis / 86_400_000))
-    (Lacks-append 60 (clock_text (millis % 86_400_000)) (fraction_text (millis % 86_400_000 % 1_000)) (Lacks-clock_text (millis % 86_400_000)) (Lacks-fraction_text (millis % 86_400_000 % 1_000))))
+    (Lacks-then 60 84 (date_text (millis / 86_400_000)) (time_text (millis % 86_400_000)) refl
+    (Lacks-date_text (millis / 86_400_000))
+    (Lacks-append 60 (clock_text (millis % 86_400_000)) (fraction_text (millis % 86_400_000 % 1_000))
+    (Lacks-clock_text (millis % 86_400_000)) (Lacks-fraction_text (millis % 86_400_000 % 1_000))))
     ((λ e. absurd (omega arith)), tt)
 
 hex_digit-ne : (d : ℕ) → hex_digit 97 d ≢ 60
@@ -124,21 +140,27 @@ Lacks-by_index c (suc n) f h = Lacks-append c (by_index n f) (f n ∷ []) (Lacks
 
 pub Lacks-feed_text : (id : List ℕ) → IsFeedId id → Lacks 60 (feed_text id)
 Lacks-feed_text id is =
-    Lacks-by_index 60 36 _ (λ k. chosen-ne (is_hyphen_place k) 45 (hex_digit 97 (nibble id (digit_place k))) 60 (λ e. absurd (omega arith)) (hex_digit-ne (nibble id (digit_place k))))
+    Lacks-by_index 60 36 _
+    (λ k. chosen-ne (is_hyphen_place k) 45 (hex_digit 97 (nibble id (digit_place k))) 60
+    (λ e. absurd (omega arith)) (hex_digit-ne (nibble id (digit_place k))))
 
 -- a byte below the digits
 pub Lacks-decimal_below : (c n : ℕ) → c < 48 → n < 2 ^ 32 → Lacks c (decimal n)
 Lacks-decimal_below c n below small =
-    decimal_by_steps (λ m ds. Lacks c ds) (λ m few. ((λ e. absurd (omega arith)), tt)) (λ m ds many lacks_ds. Lacks-append c ds ((48 + m % 10) ∷ []) lacks_ds ((λ e. absurd (omega arith)), tt)) n (omega arith)
+    decimal_by_steps (λ m ds. Lacks c ds) (λ m few. ((λ e. absurd (omega arith)), tt))
+    (λ m ds many lacks_ds. Lacks-append c ds ((48 + m % 10) ∷ []) lacks_ds ((λ e. absurd (omega arith)), tt)) n
+    (omega arith)
 
 pub escaped_injective : (s t : List ℕ) → IsAtomText s → IsAtomText t → escaped false s ≡ escaped false t → s ≡ t
 escaped_injective s t is_s is_t e =
-    let both : Some s ≡ Some t = ((IsReadBack-all false (escaped false s) s (Some s) refl (refl, is_s)).exact t is_t).1 (sym e) in
+    let both : Some s ≡ Some t =
+    ((IsReadBack-all false (escaped false s) s (Some s) refl (refl, is_s)).exact t is_t).1 (sym e) in
     cc
 
 pub feed_text_injective : (a b : List ℕ) → IsFeedId a → IsFeedId b → feed_text a ≡ feed_text b → a ≡ b
 feed_text_injective a b is_a is_b e =
-    let both : Some a ≡ Some b = parses_hyphenated lower a (inl refl) is_a.size is_a.each ∙ ap parsed e ∙ sym (parses_hyphenated lower b (inl refl) is_b.size is_b.each) in
+    let both : Some a ≡ Some b = parses_hyphenated lower a (inl refl) is_a.size is_a.each ∙ ap parsed e
+    ∙ sym (parses_hyphenated lower b (inl refl) is_b.size is_b.each) in
     cc
 
 -- lists that end with a byte each
@@ -160,5 +182,19 @@ pub record EndsWithDigit (ds : List ℕ) : Type 0 where
 
 pub decimal_ends : (n : ℕ) → n < 2 ^ 32 → EndsWithDigit (decimal n)
 decimal_ends n small =
-    decimal_by_steps (λ m ds. EndsWithDigit ds) (λ m few. record { front = []; digit = 48 + m; above = omega arith; below = omega arith; is = refl })
-    (λ m ds many ends. record { front = ds; digit = 48 + m % 10; above = omega arith; below = omega arith; is = refl }) n (omega arith)
+    decimal_by_steps (λ m ds. EndsWithDigit ds) (λ m few. record {
+      front = [];
+      digit = 48 + m;
+      above =
+          omega arith;
+      below = omega arith;
+      is = refl;
+    })
+    (λ m ds many ends. record {
+      front = ds;
+      digit = 48 + m % 10;
+      above = omega arith;
+      below = omega arith;
+      is =
+          refl;
+    }) n (omega arith)

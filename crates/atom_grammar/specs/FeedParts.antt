@@ -1,4 +1,4 @@
--- The pieces of a document before its items, each as a part that is read, and what it means to read a piece.
+-- The pieces of a document as parts that are read, and what it means to read a piece.
 use Rattle.std.specs.Prelude.{◌≡◌, ℕ, ◌<◌, ◌≤◌, ◌^◌, List, map, Result, Ok, Err, ℤ, false, nat_eq, IsTrue, codes}
 use Rattle.std.specs.List.{list_any}
 use Rattle.chain_links.specs.Address.{IsAddress, printed}
@@ -12,25 +12,26 @@ use Rattle.deleted_entries.specs.declared.item.Item.{Item}
 use Rattle.atom_writer.specs.declared.doc.FeedName.{FeedName}
 use Rattle.atom_writer.specs.declared.doc.Kind.{Kind}
 use Rattle.atom_writer.specs.declared.doc.Kind.TheVariants.{Subscription, Archive as Sealed}
-use Rattle.atom_writer.specs.Doc.{is_placed, span_len}
+use Rattle.atom_writer.specs.Doc.{is_placed, span_len, item_limit, archive_limit}
 use Rattle.atom_writer.specs.Pieces.{id_piece, link_piece, own_address as place, span_piece, item_piece}
+use Rattle.atom_values.specs.Ascii.{quote}
 use Rattle.atom_grammar.specs.declared.opening.Own.{Own}
 use Rattle.atom_grammar.specs.declared.part_fault.PartFault.{PartFault}
 use Rattle.atom_grammar.specs.declared.part_fault.PartFault.TheVariants.{Mismatch, NoMemory}
 use Rattle.atom_grammar.specs.Items.{element, date}
 use Rattle.atom_grammar.specs.Parts.{Part, Anything, BeginsWithByte, IsFound, IsAbsent, literal}
 
--- a number that an archive has
+-- an archive has a number that an archive may have
 abbrev pub IsKind : Kind → Type 0
 IsKind Subscription = Unit {0}
-IsKind (Sealed number) = (1 ≤ number) × (number < 4_294_967_295)
+IsKind (Sealed number) = (1 ≤ number) × (number ≤ archive_limit)
 
--- what the document's own address says
+-- the base and the kind of document that the document's own address names
 pub record IsOwn (own : Own) : Type 0 where
   pub base : IsBase own.base
   pub kind : IsKind own.kind
 
--- the links name nothing of a feed but its base
+-- a name with this base: the links use no other part of a name
 abbrev pub at_base : List ℕ → FeedName
 at_base base = record { base = base; id = codes ""; title = codes ""; author = codes "" }
 
@@ -52,7 +53,7 @@ pub record IsSpan (span : Span) : Type 0 where
 pub record IsSpanOf (kind : Kind) (prev : ℕ) (span : Span) : Type 0 where
   pub bounds : IsSpan span
   pub placed : IsTrue (is_placed kind span prev)
-  pub few : span_len span ≤ 100
+  pub few : span_len span ≤ item_limit
 
 abbrev pub uuid : Part (List ℕ)
 uuid = record { Is = IsFeedId; text = feed_text; Before = Anything }
@@ -71,7 +72,7 @@ author = element (codes "<author><name>") (codes "</name></author>\n")
 
 -- the address of the document itself, up to the quote
 abbrev pub own_address : Part Own
-own_address = record { Is = IsOwn; text = λ own. printed own.base (place own.kind); Before = BeginsWithByte 34 }
+own_address = record { Is = IsOwn; text = λ own. printed own.base (place own.kind); Before = BeginsWithByte quote }
 
 abbrev pub own : Part Own
 own = record { Is = IsOwn; text = own_piece; Before = Anything }

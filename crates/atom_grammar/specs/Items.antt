@@ -1,4 +1,4 @@
--- The parts of an item's piece.
+-- The piece of an item, part by part.
 use Rattle.std.specs.Prelude.{◌≡◌, ℕ, ◌≤◌, ◌<◌, ◌^◌, List, [], false, if◌then◌else◌, bytes_eq, Option, ℤ, codes}
 use Rattle.atom_values.specs.declared.category.Category.{Category}
 use Rattle.atom_values.specs.declared.link.Link.{Link}
@@ -24,22 +24,28 @@ use Rattle.atom_grammar.specs.Parts.{Part, Anything, starts, content, quoted, mo
 abbrev pub element : List ℕ → List ℕ → Part (List ℕ)
 element start end = alone (ended (behind start content) end)
 
--- a text behind these bytes and before a quote
+-- an attribute whose name and opening quote are `start`
 abbrev pub attribute : List ℕ → Part (List ℕ)
 attribute start = alone (ended (behind start quoted) (codes "\""))
 
--- a moment between these tags
+-- a timestamp between these tags
 abbrev pub date : List ℕ → List ℕ → Part ℤ
 date start end = alone (ended (behind start moment) end)
 
--- what the kind of a text adds to its open tag
+-- the attribute that states the kind of a text
 unfoldable pub kind : Part TextKind
-kind = record { Is = λ _. Unit {0}; text = open_attributes; Before = λ rest. starts (codes " type=\"html\"") rest ≡ false }
+kind =
+    record {
+      Is = λ _. Unit {0};
+      text = open_attributes;
+      Before =
+          λ rest. starts (codes " type=\"html\"") rest ≡ false;
+    }
 
 abbrev pub construct_parts : List ℕ → List ℕ → Part (TextKind × List ℕ)
 construct_parts start end = ended (both (ended (behind start kind) (codes ">")) content) end
 
--- a text construct, whose open tag begins so
+-- a text construct, whose open tag begins with `start`
 unfoldable pub construct : List ℕ → List ℕ → Part Text
 construct start end = record {
   Is = IsText;
@@ -63,7 +69,7 @@ person start end = record {
 abbrev pub persons : List ℕ → List ℕ → Part (List Person)
 persons start end = many person_limit start (person start end)
 
--- the relation of a link, which is written where it isn't `alternate`
+-- the relation of a link, which is written only if it isn't `alternate`
 abbrev pub relation_text : List ℕ → List ℕ
 relation_text rel = if bytes_eq rel (codes "alternate") then [] else (attribute (codes " rel=\"")).text rel
 
@@ -73,7 +79,8 @@ relation = record { Is = IsAtomText; text = relation_text; Before = λ rest. sta
 abbrev pub optional_attribute : List ℕ → Part (Option (List ℕ))
 optional_attribute start = optional start (attribute start)
 
-abbrev pub link_parts : Part (((((List ℕ × List ℕ) × Option (List ℕ)) × Option (List ℕ)) × Option (List ℕ)) × Option (List ℕ))
+abbrev pub link_parts : Part
+    (((((List ℕ × List ℕ) × Option (List ℕ)) × Option (List ℕ)) × Option (List ℕ)) × Option (List ℕ))
 link_parts =
     ended (both (both (both (both (both (behind (codes "<link") relation) (attribute (codes " href=\"")))
     (optional_attribute (codes " type=\""))) (optional_attribute (codes " hreflang=\"")))
@@ -99,7 +106,7 @@ links = many link_limit (codes "<link") link
 abbrev pub categories : Part (List Category)
 categories = many category_limit (codes "<category") category
 
--- the number of the member that the link names for editing
+-- the link to a member's own address, by the member's number
 unfoldable pub editing : FeedName → Part ℕ
 editing name = record { Is = λ n. (1 ≤ n) × (n < 2 ^ 32); text = edit_link name; Before = Anything }
 
@@ -123,7 +130,8 @@ front name = both (identifier name) (both (construct (codes "<title") (codes "</
 abbrev pub texts : Part TextsValue
 texts =
     both (whole_construct (codes "<rights") (codes "</rights>"))
-    (both (whole_construct (codes "<summary") (codes "</summary>")) (whole_construct (codes "<content") (codes "</content>")))
+    (both (whole_construct (codes "<summary") (codes "</summary>"))
+    (whole_construct (codes "<content") (codes "</content>")))
 
 -- the parts after the link for editing
 abbrev pub details : Part DetailsValue

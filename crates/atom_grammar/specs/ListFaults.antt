@@ -1,4 +1,4 @@
--- What a full list means for a reader: no part has so many items.
+-- A full list is a mismatch for a reader: no document's text has that many items.
 use Rattle.std.specs.Prelude.{◌≡◌}
 use Rattle.atom_values.specs.declared.many.ListFault.{ListFault}
 use Rattle.atom_values.specs.declared.many.ListFault.TheVariants.{TooMany, NoMemory as Memory}

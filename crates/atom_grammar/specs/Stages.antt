@@ -1,4 +1,4 @@
--- How far a document is read, and where it is refused.
+-- How far each step reads a document, and where it refuses.
 use Rattle.std.specs.Prelude.{◌≡◌, ℕ, ◌-◌, ◌<◌, ◌≤◌, ◌^◌, List, [], ◌∷◌, ◌++◌, map, length, Result, Ok, Err, ℤ, true, nat_eq, All, codes}
 use Rattle.std.specs.List.{IsDistinct}
 use Rattle.atom_values.specs.Listed.{Listed}
@@ -18,8 +18,8 @@ use Rattle.atom_grammar.specs.FeedParts.{IsKind, own_piece, prev_link, prev_piec
 use Rattle.atom_grammar.specs.Parts.{IsAbsent, literal, starts}
 use Rattle.atom_grammar.specs.Refusal.{BeginsADocument}
 
--- behind the pieces read before it, the input is read up to the rest, at which no piece can stand; what was read begins a
--- document, and either there is more of that or of the input
+-- After the pieces `read`, the input is read up to `rest`, where no piece can stand. The pieces read so far begin a
+-- document, and they are not a whole document that ends with the input.
 pub record IsRefused (read : List (List ℕ)) (input rest : List ℕ) : Type 0 where
   pub more : List (List ℕ)
   pub split : input ≡ joined more ++ rest
@@ -32,7 +32,7 @@ unfoldable pub opening_pieces : FeedName → Kind → ℤ → List (List ℕ)
 opening_pieces name kind updated =
     name_pieces name updated ++ own_piece (record { base = name.base; kind = kind }) ∷ []
 
--- the pieces between that and the span
+-- the pieces between the own address and the span
 unfoldable pub links_pieces : FeedName → Kind → ℕ → List (List ℕ)
 links_pieces name kind prev = current_pieces name kind ++ prev_pieces name prev ++ next_pieces name kind
 
@@ -50,7 +50,7 @@ ReadsOpening before (Ok named) after = IsOpeningRead named before after
 ReadsOpening before (Err Mismatch) after = IsRefused [] before after
 ReadsOpening before (Err NoMemory) after = Unit {0}
 
--- the archive before a document, by what stands there
+-- the archive before a document: a subscription document may have no link to it, an archive's number implies it
 abbrev pub IsPrev : FeedName → Kind → ℕ → List ℕ → Type 0
 IsPrev name Subscription prev after = prev ≡ 0 → IsAbsent (prev_link name.base) after
 IsPrev name (Sealed number) prev after = prev ≡ number - 1
@@ -78,16 +78,18 @@ pub record AreItems (span : Span) (items : List Item) : Type 0 where
   pub room : length items ≤ span_len span
   pub distinct : IsDistinct nat_eq (map item_number items)
 
--- items were read
-pub record ReadsSome (name : FeedName) (span : Span) (before : List ℕ) (items : List Item) (after : List ℕ) : Type 0 where
-  pub lawful : AreItems span items
-  pub split : before ≡ joined (map (item_piece name) items) ++ after
+-- the items that were read
+pub record ReadsSome (name : FeedName) (span : Span) (before : List ℕ) (items : List Item) (after : List ℕ) : Type 0
+  where
+    pub lawful : AreItems span items
+    pub split : before ≡ joined (map (item_piece name) items) ++ after
 
--- and neither one more nor the end of the document can stand behind them
+-- neither one more item nor the end of the document can stand after them
 pub record EndsAt (name : FeedName) (span : Span) (before after : List ℕ) : Type 0 where
   pub items : List Item
   pub read : ReadsSome name span before items after
-  pub no_more : (item : Item) (rest : List ℕ) → AreItems span (items ++ item ∷ []) → after ≡ item_piece name item ++ rest → ⊥
+  pub no_more : (item : Item) (rest : List ℕ) → AreItems span (items ++ item ∷ [])
+      → after ≡ item_piece name item ++ rest → ⊥
   pub no_end : IsAbsent (literal (codes "</feed>\n")) after
 
 abbrev pub ReadsItems : FeedName → Span → List ℕ → Result (Listed Item) PartFault → List ℕ → Type 0

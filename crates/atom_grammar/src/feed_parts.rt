@@ -1,4 +1,5 @@
 ghost use Rattle.std.specs.Prelude.{◌≡◌, ℕ, List, ◌∷◌, ◌++◌, true, Some, IfSome, IsSomeAnd, MatchOption};
+ghost use Rattle.atom_values.specs.Ascii.{slash};
 ghost use Rattle.chain_links.specs.Address.{suffix_text};
 ghost use Rattle.deleted_entries.specs.FeedId.{IsFeedId, feed_text};
 ghost use Rattle.atom_writer.specs.Pieces.{own_address};
@@ -7,19 +8,20 @@ ghost use Rattle.atom_grammar.specs.FeedParts.{IsKind, uuid, feed_id, own_addres
 ghost use Rattle.atom_grammar.specs.Parts.{Reads, lacks};
 
 use crate::opening::Own;
-use crate::reader::{Reader, parse_decimal};
 use crate::part_fault::PartFault;
-use atom_writer::Kind;
+use crate::reader::{Reader, parse_decimal};
+use atom_writer::{Kind, MAX_ARCHIVE};
 use chain_links::{Address, Base, BaseFault, Span};
 use deleted_entries::FeedId;
 use std::alloc::Global;
 
-/// How many bytes a UUID has as text with hyphens (RFC 9562 section 4).
+/// The length of a UUID's text with hyphens (RFC 9562 section 4).
 const UUID_LEN: usize = 36;
 
+// Each goal has an answer in proofs/, so no search is made.
 #[tactic(none)]
 impl Reader<'_> {
-    /// The text of the feed's UUID.
+    /// Reads the text of the feed's UUID.
     fn uuid(&mut self) -> Result<FeedId, PartFault>
         ensures { Reads uuid self.old.rest.now result self.new.rest.now }
     {
@@ -33,7 +35,7 @@ impl Reader<'_> {
         Ok(id)
     }
 
-    /// The piece with the feed's identifier (RFC 4287 section 4.2.6).
+    /// Reads the piece with the feed's identifier (RFC 4287 section 4.2.6).
     pub(crate) fn feed_id(&mut self) -> Result<FeedId, PartFault>
         ensures { Reads feed_id self.old.rest.now result self.new.rest.now }
     {
@@ -43,8 +45,8 @@ impl Reader<'_> {
         Ok(id)
     }
 
-    /// The document's own address, up to the quote. The base address is what stands before its last `feed` or
-    /// `archive/` and a number.
+    /// Reads the document's own address, up to the quote. The base address is the part before the last `feed`, or
+    /// before `archive/` and a number.
     fn own_address(&mut self, alloc: Global) -> Result<Own, PartFault>
         ensures { Reads own_text self.old.rest.now result self.new.rest.now }
     {
@@ -61,7 +63,7 @@ impl Reader<'_> {
         }
     }
 
-    /// The link to the document itself (RFC 4287 section 4.2.7.2).
+    /// Reads the link to the document itself (RFC 4287 section 4.2.7.2).
     pub(crate) fn own(&mut self, alloc: Global) -> Result<Own, PartFault>
         ensures { Reads own self.old.rest.now result self.new.rest.now }
     {
@@ -71,7 +73,7 @@ impl Reader<'_> {
         Ok(own)
     }
 
-    /// The link of this relation, and which document of the feed it names (RFC 5005 section 4).
+    /// Reads a link of this relation (RFC 5005 section 4), and returns the document of the feed that it names.
     pub(crate) fn feed_link(&mut self, rel: &[u8], base: &Base) -> Result<Address, PartFault>
         ensures { Reads (feed_link rel.now base.now) self.old.rest.now result self.new.rest.now }
     {
@@ -83,7 +85,7 @@ impl Reader<'_> {
         Ok(address)
     }
 
-    /// The piece with the span.
+    /// Reads the piece with the span.
     pub(crate) fn span(&mut self) -> Result<Span, PartFault>
         ensures { Reads span self.old.rest.now result self.new.rest.now }
     {
@@ -96,7 +98,7 @@ impl Reader<'_> {
     }
 }
 
-/// The feed's identifier that is printed so.
+/// Parses a feed's identifier in its printed form.
 fn read_id(text: &[u8]) -> Option<FeedId>
     ensures found { IfSome result (λ id. IsFeedId id × (text.now ≡ feed_text id)) }
     ensures only { (id : List ℕ) → IsFeedId id → text.now ≡ feed_text id → result ≡ Some id }
@@ -109,15 +111,16 @@ fn read_id(text: &[u8]) -> Option<FeedId>
     }
 }
 
-/// What stands before the last `/`, and behind it.
+/// Splits the text at its last `/`, which neither part has.
 fn split_at_last_slash(text: &[u8]) -> Option<(&[u8], &[u8])>
-    ensures { MatchOption result (lacks 47 text.now ≡ true) (λ x. (text.now ≡ x.0.now ++ 47 ∷ x.1.now) × (lacks 47 x.1.now ≡ true)) }
+    ensures { MatchOption result (lacks slash text.now ≡ true)
+        (λ x. (text.now ≡ x.0.now ++ slash ∷ x.1.now) × (lacks slash x.1.now ≡ true)) }
 {
     let at = text.iter().rposition(|byte| *byte == b'/')?;
     Some((&text[..at], &text[at + 1..]))
 }
 
-/// The base address and the document that the text is the address of.
+/// Splits the address of a document into the base address and the kind of document.
 fn split_own(text: &[u8]) -> Option<(&[u8], Kind)>
     ensures found { IfSome result (λ x. IsKind x.1 × (text.now ≡ x.0.now ++ suffix_text (own_address x.1))) }
     ensures only { (base : List ℕ) (kind : Kind) → IsKind kind → text.now ≡ base ++ suffix_text (own_address kind)
@@ -129,7 +132,7 @@ fn split_own(text: &[u8]) -> Option<(&[u8], Kind)>
     let (front, digits) = split_at_last_slash(text)?;
     let base = front.strip_suffix(b"archive")?;
     let number = parse_decimal(digits)?;
-    if number == 0 || number == u32::MAX {
+    if number == 0 || number > MAX_ARCHIVE {
         return None;
     }
     Some((base, Kind::Archive(number)))

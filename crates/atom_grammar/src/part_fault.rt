@@ -1,11 +1,11 @@
 use atom_values::{ListFault, NoMemory};
 
-/// Why the input isn't read on.
+/// Why a part is not read.
 #[derive(Clone, Copy, Debug, PartialEq, Eq)]
 pub(crate) enum PartFault {
-    /// What is to be read doesn't stand there.
+    /// The input doesn't begin with the part.
     Mismatch,
-    /// Memory ran out.
+    /// Out of memory.
     NoMemory,
 }
 

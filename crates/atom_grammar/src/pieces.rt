@@ -8,8 +8,8 @@ ghost use Rattle.atom_grammar.specs.Items.{element};
 ghost use Rattle.atom_grammar.specs.Parts.{literal, starts};
 
 use crate::opening::Own;
-use crate::reader::Reader;
 use crate::part_fault::PartFault;
+use crate::reader::Reader;
 use atom_values::{AtomText, Stamp};
 use atom_writer::{FeedName, Kind, MAX_ITEMS, is_placed};
 use chain_links::{Address, Base, Span};
@@ -19,16 +19,16 @@ use std::alloc::Global;
 /// The last piece of a document.
 pub(crate) const END: &[u8] = b"</feed>\n";
 
-/// The input behind the pieces that were read. A piece is read whole, or an `Err(Mismatch)` leaves the input where the
-/// piece begins.
+/// The unread input. Each method consumes one whole piece, or on `Mismatch` nothing.
 #[derive(Drop)]
 pub(crate) struct Pieces<'a> {
     pub(crate) rest: &'a [u8],
 }
 
+// Each goal has an answer in proofs/, so no search is made.
 #[tactic(none)]
 impl Pieces<'_> {
-    /// A piece that is always the same.
+    /// Reads a piece that is always the same.
     pub(crate) fn fixed(&mut self, piece: &[u8]) -> Result<(), PartFault>
         ensures { ReadsPiece (literal piece.now) self.old.rest.now result self.new.rest.now }
     {
@@ -45,7 +45,7 @@ impl Pieces<'_> {
         Reader::new(self.rest).at(END)
     }
 
-    /// The piece with the feed's identifier.
+    /// Reads the piece with the feed's identifier.
     pub(crate) fn feed_id(&mut self) -> Result<FeedId, PartFault>
         ensures { ReadsPiece feed_id self.old.rest.now result self.new.rest.now }
     {
@@ -55,8 +55,13 @@ impl Pieces<'_> {
         Ok(id)
     }
 
-    /// A piece with a text between these tags.
-    pub(crate) fn text(&mut self, alloc: Global, start: &[u8], end: &[u8]) -> Result<AtomText, PartFault>
+    /// Reads a piece with a text between these tags.
+    pub(crate) fn text(
+        &mut self,
+        alloc: Global,
+        start: &[u8],
+        end: &[u8],
+    ) -> Result<AtomText, PartFault>
         requires { IsTrue (starts (codes "</") end.now) }
         ensures { ReadsPiece (element start.now end.now) self.old.rest.now result self.new.rest.now }
     {
@@ -66,7 +71,7 @@ impl Pieces<'_> {
         Ok(text)
     }
 
-    /// The piece with the moment of the last change.
+    /// Reads the piece with the timestamp of the last change.
     pub(crate) fn updated(&mut self) -> Result<Stamp, PartFault>
         ensures { ReadsPiece updated self.old.rest.now result self.new.rest.now }
     {
@@ -76,7 +81,7 @@ impl Pieces<'_> {
         Ok(moment)
     }
 
-    /// The link to the document itself.
+    /// Reads the link to the document itself.
     pub(crate) fn own(&mut self, alloc: Global) -> Result<Own, PartFault>
         ensures { ReadsPiece own self.old.rest.now result self.new.rest.now }
     {
@@ -86,7 +91,7 @@ impl Pieces<'_> {
         Ok(own)
     }
 
-    /// The link of this relation to this document of the feed.
+    /// Reads a link of this relation to this document of the feed.
     pub(crate) fn link_to(&mut self, rel: &[u8], base: &Base, to: Address) -> Result<(), PartFault>
         requires { IsAddress to }
         ensures { ReadsPiece (link_to rel.now base.now to) self.old.rest.now result self.new.rest.now }
@@ -100,7 +105,7 @@ impl Pieces<'_> {
         Ok(())
     }
 
-    /// The link to the archive before, and its number.
+    /// Reads the link to the archive before the document, and returns its number.
     pub(crate) fn prev_link(&mut self, base: &Base) -> Result<u32, PartFault>
         ensures { ReadsPiece (prev_link base.now) self.old.rest.now result self.new.rest.now }
     {
@@ -112,7 +117,7 @@ impl Pieces<'_> {
         Ok(number)
     }
 
-    /// The piece with the span of a document of this kind behind the archive `prev`.
+    /// Reads the piece with the span of a document of this kind, which comes after the archive `prev`.
     pub(crate) fn span(&mut self, kind: Kind, prev: u32) -> Result<Span, PartFault>
         ensures { ReadsPiece (span_of kind prev) self.old.rest.now result self.new.rest.now }
     {
@@ -125,7 +130,7 @@ impl Pieces<'_> {
         Ok(span)
     }
 
-    /// The piece of an item of another member than these items have.
+    /// Reads the piece of an item whose member has none of the items `before`.
     pub(crate) fn item(
         &mut self,
         alloc: Global,
@@ -144,7 +149,7 @@ impl Pieces<'_> {
     }
 }
 
-/// How many operations a span has.
+/// The number of operations that a span covers.
 pub(crate) fn operations(span: Span) -> u64
     ensures { result ≡ span_len span }
 {

@@ -34,6 +34,3 @@ pub use doc::{Doc, FeedName, Kind, MAX_ARCHIVE, MAX_ITEMS, is_placed};
 pub use item::entry_len;
 pub use member::write_member;
 pub use write::{doc_len, write_doc};
-
-#[cfg(test)]
-mod tests;

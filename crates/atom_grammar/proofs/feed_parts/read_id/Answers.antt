@@ -10,7 +10,8 @@ returns-in_err-id-clause-only c = λ id is e.
     absurd cc
 
 pub returns-then-eq-clause-only : goal.returns-then-eq-clause-only
-returns-then-eq-clause-only c = λ id is e. ap (λ x. Some x) (id_same c.args.text.now c.in_ok-id.id id c.in_ok-id.ensures.value is e)
+returns-then-eq-clause-only c =
+    λ id is e. ap (λ x. Some x) (id_same c.args.text.now c.in_ok-id.id id c.in_ok-id.ensures.value is e)
 
 pub returns-else-eq-clause-only : goal.returns-else-eq-clause-only
 returns-else-eq-clause-only c = λ id is e.

@@ -12,4 +12,6 @@ link_to-requires c = (omega arith, c.ranges.prev.fits)
 
 pub returns : goal.returns
 unfolding prev_piece link_piece
-returns c = prev_link_read c.args.name.now c.args.prev c.args.pieces.now.rest.now _ c.link_to.result (omega arith) c.link_to.ensures
+returns c =
+    prev_link_read c.args.name.now c.args.prev c.args.pieces.now.rest.now _ c.link_to.result (omega arith)
+    c.link_to.ensures

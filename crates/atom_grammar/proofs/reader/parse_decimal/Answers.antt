@@ -17,4 +17,6 @@ returns-then-eq-clause-only c = λ n small e.
 pub returns-clause-only : goal.returns-clause-only
 returns-clause-only c = λ n small e.
     c.whole_number.ensures.only n
-    (from_one c.args.text.now n (λ is. false≢true (sym c.if-eq.false ∙ c.eq.ensures ∙ (bytes_eq-Decides _ _).1 (is ∙ sym c.as_slice.ensures))) e) small e
+    (from_one c.args.text.now n
+    (λ is. false≢true (sym c.if-eq.false ∙ c.eq.ensures ∙ (bytes_eq-Decides _ _).1 (is ∙ sym c.as_slice.ensures)))
+    e) small e

@@ -6,5 +6,6 @@ returns-in_default c = member_short c.args.feed.now c.args.self.now.rest.now c.i
 
 pub returns : goal.returns
 returns c =
-    member_read c.args.feed.now c.args.self.now.rest.now c.in-Some.id.now c.in-Some.rest.now c.number_of.result c.ok_or.result c.ok_or.ensures.value
+    member_read c.args.feed.now c.args.self.now.rest.now c.in-Some.id.now c.in-Some.rest.now c.number_of.result
+    c.ok_or.result c.ok_or.ensures.value
     c.in-Some.ensures.cases.1 c.in-Some.ensures.cases.2 c.number_of.ensures

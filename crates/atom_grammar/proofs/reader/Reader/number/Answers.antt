@@ -6,5 +6,6 @@ returns-in_default c = number_nowhere c.args.self.now.rest.now c.in_default.ensu
 
 pub returns : goal.returns
 returns c =
-    number_read c.args.self.now.rest.now c.in-Some.digits.now c.up_to.new.self.rest.now c.parse_decimal.result c.ok_or.result c.ok_or.ensures.value
+    number_read c.args.self.now.rest.now c.in-Some.digits.now c.up_to.new.self.rest.now c.parse_decimal.result
+    c.ok_or.result c.ok_or.ensures.value
     c.in-Some.ensures c.parse_decimal.ensures.found c.parse_decimal.ensures.only
