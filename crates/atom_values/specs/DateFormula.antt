@@ -94,13 +94,9 @@ value_of_parts date_time fraction offset =
 abbrev pub offset_length : List ℕ → ℕ
 offset_length rest = if slice_index rest (length rest - 1) == upper_z then 1 else 6
 
--- the length of YYYY-MM-DDThh:mm:ss
-abbrev pub date_time_length : ℕ
-date_time_length = 19
-
--- the value of a date text: its date and time, its offset, and the fraction between them
+-- the value of a date text: its first 19 bytes, its offset, and the fraction between them
 unfoldable pub value_of : List ℕ → Option ℤ
 value_of text =
-    let rest = drop date_time_length text in
+    let rest = drop 19 text in
     let before_offset = length rest - offset_length rest in
-    value_of_parts (take date_time_length text) (take before_offset rest) (drop before_offset rest)
+    value_of_parts (take 19 text) (take before_offset rest) (drop before_offset rest)

@@ -34,7 +34,7 @@ pub use category::Category;
 pub use copies::Copies;
 pub use entry::{Draft, Entry, MAX_CATEGORIES, MAX_LINKS, MAX_PERSONS};
 pub use link::Link;
-pub use listed_calls::{ListedCalls, MAX_LISTED};
+pub use listed_calls::ListedCalls;
 pub use many::{ListFault, Many};
 pub use memory::{Failed, NoMemory};
 pub use person::Person;

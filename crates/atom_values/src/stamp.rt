@@ -31,9 +31,6 @@ impl Model for Stamp {
     ghost inverse = { λ z. record { millis = z } };
 }
 
-/// The length of YYYY-MM-DDThh:mm:ss, with which each date text begins.
-const DATE_TIME_LEN: usize = 19;
-
 impl Stamp {
     /// The earliest timestamp, 0000-01-01T00:00:00Z, in milliseconds since 1970.
     pub const MIN_MILLIS: i64 = -62_167_219_200_000;
@@ -70,7 +67,7 @@ impl Stamp {
     pub fn parse(text: &[u8]) -> Option<Stamp>
         ensures stated { (moment : ℤ) → (result ≡ Some moment) ↔ States text.now moment }
     {
-        let (date_time, rest) = text.split_at(text.len().min(DATE_TIME_LEN));
+        let (date_time, rest) = text.split_at(text.len().min(19));
         let (fraction, offset) = rest.split_at(rest.len().saturating_sub(offset_length(rest)));
         value_of_parts(date_time, fraction, offset)
     }
