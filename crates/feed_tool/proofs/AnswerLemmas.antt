@@ -23,13 +23,15 @@ past_once input one other p (inr (inr q)) = absurd (omega (arith, p.past, q.with
 summary_once : (input : List ℕ) (one other : Answer) → IsSummary input one → IsShown input other → one ≡ other
 summary_once input one other p (inl q) = absurd (omega (arith, q.past, p.within))
 summary_once input one other p (inr (inl q)) =
-    p.is ∙ ap (λ d. record { status = Done; printed = summary d }) (one_reading p.document q.document p.lawful q.lawful (sym p.split ∙ q.split)) ∙ sym q.is
+    p.is ∙ ap (λ d. record { status = Done; printed = summary d })
+    (one_reading p.document q.document p.lawful q.lawful (sym p.split ∙ q.split)) ∙ sym q.is
 summary_once input one other p (inr (inr q)) = absurd (q.none p.document p.lawful p.split)
 
 bad_once : (input : List ℕ) (one other : Answer) → IsBadDocument input one → IsShown input other → one ≡ other
 bad_once input one other p (inl q) = absurd (omega (arith, q.past, p.within))
 bad_once input one other p (inr (inl q)) = absurd (p.none q.document q.lawful q.split)
-bad_once input one other p (inr (inr q)) = p.is ∙ ap (λ offset. refusal_answer (BadDocument offset)) (place_once input p.offset q.offset p.place q.place) ∙ sym q.is
+bad_once input one other p (inr (inr q)) = p.is
+    ∙ ap (λ offset. refusal_answer (BadDocument offset)) (place_once input p.offset q.offset p.place q.place) ∙ sym q.is
 
 shown_once : (input : List ℕ) (one other : Answer) → IsShown input one → IsShown input other → one ≡ other
 shown_once input one other (inl p) q = past_once input one other p q

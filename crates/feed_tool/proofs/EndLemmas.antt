@@ -3,7 +3,15 @@ use Rattle.std.proofs.Common.{◌≡◌, ℕ, ⊎_elim, refl, arith}
 use Rattle.feed_tool.specs.declared.fault.Fault.{Fault}
 use Rattle.feed_tool.specs.declared.fault.Fault.TheVariants.{NoMemory, Input, Refused}
 use Rattle.feed_tool.specs.declared.fault.Refusal.{Refusal}
-use Rattle.feed_tool.specs.declared.fault.Refusal.TheVariants.{TooLong, BadDocument, BadLine, NotFound, Deleted, Clock, TooLarge}
+use Rattle.feed_tool.specs.declared.fault.Refusal.TheVariants.{
+  TooLong,
+  BadDocument,
+  BadLine,
+  NotFound,
+  Deleted,
+  Clock,
+  TooLarge,
+}
 use Rattle.feed_tool.specs.Fault.{fault_answer, refusal_answer, IsRefusal}
 use Rattle.feed_tool.specs.Run.{IsAnswered}
 use Rattle.feed_tool.specs.Status.{code_of}

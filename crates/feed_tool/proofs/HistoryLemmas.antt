@@ -17,7 +17,8 @@ lawful-none head following = record {
 }
 
 -- room for more members changes nothing else
-pub IsTableOf-with_room : (table : Table) (spare : ℕ) (created : ℤ) (history : List Op) → IsTableOf table created history → IsTableOf (record table { spare = spare }) created history
+pub IsTableOf-with_room : (table : Table) (spare : ℕ) (created : ℤ) (history : List Op) →
+    IsTableOf table created history → IsTableOf (record table { spare = spare }) created history
 IsTableOf-with_room table spare created history t = record {
   following = t.following;
   count = t.count;

@@ -4,7 +4,15 @@ use Rattle.atom_values.specs.Counts.{HasCause}
 use Rattle.feed_tool.specs.declared.fault.Fault.{Fault}
 use Rattle.feed_tool.specs.declared.fault.Fault.TheVariants.{NoMemory, Input, Refused}
 use Rattle.feed_tool.specs.declared.fault.Refusal.{Refusal}
-use Rattle.feed_tool.specs.declared.fault.Refusal.TheVariants.{TooLong, BadDocument, BadLine, NotFound, Deleted, Clock, TooLarge}
+use Rattle.feed_tool.specs.declared.fault.Refusal.TheVariants.{
+  TooLong,
+  BadDocument,
+  BadLine,
+  NotFound,
+  Deleted,
+  Clock,
+  TooLarge,
+}
 use Rattle.feed_tool.specs.Outside.{SinkState}
 use Rattle.feed_tool.specs.Answer.{TakesPrefix, Prints}
 use Rattle.feed_tool.specs.Fault.{fault_answer, refusal_answer}
@@ -16,7 +24,8 @@ pub prints-from : {T E : Type 0} (r : Result T E) (before after : SinkState) (te
     → TakesPrefix before after text → OnOk r (after.taken ≡ before.taken ++ text)
     → HasCause before.faults after.faults r → Prints before after text
 prints-from (Ok x) before after text prefix whole cause = record { prefix = prefix; whole = λ _. whole }
-prints-from (Err e) before after text prefix whole cause = record { prefix = prefix; whole = λ none. absurd (none cause.failed) }
+prints-from (Err e) before after text prefix whole cause =
+    record { prefix = prefix; whole = λ none. absurd (none cause.failed) }
 
 no_ten : {A : Type 0} → IsAlone 10 → A
 no_ten h = ⊎_elim (λ e. absurd (omega arith))

@@ -1,5 +1,27 @@
 -- The history that the lines of an input make, and what the command `apply W` answers.
-use Rattle.std.specs.Prelude.{◌≡◌, ℕ, ◌+◌, ◌≤◌, List, [], ◌∷◌, ◌++◌, pos, length, take, nat_le, if◌then◌else◌, Option, Some, None, Result, Ok, Err, IsOk, codes}
+use Rattle.std.specs.Prelude.{
+  ◌≡◌,
+  ℕ,
+  ◌+◌,
+  ◌≤◌,
+  List,
+  [],
+  ◌∷◌,
+  ◌++◌,
+  pos,
+  length,
+  take,
+  nat_le,
+  if◌then◌else◌,
+  Option,
+  Some,
+  None,
+  Result,
+  Ok,
+  Err,
+  IsOk,
+  codes,
+}
 use Rattle.atom_writer.specs.Pieces.{text}
 use Rattle.feed_tool.specs.declared.commands.lines.LinesFault.{LinesFault}
 use Rattle.feed_tool.specs.declared.commands.lines.LinesFault.TheVariants as lines
@@ -24,7 +46,8 @@ unfoldable pub test_head : ℕ → HeadValue
 test_head window = record {
   name = record {
     base = codes "http://feed.example/";
-    id = 0x6d ∷ 0x1f ∷ 0x0c ∷ 0x5a ∷ 0x93 ∷ 0xbe ∷ 0x4c ∷ 0x27 ∷ 0x8d ∷ 0x10 ∷ 0x2b ∷ 0x7f ∷ 0x9e ∷ 0x4a ∷ 0x5c ∷ 0x36 ∷ [];
+    id = 0x6d ∷ 0x1f ∷ 0x0c ∷ 0x5a ∷ 0x93 ∷ 0xbe ∷ 0x4c ∷ 0x27 ∷ 0x8d ∷ 0x10 ∷ 0x2b ∷ 0x7f ∷ 0x9e ∷ 0x4a ∷ 0x5c ∷ 0x36
+        ∷ [];
     title = codes "Feed";
     author = codes "Editor";
   };
@@ -59,7 +82,7 @@ after_lines head moments history before (line ∷ later) =
     line_operation head moments history before line
     >>= λ operation. after_lines head moments (history ++ operation ∷ []) (before + 1) later
 
--- the history that an input makes. If the input is over the limit, the lines that lie wholly within the limit come first
+-- the history that an input makes. If the input is over the limit, the lines wholly within the limit come first
 unfoldable pub applied : HeadValue → (ℕ → ℕ) → List ℕ → Result (List Op) Fault
 applied head moments input =
     if nat_le (length input) input_limit

@@ -7,7 +7,15 @@ use Rattle.feed_tool.specs.declared.status.Status.TheVariants as status
 use Rattle.feed_tool.specs.declared.fault.Fault.{Fault}
 use Rattle.feed_tool.specs.declared.fault.Fault.TheVariants.{NoMemory, Input, Refused}
 use Rattle.feed_tool.specs.declared.fault.Refusal.{Refusal}
-use Rattle.feed_tool.specs.declared.fault.Refusal.TheVariants.{TooLong, BadDocument, BadLine, NotFound, Deleted, Clock, TooLarge}
+use Rattle.feed_tool.specs.declared.fault.Refusal.TheVariants.{
+  TooLong,
+  BadDocument,
+  BadLine,
+  NotFound,
+  Deleted,
+  Clock,
+  TooLarge,
+}
 use Rattle.feed_tool.specs.Answer.{Answer}
 
 -- a number between two words
@@ -46,7 +54,7 @@ IsRefusal NoMemory = ⊥
 IsRefusal Input = ⊥
 IsRefusal (Refused refusal) = Unit {0}
 
--- the fault of a line that the rules refuse. No line makes a draft with an identifier, and no rule answers that memory ran out
+-- the fault of a line that the rules refuse. No line makes a draft with an identifier, and no rule answers `NoMemory`
 abbrev pub rule_fault : ℕ → RuleFault → Fault
 rule_fault line (rules.NotFound member) = Refused (NotFound line member)
 rule_fault line (rules.Deleted member when) = Refused (Deleted line member)

@@ -1,5 +1,27 @@
 -- What a line of `apply` asks for.
-use Rattle.std.specs.Prelude.{ℕ, ◌+◌, ◌^◌, List, [], ◌∷◌, ◌==◌, ◌&&◌, if◌then◌else◌, nat_le, nat_lt, length, drop, codes, decimal, Option, Some, None, option_map, option_and_then, nat_eq}
+use Rattle.std.specs.Prelude.{
+  ℕ,
+  ◌+◌,
+  ◌^◌,
+  List,
+  [],
+  ◌∷◌,
+  ◌==◌,
+  ◌&&◌,
+  if◌then◌else◌,
+  nat_le,
+  nat_lt,
+  length,
+  drop,
+  codes,
+  decimal,
+  Option,
+  Some,
+  None,
+  option_map,
+  option_and_then,
+  nat_eq,
+}
 use Rattle.std.specs.List.{starts_with}
 use Rattle.std.specs.Str.{bytes_eq}
 use Rattle.std.specs.Str.Parse.{digits_value}
@@ -26,7 +48,8 @@ member_number digits =
 -- the text before the first space, and the text after it
 abbrev pub parted : List ℕ → Option (List ℕ × List ℕ)
 parted [] = None
-parted (b ∷ words) = if b == space then Some ([], words) else option_map (λ parts. (b ∷ parts.0, parts.1)) (parted words)
+parted (b ∷ words) = if b == space then Some ([], words) else option_map (λ parts. (b ∷ parts.0, parts.1))
+    (parted words)
 
 -- the change that a member's number and a title ask for
 abbrev pub change_by : List ℕ × List ℕ → Option Ask

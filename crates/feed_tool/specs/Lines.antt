@@ -1,5 +1,26 @@
 -- The lines of an input, and a reader of them.
-use Rattle.std.specs.Prelude.{◌≡◌, ◌≢◌, ◌⊎◌, ℕ, ◌+◌, ◌-◌, ◌<◌, ◌≤◌, List, [], ◌∷◌, ◌++◌, Bool, ◌==◌, if◌then◌else◌, length, take, drop, IsTrue, All}
+use Rattle.std.specs.Prelude.{
+  ◌≡◌,
+  ◌≢◌,
+  ◌⊎◌,
+  ℕ,
+  ◌+◌,
+  ◌-◌,
+  ◌<◌,
+  ◌≤◌,
+  List,
+  [],
+  ◌∷◌,
+  ◌++◌,
+  Bool,
+  ◌==◌,
+  if◌then◌else◌,
+  length,
+  take,
+  drop,
+  IsTrue,
+  All,
+}
 use Rattle.atom_values.specs.Ascii.{lf}
 use Rattle.feed_tool.specs.Line.{prefix_limit}
 use Rattle.feed_tool.specs.Outside.{SourceState}
@@ -58,19 +79,22 @@ abbrev pub HasNoLf : List ℕ → Type 0
 HasNoLf bytes = HasNo lf bytes
 
 -- a line was found that ends with LF
-pub record FindsEnded (before : LinesState) (input : SourceState) (after : LinesState) (rest : SourceState) (line : List ℕ) : Type 0 where
+pub record FindsEnded (before : LinesState) (input : SourceState) (after : LinesState) (rest : SourceState)
+    (line : List ℕ) : Type 0 where
   pub whole : stream before input ≡ line ++ lf ∷ stream after rest
   pub used : allowance before ≡ length line + 1 + allowance after
 
 -- the last line was found, which ends with the input
-pub record FindsLast (before : LinesState) (input : SourceState) (after : LinesState) (rest : SourceState) (line : List ℕ) : Type 0 where
+pub record FindsLast (before : LinesState) (input : SourceState) (after : LinesState) (rest : SourceState)
+    (line : List ℕ) : Type 0 where
   pub whole : stream before input ≡ line
   pub spent : stream after rest ≡ []
   pub some : 0 < length line
   pub within : length line ≤ allowance before
 
 -- a line was found
-pub record FindsLine (before : LinesState) (input : SourceState) (after : LinesState) (rest : SourceState) : Type 0 where
+pub record FindsLine (before : LinesState) (input : SourceState) (after : LinesState)
+    (rest : SourceState) : Type 0 where
   pub line : List ℕ
   pub no_lf : HasNoLf line
   pub prefix : after.line ≡ take prefix_limit line

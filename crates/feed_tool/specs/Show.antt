@@ -46,7 +46,8 @@ head_lines d = kind_line d.kind ++ feed_line d ++ span_line d ++ prev_line d ++ 
 -- an entry by its number, its `updated` and its title, which is escaped as in an attribute
 unfoldable pub entry_line : EntryValue → List ℕ
 entry_line entry =
-    codes "entry " ++ decimal entry.number ++ codes " " ++ printed entry.updated ++ codes " " ++ escaped true entry.title.value ++ codes "\n"
+    codes "entry " ++ decimal entry.number ++ codes " " ++ printed entry.updated ++ codes " "
+    ++ escaped true entry.title.value ++ codes "\n"
 
 -- a deleted entry by its number and when it was deleted
 unfoldable pub gone_line : TombstoneValue → List ℕ

@@ -1,7 +1,15 @@
 -- The exit statuses.
 use Rattle.std.specs.Prelude.{ℕ}
 use Rattle.feed_tool.specs.declared.status.Status.{Status}
-use Rattle.feed_tool.specs.declared.status.Status.TheVariants.{Done, Usage, NoMemory, OutputFault, InputFault, BadInput, Refused}
+use Rattle.feed_tool.specs.declared.status.Status.TheVariants.{
+  Done,
+  Usage,
+  NoMemory,
+  OutputFault,
+  InputFault,
+  BadInput,
+  Refused,
+}
 
 -- the exit status of each way to end
 abbrev pub code_of : Status → ℕ

@@ -1,5 +1,29 @@
 -- The words of the command line.
-use Rattle.std.specs.Prelude.{ℕ, ◌+◌, ◌*◌, ◌-◌, ◌≤◌, List, [], ◌∷◌, Bool, not, ◌&&◌, ◌==◌, nat_le, Option, Some, None, option_map, false, if◌then◌else◌, codes, fold, bytes_eq, length}
+use Rattle.std.specs.Prelude.{
+  ℕ,
+  ◌+◌,
+  ◌*◌,
+  ◌-◌,
+  ◌≤◌,
+  List,
+  [],
+  ◌∷◌,
+  Bool,
+  not,
+  ◌&&◌,
+  ◌==◌,
+  nat_le,
+  Option,
+  Some,
+  None,
+  option_map,
+  false,
+  if◌then◌else◌,
+  codes,
+  fold,
+  bytes_eq,
+  length,
+}
 use Rattle.std.specs.List.{list_all}
 use Rattle.std.specs.Char.{is_ascii_digit}
 use Rattle.feed_tool.specs.declared.words.Command.{Command}

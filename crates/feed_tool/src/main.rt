@@ -1,7 +1,7 @@
 //! The program `feed_tool`: one command for each thing that a feed needs.
 //!
-//! Begin with [`run::run`], which does all the work: for every input, clock and failure its contract says which exit status
-//! the program ends with and which bytes it prints. A test calls it as `main` does, with objects in memory:
+//! Begin with [`run::run`], which does all the work: for every input, clock and failure its contract says which exit
+//! status the program ends with and which bytes it prints. A test calls it as `main` does, with objects in memory:
 //!
 //! ```text
 //! let mut clock = SetClock::new(moments);
@@ -11,8 +11,8 @@
 //! assert_eq!(rt; ended.status, 0);
 //! ```
 //!
-//! The commands are in `commands`. The objects outside the program are traits in `outside`: those of the system are thin
-//! adapters, and those in memory are for tests.
+//! The commands are in `commands`. The objects outside the program are traits in `outside`: those of the system are
+//! thin adapters, and those in memory are for tests.
 //!
 //! Stands on `archive_sealer` and `atom_grammar` for the documents, and on the crates below them.
 #![tactic(auto)]

@@ -31,14 +31,16 @@ pub trait Source {
     /// The bytes that are left, and the count of faults.
     ghost state: { Self → SourceState };
 
-    /// Reads bytes into the start of `into` and returns how many. A buffer that isn't empty gets none only at the end.
+    /// Reads bytes into the start of `into` and returns how many. A buffer that isn't empty gets none only at the
+    /// end.
     ///
     /// `Failed`: the call failed. It is counted as a fault, and no byte is taken.
     fn read(&mut self, into: &mut [u8]) -> Result<usize, Failed>
         ensures within { IfOk result (λ count. count ≤ length into.old) }
         ensures bytes { IfOk result (λ count. told
             → (state self.old).left ≡ take count into.new ++ (state self.new).left) }
-        ensures end { IfOk result (λ count. told → count ≡ 0 → 0 < length into.old → (state self.old).left ≡ []) }
+        ensures end { IfOk result (λ count. told → count ≡ 0 → 0 < length into.old
+            → (state self.old).left ≡ []) }
         ensures err { OnErr result (told → (state self.new).left ≡ (state self.old).left) }
         ensures counts { HasCause (state self.old).faults (state self.new).faults result };
 }

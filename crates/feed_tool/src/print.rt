@@ -10,7 +10,8 @@ use atom_values::Failed;
 /// `Failed`: a call on the output failed, and the output took a prefix.
 pub fn write_all<O: Sink>(output: &mut O, bytes: &[u8]) -> Result<(), Failed>
     ensures prefix { O.told → TakesPrefix (O.state output.old) (O.state output.new) bytes.now }
-    ensures whole { OnOk result (O.told → (O.state output.new).taken ≡ (O.state output.old).taken ++ bytes.now) }
+    ensures whole { OnOk result (O.told
+        → (O.state output.new).taken ≡ (O.state output.old).taken ++ bytes.now) }
     ensures counts { HasCause (O.state output.old).faults (O.state output.new).faults result }
 {
     let mut sent = 0;

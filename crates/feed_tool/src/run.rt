@@ -24,7 +24,8 @@ pub struct Ended {
     pub status: u8,
 }
 
-/// Runs the command that the words name, and returns the exit status, which docs/FORMATS.md lists with what is printed.
+/// Runs the command that the words name, and returns the exit status, which docs/FORMATS.md lists with what is
+/// printed.
 ///
 /// `apply W` applies the lines of the input to an empty history, each with one moment of the clock, and prints the
 /// subscription document. `show` reads the input as one document and prints its summary. At any other end the line of
@@ -38,14 +39,15 @@ pub fn run<C: Clock, I: Source, O: Sink>(
 ) -> Ended
     // The exit statuses, and the words that name no command.
     ensures statuses { IsStatus result.status }
-    ensures usage { (result.status ≡ code_of status.Usage) ↔ (command_of (map string_bytes words.now) ≡ None) }
+    ensures usage { (result.status ≡ code_of status.Usage) ↔ (command_of (map string_bytes words.now)
+        ≡ None) }
 
-    // If contracts can see the content of the input, and of the clock where the command asks it: status and output are
-    // those of the command's answer.
+    // If contracts can see the content of the input, and of the clock where the command asks it: status and output
+    // are those of the command's answer.
     ensures answered { I.told → IfSome (command_of (map string_bytes words.now)) (λ command.
         (AsksClock command → C.told) → IsAnswered result.status
         → EndsWith command (C.coming clock.old) (I.state input.old).left O.told
-            (O.state output.old) (O.state output.new) result.status) }
+        (O.state output.old) (O.state output.new) result.status) }
 
     // The other ends print their line, which says nothing of the input.
     ensures alone { O.told → IsAlone result.status
@@ -69,7 +71,7 @@ pub fn run<C: Clock, I: Source, O: Sink>(
         (AsksClock command → C.told) → (given : Answer)
         → IsAnswer command (C.coming clock.old) (I.state input.old).left given
         → IsComplete (I.state input.old) (I.state input.new) (O.state output.old) (O.state output.new)
-            result.status given.status) }
+        result.status given.status) }
 {
     let Some(command) = command_of(words) else {
         // The status doesn't depend on whether its line could be printed.
@@ -117,7 +119,7 @@ fn answer<C: Clock, I: Source>(
     requires { HasRange command }
     ensures answer { IfOk result (λ written. I.told → (AsksClock command → C.told)
         → IsAnswer command (C.coming clock.old) (I.state input.old).left
-            record { status = status.Done; printed = written.items }) }
+        record { status = status.Done; printed = written.items }) }
     ensures refused { IfErr result (λ fault. IsRefusal fault → I.told → (AsksClock command → C.told)
         → IsAnswer command (C.coming clock.old) (I.state input.old).left (fault_answer fault)) }
     ensures input { result ≡ Err Fault.Input → Rose (I.state input.old).faults (I.state input.new).faults }

@@ -81,7 +81,12 @@ fn expect(
     let mut input = ListSource::new(bytes, listed(alloc, run_of.failing_read)?);
     let mut output = ListSink::new(alloc, listed(alloc, run_of.failing_write)?);
     let ended = run(alloc, words.as_slice(), &mut clock, &mut input, &mut output);
-    assert_eq!(rt; (ended.status, output.bytes()), (status, printed), "{:?}", run_of.words);
+    assert_eq!(rt;
+        (ended.status, output.bytes()),
+        (status, printed),
+        "{:?}",
+        run_of.words
+    );
     Ok(())
 }
 
@@ -128,7 +133,8 @@ fn push_item(alloc: Global, text: &mut Vec<u8>, item: &Shown) -> Result<(), Fail
 }
 
 /// The first lines of each document of the feed that `apply W` makes.
-const OPENING: &str = "<?xml version=\"1.0\" encoding=\"utf-8\"?>\n<feed xmlns=\"http://www.w3.org/2005/Atom\" xmlns:fh=\"http://purl.org/syndication/history/1.0\" xmlns:at=\"http://purl.org/atompub/tombstones/1.0\" xmlns:app=\"http://www.w3.org/2007/app\" xmlns:sp=\"urn:archived-feed:span:1\">\n<id>urn:uuid:6d1f0c5a-93be-4c27-8d10-2b7f9e4a5c36</id>\n<title>Feed</title>\n";
+const OPENING: &str =
+    "<?xml version=\"1.0\" encoding=\"utf-8\"?>\n<feed xmlns=\"http://www.w3.org/2005/Atom\" xmlns:fh=\"http://purl.org/syndication/history/1.0\" xmlns:at=\"http://purl.org/atompub/tombstones/1.0\" xmlns:app=\"http://www.w3.org/2007/app\" xmlns:sp=\"urn:archived-feed:span:1\">\n<id>urn:uuid:6d1f0c5a-93be-4c27-8d10-2b7f9e4a5c36</id>\n<title>Feed</title>\n";
 
 /// The text of an expected document.
 fn text_of(alloc: Global, document: &Expected) -> Result<Vec<u8>, Fail> {
@@ -142,7 +148,9 @@ fn text_of(alloc: Global, document: &Expected) -> Result<Vec<u8>, Fail> {
     let link = if *prev == 0 {
         String::new(alloc)
     } else {
-        format!(in alloc; "<link rel=\"prev-archive\" href=\"http://feed.example/archive/{prev}\"/>\n")?
+        format!(in alloc;
+            "<link rel=\"prev-archive\" href=\"http://feed.example/archive/{prev}\"/>\n"
+        )?
     };
     let head = format!(in alloc;
         "{OPENING}<updated>{updated}</updated>\n<author><name>Editor</name></author>\n<link rel=\"self\" href=\"http://feed.example/feed\"/>\n{link}<sp:span first=\"{first}\" last=\"{last}\"/>\n"

@@ -4,13 +4,13 @@ ghost use Rattle.std.specs.Char.{is_ascii_digit};
 ghost use Rattle.feed_tool.specs.Words.{is_number, number_value, command_of, is_show, window_of, window_word, HasRange};
 
 use atom_values::NoMemory;
+use std::alloc::{AllocGlobal, Global};
 use std::env;
 use std::io::ErrorKind;
-use std::alloc::{AllocGlobal, Global};
 use std::rt::Env;
 
-/// Returns the words behind the program's name. If one of them, or the program's own name, isn't UTF-8, the list is empty,
-/// which names no command.
+/// Returns the words behind the program's name. If one of them, or the program's own name, isn't UTF-8, the list is
+/// empty, which names no command.
 pub fn given_words<R: Env + AllocGlobal>(rt: &R) -> Result<Vec<String>, NoMemory> {
     let args = match env::args(rt) {
         Ok(args) => args,

@@ -102,8 +102,8 @@ pub fn history_of<C: Clock, I: Source>(
     Ok(history)
 }
 
-/// Returns the operation that a line asks for, at the next moment of the clock. `members` is the table of the operations
-/// so far. `line` may be the prefix that `Lines` keeps of a longer line.
+/// Returns the operation that a line asks for, at the next moment of the clock. `members` is the table of the
+/// operations so far. `line` may be the prefix that `Lines` keeps of a longer line.
 fn operation_of<C: Clock>(
     alloc: Global,
     head: &Head,
@@ -120,9 +120,11 @@ fn operation_of<C: Clock>(
         → IsTableOf members.now head.now.created history
         → asked head.now history number (C.coming clock.old 0) (line_ask line.now) ≡ Err fault) }
     ensures own { result ≢ Err Fault.Input }
-    ensures follows { IfOk result (λ operation. (history : List Op) → IsTableOf members.now head.now.created history
+    ensures follows { IfOk result (λ operation. (history : List Op)
+        → IsTableOf members.now head.now.created history
         → MayFollow head.now.created history operation) }
-    ensures lawful { IfOk result (λ operation. (history : List Op) → IsTableOf members.now head.now.created history
+    ensures lawful { IfOk result (λ operation. (history : List Op)
+        → IsTableOf members.now head.now.created history
         → IsLawful head.now history → IsLawful head.now (history ++ operation ∷ [])) }
     ensures moment { OnOk result (C.told → (k : ℕ) → C.coming clock.new k ≡ C.coming clock.old (k + 1)) }
 {
@@ -145,7 +147,7 @@ pub fn apply<C: Clock, I: Source>(
     requires { (1 ≤ window) × (window ≤ 100) }
     ensures answer { IfOk result (λ written. I.told → C.told
         → answer (test_head window) (C.coming clock.old) (I.state input.old).left
-            ≡ record { status = status.Done; printed = written.items }) }
+        ≡ record { status = status.Done; printed = written.items }) }
     ensures refused { IfErr result (λ fault. IsRefusal fault → I.told → C.told
         → answer (test_head window) (C.coming clock.old) (I.state input.old).left ≡ fault_answer fault) }
     ensures input { result ≡ Err Fault.Input → Rose (I.state input.old).faults (I.state input.new).faults }

@@ -12,11 +12,12 @@ use std::alloc::Global;
 /// How many bytes the title of a line may have.
 const LINE_TITLE_LIMIT: usize = 1_024;
 
-/// How many bytes of a line decide what it asks for: the longest good line is `change`, a number of ten digits and a title,
-/// and one byte more shows that a line is longer.
+/// How many bytes of a line decide what it asks for: the longest good line is `change`, a number of ten digits and a
+/// title, and one byte more shows that a line is longer.
 pub const PREFIX_LIMIT: usize = LINE_TITLE_LIMIT + 19;
 
-/// The draft with this plain title alone. `None`: the title has more than `LINE_TITLE_LIMIT` bytes, or isn't XML text.
+/// The draft with this plain title alone. `None`: the title has more than `LINE_TITLE_LIMIT` bytes, or isn't XML
+/// text.
 fn draft_of(alloc: Global, title: &[u8]) -> Result<Option<Draft>, NoMemory>
     ensures { IfOk result (λ draft. draft ≡ lines.draft_of title.now) }
 {
@@ -64,8 +65,8 @@ fn change_of(alloc: Global, words: &[u8]) -> Result<Option<Ask>, NoMemory>
     }
 }
 
-/// Returns what a line of `apply` asks for: `add TITLE`, `change N TITLE` or `remove N`, with N from 1 to 4294967295 and a
-/// title of at most `LINE_TITLE_LIMIT` bytes of XML text. `None`: any other line.
+/// Returns what a line of `apply` asks for: `add TITLE`, `change N TITLE` or `remove N`, with N from 1 to 4294967295
+/// and a title of at most `LINE_TITLE_LIMIT` bytes of XML text. `None`: any other line.
 pub fn line_ask(alloc: Global, line: &[u8]) -> Result<Option<Ask>, NoMemory>
     ensures { IfOk result (λ ask. ask ≡ lines.line_ask line.now) }
 {

@@ -50,8 +50,8 @@ impl From<Failed> for LinesFault {
     }
 }
 
-/// A reader of the lines of an input, which it reads once and in order, a buffer at a time. It keeps a prefix of each line,
-/// which is enough to tell a line that is too long, so that its memory doesn't grow with a line.
+/// A reader of the lines of an input, which it reads once and in order, a buffer at a time. It keeps a prefix of each
+/// line, which is enough to tell a line that is too long, so that its memory doesn't grow with a line.
 #[derive(Debug, Drop)]
 pub struct Lines {
     buffer: Vec<u8>,
@@ -77,7 +77,8 @@ impl Model for Lines {
     } };
 
     ghost invariant = { λ l.
-        (l.start ≤ l.end) × (l.end ≤ buffer_limit) × (vec_len l.buffer ≡ buffer_limit) × (vec_len l.line ≤ prefix_limit) };
+        (l.start ≤ l.end) × (l.end ≤ buffer_limit) × (vec_len l.buffer ≡ buffer_limit)
+        × (vec_len l.line ≤ prefix_limit) };
 }
 
 impl Lines {
@@ -103,10 +104,11 @@ impl Lines {
         self.line.as_slice()
     }
 
-    /// Goes to the next line and returns whether there is one. The last line may end with the input where it isn't empty.
+    /// Goes to the next line and returns whether there is one. The last line may end with the input where it isn't
+    /// empty.
     ///
-    /// `TooLong`: the input has more than `INPUT_LIMIT` bytes, and all lines that lie within the limit were given. `Input`:
-    /// a call on the input failed. After an error the reader's state is unspecified.
+    /// `TooLong`: the input has more than `INPUT_LIMIT` bytes, and all lines that lie within the limit were given.
+    /// `Input`: a call on the input failed. After an error the reader's state is unspecified.
     pub fn next<I: Source>(&mut self, input: &mut I) -> Result<bool, LinesFault>
         requires { I.told → KnowsEnd self.old (I.state input.old) }
         ensures found { result ≡ Ok true → I.told
@@ -114,7 +116,8 @@ impl Lines {
         ensures progress { result ≡ Ok true → allowance self.new < allowance self.old }
         ensures none { result ≡ Ok false → I.told → stream self.old (I.state input.old) ≡ [] }
         ensures too_long { result ≡ Err LinesFault.TooLong → I.told → IsTooLong self.old (I.state input.old) }
-        ensures input { result ≡ Err LinesFault.Input → Rose (I.state input.old).faults (I.state input.new).faults }
+        ensures input { result ≡ Err LinesFault.Input
+            → Rose (I.state input.old).faults (I.state input.new).faults }
         ensures amid { result ≡ Err LinesFault.Input → I.told
             → StopsAmid self.old (I.state input.old) (I.state input.new) }
         ensures knows { OnOk result (I.told → KnowsEnd self.new (I.state input.new)) }
@@ -174,7 +177,8 @@ impl Lines {
             → IsSpent self.new (I.state input.old) (I.state input.new) }
         ensures too_long { result ≡ Err LinesFault.TooLong
             → (self.old.allowed ≡ 0) × (I.told → 0 < length (I.state input.old).left) }
-        ensures input { result ≡ Err LinesFault.Input → Rose (I.state input.old).faults (I.state input.new).faults }
+        ensures input { result ≡ Err LinesFault.Input
+            → Rose (I.state input.old).faults (I.state input.new).faults }
         ensures amid { result ≡ Err LinesFault.Input → I.told
             → (I.state input.new).left ≡ (I.state input.old).left }
         ensures knows { OnOk result (I.told → KnowsEnd self.new (I.state input.new)) }
@@ -217,8 +221,10 @@ fn read_front<I: Source>(input: &mut I, buffer: &mut [u8], room: usize) -> Resul
 fn probe<I: Source>(input: &mut I) -> Result<(), LinesFault>
     ensures end { OnOk result (I.told → ((I.state input.old).left ≡ []) × ((I.state input.new).left ≡ [])) }
     ensures too_long { result ≡ Err LinesFault.TooLong → I.told → 0 < length (I.state input.old).left }
-    ensures input { result ≡ Err LinesFault.Input → Rose (I.state input.old).faults (I.state input.new).faults }
-    ensures amid { result ≡ Err LinesFault.Input → I.told → (I.state input.new).left ≡ (I.state input.old).left }
+    ensures input { result ≡ Err LinesFault.Input
+        → Rose (I.state input.old).faults (I.state input.new).faults }
+    ensures amid { result ≡ Err LinesFault.Input → I.told
+        → (I.state input.new).left ≡ (I.state input.old).left }
     ensures faults { result ≢ Err LinesFault.Input → (I.state input.new).faults ≡ (I.state input.old).faults }
 {
     match input.read(&mut [0u8; 1])? {

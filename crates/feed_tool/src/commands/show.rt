@@ -22,7 +22,8 @@ pub fn show<I: Source>(alloc: Global, input: &mut I) -> Result<Vec<u8>, Fault>
     ensures refused { IfErr result (λ fault. IsRefusal fault → I.told
         → IsShown (I.state input.old).left (fault_answer fault)) }
     ensures input { result ≡ Err Fault.Input → Rose (I.state input.old).faults (I.state input.new).faults }
-    ensures within { result ≡ Err Fault.Input → I.told → ReadsWithinLimit (I.state input.old) (I.state input.new) }
+    ensures within { result ≡ Err Fault.Input → I.told
+        → ReadsWithinLimit (I.state input.old) (I.state input.new) }
     ensures faults { result ≢ Err Fault.Input → (I.state input.new).faults ≡ (I.state input.old).faults }
 {
     let bytes = read_to_end(alloc, input)?;
@@ -44,7 +45,8 @@ fn read_to_end<I: Source>(alloc: Global, input: &mut I) -> Result<Vec<u8>, Fault
         (fault ≡ Fault.NoMemory) ⊎ (fault ≡ Fault.Input) ⊎ (fault ≡ Refused TooLong)) }
     ensures past { result ≡ Err (Refused TooLong) → I.told → MAX_DOCUMENT < length (I.state input.old).left }
     ensures input { result ≡ Err Fault.Input → Rose (I.state input.old).faults (I.state input.new).faults }
-    ensures within { result ≡ Err Fault.Input → I.told → ReadsWithinLimit (I.state input.old) (I.state input.new) }
+    ensures within { result ≡ Err Fault.Input → I.told
+        → ReadsWithinLimit (I.state input.old) (I.state input.new) }
     ensures faults { result ≢ Err Fault.Input → (I.state input.new).faults ≡ (I.state input.old).faults }
 {
     let mut buffer = vec![in alloc; 0; BUFFER]?;

@@ -1,4 +1,5 @@
-//! A clock, an input and an output in memory, for tests. Contracts can see their content, and listed calls of them fail.
+//! A clock, an input and an output in memory, for tests. Contracts can see their content, and listed calls of them
+//! fail.
 
 ghost use Rattle.std.specs.Prelude.{◌≡◌, ◌↔◌, ◌+◌, ◌-◌, ◌<◌, ◌≤◌, ◌++◌, [], length, take, drop, min, slice_index, IfOk, OnOk, OnErr, IsErr, IsTrue};
 ghost use Rattle.atom_values.specs.Counts.{HasCause};

@@ -1,4 +1,5 @@
-//! The clock, the input and the output of the system: thin adapters, of which contracts know the counts of faults alone.
+//! The clock, the input and the output of the system: thin adapters, of which contracts know the counts of faults
+//! alone.
 
 ghost use Rattle.std.specs.Prelude.{[]};
 
@@ -69,8 +70,8 @@ impl<W: Write + Drop> Sink for OutputSink<W> {
     ghost state = { λ s. record { taken = []; faults = s.faults } };
 
     fn write(&mut self, from: &[u8]) -> Result<usize, Failed> {
-        // A write that a signal interrupted took no byte, and is made again. One that takes no byte of some is a failure,
-        // since it could be made again for ever.
+        // A write that a signal interrupted took no byte, and is made again. One that takes no byte of some is a
+        // failure, since it could be made again for ever.
         for _ in 0..u64::MAX {
             match self.writer.write(from) {
                 Ok(count) if count > 0 || from.is_empty() => return Ok(count),

@@ -7,8 +7,8 @@ use crate::outside::{Sink, Source};
 use atom_values::Failed;
 use std::io::{self, Error, ErrorKind, Read, Write};
 
-/// A reader and writer of which a signal interrupts the first two calls. The third call moves one byte, and all later calls
-/// fail.
+/// A reader and writer of which a signal interrupts the first two calls. The third call moves one byte, and all later
+/// calls fail.
 #[derive(Drop)]
 struct Interrupted {
     calls: u8,

@@ -9,8 +9,10 @@ returns-then-is_show-clause-command c =
 pub returns-in_err-window-clause-command : goal.returns-in_err-window-clause-command
 returns-in_err-window-clause-command c =
     rw c.from_residual.ensures
-    (sym (command_of-none (map (string_bytes {Z = Global}) c.args.words.now) (sym c.is_show.ensures ∙ c.if-is_show.false) (sym c.in_err-window.ensures.window)))
+    (sym (command_of-none (map (string_bytes {Z = Global}) c.args.words.now) (sym c.is_show.ensures
+    ∙ c.if-is_show.false) (sym c.in_err-window.ensures.window)))
 
 pub returns-clause-command : goal.returns-clause-command
 returns-clause-command c =
-    sym (command_of-apply (map (string_bytes {Z = Global}) c.args.words.now) c.in_ok-window.window (sym c.is_show.ensures ∙ c.if-is_show.false) (sym c.in_ok-window.ensures.window))
+    sym (command_of-apply (map (string_bytes {Z = Global}) c.args.words.now) c.in_ok-window.window
+    (sym c.is_show.ensures ∙ c.if-is_show.false) (sym c.in_ok-window.ensures.window))

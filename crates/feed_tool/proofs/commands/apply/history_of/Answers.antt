@@ -1,4 +1,23 @@
-use Rattle.std.proofs.Common.{◌≡◌, ℕ, ◌+◌, ◌∷◌, [], length, Ok, Err, refl, ap, ◌∙◌, arith, rules, vec_len, add-zero, zero-add, length-append, sym}
+use Rattle.std.proofs.Common.{
+  ◌≡◌,
+  ℕ,
+  ◌+◌,
+  ◌∷◌,
+  [],
+  length,
+  Ok,
+  Err,
+  refl,
+  ap,
+  ◌∙◌,
+  arith,
+  rules,
+  vec_len,
+  add-zero,
+  zero-add,
+  length-append,
+  sym,
+}
 use Rattle.std.proofs.lemmas.Bool.{false≢true}
 use Rattle.std.proofs.lemmas.Result.{err_from_is_err_and}
 use Rattle.feed_tool.specs.declared.fault.Fault.{Fault}
@@ -7,7 +26,15 @@ use Rattle.member_rules.specs.Table.{IsTableOf}
 use Rattle.feed_tool.specs.Apply.{applied, lines_fault}
 use Rattle.feed_tool.proofs.FaultLemmas.{refusal-of_lines, input-of_lines}
 use Rattle.feed_tool.proofs.HistoryLemmas.{IsTableOf-with_room, lawful-none}
-use Rattle.feed_tool.proofs.ProgressLemmas.{Progress-start, Progress-end, Progress-step, Progress-refused, Progress-long, Progress-amid, line_operation-is}
+use Rattle.feed_tool.proofs.ProgressLemmas.{
+  Progress-start,
+  Progress-end,
+  Progress-step,
+  Progress-refused,
+  Progress-long,
+  Progress-amid,
+  line_operation-is,
+}
 use Rattle.feed_tool.proofs.commands.apply.history_of.Goals as goal
 
 pub returns-in_err-next-clause-refused : goal.returns-in_err-next-clause-refused
@@ -17,7 +44,8 @@ returns-in_err-next-clause-refused g c =
     let start = g.I.Source.state c.args.input.now in
     rw (p.1, p.2) (λ refusal source clock.
     refusal-of_lines (λ (fault : Fault). applied c.args.head.now moments start.left ≡ Err fault) c.in_err-next.field-0.0
-    (λ e. Progress-long c.args.head.now moments start.left c.loop-history.lines (g.I.Source.state c.loop-history.input) c.loop-history.history.items
+    (λ e. Progress-long c.args.head.now moments start.left c.loop-history.lines
+    (g.I.Source.state c.loop-history.input) c.loop-history.history.items
     (c.loop-history.invariant.progress source clock) (c.in_err-next.ensures.too_long (ap Err e) source))
     refusal)
 
@@ -26,9 +54,11 @@ returns-in_err-next-clause-unrefused g c =
     let p = err_from_is_err_and c.from_residual-in_err-next.result c.from_residual-in_err-next.ensures.1 in
     rw (p.1, p.2) (λ e source clock.
     let same : lines_fault c.in_err-next.field-0.0 ≡ Input = cc in
-    Progress-amid c.args.head.now (g.C.Clock.coming c.args.clock.now) (g.I.Source.state c.args.input.now) c.loop-history.lines (g.I.Source.state c.loop-history.input)
+    Progress-amid c.args.head.now (g.C.Clock.coming c.args.clock.now)
+    (g.I.Source.state c.args.input.now) c.loop-history.lines (g.I.Source.state c.loop-history.input)
     (g.I.Source.state c.next.new.input) c.loop-history.history.items
-    (c.loop-history.invariant.progress source clock) (c.in_err-next.ensures.amid (ap Err (input-of_lines c.in_err-next.field-0.0 same)) source))
+    (c.loop-history.invariant.progress source clock)
+    (c.in_err-next.ensures.amid (ap Err (input-of_lines c.in_err-next.field-0.0 same)) source))
 
 pub returns-in_err-operation-clause-refused : goal.returns-in_err-operation-clause-refused
 returns-in_err-operation-clause-refused g c =
@@ -38,10 +68,14 @@ returns-in_err-operation-clause-refused g c =
     let held = c.loop-history.invariant in
     let len : vec_len c.loop-history.history ≡ length history = search rules in
     rw (p.1, p.2) (λ refusal source clock.
-    Progress-refused c.args.head.now moments (g.I.Source.state c.args.input.now).left c.loop-history.lines (g.I.Source.state c.loop-history.input) c.next.new.self
-    (g.I.Source.state c.next.new.input) history c.in_err-operation.field-0.0 (held.progress source clock) (c.in_ok-next.ensures.found (ap Ok c.if-branch.true) source)
-    (line_operation-is c.args.head.now moments history c.next.new.self.line _ _ _ (Err c.in_err-operation.field-0.0) c.line.ensures (ap (λ (n : ℕ). n + 1) (c.len.ensures ∙ len))
-    (held.moments clock 0 ∙ ap moments (zero-add (length history))) (c.in_err-operation.ensures.refused refusal clock history held.table)))
+    Progress-refused c.args.head.now moments (g.I.Source.state c.args.input.now).left c.loop-history.lines
+    (g.I.Source.state c.loop-history.input) c.next.new.self
+    (g.I.Source.state c.next.new.input) history c.in_err-operation.field-0.0 (held.progress source clock)
+    (c.in_ok-next.ensures.found (ap Ok c.if-branch.true) source)
+    (line_operation-is c.args.head.now moments history c.next.new.self.line _ _ _
+    (Err c.in_err-operation.field-0.0) c.line.ensures (ap (λ (n : ℕ). n + 1) (c.len.ensures ∙ len))
+    (held.moments clock 0 ∙ ap moments (zero-add (length history)))
+    (c.in_err-operation.ensures.refused refusal clock history held.table)))
 
 pub commit-requires-clause-follows : goal.commit-requires-clause-follows
 commit-requires-clause-follows g c =
@@ -51,7 +85,8 @@ commit-requires-clause-follows g c =
     record {
       created = head.created;
       history = history;
-      table_of = rw c.in_ok-prepare.ensures.same (IsTableOf-with_room c.loop-history.members c.prepare.new.self.spare head.created history held.table);
+      table_of = rw c.in_ok-prepare.ensures.same
+          (IsTableOf-with_room c.loop-history.members c.prepare.new.self.spare head.created history held.table);
       follows = c.in_ok-operation.ensures.follows history held.table;
     }
 
@@ -62,12 +97,19 @@ loop-history-init g c =
     let start = g.I.Source.state c.args.input.now in
     let table : IsTableOf c.new-members.result head.created [] = rw (← c.head.view_is) c.new-members.ensures.table in
     record {
-      progress = λ source clock. rw c.new-history.ensures.items (Progress-start head moments start.left c.in_ok-lines.lines start c.in_ok-lines.ensures.0 c.in_ok-lines.ensures.1 refl);
+      progress = λ source clock. rw c.new-history.ensures.items
+          (Progress-start head moments start.left c.in_ok-lines.lines start c.in_ok-lines.ensures.0
+          c.in_ok-lines.ensures.1 refl);
       moments = λ clock k. rw c.new-history.ensures.items (ap moments (sym (add-zero k)));
       knows = λ source ended. absurd (false≢true (rw c.in_ok-lines.ensures.2 at ended));
       table = rw c.new-history.ensures.items table;
       lawful = rw c.new-history.ensures.items (lawful-none head table.following);
-      few = omega (arith, ap length c.in_ok-lines.ensures.0, c.in_ok-lines.ensures.1, ap length c.new-history.ensures.items);
+      few = omega (
+        arith,
+        ap length c.in_ok-lines.ensures.0,
+        c.in_ok-lines.ensures.1,
+        ap length c.new-history.ensures.items,
+      );
       faults = refl;
     }
 
@@ -85,21 +127,35 @@ loop-history-preserved g c =
     let len : vec_len c.loop-history.history ≡ length history = search rules in
     record {
       progress = λ source clock. rw pushed
-          (Progress-step head moments whole c.loop-history.lines input c.next.new.self rest history operation (held.progress source clock)
+          (Progress-step head moments whole c.loop-history.lines input c.next.new.self rest history operation
+          (held.progress source clock)
           (c.in_ok-next.ensures.found (ap Ok c.if-branch.true) source)
-          (line_operation-is head moments history c.next.new.self.line _ _ _ (Ok operation) c.line.ensures (ap (λ (n : ℕ). n + 1) (c.len.ensures ∙ len))
-          (held.moments clock 0 ∙ ap moments (zero-add (length history))) (c.in_ok-operation.ensures.operation clock history held.table)));
+          (line_operation-is head moments history c.next.new.self.line _ _ _ (Ok operation) c.line.ensures
+          (ap (λ (n : ℕ). n + 1) (c.len.ensures ∙ len))
+          (held.moments clock 0 ∙ ap moments (zero-add (length history)))
+          (c.in_ok-operation.ensures.operation clock history held.table)));
       moments = λ clock k.
-          let later : k + 1 + length history ≡ k + length c.push.new.self.items = omega (arith, ap length pushed, length-append history (operation ∷ [])) in
+          let later : k + 1 + length history ≡ k + length c.push.new.self.items =
+          omega (arith, ap length pushed, length-append history (operation ∷ [])) in
           c.in_ok-operation.ensures.moment clock k ∙ held.moments clock (k + 1) ∙ ap moments later;
       knows = c.in_ok-next.ensures.knows;
-      table = rw pushed (c.commit.ensures.table head.created history (rw c.in_ok-prepare.ensures.same (IsTableOf-with_room c.loop-history.members c.prepare.new.self.spare head.created history held.table)));
+      table = rw pushed (c.commit.ensures.table head.created history
+          (rw c.in_ok-prepare.ensures.same
+          (IsTableOf-with_room c.loop-history.members c.prepare.new.self.spare head.created history held.table)));
       lawful = rw pushed (c.in_ok-operation.ensures.lawful history held.table held.lawful);
-      few = omega (arith, held.few, ap length pushed, length-append history (operation ∷ []), c.in_ok-next.ensures.progress (ap Ok c.if-branch.true));
+      few = omega (
+        arith,
+        held.few,
+        ap length pushed,
+        length-append history (operation ∷ []),
+        c.in_ok-next.ensures.progress (ap Ok c.if-branch.true),
+      );
       faults = c.in_ok-next.ensures.faults (λ e. cc) ∙ held.faults;
     }
 
 pub returns-clause-history : goal.returns-clause-history
 returns-clause-history g c = λ source clock.
-    Progress-end c.args.head.now (g.C.Clock.coming c.args.clock.now) (g.I.Source.state c.args.input.now).left c.loop-history.lines (g.I.Source.state c.loop-history.input) c.loop-history.history.items
+    Progress-end c.args.head.now (g.C.Clock.coming c.args.clock.now)
+    (g.I.Source.state c.args.input.now).left c.loop-history.lines
+    (g.I.Source.state c.loop-history.input) c.loop-history.history.items
     (c.loop-history.invariant.progress source clock) (c.in_ok-next.ensures.none (ap Ok c.if-branch.false) source)

@@ -10,8 +10,10 @@ invariant-loop-history g l =
     let before = g.I.Source.state l.fn.input in
     let input = g.I.Source.state l.input in
     record {
-      progress : g.I.Source.told → g.C.Clock.told → Progress l.head (g.C.Clock.coming l.fn.clock) before.left l.lines input l.history.items;
-      moments : g.C.Clock.told → (k : ℕ) → g.C.Clock.coming l.clock k ≡ g.C.Clock.coming l.fn.clock (k + length l.history.items);
+      progress : g.I.Source.told → g.C.Clock.told →
+          Progress l.head (g.C.Clock.coming l.fn.clock) before.left l.lines input l.history.items;
+      moments : g.C.Clock.told → (k : ℕ) →
+          g.C.Clock.coming l.clock k ≡ g.C.Clock.coming l.fn.clock (k + length l.history.items);
       knows : g.I.Source.told → KnowsEnd l.lines input;
       table : IsTableOf l.members l.head.created l.history.items;
       lawful : IsLawful l.head l.history.items;

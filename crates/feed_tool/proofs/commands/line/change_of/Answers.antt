@@ -13,11 +13,13 @@ returns-in_default-whole_number c =
 pub returns-in-Some-2 : goal.returns-in-Some-2
 returns-in-Some-2 c =
     let f = c.in-Some-whole_number.ensures.found in
-    sym (change_of-draft c.args.words.now c.in-Some.digits.now c.in-Some.title.now c.in-Some-whole_number.number c.in-Some-2.draft c.in-Some.ensures f.0 f.1 f.2
+    sym (change_of-draft c.args.words.now c.in-Some.digits.now c.in-Some.title.now c.in-Some-whole_number.number
+    c.in-Some-2.draft c.in-Some.ensures f.0 f.1 f.2
     (sym (sym c.in-Some-2.is ∙ c.in_ok-draft.ensures)))
 
 pub returns-in-None : goal.returns-in-None
 returns-in-None c =
     let f = c.in-Some-whole_number.ensures.found in
-    sym (change_of-no_draft c.args.words.now c.in-Some.digits.now c.in-Some.title.now c.in-Some-whole_number.number c.in-Some.ensures f.0 f.1 f.2
+    sym (change_of-no_draft c.args.words.now c.in-Some.digits.now c.in-Some.title.now c.in-Some-whole_number.number
+    c.in-Some.ensures f.0 f.1 f.2
     (sym (sym c.in-None.is ∙ c.in_ok-draft.ensures)))

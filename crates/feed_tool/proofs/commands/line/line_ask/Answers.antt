@@ -7,7 +7,8 @@ use Rattle.feed_tool.proofs.commands.line.line_ask.Goals as goal
 pub returns-in-Some-2 : goal.returns-in-Some-2
 returns-in-Some-2 c =
     let title = c.in-Some.ensures.cases in
-    let draft : draft_of c.in-Some.title.now ≡ Some c.in-Some-2.draft = sym (sym c.in-Some-2.is ∙ c.in_ok-draft.ensures) in
+    let draft : draft_of c.in-Some.title.now ≡ Some c.in-Some-2.draft =
+    sym (sym c.in-Some-2.is ∙ c.in_ok-draft.ensures) in
     sym (line_ask-add c.args.line.now title.0 ∙ ap (option_map Create) (ap draft_of (sym title.1) ∙ draft))
 
 pub returns-in-None : goal.returns-in-None
@@ -24,8 +25,12 @@ returns-in-Some-strip_prefix c =
 pub returns-in-Some-strip_prefix-2 : goal.returns-in-Some-strip_prefix-2
 returns-in-Some-strip_prefix-2 c =
     let digits = c.in-Some-strip_prefix-2.ensures.cases in
-    rw (line_ask-remove c.args.line.now c.in_default.ensures.cases c.in_default-strip_prefix.ensures.cases digits.0, ← digits.1) c.removal_of.ensures
+    rw (
+      line_ask-remove c.args.line.now c.in_default.ensures.cases c.in_default-strip_prefix.ensures.cases digits.0,
+      ← digits.1,
+    ) c.removal_of.ensures
 
 pub returns-in-None-strip_prefix : goal.returns-in-None-strip_prefix
 returns-in-None-strip_prefix c =
-    sym (line_ask-none c.args.line.now c.in_default.ensures.cases c.in_default-strip_prefix.ensures.cases c.in-None-strip_prefix.ensures.cases)
+    sym (line_ask-none c.args.line.now c.in_default.ensures.cases c.in_default-strip_prefix.ensures.cases
+    c.in-None-strip_prefix.ensures.cases)

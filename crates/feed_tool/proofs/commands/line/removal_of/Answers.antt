@@ -4,7 +4,8 @@ use Rattle.feed_tool.proofs.commands.line.removal_of.Goals as goal
 
 pub returns-in_err-number : goal.returns-in_err-number
 returns-in_err-number c =
-    let none = member_number-none c.args.digits.now (λ n low high e. let found = c.in_err-number.ensures.only n low high e in cc) in
+    let none = member_number-none c.args.digits.now (λ n low high e. let found =
+    c.in_err-number.ensures.only n low high e in cc) in
     rw (c.from_residual.ensures, none) refl
 
 pub returns : goal.returns

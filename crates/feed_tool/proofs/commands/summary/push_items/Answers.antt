@@ -14,4 +14,5 @@ loop-item-preserved c =
     c.in_ok-push_item.ensures
     ∙ ap (λ (x : List ℕ). x ++ item_line item) c.loop-item.invariant
     ∙ flat_map_more item_line before (take i items) item
-    ∙ ap (λ (xs : List Item). before ++ flat_map item_line xs) (sym (more ∙ ap (λ (x : Item). take i items ++ x ∷ []) (sym c.item-item.is)))
+    ∙ ap (λ (xs : List Item). before ++ flat_map item_line xs)
+    (sym (more ∙ ap (λ (x : Item). take i items ++ x ∷ []) (sym c.item-item.is)))

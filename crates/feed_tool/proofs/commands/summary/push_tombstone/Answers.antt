@@ -10,6 +10,7 @@ returns c =
     let tombstone = c.tombstone.inside in
     let head = codes "gone " ++ decimal tombstone.number ++ codes " " in
     rw (← c.tombstone.view_is)
-    (joins_three c.args.out.now.items c.push_numbered.new.out.items c.push_stamp.new.out.items c.extend_from_slice.new.self.items
+    (joins_three c.args.out.now.items c.push_numbered.new.out.items c.push_stamp.new.out.items
+    c.extend_from_slice.new.self.items
     head (printed tombstone.when) (codes "\n")
     c.in_ok-push_numbered.ensures c.in_ok-push_stamp.ensures c.in_ok-extend_from_slice.ensures.items)

@@ -8,8 +8,10 @@ pub returns : goal.returns
 unfolding summary
 returns c =
     let d = c.args.doc.now in
-    let head : c.push_head.new.out.items ≡ head_lines d = c.in_ok-push_head.ensures ∙ ap (λ (x : List ℕ). x ++ head_lines d) c.new-out.ensures.items in
-    let items : c.as_slice.result.now ≡ d.items = c.as_slice.ensures.items ∙ ap (λ (d : DocValue). d.items) c.doc.view_is in
+    let head : c.push_head.new.out.items ≡ head_lines d = c.in_ok-push_head.ensures
+    ∙ ap (λ (x : List ℕ). x ++ head_lines d) c.new-out.ensures.items in
+    let items : c.as_slice.result.now ≡ d.items = c.as_slice.ensures.items
+    ∙ ap (λ (d : DocValue). d.items) c.doc.view_is in
     c.in_ok-push_items.ensures
     ∙ ap (λ (x : List ℕ). x ++ flat_map item_line c.as_slice.result.now) head
     ∙ ap (λ (xs : List Item). head_lines d ++ flat_map item_line xs) items

@@ -8,8 +8,12 @@ returns-clause-bytes c = λ _.
     let at = c.args.self.now.at in
     let count = c.min-count.result in
     let copied = c.copy_from_slice.new.self in
-    let all : length copied ≡ count = omega (arith, c.copy_from_slice.ensures.len, length-take count c.args.into.now, c.min-count.ensures) in
+    let all : length copied ≡ count =
+    omega (arith, c.copy_from_slice.ensures.len, length-take count c.args.into.now, c.min-count.ensures) in
     let given : copied ≡ take count (drop at bytes) =
-    c.copy_from_slice.ensures.after ∙ c.split_at-2.ensures.front ∙ ap (take count) (c.split_at.ensures.back ∙ ap (drop at) c.slice.ensures) in
-    sym (ap (λ (x : List ℕ). x ++ drop (at + count) bytes) (take_at copied (drop count c.args.into.now) count all ∙ given)
-    ∙ ap (λ (x : List ℕ). take count (drop at bytes) ++ x) (sym (drop-drop count at bytes)) ∙ take-append-drop count (drop at bytes))
+    c.copy_from_slice.ensures.after ∙ c.split_at-2.ensures.front
+    ∙ ap (take count) (c.split_at.ensures.back ∙ ap (drop at) c.slice.ensures) in
+    sym (ap (λ (x : List ℕ). x ++ drop (at + count) bytes) (take_at copied (drop count c.args.into.now) count all
+    ∙ given)
+    ∙ ap (λ (x : List ℕ). take count (drop at bytes) ++ x) (sym (drop-drop count at bytes))
+    ∙ take-append-drop count (drop at bytes))
