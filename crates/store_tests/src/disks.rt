@@ -1,6 +1,7 @@
 //! Disks in memory and choices, for the other modules.
 //!
-//! Calls on a disk are in functions over any `Disk`, since their proofs are shorter than those over `MemoryDisk`.
+//! Calls on a disk are in functions over any `Disk`, since their proofs are shorter than over `MemoryDisk`. A
+//! function that owns a disk has few exits, since the proof drops the disk at each.
 
 use atom_values::{Bytes, Many};
 use feed_disk::{Area, Choice, Disk, MemoryDisk};
