@@ -1,4 +1,13 @@
 //! Tests of the public calls of `feed_disk` and `feed_journal`.
 //!
-//! They stand in a crate of their own so that those crates are proved once, without their tests.
+//! They are in a crate of their own, so that those crates are proved once, without their tests.
 #![tactic(auto)]
+
+#[cfg(test)]
+mod disks;
+#[cfg(test)]
+mod faults;
+#[cfg(test)]
+mod images;
+#[cfg(test)]
+mod logs;

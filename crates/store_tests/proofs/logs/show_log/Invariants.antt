@@ -1,0 +1,12 @@
+use Rattle.std.proofs.Common.{◌≤◌, length, ◌≡◌, false}
+use Rattle.feed_journal.specs.Log.{payloads_at}
+use Rattle.feed_journal.specs.Records.{records}
+use Rattle.store_tests.proofs.logs.show_log.Given as goal
+
+abbrev pub invariant-loop-index : goal.invariant-loop-index
+invariant-loop-index g l = record {
+  within : l.index-end ≤ length l.log.extents;
+  unspent : l.log.spent ≡ false;
+  listed : g.D.Disk.told → payloads_at l.log.extents ((g.D.Disk.state l.disk).content l.log.area)
+      ≡ records ((g.D.Disk.state l.disk).content l.log.area);
+}

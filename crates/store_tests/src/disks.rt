@@ -1,0 +1,62 @@
+//! Disks in memory and choices, for the other modules.
+//!
+//! Calls on a disk are in functions over any `Disk`, since their proofs are shorter than over `MemoryDisk`. A
+//! function that owns a disk has few exits, since the proof drops the disk at each.
+
+use atom_values::{Bytes, Many};
+use feed_disk::{Area, Choice, Disk, MemoryDisk};
+use std::alloc::Global;
+use std::test::Fail;
+
+/// Returns a disk with this journal and empty other areas, of which these device calls fail. 0 lists no call.
+pub fn disk_of(alloc: Global, journal: &[u8], failing: [u64; 2]) -> Result<MemoryDisk, Fail> {
+    let mut calls = Many::new(alloc);
+    for call in failing {
+        calls.push(call)?;
+    }
+    Ok(MemoryDisk::new(
+        alloc,
+        Bytes::of(alloc, journal)?,
+        Bytes::of(alloc, b"")?,
+        Bytes::of(alloc, b"")?,
+        calls,
+    ))
+}
+
+/// Appends the bytes of an area of up to 64 bytes, and `/`.
+pub fn append_area<D: Disk>(all: &mut Vec<u8>, disk: &mut D, area: Area) -> Result<(), Fail> {
+    let mut bytes = [0u8; 64];
+    let count = disk.read(area, 0, &mut bytes)?;
+    all.extend_from_slice(&bytes[..count])?;
+    all.push(b'/')?;
+    Ok(())
+}
+
+/// A `Choice` as a table has it.
+#[derive(Clone, Copy)]
+pub enum Filling {
+    Old,
+    New,
+    Fill(u8),
+    /// The size, and how many of the bytes `123456` are given.
+    Given(u64, usize),
+}
+
+/// Returns the disk that a crash within a call leaves.
+pub fn crashed(
+    alloc: Global,
+    disk: &MemoryDisk,
+    call: u64,
+    filling: Filling,
+) -> Result<MemoryDisk, Fail> {
+    let choice = match filling {
+        Filling::Old => Choice::Old,
+        Filling::New => Choice::New,
+        Filling::Fill(byte) => Choice::Fill(byte),
+        Filling::Given(size, count) => Choice::Given {
+            size,
+            bytes: Bytes::of(alloc, &b"123456"[..count.min(6)])?,
+        },
+    };
+    Ok(disk.image(call.min(disk.calls()), &choice)?)
+}

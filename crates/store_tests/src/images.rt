@@ -1,0 +1,191 @@
+//! `MemoryDisk`: its device calls, its listed calls, and the disks that crashes leave.
+
+use crate::disks::{Filling, append_area, crashed, disk_of};
+use atom_values::{Bytes, Many};
+use feed_disk::{Area, Disk, MemoryDisk};
+use std::alloc::Global;
+use std::test::Fail;
+
+/// Returns a disk that wrote to the journal in call 1 and to the sealed area in call 2, synced the journal in
+/// call 3, and wrote to the mirror in call 4.
+fn written_disk(alloc: Global) -> Result<MemoryDisk, Fail> {
+    let journal = Bytes::of(alloc, b"abcd")?;
+    let sealed = Bytes::of(alloc, b"ef")?;
+    let mirror = Bytes::of(alloc, b"")?;
+    let mut disk = MemoryDisk::new(alloc, journal, sealed, mirror, Many::new(alloc));
+    disk.write(Area::Journal, 2, b"XYZ")?;
+    disk.write(Area::Sealed, 2, b"gh")?;
+    disk.sync(Area::Journal)?;
+    disk.write(Area::Mirror, 0, b"ij")?;
+    Ok(disk)
+}
+
+/// Appends the areas of a disk, each followed by `/`, and a space.
+fn append_areas<D: Disk>(all: &mut Vec<u8>, disk: &mut D) -> Result<(), Fail> {
+    append_area(all, disk, Area::Journal)?;
+    append_area(all, disk, Area::Sealed)?;
+    append_area(all, disk, Area::Mirror)?;
+    all.push(b' ')?;
+    Ok(())
+}
+
+/// Appends the areas of the disk that a crash leaves.
+fn append_image(
+    alloc: Global,
+    all: &mut Vec<u8>,
+    disk: &MemoryDisk,
+    call: u64,
+    filling: Filling,
+) -> Result<(), Fail> {
+    let mut left = crashed(alloc, disk, call, filling)?;
+    append_areas(all, &mut left)
+}
+
+/// Returns the areas of the disks that a crash within a call leaves by six choices.
+fn images_of(alloc: Global, disk: &MemoryDisk, call: u64) -> Result<Vec<u8>, Fail> {
+    let mut all = Vec::new(alloc);
+    append_image(alloc, &mut all, disk, call, Filling::Old)?;
+    append_image(alloc, &mut all, disk, call, Filling::New)?;
+    append_image(alloc, &mut all, disk, call, Filling::Fill(b'.'))?;
+    append_image(alloc, &mut all, disk, call, Filling::Given(0, 2))?;
+    append_image(alloc, &mut all, disk, call, Filling::Given(1, 6))?;
+    append_image(alloc, &mut all, disk, call, Filling::Given(9, 4))?;
+    Ok(all)
+}
+
+/// Returns the same for `written_disk`.
+fn images_after(alloc: Global, call: u64) -> Result<Vec<u8>, Fail> {
+    let disk = written_disk(alloc)?;
+    images_of(alloc, &disk, call)
+}
+
+#[test]
+fn a_crash_leaves_the_choice(rt: HostRuntime) -> Result<(), Fail> {
+    let cases: [&[u8]; 5] = [
+        b"abcd/ef// abcd/ef// abcd/ef// abcd/ef// abcd/ef// abcd/ef// ",
+        b"abcd/ef// abXYZ/ef// ab.../ef// ab12/ef// ab123/ef// ab123/ef// ",
+        b"abcd/ef// abXYZ/efgh// ab.../ef..// ab12/ef// ab123/ef4// ab123/ef4h// ",
+        // A sync does nothing before its end.
+        b"abcd/ef// abXYZ/efgh// ab.../ef..// ab12/ef// ab123/ef4// ab123/ef4h// ",
+        b"abXYZ/ef// abXYZ/efgh/ij/ abXYZ/ef../../ abXYZ/ef// abXYZ/ef1/2/ abXYZ/ef12/34/ ",
+    ];
+    for (call, images) in cases.iter().enumerate() {
+        let left = images_after(rt.alloc(), call as u64)?;
+        assert_eq!(rt; left.as_slice(), *images, "call {call}");
+    }
+    Ok(())
+}
+
+/// Returns whether a size and a read of the journal work.
+fn looks<D: Disk>(disk: &mut D) -> [bool; 2] {
+    let mut bytes = [0u8; 4];
+    [
+        disk.size(Area::Journal).is_ok(),
+        disk.read(Area::Journal, 0, &mut bytes).is_ok(),
+    ]
+}
+
+/// Returns whether a write to the journal and a sync of it work.
+fn changes<D: Disk>(disk: &mut D) -> [bool; 2] {
+    [
+        disk.write(Area::Journal, 0, b"X").is_ok(),
+        disk.sync(Area::Journal).is_ok(),
+    ]
+}
+
+/// Returns whether each of these four device calls works.
+fn outcomes(alloc: Global, failing: [u64; 2]) -> Result<([bool; 2], [bool; 2]), Fail> {
+    let mut disk = disk_of(alloc, b"abcd", failing)?;
+    Ok((looks(&mut disk), changes(&mut disk)))
+}
+
+#[test]
+fn exactly_the_listed_calls_fail(rt: HostRuntime) -> Result<(), Fail> {
+    let cases: [([u64; 2], ([bool; 2], [bool; 2])); 7] = [
+        ([0, 0], ([true, true], [true, true])),
+        ([1, 0], ([false, true], [true, true])),
+        ([2, 0], ([true, false], [true, true])),
+        ([3, 0], ([true, true], [false, true])),
+        ([4, 0], ([true, true], [true, false])),
+        ([5, 0], ([true, true], [true, true])),
+        ([4, 2], ([true, false], [true, false])),
+    ];
+    for (failing, works) in cases {
+        assert_eq!(rt; outcomes(rt.alloc(), failing)?, works, "{failing:?}");
+    }
+    Ok(())
+}
+
+/// Makes three device calls on the journal, whatever they return: a write at its start, a sync and a size.
+fn write_sync_size<D: Disk>(disk: &mut D) {
+    let _ = disk.write(Area::Journal, 0, b"VWXYZ");
+    let _ = disk.sync(Area::Journal);
+    let _ = disk.size(Area::Journal);
+}
+
+/// Appends the journal of the disk that a crash leaves.
+fn append_journal(
+    alloc: Global,
+    all: &mut Vec<u8>,
+    disk: &MemoryDisk,
+    call: u64,
+    filling: Filling,
+) -> Result<(), Fail> {
+    let mut left = crashed(alloc, disk, call, filling)?;
+    append_area(all, &mut left, Area::Journal)
+}
+
+/// Appends the journals of the disks that a crash within a call leaves by the old and the new bytes, and the
+/// journal itself.
+fn append_journals(
+    alloc: Global,
+    all: &mut Vec<u8>,
+    disk: &mut MemoryDisk,
+    call: u64,
+) -> Result<(), Fail> {
+    append_journal(alloc, all, disk, call, Filling::Old)?;
+    append_journal(alloc, all, disk, call, Filling::New)?;
+    append_area(all, disk, Area::Journal)
+}
+
+/// Returns those journals after the three device calls, of which one fails.
+fn journals_after(alloc: Global, failing: u64, call: u64) -> Result<Vec<u8>, Fail> {
+    let mut all = Vec::new(alloc);
+    let mut disk = disk_of(alloc, b"abcd", [failing, 0])?;
+    write_sync_size(&mut disk);
+    append_journals(alloc, &mut all, &mut disk, call)?;
+    Ok(all)
+}
+
+#[test]
+fn a_failed_call_leaves_its_bytes_uncertain(rt: HostRuntime) -> Result<(), Fail> {
+    let cases: [(u64, u64, &[u8]); 5] = [
+        (0, 3, b"VWXYZ/VWXYZ/VWXYZ/"),
+        // The write fails. Its bytes may be on the disk until the sync.
+        (1, 2, b"abcd/VWXYZ/abcd/"),
+        (1, 3, b"abcd/abcd/abcd/"),
+        // The sync fails.
+        (2, 2, b"abcd/VWXYZ/VWXYZ/"),
+        (2, 3, b"abcd/VWXYZ/VWXYZ/"),
+    ];
+    for (failing, call, journals) in cases {
+        let left = journals_after(rt.alloc(), failing, call)?;
+        assert_eq!(rt; left.as_slice(), journals, "failing {failing}, call {call}");
+    }
+    Ok(())
+}
+
+/// Returns the size of the journal, and its first three bytes.
+fn front<D: Disk>(disk: &mut D) -> Result<(u64, [u8; 3]), Fail> {
+    let mut bytes = [0u8; 3];
+    disk.read(Area::Journal, 0, &mut bytes)?;
+    Ok((disk.size(Area::Journal)?, bytes))
+}
+
+#[test]
+fn a_write_is_read_back(rt: HostRuntime) -> Result<(), Fail> {
+    let mut disk = written_disk(rt.alloc())?;
+    assert_eq!(rt; front(&mut disk)?, (5, *b"abX"));
+    assert_eq!(rt; disk.calls(), 6);
+    Ok(())
+}

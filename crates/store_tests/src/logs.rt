@@ -1,0 +1,243 @@
+//! `Log` over a disk in memory: the bytes of an area, recovery, crashes, and failed device calls.
+
+ghost use Rattle.std.specs.Prelude.{◌≤◌, length};
+
+use crate::disks::{Filling, append_area, crashed, disk_of};
+use feed_disk::{Area, Disk, MemoryDisk};
+use feed_journal::{Framed, Log, LogFault};
+use std::alloc::Global;
+use std::test::Fail;
+
+/// The area of the payloads `ab` and `c`.
+const TWO: [u8; 14] = [1, 0, 0, 0, 2, b'a', b'b', 1, 0, 0, 0, 1, b'c', 0];
+
+/// The greatest size of an area.
+const CAPACITY: u64 = 68_719_476_736;
+
+/// How far an append came.
+#[derive(Clone, Copy, Debug, PartialEq, Eq)]
+enum Reached {
+    Nothing,
+    Loaded,
+    Appended,
+}
+
+/// Loads the journal and appends a payload to it.
+fn append<D: Disk>(alloc: Global, disk: &mut D, payload: &[u8]) -> Result<Reached, Fail>
+    requires { length payload.now ≤ 100 }
+{
+    let framed = Framed::of(alloc, payload)?;
+    let Ok(mut log) = Log::load(alloc, disk, Area::Journal) else {
+        return Ok(Reached::Nothing);
+    };
+    log.reserve()?;
+    if log.len() > 100 || !log.fits(&framed, CAPACITY) {
+        return Ok(Reached::Nothing);
+    }
+    if log.append(disk, &framed).is_err() {
+        return Ok(Reached::Loaded);
+    }
+    Ok(Reached::Appended)
+}
+
+/// A log as its calls show it.
+#[derive(Drop)]
+struct Shown {
+    /// The payloads, each followed by `/`.
+    payloads: Vec<u8>,
+    size: u64,
+    /// The device calls of the load and of a read for each payload.
+    calls: u64,
+}
+
+/// Loads the journal and reads each payload.
+fn show_log<D: Disk>(alloc: Global, disk: &mut D) -> Result<Shown, LogFault> {
+    let mut log = Log::load(alloc, disk, Area::Journal)?;
+    let mut payloads = Vec::new(alloc);
+    for index in 0..log.len() {
+        let payload = log.read(disk, index)?;
+        payloads.extend_from_slice(&payload)?;
+        payloads.push(b'/')?;
+    }
+    Ok(Shown {
+        payloads,
+        size: log.size(),
+        calls: log.calls(),
+    })
+}
+
+/// Returns the payloads of an area, each followed by `/`.
+fn payloads_of(alloc: Global, area: &[u8]) -> Result<Vec<u8>, Fail> {
+    let mut disk = disk_of(alloc, area, [0, 0])?;
+    Ok(show_log(alloc, &mut disk)?.payloads)
+}
+
+#[test]
+fn a_load_finds_the_payloads(rt: HostRuntime) -> Result<(), Fail> {
+    let mut all = Vec::new(rt.alloc());
+    for size in 0..=TWO.len() {
+        all.extend_from_slice(&payloads_of(rt.alloc(), &TWO[..size])?)?;
+        all.push(b' ')?;
+    }
+    // A payload is found once its last byte has a byte after it.
+    assert_eq!(rt;
+        all.as_slice(),
+        b"        ab/ ab/ ab/ ab/ ab/ ab/ ab/c/ ".as_slice()
+    );
+    Ok(())
+}
+
+#[test]
+fn a_closed_gate_or_a_long_payload_ends_the_list(rt: HostRuntime) -> Result<(), Fail> {
+    let mut all = Vec::new(rt.alloc());
+    // The two gates become 0 and 2. Then the second length becomes 2, past the area's end, and 67,108,865.
+    for (offset, byte) in [(0, 0), (0, 2), (7, 0), (7, 2), (11, 2), (8, 4)] {
+        let mut area = TWO;
+        if let Some(old) = area.get_mut(offset) {
+            *old = byte;
+        }
+        all.extend_from_slice(&payloads_of(rt.alloc(), &area)?)?;
+        all.push(b' ')?;
+    }
+    assert_eq!(rt; all.as_slice(), b"  ab/ ab/ ab/ ab/ ".as_slice());
+    Ok(())
+}
+
+#[test]
+fn a_log_counts_its_bytes_and_its_calls(rt: HostRuntime) -> Result<(), Fail> {
+    let mut disk = disk_of(rt.alloc(), &TWO, [0, 0])?;
+    let log = show_log(rt.alloc(), &mut disk)?;
+    assert_eq!(rt; (log.size, log.calls), (14, 6));
+    Ok(())
+}
+
+/// Returns the journal after appends of `ab` and `c`, and `/`.
+fn appended<D: Disk>(alloc: Global, disk: &mut D) -> Result<Vec<u8>, Fail> {
+    let mut bytes = Vec::new(alloc);
+    append(alloc, disk, b"ab")?;
+    append(alloc, disk, b"c")?;
+    append_area(&mut bytes, disk, Area::Journal)?;
+    Ok(bytes)
+}
+
+#[test]
+fn an_append_has_these_bytes(rt: HostRuntime) -> Result<(), Fail> {
+    let mut disk = disk_of(rt.alloc(), b"", [0, 0])?;
+    let bytes = appended(rt.alloc(), &mut disk)?;
+    assert_eq!(rt;
+        bytes.as_slice(),
+        b"\x01\x00\x00\x00\x02ab\x01\x00\x00\x00\x01c\x00/".as_slice()
+    );
+    Ok(())
+}
+
+#[test]
+fn a_payload_has_this_form(rt: HostRuntime) -> Result<(), Fail> {
+    let framed = Framed::of(rt.alloc(), b"de")?;
+    assert_eq!(rt; (framed.needed(), framed.length()), (7, 2));
+    assert_eq!(rt; framed.tail(), b"\x00\x00\x00\x02de\x00".as_slice());
+    Ok(())
+}
+
+/// Appends the payloads that a load finds, `+`, and those that a load finds after a further append of `c`.
+fn recover<D: Disk>(alloc: Global, all: &mut Vec<u8>, disk: &mut D) -> Result<(), Fail> {
+    all.extend_from_slice(&show_log(alloc, disk)?.payloads)?;
+    append(alloc, disk, b"c")?;
+    all.push(b'+')?;
+    all.extend_from_slice(&show_log(alloc, disk)?.payloads)?;
+    Ok(())
+}
+
+/// Does so on the disk that a crash leaves.
+fn recover_image(
+    alloc: Global,
+    all: &mut Vec<u8>,
+    disk: &MemoryDisk,
+    call: u64,
+    filling: Filling,
+) -> Result<(), Fail> {
+    let mut left = crashed(alloc, disk, call, filling)?;
+    recover(alloc, all, &mut left)
+}
+
+/// Does so for three choices.
+fn recover_images(
+    alloc: Global,
+    all: &mut Vec<u8>,
+    disk: &mut MemoryDisk,
+    call: u64,
+) -> Result<(), Fail> {
+    append(alloc, disk, b"ab")?;
+    recover_image(alloc, all, disk, call, Filling::Old)?;
+    recover_image(alloc, all, disk, call, Filling::New)?;
+    recover_image(alloc, all, disk, call, Filling::Fill(165))
+}
+
+/// Returns what a crash within a device call leaves of an append of `ab` to an empty disk.
+fn recovered(alloc: Global, call: u64) -> Result<Vec<u8>, Fail> {
+    let mut all = Vec::new(alloc);
+    let mut disk = disk_of(alloc, b"", [0, 0])?;
+    recover_images(alloc, &mut all, &mut disk, call)?;
+    Ok(all)
+}
+
+#[test]
+fn a_crash_leaves_the_list_before_or_after(rt: HostRuntime) -> Result<(), Fail> {
+    // The load makes the device calls 1 to 4, and the append 5 to 8.
+    let cases: [(u64, &[u8]); 4] = [
+        (5, b"+c/+c/+c/"),
+        (6, b"+c/+c/+c/"),
+        (7, b"+c/ab/+ab/c/+c/"),
+        (8, b"+c/ab/+ab/c/+c/"),
+    ];
+    for (call, lists) in cases {
+        assert_eq!(rt;
+            recovered(rt.alloc(), call)?.as_slice(),
+            lists,
+            "call {call}"
+        );
+    }
+    Ok(())
+}
+
+/// How far an append of `ab` to an empty disk comes if a device call fails, and the payloads that a load then
+/// finds.
+fn append_failing(alloc: Global, call: u64) -> Result<(Reached, Vec<u8>), Fail> {
+    let mut disk = disk_of(alloc, b"", [call, 0])?;
+    append_and_show(alloc, &mut disk)
+}
+
+fn append_and_show<D: Disk>(alloc: Global, disk: &mut D) -> Result<(Reached, Vec<u8>), Fail> {
+    let reached = append(alloc, disk, b"ab")?;
+    Ok((reached, show_log(alloc, disk)?.payloads))
+}
+
+#[test]
+fn each_device_call_of_an_append_may_fail(rt: HostRuntime) -> Result<(), Fail> {
+    for call in 1u64..9 {
+        let (reached, found) = append_failing(rt.alloc(), call)?;
+        // Call 7 writes the gate, and call 8 syncs it.
+        let wanted = match call {
+            1..=4 => (Reached::Nothing, b"".as_slice()),
+            5..=7 => (Reached::Loaded, b"".as_slice()),
+            _ => (Reached::Loaded, b"ab/".as_slice()),
+        };
+        assert_eq!(rt; (reached, found.as_slice()), wanted, "call {call}");
+    }
+    Ok(())
+}
+
+#[test]
+fn a_failed_call_of_a_load_or_a_read_is_a_disk_fault(rt: HostRuntime) -> Result<(), Fail> {
+    let alloc = rt.alloc();
+    // The load makes the device calls 1 to 4, and the reads 5 and 6.
+    for call in 1u64..7 {
+        let mut disk = disk_of(alloc, &TWO, [call, 0])?;
+        assert_eq!(rt;
+            show_log(alloc, &mut disk).err(),
+            Some(LogFault::DiskFault),
+            "call {call}"
+        );
+    }
+    Ok(())
+}
