@@ -1,28 +1,56 @@
-pub mod ArchiveLinks
-pub mod Bases
-pub mod Chain
-pub mod Digits
-pub mod DocumentReads
-pub mod Ended
-pub mod Entries
-pub mod HeadParts
-pub mod HeadReadings
-pub mod ItemLoop
-pub mod Items
-pub mod Lists
-pub mod Moments
-pub mod Names
-pub mod NamedReads
-pub mod OwnParts
-pub mod PieceReads
-pub mod Readings
-pub mod Refusals
-pub mod Refused
-pub mod Same
-pub mod Shapes
-pub mod Spans
-pub mod Starts
-pub mod Stuck
-pub mod Texts
-pub mod Until
-pub mod Values
+-- read_doc: the links of an archive, one after another
+pub mod ArchiveLinkLemmas
+-- read_doc: the own address of a document has one base
+pub mod BaseLemmas
+-- both laws: the pieces of two documents, compared from the first
+pub mod PairLemmas
+-- read_doc: decimal numbers
+pub mod DecimalLemmas
+-- read_doc: the parts of a document, one after another
+pub mod DocumentLemmas
+-- read_doc: the items and the end of a document
+pub mod EndLemmas
+-- read_doc: the piece of an entry, and of a tombstone
+pub mod EntryLemmas
+-- read_doc: the pieces outside the items, part by part
+pub mod FeedPartLemmas
+-- both laws, read_doc: each piece outside the items has one reading
+pub mod FeedPieceLemmas
+-- read_doc: the items, one after another
+pub mod ItemListLemmas
+-- both laws, read_doc: the piece of an item has one reading
+pub mod ItemLemmas
+-- read_doc: lists of persons, links and categories
+pub mod ManyLemmas
+-- read_doc: printed timestamps
+pub mod MomentLemmas
+-- read_doc: identifiers, addresses and numbers
+pub mod NameLemmas
+-- read_doc: the pieces that name the feed, one after another
+pub mod OpeningLemmas
+-- read_doc: the feed identifier and the own address of a document
+pub mod OwnAddressLemmas
+-- read_doc: a piece is consumed whole or not at all
+pub mod PieceLemmas
+-- read_doc: readings of parts, put together
+pub mod ReadingLemmas
+-- both laws, and the clauses `only` and `refused` of read_doc
+pub mod RefusalLemmas
+-- read_doc, clause `refused`: each step of a document
+pub mod RefusedLemmas
+-- both laws: two lists of pieces, compared from the first
+pub mod SameLemmas
+-- read_doc: the parts of an item
+pub mod ShapeLemmas
+-- read_doc: spans and items that keep the rules of their place
+pub mod SpanLemmas
+-- read_doc, clause `refused`: the pieces read so far begin a document
+pub mod StartLemmas
+-- read_doc, clause `refused`: the pieces that may come next
+pub mod StuckLemmas
+-- read_doc: texts that are read byte by byte
+pub mod TextLemmas
+-- both laws: texts without a byte, and the text before it
+pub mod UntilLemmas
+-- both laws, read_doc: the pieces with a text
+pub mod ValueLemmas

@@ -1,8 +1,8 @@
-pub mod Full
-pub mod Heads
+pub mod ListFaults
+pub mod FeedParts
 pub mod Items
 pub mod Parts
 pub mod Reading
 pub mod Refusal
 pub mod Stages
-pub mod Whole
+pub mod EntryParts

@@ -1,21 +1,21 @@
--- Where bytes that are no document's text are refused.
+-- The offset at which bytes that are the text of no document are refused.
 use Rattle.std.specs.Prelude.{◌≡◌, ◌≢◌, ℕ, ◌≤◌, List, [], ◌∷◌, ◌++◌, length}
 use Rattle.atom_writer.specs.Doc.{DocValue, IsDoc}
 use Rattle.atom_writer.specs.Pieces.{pieces, joined, text}
 
--- the pieces begin the list of some document
+-- the pieces begin the list of pieces of some document
 pub record BeginsADocument (read : List (List ℕ)) : Type 0 where
   pub document : DocValue
   pub lawful : IsDoc document
   pub later : List (List ℕ)
   pub begins : pieces document ≡ read ++ later
 
--- the bytes begin with these pieces, each of them whole
+-- the bytes begin with these whole pieces
 pub record BeginsWithPieces (bytes : List ℕ) (read : List (List ℕ)) : Type 0 where
   pub rest : List ℕ
   pub split : bytes ≡ joined read ++ rest
 
--- the place is the total length of the longest list of whole pieces that the bytes begin with and that begins the list
+-- the offset is the total length of the longest list of whole pieces that the bytes begin with and that begins the list
 -- of some document
 pub record IsPlaceOfRefusal (bytes : List ℕ) (at : ℕ) : Type 0 where
   pub read : List (List ℕ)
@@ -29,7 +29,7 @@ pub record IsPlaceOfRefusal (bytes : List ℕ) (at : ℕ) : Type 0 where
 abbrev pub IsNoDocument : List ℕ → Type 0
 IsNoDocument bytes = (d : DocValue) → IsDoc d → bytes ≢ text d
 
--- a text has one reading
+-- no two documents have the same text
 abbrev pub OneReading : Type 0
 OneReading = (one other : DocValue) → IsDoc one → IsDoc other → text one ≡ text other → one ≡ other
 

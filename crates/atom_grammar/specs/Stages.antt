@@ -1,4 +1,4 @@
--- How far a document is read, and where it is refused.
+-- How far each step reads a document, and where it refuses.
 use Rattle.std.specs.Prelude.{◌≡◌, ℕ, ◌-◌, ◌<◌, ◌≤◌, ◌^◌, List, [], ◌∷◌, ◌++◌, map, length, Result, Ok, Err, ℤ, true, nat_eq, All, codes}
 use Rattle.std.specs.List.{IsDistinct}
 use Rattle.atom_values.specs.Listed.{Listed}
@@ -11,15 +11,15 @@ use Rattle.atom_writer.specs.declared.doc.Kind.{Kind}
 use Rattle.atom_writer.specs.declared.doc.Kind.TheVariants.{Subscription, Archive as Sealed}
 use Rattle.atom_writer.specs.Doc.{DocValue, IsDoc, IsFeedName, span_len}
 use Rattle.atom_writer.specs.Pieces.{name_pieces, current_pieces, prev_pieces, next_pieces, item_piece, joined, text}
-use Rattle.atom_grammar.specs.declared.named.Named.{Named}
-use Rattle.atom_grammar.specs.declared.stop.Stop.{Stop}
-use Rattle.atom_grammar.specs.declared.stop.Stop.TheVariants.{Unlike, NoMemory}
-use Rattle.atom_grammar.specs.Heads.{IsKind, own_piece, prev_link, prev_piece}
+use Rattle.atom_grammar.specs.declared.opening.Opening.{Opening}
+use Rattle.atom_grammar.specs.declared.part_fault.PartFault.{PartFault}
+use Rattle.atom_grammar.specs.declared.part_fault.PartFault.TheVariants.{Mismatch, NoMemory}
+use Rattle.atom_grammar.specs.FeedParts.{IsKind, own_piece, prev_link, prev_piece}
 use Rattle.atom_grammar.specs.Parts.{IsAbsent, literal, starts}
 use Rattle.atom_grammar.specs.Refusal.{BeginsADocument}
 
--- behind the pieces read before it, the input is read up to the rest, at which no piece can stand; what was read begins a
--- document, and either there is more of that or of the input
+-- After the pieces `read`, the input is read up to `rest`, where no piece can stand. The pieces read so far begin a
+-- document, and they are not a whole document that ends with the input.
 pub record IsRefused (read : List (List ℕ)) (input rest : List ℕ) : Type 0 where
   pub more : List (List ℕ)
   pub split : input ≡ joined more ++ rest
@@ -28,29 +28,29 @@ pub record IsRefused (read : List (List ℕ)) (input rest : List ℕ) : Type 0 w
   pub stuck : (p after : List ℕ) → BeginsADocument ((read ++ more) ++ p ∷ []) → rest ≡ p ++ after → ⊥
 
 -- the pieces up to the document's own address
-unfoldable pub named_pieces : FeedName → Kind → ℤ → List (List ℕ)
-named_pieces name kind updated =
+unfoldable pub opening_pieces : FeedName → Kind → ℤ → List (List ℕ)
+opening_pieces name kind updated =
     name_pieces name updated ++ own_piece (record { base = name.base; kind = kind }) ∷ []
 
--- the pieces between that and the span
+-- the pieces between the own address and the span
 unfoldable pub links_pieces : FeedName → Kind → ℕ → List (List ℕ)
 links_pieces name kind prev = current_pieces name kind ++ prev_pieces name prev ++ next_pieces name kind
 
-pub record IsNamed (name : FeedName) (kind : Kind) (updated : ℤ) : Type 0 where
+pub record IsOpening (name : FeedName) (kind : Kind) (updated : ℤ) : Type 0 where
   pub is_name : IsFeedName name
   pub is_kind : IsKind kind
   pub is_updated : IsStamp updated
 
-pub record ReadsName (named : Named) (before after : List ℕ) : Type 0 where
-  pub lawful : IsNamed named.name named.kind named.updated
-  pub split : before ≡ joined (named_pieces named.name named.kind named.updated) ++ after
+pub record IsOpeningRead (named : Opening) (before after : List ℕ) : Type 0 where
+  pub lawful : IsOpening named.name named.kind named.updated
+  pub split : before ≡ joined (opening_pieces named.name named.kind named.updated) ++ after
 
-abbrev pub ReadsNamed : List ℕ → Result Named Stop → List ℕ → Type 0
-ReadsNamed before (Ok named) after = ReadsName named before after
-ReadsNamed before (Err Unlike) after = IsRefused [] before after
-ReadsNamed before (Err NoMemory) after = Unit {0}
+abbrev pub ReadsOpening : List ℕ → Result Opening PartFault → List ℕ → Type 0
+ReadsOpening before (Ok named) after = IsOpeningRead named before after
+ReadsOpening before (Err Mismatch) after = IsRefused [] before after
+ReadsOpening before (Err NoMemory) after = Unit {0}
 
--- the archive before a document, by what stands there
+-- the archive before a document: a subscription document may have no link to it, an archive's number implies it
 abbrev pub IsPrev : FeedName → Kind → ℕ → List ℕ → Type 0
 IsPrev name Subscription prev after = prev ≡ 0 → IsAbsent (prev_link name.base) after
 IsPrev name (Sealed number) prev after = prev ≡ number - 1
@@ -60,16 +60,16 @@ pub record ReadsPrev (name : FeedName) (kind : Kind) (before : List ℕ) (prev :
   pub is : IsPrev name kind prev after
   pub split : before ≡ joined (links_pieces name kind prev) ++ after
 
-abbrev pub ReadsLinks : FeedName → Kind → List ℕ → Result ℕ Stop → List ℕ → Type 0
+abbrev pub ReadsLinks : FeedName → Kind → List ℕ → Result ℕ PartFault → List ℕ → Type 0
 ReadsLinks name kind before (Ok prev) after = ReadsPrev name kind before prev after
-ReadsLinks name kind before (Err Unlike) after =
-    (updated : ℤ) → IsNamed name kind updated → IsRefused (named_pieces name kind updated) before after
+ReadsLinks name kind before (Err Mismatch) after =
+    (updated : ℤ) → IsOpening name kind updated → IsRefused (opening_pieces name kind updated) before after
 ReadsLinks name kind before (Err NoMemory) after = Unit {0}
 
 -- the link of an archive to the one before it
-abbrev pub ReadsPrevLink : FeedName → ℕ → List ℕ → Result (Unit {0}) Stop → List ℕ → Type 0
+abbrev pub ReadsPrevLink : FeedName → ℕ → List ℕ → Result (Unit {0}) PartFault → List ℕ → Type 0
 ReadsPrevLink name prev before (Ok _) after = before ≡ joined (prev_pieces name prev) ++ after
-ReadsPrevLink name prev before (Err Unlike) after =
+ReadsPrevLink name prev before (Err Mismatch) after =
     (after ≡ before) × (1 ≤ prev) × IsAbsent (literal (prev_piece name.base prev)) before
 ReadsPrevLink name prev before (Err NoMemory) after = Unit {0}
 
@@ -78,25 +78,27 @@ pub record AreItems (span : Span) (items : List Item) : Type 0 where
   pub room : length items ≤ span_len span
   pub distinct : IsDistinct nat_eq (map item_number items)
 
--- items were read
-pub record ReadsSome (name : FeedName) (span : Span) (before : List ℕ) (items : List Item) (after : List ℕ) : Type 0 where
-  pub lawful : AreItems span items
-  pub split : before ≡ joined (map (item_piece name) items) ++ after
+-- the items that were read
+pub record ReadsSome (name : FeedName) (span : Span) (before : List ℕ) (items : List Item) (after : List ℕ) : Type 0
+  where
+    pub lawful : AreItems span items
+    pub split : before ≡ joined (map (item_piece name) items) ++ after
 
--- and neither one more nor the end of the document can stand behind them
+-- neither one more item nor the end of the document can stand after them
 pub record EndsAt (name : FeedName) (span : Span) (before after : List ℕ) : Type 0 where
   pub items : List Item
   pub read : ReadsSome name span before items after
-  pub no_more : (item : Item) (rest : List ℕ) → AreItems span (items ++ item ∷ []) → after ≡ item_piece name item ++ rest → ⊥
+  pub no_more : (item : Item) (rest : List ℕ) → AreItems span (items ++ item ∷ [])
+      → after ≡ item_piece name item ++ rest → ⊥
   pub no_end : IsAbsent (literal (codes "</feed>\n")) after
 
-abbrev pub ReadsItems : FeedName → Span → List ℕ → Result (Listed Item) Stop → List ℕ → Type 0
+abbrev pub ReadsItems : FeedName → Span → List ℕ → Result (Listed Item) PartFault → List ℕ → Type 0
 ReadsItems name span before (Ok items) after =
     ReadsSome name span before items.items after × (starts (codes "</feed>\n") after ≡ true)
-ReadsItems name span before (Err Unlike) after = EndsAt name span before after
+ReadsItems name span before (Err Mismatch) after = EndsAt name span before after
 ReadsItems name span before (Err NoMemory) after = Unit {0}
 
-abbrev pub ReadsDocument : List ℕ → Result DocValue Stop → List ℕ → Type 0
+abbrev pub ReadsDocument : List ℕ → Result DocValue PartFault → List ℕ → Type 0
 ReadsDocument before (Ok d) after = IsDoc d × (before ≡ text d)
-ReadsDocument before (Err Unlike) after = IsRefused [] before after
+ReadsDocument before (Err Mismatch) after = IsRefused [] before after
 ReadsDocument before (Err NoMemory) after = Unit {0}

@@ -3,14 +3,14 @@ ghost use Rattle.atom_values.specs.declared.category.Category.{Category};
 ghost use Rattle.atom_grammar.specs.Items.{category, categories};
 ghost use Rattle.atom_grammar.specs.Parts.{Reads, ReadsAs};
 
+use crate::part_fault::PartFault;
 use crate::reader::Reader;
-use crate::stop::Stop;
 use atom_values::{Category, Many};
 use std::alloc::Global;
 
 impl Reader<'_> {
-    /// A category of an entry (RFC 4287 section 4.2.2).
-    fn category(&mut self, alloc: Global) -> Result<Category, Stop>
+    /// Reads a category of an entry (RFC 4287 section 4.2.2).
+    fn category(&mut self, alloc: Global) -> Result<Category, PartFault>
         ensures { Reads category self.old.rest.now result self.new.rest.now }
     {
         self.literal(b"<category")?;
@@ -25,9 +25,10 @@ impl Reader<'_> {
         })
     }
 
-    /// As many categories as stand next, at most 64.
-    pub(crate) fn categories(&mut self, alloc: Global) -> Result<Many<Category, 64>, Stop>
-        ensures { ReadsAs (λ (m : Listed Category). m.items) categories self.old.rest.now result self.new.rest.now }
+    /// Reads the categories that are next. More than the list holds are a mismatch.
+    pub(crate) fn categories(&mut self, alloc: Global) -> Result<Many<Category, 64>, PartFault>
+        ensures { ReadsAs (λ (m : Listed Category). m.items) categories
+            self.old.rest.now result self.new.rest.now }
     {
         let mut categories = Many::new(alloc);
         while self.at(b"<category") {

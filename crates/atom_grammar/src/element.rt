@@ -2,19 +2,19 @@ ghost use Rattle.std.specs.Prelude.{IsTrue, codes};
 ghost use Rattle.atom_grammar.specs.Items.{element, attribute, date, kind, construct};
 ghost use Rattle.atom_grammar.specs.Parts.{Reads, starts, optional};
 
+use crate::part_fault::PartFault;
 use crate::reader::Reader;
-use crate::stop::Stop;
 use atom_values::{AtomText, Stamp, Text, TextKind};
 use std::alloc::Global;
 
 impl Reader<'_> {
-    /// The text between these tags.
+    /// Reads the text between these tags.
     pub(crate) fn element(
         &mut self,
         alloc: Global,
         start: &[u8],
         end: &[u8],
-    ) -> Result<AtomText, Stop>
+    ) -> Result<AtomText, PartFault>
         requires { IsTrue (starts (codes "</") end.now) }
         ensures { Reads (element start.now end.now) self.old.rest.now result self.new.rest.now }
     {
@@ -24,15 +24,16 @@ impl Reader<'_> {
         Ok(text)
     }
 
-    /// The text between these tags, where the open tag stands next.
+    /// Reads the text between these tags, or returns `None` if the open tag isn't next.
     pub(crate) fn optional_element(
         &mut self,
         alloc: Global,
         start: &[u8],
         end: &[u8],
-    ) -> Result<Option<AtomText>, Stop>
+    ) -> Result<Option<AtomText>, PartFault>
         requires { IsTrue (starts (codes "</") end.now) }
-        ensures { Reads (optional start.now (element start.now end.now)) self.old.rest.now result self.new.rest.now }
+        ensures { Reads (optional start.now (element start.now end.now))
+            self.old.rest.now result self.new.rest.now }
     {
         if !self.at(start) {
             return Ok(None);
@@ -40,8 +41,8 @@ impl Reader<'_> {
         Ok(Some(self.element(alloc, start, end)?))
     }
 
-    /// The value of an attribute, whose name and opening quote are `start`.
-    pub(crate) fn attribute(&mut self, alloc: Global, start: &[u8]) -> Result<AtomText, Stop>
+    /// Reads an attribute, whose name and opening quote are `start`.
+    pub(crate) fn attribute(&mut self, alloc: Global, start: &[u8]) -> Result<AtomText, PartFault>
         ensures { Reads (attribute start.now) self.old.rest.now result self.new.rest.now }
     {
         self.literal(start)?;
@@ -50,13 +51,14 @@ impl Reader<'_> {
         Ok(value)
     }
 
-    /// The value of an attribute, where its name stands next.
+    /// Reads an attribute, or returns `None` if its name isn't next.
     pub(crate) fn optional_attribute(
         &mut self,
         alloc: Global,
         start: &[u8],
-    ) -> Result<Option<AtomText>, Stop>
-        ensures { Reads (optional start.now (attribute start.now)) self.old.rest.now result self.new.rest.now }
+    ) -> Result<Option<AtomText>, PartFault>
+        ensures { Reads (optional start.now (attribute start.now))
+            self.old.rest.now result self.new.rest.now }
     {
         if !self.at(start) {
             return Ok(None);
@@ -64,8 +66,8 @@ impl Reader<'_> {
         Ok(Some(self.attribute(alloc, start)?))
     }
 
-    /// The moment between these tags.
-    pub(crate) fn date(&mut self, start: &[u8], end: &[u8]) -> Result<Stamp, Stop>
+    /// Reads the timestamp between these tags.
+    pub(crate) fn date(&mut self, start: &[u8], end: &[u8]) -> Result<Stamp, PartFault>
         ensures { Reads (date start.now end.now) self.old.rest.now result self.new.rest.now }
     {
         self.literal(start)?;
@@ -74,9 +76,14 @@ impl Reader<'_> {
         Ok(moment)
     }
 
-    /// The moment between these tags, where the open tag stands next.
-    pub(crate) fn optional_date(&mut self, start: &[u8], end: &[u8]) -> Result<Option<Stamp>, Stop>
-        ensures { Reads (optional start.now (date start.now end.now)) self.old.rest.now result self.new.rest.now }
+    /// Reads the timestamp between these tags, or returns `None` if the open tag isn't next.
+    pub(crate) fn optional_date(
+        &mut self,
+        start: &[u8],
+        end: &[u8],
+    ) -> Result<Option<Stamp>, PartFault>
+        ensures { Reads (optional start.now (date start.now end.now))
+            self.old.rest.now result self.new.rest.now }
     {
         if !self.at(start) {
             return Ok(None);
@@ -84,8 +91,8 @@ impl Reader<'_> {
         Ok(Some(self.date(start, end)?))
     }
 
-    /// What a text is to be read as (RFC 4287 section 3.1.1).
-    fn kind(&mut self) -> Result<TextKind, Stop>
+    /// Reads the attribute that states a text's kind (RFC 4287 section 3.1.1), which plain text doesn't have.
+    fn kind(&mut self) -> Result<TextKind, PartFault>
         ensures { Reads kind self.old.rest.now result self.new.rest.now }
     {
         if !self.at(b" type=\"html\"") {
@@ -95,13 +102,13 @@ impl Reader<'_> {
         Ok(TextKind::Html)
     }
 
-    /// A text construct (RFC 4287 section 3.1), whose open tag begins so.
+    /// Reads a text construct (RFC 4287 section 3.1), whose open tag begins with `start`.
     pub(crate) fn construct(
         &mut self,
         alloc: Global,
         start: &[u8],
         end: &[u8],
-    ) -> Result<Text, Stop>
+    ) -> Result<Text, PartFault>
         requires { IsTrue (starts (codes "</") end.now) }
         ensures { Reads (construct start.now end.now) self.old.rest.now result self.new.rest.now }
     {
@@ -113,15 +120,16 @@ impl Reader<'_> {
         Ok(Text { kind, value })
     }
 
-    /// A text construct, where its open tag stands next.
+    /// Reads a text construct, or returns `None` if its open tag isn't next.
     pub(crate) fn optional_construct(
         &mut self,
         alloc: Global,
         start: &[u8],
         end: &[u8],
-    ) -> Result<Option<Text>, Stop>
+    ) -> Result<Option<Text>, PartFault>
         requires { IsTrue (starts (codes "</") end.now) }
-        ensures { Reads (optional start.now (construct start.now end.now)) self.old.rest.now result self.new.rest.now }
+        ensures { Reads (optional start.now (construct start.now end.now))
+            self.old.rest.now result self.new.rest.now }
     {
         if !self.at(start) {
             return Ok(None);

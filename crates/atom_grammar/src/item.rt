@@ -1,15 +1,15 @@
 ghost use Rattle.atom_grammar.specs.Items.{tombstone, item};
 ghost use Rattle.atom_grammar.specs.Parts.{Reads};
 
+use crate::part_fault::PartFault;
 use crate::reader::Reader;
-use crate::stop::Stop;
 use atom_writer::FeedName;
 use deleted_entries::{Item, Tombstone};
 use std::alloc::Global;
 
 impl Reader<'_> {
-    /// The piece of a tombstone (RFC 6721 section 3).
-    fn tombstone(&mut self, name: &FeedName) -> Result<Tombstone, Stop>
+    /// Reads the piece of a tombstone (RFC 6721 section 3).
+    fn tombstone(&mut self, name: &FeedName) -> Result<Tombstone, PartFault>
         ensures { Reads (tombstone name.now) self.old.rest.now result self.new.rest.now }
     {
         self.literal(b"<at:deleted-entry ref=\"")?;
@@ -20,8 +20,8 @@ impl Reader<'_> {
         Ok(Tombstone { number, when })
     }
 
-    /// The piece of an item.
-    pub(crate) fn item(&mut self, alloc: Global, name: &FeedName) -> Result<Item, Stop>
+    /// Reads the piece of an item.
+    pub(crate) fn item(&mut self, alloc: Global, name: &FeedName) -> Result<Item, PartFault>
         ensures { Reads (item name.now) self.old.rest.now result self.new.rest.now }
     {
         if self.at(b"<entry>") {
@@ -31,6 +31,3 @@ impl Reader<'_> {
         }
     }
 }
-
-#[cfg(test)]
-mod tests;

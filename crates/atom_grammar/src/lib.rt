@@ -1,25 +1,37 @@
-//! Reads feed documents strictly: bytes are the one text of a document, or they are refused at the place where the first
-//! piece begins that can't stand there (RFC 4287, RFC 5005 section 4).
-//! Stands on `atom_writer`, whose definition of the text it cites.
+//! Reads feed documents strictly (RFC 4287, RFC 5005 section 4).
+//!
+//! Begin with [`read_doc`]: it returns the document whose canonical text the bytes are, or the offset of the first piece
+//! that can't stand there.
+//!
+//! ```
+//! match read_doc(alloc, bytes) {
+//!     Ok(doc) => println!(rt; "{} items", doc.items.len())?,
+//!     Err(ReadFault::NotADocument { at }) => println!(rt; "refused at byte {at}")?,
+//!     Err(ReadFault::NoMemory) => println!(rt; "out of memory")?,
+//! }
+//! ```
+//!
+//! Each document's text is read as that document, and nothing else is read: spellings that XML allows and
+//! `atom_writer` doesn't write are refused. Two laws say that no two documents have the same text, and that no piece is
+//! a proper prefix of another that could stand in its place.
+//!
+//! Stands on `atom_writer`, whose definition of the text it cites, and on `uuid`.
 #![tactic(auto)]
 
 mod category;
 mod element;
 mod entry;
-mod halves;
-mod head;
+mod entry_parts;
+mod feed_parts;
 mod item;
 mod laws;
 mod link;
-mod named;
+mod opening;
+mod part_fault;
 mod person;
 mod pieces;
 mod read;
 mod reader;
-mod stop;
 
 pub use laws::{pieces_are_prefix_free, texts_have_one_reading};
 pub use read::{MAX_DOCUMENT, ReadFault, read_doc};
-
-#[cfg(test)]
-mod tests;

@@ -4,30 +4,30 @@ ghost use Rattle.atom_values.specs.declared.link.Link.{Link};
 ghost use Rattle.atom_grammar.specs.Items.{relation, link, links};
 ghost use Rattle.atom_grammar.specs.Parts.{Reads, ReadsAs};
 
+use crate::part_fault::PartFault;
 use crate::reader::Reader;
-use crate::stop::Stop;
 use atom_values::{AtomText, Link, Many, NoMemory};
 use std::alloc::Global;
 
-/// The relation of a link that names none (RFC 4287 section 4.2.7.2).
+/// The relation of a link that states none (RFC 4287 section 4.2.7.2).
 const ALTERNATE: &[u8] = b"alternate";
 
 impl Reader<'_> {
-    /// The relation of a link. `alternate` is never written.
-    fn relation(&mut self, alloc: Global) -> Result<AtomText, Stop>
+    /// Reads the relation of a link. `alternate` is never written.
+    fn relation(&mut self, alloc: Global) -> Result<AtomText, PartFault>
         ensures { Reads relation self.old.rest.now result self.new.rest.now }
     {
         let Some(relation) = self.optional_attribute(alloc, b" rel=\"")? else {
             return Ok(alternate(alloc)?);
         };
         if relation.bytes() == ALTERNATE {
-            return Err(Stop::Unlike);
+            return Err(PartFault::Mismatch);
         }
         Ok(relation)
     }
 
-    /// A link of an entry (RFC 4287 section 4.2.7).
-    fn link(&mut self, alloc: Global) -> Result<Link, Stop>
+    /// Reads a link of an entry (RFC 4287 section 4.2.7).
+    fn link(&mut self, alloc: Global) -> Result<Link, PartFault>
         ensures { Reads link self.old.rest.now result self.new.rest.now }
     {
         self.literal(b"<link")?;
@@ -48,8 +48,8 @@ impl Reader<'_> {
         })
     }
 
-    /// As many links as stand next, at most 32.
-    pub(crate) fn links(&mut self, alloc: Global) -> Result<Many<Link, 32>, Stop>
+    /// Reads the links that are next. More than the list holds are a mismatch.
+    pub(crate) fn links(&mut self, alloc: Global) -> Result<Many<Link, 32>, PartFault>
         ensures { ReadsAs (λ (m : Listed Link). m.items) links self.old.rest.now result self.new.rest.now }
     {
         let mut links = Many::new(alloc);
@@ -60,7 +60,7 @@ impl Reader<'_> {
     }
 }
 
-/// The relation of a link that names none. Only memory can be wanting for this text.
+/// The relation of a link that states none. The only error is out of memory.
 fn alternate(alloc: Global) -> Result<AtomText, NoMemory>
     ensures { IfOk result (λ text. text ≡ codes "alternate") }
 {

@@ -4,14 +4,14 @@ ghost use Rattle.atom_values.specs.declared.person.Person.{Person};
 ghost use Rattle.atom_grammar.specs.Items.{person, persons};
 ghost use Rattle.atom_grammar.specs.Parts.{Reads, ReadsAs, starts};
 
+use crate::part_fault::PartFault;
 use crate::reader::Reader;
-use crate::stop::Stop;
 use atom_values::{Many, Person};
 use std::alloc::Global;
 
 impl Reader<'_> {
-    /// A person construct (RFC 4287 section 3.2) between these tags.
-    fn person(&mut self, alloc: Global, start: &[u8], end: &[u8]) -> Result<Person, Stop>
+    /// Reads a person construct (RFC 4287 section 3.2) between these tags.
+    fn person(&mut self, alloc: Global, start: &[u8], end: &[u8]) -> Result<Person, PartFault>
         requires { IsTrue (starts (codes "</") end.now) }
         ensures { Reads (person start.now end.now) self.old.rest.now result self.new.rest.now }
     {
@@ -23,16 +23,17 @@ impl Reader<'_> {
         Ok(Person { name, uri, email })
     }
 
-    /// As many persons as stand next, at most 16.
+    /// Reads the persons that are next. More than the list holds are a mismatch.
     pub(crate) fn persons(
         &mut self,
         alloc: Global,
         start: &[u8],
         end: &[u8],
-    ) -> Result<Many<Person, 16>, Stop>
+    ) -> Result<Many<Person, 16>, PartFault>
         requires start { IsTrue (starts (codes "<") start.now) }
         requires end { IsTrue (starts (codes "</") end.now) }
-        ensures { ReadsAs (λ (m : Listed Person). m.items) (persons start.now end.now) self.old.rest.now result self.new.rest.now }
+        ensures { ReadsAs (λ (m : Listed Person). m.items) (persons start.now end.now)
+            self.old.rest.now result self.new.rest.now }
     {
         let mut persons = Many::new(alloc);
         while self.at(start) {

@@ -3,13 +3,13 @@ ghost use Rattle.std.specs.List.{list_any};
 ghost use Rattle.chain_links.specs.Address.{IsAddress};
 ghost use Rattle.deleted_entries.specs.Item.{item_number};
 ghost use Rattle.atom_writer.specs.Doc.{span_len};
-ghost use Rattle.atom_grammar.specs.Heads.{ReadsPiece, feed_id, updated, own, link_to, prev_link, span_of, item_behind};
+ghost use Rattle.atom_grammar.specs.FeedParts.{ReadsPiece, feed_id, updated, own, link_to, prev_link, span_of, item_behind};
 ghost use Rattle.atom_grammar.specs.Items.{element};
 ghost use Rattle.atom_grammar.specs.Parts.{literal, starts};
 
-use crate::named::Own;
+use crate::opening::Own;
+use crate::part_fault::PartFault;
 use crate::reader::Reader;
-use crate::stop::Stop;
 use atom_values::{AtomText, Stamp};
 use atom_writer::{FeedName, Kind, MAX_ITEMS, is_placed};
 use chain_links::{Address, Base, Span};
@@ -19,17 +19,17 @@ use std::alloc::Global;
 /// The last piece of a document.
 pub(crate) const END: &[u8] = b"</feed>\n";
 
-/// The input behind the pieces that were read. A piece is read whole, or an `Err(Unlike)` leaves the input where the
-/// piece begins.
+/// The unread input. Each method consumes one whole piece, or on `Mismatch` nothing.
 #[derive(Drop)]
 pub(crate) struct Pieces<'a> {
     pub(crate) rest: &'a [u8],
 }
 
+// Each goal has an answer in proofs/, so no search is made.
 #[tactic(none)]
 impl Pieces<'_> {
-    /// A piece that is always the same.
-    pub(crate) fn fixed(&mut self, piece: &[u8]) -> Result<(), Stop>
+    /// Reads a piece that is always the same.
+    pub(crate) fn fixed(&mut self, piece: &[u8]) -> Result<(), PartFault>
         ensures { ReadsPiece (literal piece.now) self.old.rest.now result self.new.rest.now }
     {
         let mut reader = Reader::new(self.rest);
@@ -45,8 +45,8 @@ impl Pieces<'_> {
         Reader::new(self.rest).at(END)
     }
 
-    /// The piece with the feed's identifier.
-    pub(crate) fn feed_id(&mut self) -> Result<FeedId, Stop>
+    /// Reads the piece with the feed's identifier.
+    pub(crate) fn feed_id(&mut self) -> Result<FeedId, PartFault>
         ensures { ReadsPiece feed_id self.old.rest.now result self.new.rest.now }
     {
         let mut reader = Reader::new(self.rest);
@@ -55,8 +55,13 @@ impl Pieces<'_> {
         Ok(id)
     }
 
-    /// A piece with a text between these tags.
-    pub(crate) fn text(&mut self, alloc: Global, start: &[u8], end: &[u8]) -> Result<AtomText, Stop>
+    /// Reads a piece with a text between these tags.
+    pub(crate) fn text(
+        &mut self,
+        alloc: Global,
+        start: &[u8],
+        end: &[u8],
+    ) -> Result<AtomText, PartFault>
         requires { IsTrue (starts (codes "</") end.now) }
         ensures { ReadsPiece (element start.now end.now) self.old.rest.now result self.new.rest.now }
     {
@@ -66,8 +71,8 @@ impl Pieces<'_> {
         Ok(text)
     }
 
-    /// The piece with the moment of the last change.
-    pub(crate) fn updated(&mut self) -> Result<Stamp, Stop>
+    /// Reads the piece with the timestamp of the last change.
+    pub(crate) fn updated(&mut self) -> Result<Stamp, PartFault>
         ensures { ReadsPiece updated self.old.rest.now result self.new.rest.now }
     {
         let mut reader = Reader::new(self.rest);
@@ -76,8 +81,8 @@ impl Pieces<'_> {
         Ok(moment)
     }
 
-    /// The link to the document itself.
-    pub(crate) fn own(&mut self, alloc: Global) -> Result<Own, Stop>
+    /// Reads the link to the document itself.
+    pub(crate) fn own(&mut self, alloc: Global) -> Result<Own, PartFault>
         ensures { ReadsPiece own self.old.rest.now result self.new.rest.now }
     {
         let mut reader = Reader::new(self.rest);
@@ -86,65 +91,65 @@ impl Pieces<'_> {
         Ok(own)
     }
 
-    /// The link of this relation to this document of the feed.
-    pub(crate) fn link_to(&mut self, rel: &[u8], base: &Base, to: Address) -> Result<(), Stop>
+    /// Reads a link of this relation to this document of the feed.
+    pub(crate) fn link_to(&mut self, rel: &[u8], base: &Base, to: Address) -> Result<(), PartFault>
         requires { IsAddress to }
         ensures { ReadsPiece (link_to rel.now base.now to) self.old.rest.now result self.new.rest.now }
     {
         let mut reader = Reader::new(self.rest);
         let address = reader.feed_link(rel, base)?;
         if address != to {
-            return Err(Stop::Unlike);
+            return Err(PartFault::Mismatch);
         }
         self.rest = reader.rest;
         Ok(())
     }
 
-    /// The link to the archive before, and its number.
-    pub(crate) fn prev_link(&mut self, base: &Base) -> Result<u32, Stop>
+    /// Reads the link to the archive before the document, and returns its number.
+    pub(crate) fn prev_link(&mut self, base: &Base) -> Result<u32, PartFault>
         ensures { ReadsPiece (prev_link base.now) self.old.rest.now result self.new.rest.now }
     {
         let mut reader = Reader::new(self.rest);
         let Address::Archive(number) = reader.feed_link(b"prev-archive", base)? else {
-            return Err(Stop::Unlike);
+            return Err(PartFault::Mismatch);
         };
         self.rest = reader.rest;
         Ok(number)
     }
 
-    /// The piece with the span of a document of this kind behind the archive `prev`.
-    pub(crate) fn span(&mut self, kind: Kind, prev: u32) -> Result<Span, Stop>
+    /// Reads the piece with the span of a document of this kind, which comes after the archive `prev`.
+    pub(crate) fn span(&mut self, kind: Kind, prev: u32) -> Result<Span, PartFault>
         ensures { ReadsPiece (span_of kind prev) self.old.rest.now result self.new.rest.now }
     {
         let mut reader = Reader::new(self.rest);
         let span = reader.span()?;
         if !is_placed(kind, span, prev) || operations(span) > u64::from(MAX_ITEMS) {
-            return Err(Stop::Unlike);
+            return Err(PartFault::Mismatch);
         }
         self.rest = reader.rest;
         Ok(span)
     }
 
-    /// The piece of an item of another member than these items have.
+    /// Reads the piece of an item whose member has none of the items `before`.
     pub(crate) fn item(
         &mut self,
         alloc: Global,
         name: &FeedName,
         before: &[Item],
-    ) -> Result<Item, Stop>
+    ) -> Result<Item, PartFault>
         ensures { ReadsPiece (item_behind name.now before.now) self.old.rest.now result self.new.rest.now }
     {
         let mut reader = Reader::new(self.rest);
         let item = reader.item(alloc, name)?;
         if has_number(before, item.number()) {
-            return Err(Stop::Unlike);
+            return Err(PartFault::Mismatch);
         }
         self.rest = reader.rest;
         Ok(item)
     }
 }
 
-/// How many operations a span has.
+/// The number of operations that a span covers.
 pub(crate) fn operations(span: Span) -> u64
     ensures { result ≡ span_len span }
 {

@@ -2,83 +2,106 @@ ghost use Rattle.std.specs.Prelude.{◌≡◌, ◌⊎◌, ℕ, ◌≤◌, length
 ghost use Rattle.atom_writer.specs.Doc.{DocValue, IsDoc, span_len};
 ghost use Rattle.atom_writer.specs.declared.doc.Kind.TheVariants.{Archive};
 ghost use Rattle.atom_writer.specs.Pieces.{text};
-ghost use Rattle.atom_grammar.specs.Heads.{IsKind};
+ghost use Rattle.atom_grammar.specs.FeedParts.{IsKind};
 ghost use Rattle.atom_grammar.specs.Refusal.{IsPlaceOfRefusal, IsNoDocument};
-ghost use Rattle.atom_grammar.specs.Stages.{ReadsNamed, ReadsLinks, ReadsPrevLink, ReadsItems, ReadsDocument};
+ghost use Rattle.atom_grammar.specs.Stages.{ReadsOpening, ReadsLinks, ReadsPrevLink, ReadsItems, ReadsDocument};
 
-use crate::named::{Named, Own};
+use crate::opening::{Opening, Own};
+use crate::part_fault::PartFault;
 use crate::pieces::{END, Pieces, operations};
-use crate::stop::Stop;
 use atom_values::Many;
-use atom_writer::{Doc, FeedName, Kind};
+use atom_writer::{Doc, FeedName, Kind, MAX_ITEMS};
 use chain_links::{Address, Span};
 use deleted_entries::Item;
 use std::alloc::Global;
+use std::error::Error;
+use std::fmt;
 
 const DECLARATION: &[u8] = b"<?xml version=\"1.0\" encoding=\"utf-8\"?>\n";
 
-const OPEN_TAG: &[u8] =
-    b"<feed xmlns=\"http://www.w3.org/2005/Atom\" xmlns:fh=\"http://purl.org/syndication/history/1.0\" xmlns:at=\"http://purl.org/atompub/tombstones/1.0\" xmlns:app=\"http://www.w3.org/2007/app\" xmlns:sp=\"urn:archived-feed:span:1\">\n";
+const OPEN_TAG: &[u8] = b"<feed xmlns=\"http://www.w3.org/2005/Atom\" \
+xmlns:fh=\"http://purl.org/syndication/history/1.0\" xmlns:at=\"http://purl.org/atompub/tombstones/1.0\" \
+xmlns:app=\"http://www.w3.org/2007/app\" xmlns:sp=\"urn:archived-feed:span:1\">\n";
 
-/// How many bytes a document has at most.
+/// The greatest length of a text that [`read_doc`] takes, in bytes.
 pub const MAX_DOCUMENT: usize = 67_108_864;
 
-/// Why bytes aren't read as a document.
+/// Why bytes are not read as a document.
 #[derive(Clone, Copy, Debug, PartialEq, Eq)]
 pub enum ReadFault {
-    /// They are no document's text. The first piece that can't stand there begins at this byte.
+    /// The bytes are the text of no document. The first piece that can't stand there begins at offset `at`.
     NotADocument { at: usize },
-    /// Memory ran out.
+    /// Out of memory.
     NoMemory,
 }
 
-/// The document that the bytes are the text of. `NotADocument` comes exactly where they are none's, with the total length
-/// of the longest list of whole pieces that the bytes begin with and that begins the list of some document.
+impl fmt::Display for ReadFault {
+    fn fmt<W: fmt::Write>(&self, f: &mut fmt::Formatter<W>) -> fmt::Result {
+        match self {
+            ReadFault::NotADocument { at } => {
+                write!(f, "not a feed document: no piece can stand at byte {at}")
+            }
+            ReadFault::NoMemory => write!(f, "out of memory"),
+        }
+    }
+}
+
+impl Error for ReadFault {}
+
+/// Reads the canonical text of a document.
+///
+/// `NotADocument` exactly if the bytes are the text of no document. Its `at` is the total length of the longest list of
+/// whole pieces that the bytes begin with and that begins the list of pieces of some document. `NoMemory` if there is no
+/// memory for the document.
+///
+/// The bytes are read once.
 pub fn read_doc(alloc: Global, bytes: &[u8]) -> Result<Doc, ReadFault>
     requires { length bytes.now ≤ MAX_DOCUMENT }
-    // What is read is the document whose text the bytes are.
+    // The bytes are the text of the document that is returned.
     ensures found { IfOk result (λ d. IsDoc d × (bytes.now ≡ text d)) }
     // Each document's text is read as that document, unless memory runs out.
     ensures only { (d : DocValue) → IsDoc d → bytes.now ≡ text d
         → (result ≡ Ok d) ⊎ (result ≡ Err ReadFault.NoMemory) }
-    // The place of a refusal.
+    // A refusal states why and where.
     ensures refused { (at : ℕ) → result ≡ Err (ReadFault.NotADocument at)
         → IsNoDocument bytes.now × IsPlaceOfRefusal bytes.now at }
 {
     let mut pieces = Pieces { rest: bytes };
     match document(alloc, &mut pieces) {
         Ok(doc) => Ok(doc),
-        Err(Stop::Unlike) => Err(ReadFault::NotADocument {
+        Err(PartFault::Mismatch) => Err(ReadFault::NotADocument {
             at: bytes.len() - pieces.rest.len(),
         }),
-        Err(Stop::NoMemory) => Err(ReadFault::NoMemory),
+        Err(PartFault::NoMemory) => Err(ReadFault::NoMemory),
     }
 }
 
-/// A document, which nothing follows.
+/// Reads a document, up to the end of the input.
+// Each goal has an answer in proofs/, so no search is made.
 #[tactic(none)]
-fn document(alloc: Global, pieces: &mut Pieces) -> Result<Doc, Stop>
+fn document(alloc: Global, pieces: &mut Pieces) -> Result<Doc, PartFault>
     ensures { ReadsDocument pieces.old.rest.now result pieces.new.rest.now }
 {
-    let Named {
+    let Opening {
         name,
         kind,
         updated,
-    } = named(alloc, pieces)?;
+    } = opening(alloc, pieces)?;
     let prev = links(pieces, &name, kind)?;
     let span = pieces.span(kind, prev)?;
     let items = items(alloc, pieces, &name, span)?;
     pieces.fixed(END)?;
     if !pieces.rest.is_empty() {
-        return Err(Stop::Unlike);
+        return Err(PartFault::Mismatch);
     }
-    Doc::new(name, kind, span, prev, updated, items).ok_or(Stop::Unlike)
+    Doc::new(name, kind, span, prev, updated, items).ok_or(PartFault::Mismatch)
 }
 
-/// The pieces that name the feed, and the link to the document itself.
+/// Reads the pieces that name the feed, and the link to the document itself.
+// Each goal has an answer in proofs/, so no search is made.
 #[tactic(none)]
-fn named(alloc: Global, pieces: &mut Pieces) -> Result<Named, Stop>
-    ensures { ReadsNamed pieces.old.rest.now result pieces.new.rest.now }
+fn opening(alloc: Global, pieces: &mut Pieces) -> Result<Opening, PartFault>
+    ensures { ReadsOpening pieces.old.rest.now result pieces.new.rest.now }
 {
     pieces.fixed(DECLARATION)?;
     pieces.fixed(OPEN_TAG)?;
@@ -93,33 +116,35 @@ fn named(alloc: Global, pieces: &mut Pieces) -> Result<Named, Stop>
         title,
         author,
     };
-    Ok(Named {
+    Ok(Opening {
         name,
         kind,
         updated,
     })
 }
 
-/// The links to the documents beside this one and the mark of an archive (RFC 5005 section 4), and which archive is
-/// before it, or 0.
+/// Reads the links to the documents before and after this one, and the mark of an archive (RFC 5005 section 4). Returns
+/// the number of the archive before it, or 0 if there is none.
+// Each goal has an answer in proofs/, so no search is made.
 #[tactic(none)]
-fn links(pieces: &mut Pieces, name: &FeedName, kind: Kind) -> Result<u32, Stop>
+fn links(pieces: &mut Pieces, name: &FeedName, kind: Kind) -> Result<u32, PartFault>
     requires { IsKind kind }
     ensures { ReadsLinks name.now kind pieces.old.rest.now result pieces.new.rest.now }
 {
     match kind {
         Kind::Subscription => match pieces.prev_link(&name.base) {
             Ok(prev) => Ok(prev),
-            Err(Stop::Unlike) => Ok(0),
-            Err(Stop::NoMemory) => Err(Stop::NoMemory),
+            Err(PartFault::Mismatch) => Ok(0),
+            Err(PartFault::NoMemory) => Err(PartFault::NoMemory),
         },
         Kind::Archive(number) => archive_links(pieces, name, number),
     }
 }
 
-/// Those of an archive.
+/// Reads the links and the mark of an archive, as [`links`] does.
+// Each goal has an answer in proofs/, so no search is made.
 #[tactic(none)]
-fn archive_links(pieces: &mut Pieces, name: &FeedName, number: u32) -> Result<u32, Stop>
+fn archive_links(pieces: &mut Pieces, name: &FeedName, number: u32) -> Result<u32, PartFault>
     requires { IsKind (Archive number) }
     ensures { ReadsLinks name.now (Archive number) pieces.old.rest.now result pieces.new.rest.now }
 {
@@ -131,9 +156,10 @@ fn archive_links(pieces: &mut Pieces, name: &FeedName, number: u32) -> Result<u3
     Ok(prev)
 }
 
-/// The link of an archive to the archive `prev`, where that isn't 0.
+/// Reads the link of an archive to the archive `prev`, unless `prev` is 0.
+// Each goal has an answer in proofs/, so no search is made.
 #[tactic(none)]
-fn archive_prev(pieces: &mut Pieces, name: &FeedName, prev: u32) -> Result<(), Stop>
+fn archive_prev(pieces: &mut Pieces, name: &FeedName, prev: u32) -> Result<(), PartFault>
     ensures { ReadsPrevLink name.now prev pieces.old.rest.now result pieces.new.rest.now }
 {
     if prev == 0 {
@@ -142,26 +168,27 @@ fn archive_prev(pieces: &mut Pieces, name: &FeedName, prev: u32) -> Result<(), S
     pieces.link_to(b"prev-archive", &name.base, Address::Archive(prev))
 }
 
-/// The items of a document with this span, up to its end.
+/// Reads the items of a document with this span, up to its end.
+// Each goal has an answer in proofs/, so no search is made.
 #[tactic(none)]
 fn items(
     alloc: Global,
     pieces: &mut Pieces,
     name: &FeedName,
     span: Span,
-) -> Result<Many<Item, 100>, Stop>
-    requires { span_len span ≤ 100 }
+) -> Result<Many<Item, 100>, PartFault>
+    requires { span_len span ≤ MAX_ITEMS }
     ensures { ReadsItems name.now span pieces.old.rest.now result pieces.new.rest.now }
 {
     let mut items = Many::new(alloc);
     while !pieces.at_end() {
         if items.len() as u64 == operations(span) {
-            return Err(Stop::Unlike);
+            return Err(PartFault::Mismatch);
         }
         let item = pieces.item(alloc, name, items.as_slice())?;
         // The list has room for each operation of the span, so only memory can be missing.
         if items.push(item).is_err() {
-            return Err(Stop::NoMemory);
+            return Err(PartFault::NoMemory);
         }
     }
     Ok(items)

@@ -17,7 +17,8 @@ use Rattle.atom_writer.specs.Pieces.{link_piece, prev_pieces, current_pieces, ne
 pub joined-append : (ps qs : List (List ℕ)) → joined (ps ++ qs) ≡ joined ps ++ joined qs
 unfolding joined
 joined-append [] qs = refl
-joined-append (p ∷ ps) qs = ap (λ (x : List ℕ). p ++ x) (joined-append ps qs) ∙ sym (append_assoc p (joined ps) (joined qs))
+joined-append (p ∷ ps) qs = ap (λ (x : List ℕ). p ++ x) (joined-append ps qs)
+    ∙ sym (append_assoc p (joined ps) (joined qs))
 
 pub joined-none : joined [] ≡ []
 unfolding joined
@@ -44,14 +45,16 @@ unfolding joined prev_pieces
 prev_none name zero h = refl
 prev_none name (suc n) h = absurd (omega arith)
 
-pub prev_some : (name : FeedName) (prev : ℕ) → prev ≢ 0 → joined (prev_pieces name prev) ≡ link_piece (codes "prev-archive") name (Archive prev)
+pub prev_some : (name : FeedName) (prev : ℕ) → prev ≢ 0
+    → joined (prev_pieces name prev) ≡ link_piece (codes "prev-archive") name (Archive prev)
 unfolding prev_pieces
 prev_some name prev h =
     let e : nat_eq prev 0 ≡ false = search (rules, tests) in
     rw e (joined-one (link_piece (codes "prev-archive") name (Archive prev)))
 
 pub joined-place : (name : FeedName) (kind : Kind) (span : Span) (prev : ℕ) →
-    link_piece (codes "self") name (own_address kind) ++ joined (current_pieces name kind) ++ joined (prev_pieces name prev)
+    link_piece (codes "self") name (own_address kind) ++ joined (current_pieces name kind)
+    ++ joined (prev_pieces name prev)
     ++ joined (next_pieces name kind) ++ span_piece span
     ≡ joined (place_pieces name kind span prev)
 unfolding place_pieces
@@ -71,7 +74,9 @@ take-one_more xs i x below is = take_more xs i x below ∙ ap (λ y. take i xs +
 pub flat_map-more : {X : Type 0} (f : X → List ℕ) (xs : List X) (i : ℕ) (x : X) → i < length xs → x ≡ get_or xs i x
     → flat_map f (take i xs) ++ f x ≡ flat_map f (take (i + 1) xs)
 flat_map-more f xs i x below is =
-    let more = flat_map-append f (take i xs) (x ∷ []) ∙ ap (λ (t : List ℕ). flat_map f (take i xs) ++ t) (append-nil (f x)) in
+    let more =
+    flat_map-append f (take i xs) (x ∷ [])
+    ∙ ap (λ (t : List ℕ). flat_map f (take i xs) ++ t) (append-nil (f x)) in
     sym (ap (flat_map f) (take-one_more xs i x below is) ∙ more)
 
 -- and a rule that each of them keeps
@@ -81,10 +86,14 @@ All-one_more P xs i x below is before here =
     subst (All P) (sym (take-one_more xs i x below is)) (All-push P (take i xs) x before here)
 
 -- one more item
-pub joined-map-push : (f : Item → List ℕ) (items : List Item) (item : Item) → joined (map f (items ++ item ∷ [])) ≡ joined (map f items) ++ f item
-joined-map-push f items item = ap joined (map-append f items (item ∷ [])) ∙ joined-append (map f items) (f item ∷ []) ∙ ap (λ (x : List ℕ). joined (map f items) ++ x) (joined-one (f item))
+pub joined-map-push : (f : Item → List ℕ) (items : List Item) (item : Item)
+    → joined (map f (items ++ item ∷ [])) ≡ joined (map f items) ++ f item
+joined-map-push f items item = ap joined (map-append f items (item ∷ [])) ∙ joined-append (map f items) (f item ∷ [])
+    ∙ ap (λ (x : List ℕ). joined (map f items) ++ x) (joined-one (f item))
 
-pub joined-map-more : (f : Item → List ℕ) (items : List Item) (i : ℕ) (item : Item) → i < length items → item ≡ get_or items i item
+pub joined-map-more : (f : Item → List ℕ) (items : List Item) (i : ℕ) (item : Item) → i < length items
+    → item ≡ get_or items i item
     → joined (map f (take i items)) ++ f item ≡ joined (map f (take (i + 1) items))
 joined-map-more f items i item below is =
-    sym (ap (λ (xs : List Item). joined (map f xs)) (take-one_more items i item below is) ∙ joined-map-push f (take i items) item)
+    sym (ap (λ (xs : List Item). joined (map f xs)) (take-one_more items i item below is)
+    ∙ joined-map-push f (take i items) item)

@@ -1,5 +1,4 @@
--- The parts of an entry that are written alike wherever they stand: persons, links and categories (RFC 4287 sections
--- 3.2, 4.2.7 and 4.2.2).
+-- The text of the persons, links and categories of an entry (RFC 4287 sections 3.2, 4.2.7 and 4.2.2).
 use Rattle.std.specs.Prelude.{ℕ, List, [], ◌++◌, flat_map, true, false, if◌then◌else◌, Option, Some, None, codes}
 use Rattle.atom_values.specs.declared.category.Category.{Category}
 use Rattle.atom_values.specs.declared.link.Link.{Link}
@@ -7,6 +6,7 @@ use Rattle.atom_values.specs.declared.person.Person.{Person}
 use Rattle.atom_values.specs.Escape.{escaped}
 use Rattle.atom_values.specs.Link.{has_relation}
 
+-- an element that has this text
 unfoldable pub element : List ℕ → List ℕ → List ℕ
 element tag value = codes "<" ++ tag ++ codes ">" ++ escaped false value ++ codes "</" ++ tag ++ codes ">"
 
@@ -22,6 +22,7 @@ person_text tag p =
 abbrev pub persons_text : List ℕ → List Person → List ℕ
 persons_text tag persons = flat_map (person_text tag) persons
 
+-- an attribute, with a space before it
 unfoldable pub attribute : List ℕ → List ℕ → List ℕ
 attribute name value = codes " " ++ name ++ codes "=\"" ++ escaped true value ++ codes "\""
 
@@ -29,7 +30,7 @@ unfoldable pub optional_attribute : List ℕ → Option (List ℕ) → List ℕ
 optional_attribute name None = []
 optional_attribute name (Some value) = attribute name value
 
--- a link of relation `alternate` says nothing of it
+-- the relation of a link, which is left out if it is `alternate`
 unfoldable pub relation_text : Link → List ℕ
 relation_text l = if has_relation (codes "alternate") l then [] else attribute (codes "rel") l.rel
 

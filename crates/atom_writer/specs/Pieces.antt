@@ -1,5 +1,5 @@
--- The one text of a document (RFC 4287, RFC 5005 section 4), as a list of pieces. Each piece ends with LF, and an item
--- is one piece.
+-- The canonical text of a document (RFC 4287, RFC 5005 section 4), as a list of pieces. Each piece ends with LF, and an
+-- item is one piece.
 use Rattle.std.specs.Prelude.{ℕ, ◌+◌, ◌==◌, List, [], ◌∷◌, ◌++◌, ℤ, map, flat_map, false, if◌then◌else◌, codes, decimal}
 use Rattle.atom_values.specs.Entry.{EntryValue}
 use Rattle.atom_values.specs.Escape.{escaped}
@@ -18,10 +18,11 @@ use Rattle.atom_writer.specs.declared.doc.Kind.TheVariants.{Subscription, Archiv
 use Rattle.atom_writer.specs.Doc.{DocValue}
 use Rattle.atom_writer.specs.Entries.{inner_text}
 
+-- the piece of an entry
 unfoldable pub entry_piece : FeedName → EntryValue → List ℕ
 entry_piece name e = codes "<entry>" ++ inner_text name e ++ codes "</entry>\n"
 
--- a tombstone (RFC 6721 section 3)
+-- the piece of a tombstone (RFC 6721 section 3)
 unfoldable pub tombstone_piece : FeedName → TombstoneValue → List ℕ
 tombstone_piece name t =
     codes "<at:deleted-entry ref=\"" ++ member_id name.id t.number ++ codes "\" when=\"" ++ stamp.printed t.when
@@ -36,20 +37,21 @@ abbrev pub own_address : Kind → Address
 own_address Subscription = Feed
 own_address (Sealed number) = Archive number
 
+-- the piece of a link to one of the feed's documents
 unfoldable pub link_piece : List ℕ → FeedName → Address → List ℕ
 link_piece rel name to =
     codes "<link rel=\"" ++ rel ++ codes "\" href=\"" ++ address.printed name.base to ++ codes "\"/>\n"
 
--- the link to the archive before, where there is one
+-- the link to the archive before the document, if there is one
 unfoldable pub prev_pieces : FeedName → ℕ → List (List ℕ)
 prev_pieces name prev = if prev == 0 then [] else link_piece (codes "prev-archive") name (Archive prev) ∷ []
 
--- the link to the subscription document, in an archive
+-- an archive's link to the subscription document
 unfoldable pub current_pieces : FeedName → Kind → List (List ℕ)
 current_pieces name Subscription = []
 current_pieces name (Sealed _) = link_piece (codes "current") name Feed ∷ []
 
--- the link to the archive behind, and the mark of an archive
+-- an archive's link to the next archive, and the mark of an archive
 unfoldable pub next_pieces : FeedName → Kind → List (List ℕ)
 next_pieces name Subscription = []
 next_pieces name (Sealed number) =
@@ -57,7 +59,9 @@ next_pieces name (Sealed number) =
 
 unfoldable pub open_piece : List ℕ
 open_piece =
-    codes "<feed xmlns=\"http://www.w3.org/2005/Atom\" xmlns:fh=\"http://purl.org/syndication/history/1.0\" xmlns:at=\"http://purl.org/atompub/tombstones/1.0\" xmlns:app=\"http://www.w3.org/2007/app\" xmlns:sp=\"urn:archived-feed:span:1\">\n"
+    codes "<feed xmlns=\"http://www.w3.org/2005/Atom\"" ++ codes " xmlns:fh=\"http://purl.org/syndication/history/1.0\""
+    ++ codes " xmlns:at=\"http://purl.org/atompub/tombstones/1.0\"" ++ codes " xmlns:app=\"http://www.w3.org/2007/app\""
+    ++ codes " xmlns:sp=\"urn:archived-feed:span:1\">\n"
 
 unfoldable pub declaration_piece : List ℕ
 declaration_piece = codes "<?xml version=\"1.0\" encoding=\"utf-8\"?>\n"
@@ -81,7 +85,8 @@ span_piece span =
 -- the pieces that name the feed
 unfoldable pub name_pieces : FeedName → ℤ → List (List ℕ)
 name_pieces name updated =
-    declaration_piece ∷ open_piece ∷ id_piece name.id ∷ title_piece name ∷ updated_piece updated ∷ author_piece name ∷ []
+    declaration_piece ∷ open_piece ∷ id_piece name.id ∷ title_piece name ∷ updated_piece updated ∷ author_piece name ∷
+    []
 
 -- the pieces that place the document in the chain
 unfoldable pub place_pieces : FeedName → Kind → Span → ℕ → List (List ℕ)
@@ -99,6 +104,6 @@ pieces d =
 unfoldable pub joined : List (List ℕ) → List ℕ
 joined ps = flat_map (λ piece. piece) ps
 
--- the one text of the document
+-- the canonical text of the document
 unfoldable pub text : DocValue → List ℕ
 text d = joined (pieces d)

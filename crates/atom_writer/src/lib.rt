@@ -1,6 +1,18 @@
-//! Feed documents and their one text, byte for byte (RFC 4287, RFC 5005 section 4).
-//! A document keeps the rules of the chain, and what is written is exactly the text that specs/ defines.
-//! Stands on `chain_links` and `deleted_entries`.
+//! Writes feed documents (RFC 4287, RFC 5005 section 4) and member documents (RFC 5023 section 9).
+//!
+//! Begin with [`Doc::new`], which takes the parts of a document, and [`write_doc`], which returns its text:
+//!
+//! ```
+//! let span = Span { first: 1, last: 0 };
+//! let doc = Doc::new(name, Kind::Subscription, span, 0, updated, Many::new(alloc)).ok_or(Broken)?;
+//! let text = write_doc(alloc, &doc)?;
+//! assert_eq!(rt; text.len() as u64, doc_len(&doc));
+//! ```
+//!
+//! A [`Doc`] keeps the rules of the chain. Its text is the canonical text that `specs/Pieces.antt` defines, byte for
+//! byte. [`doc_len`] and [`entry_len`] return the length of a text and take no memory.
+//!
+//! Stands on `atom_values`, `chain_links` and `deleted_entries`. Prints numbers with `itoa`.
 #![tactic(auto)]
 
 mod attribute;
@@ -22,6 +34,3 @@ pub use doc::{Doc, FeedName, Kind, MAX_ARCHIVE, MAX_ITEMS, is_placed};
 pub use item::entry_len;
 pub use member::write_member;
 pub use write::{doc_len, write_doc};
-
-#[cfg(test)]
-mod tests;

@@ -63,8 +63,8 @@ fn push_member<W: Out>(out: &mut W, name: &FeedName, entry: &Entry) -> Result<()
     Ok(())
 }
 
-/// Returns the member document of the entry (RFC 5023 section 9). If the entry has no author it shows the feed's
-/// author, because an entry document must have one (RFC 4287 section 4.1.2). The memory is allocated at once.
+/// Returns the member document of the entry (RFC 5023 section 9). If the entry has no author, the document shows the
+/// feed's author, because an entry document must have one (RFC 4287 section 4.1.2). The memory is allocated at once.
 ///
 /// The only error is out of memory.
 pub fn write_member(alloc: Global, name: &FeedName, entry: &Entry) -> Result<Vec<u8>, NoMemory>

@@ -12,8 +12,9 @@ use deleted_entries::FeedId;
 
 const DECLARATION: &[u8] = b"<?xml version=\"1.0\" encoding=\"utf-8\"?>\n";
 
-const OPEN_TAG: &[u8] =
-    b"<feed xmlns=\"http://www.w3.org/2005/Atom\" xmlns:fh=\"http://purl.org/syndication/history/1.0\" xmlns:at=\"http://purl.org/atompub/tombstones/1.0\" xmlns:app=\"http://www.w3.org/2007/app\" xmlns:sp=\"urn:archived-feed:span:1\">\n";
+const OPEN_TAG: &[u8] = b"<feed xmlns=\"http://www.w3.org/2005/Atom\" \
+xmlns:fh=\"http://purl.org/syndication/history/1.0\" xmlns:at=\"http://purl.org/atompub/tombstones/1.0\" \
+xmlns:app=\"http://www.w3.org/2007/app\" xmlns:sp=\"urn:archived-feed:span:1\">\n";
 
 /// Adds the XML declaration (XML 1.0, production 23).
 #[tactic(auto, unfolding(crate::specs::Pieces::declaration_piece))]
@@ -55,7 +56,8 @@ pub fn push_between<W: Out>(
     text: &AtomText,
     after: &[u8],
 ) -> Result<(), NoMemory>
-    ensures added { OnOk result (W.adds out.old out.new (before.now ++ escaped false text.now ++ after.now)) }
+    ensures added { OnOk result (W.adds out.old out.new
+        (before.now ++ escaped false text.now ++ after.now)) }
     ensures failed { OnErr result W.can_fail }
     ensures rules { OnOk result (IsAtomText text.now) }
 {

@@ -88,7 +88,8 @@ pub fn push_place<W: Out>(
     prev: u32,
 ) -> Result<(), NoMemory>
     requires { IsTrue (is_placed kind span prev) }
-    ensures added { OnOk result (W.adds out.old out.new (joined (place_pieces name.now kind span prev))) }
+    ensures added { OnOk result (W.adds out.old out.new
+        (joined (place_pieces name.now kind span prev))) }
     ensures failed { OnErr result W.can_fail }
 
     ensures base { OnOk result ∥ IsBase name.now.base ∥₁ }

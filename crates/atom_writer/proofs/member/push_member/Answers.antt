@@ -10,5 +10,6 @@ returns-clause-added g c =
     join _ _ _ _ _ (join _ _ _ _ _ (join _ _ _ _ _ (join _ _ _ _ _ (join _ _ _ _ _
     c.in_ok-push_declaration.ensures.added c.in_ok-push_member_open.ensures.added)
     c.in_ok-push_front.ensures.added)
-    (rw (c.as_slice.ensures.items ∙ ap (λ (e : EntryValue). e.authors) c.entry.view_is) at c.in_ok-push_shown_authors.ensures.added))
+    (rw (c.as_slice.ensures.items ∙ ap (λ (e : EntryValue). e.authors) c.entry.view_is)
+    at c.in_ok-push_shown_authors.ensures.added))
     c.in_ok-push_back.ensures.added) c.in_ok-push.ensures.added

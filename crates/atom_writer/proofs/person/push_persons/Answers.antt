@@ -14,7 +14,8 @@ loop-person-preserved g c =
     let i = c.loop-person.person-index in
     record {
       added = subst (λ (s : List ℕ). g.W.Out.adds c.args.out.now c.push_person.new.out s)
-          (flat_map-more (person_text c.args.tag.now) items i c.person-item.result c.loop-person-test.true c.person-item.is)
+          (flat_map-more (person_text c.args.tag.now) items i c.person-item.result c.loop-person-test.true
+          c.person-item.is)
           (g.met.W.Out.joins _ _ _ _ _ c.loop-person.invariant.added c.in_ok-push_person.ensures.added);
       rules = All-one_more IsPerson items i c.person-item.result c.loop-person-test.true c.person-item.is
           c.loop-person.invariant.rules c.in_ok-push_person.ensures.rules;

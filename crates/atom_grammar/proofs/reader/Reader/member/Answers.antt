@@ -1,4 +1,4 @@
-use Rattle.atom_grammar.proofs.Names.{member_short, member_read}
+use Rattle.atom_grammar.proofs.NameLemmas.{member_short, member_read}
 use Rattle.atom_grammar.proofs.reader.Reader.member.Goals as goal
 
 pub returns-in_default : goal.returns-in_default
@@ -6,5 +6,6 @@ returns-in_default c = member_short c.args.feed.now c.args.self.now.rest.now c.i
 
 pub returns : goal.returns
 returns c =
-    member_read c.args.feed.now c.args.self.now.rest.now c.in-Some.id.now c.in-Some.rest.now c.number_of.result c.ok_or.result c.ok_or.ensures.value
+    member_read c.args.feed.now c.args.self.now.rest.now c.in-Some.id.now c.in-Some.rest.now c.number_of.result
+    c.ok_or.result c.ok_or.ensures.value
     c.in-Some.ensures.cases.1 c.in-Some.ensures.cases.2 c.number_of.ensures

@@ -1,4 +1,4 @@
-use Rattle.atom_grammar.proofs.Names.{number_nowhere, number_read}
+use Rattle.atom_grammar.proofs.NameLemmas.{number_nowhere, number_read}
 use Rattle.atom_grammar.proofs.reader.Reader.number.Goals as goal
 
 pub returns-in_default : goal.returns-in_default
@@ -6,5 +6,6 @@ returns-in_default c = number_nowhere c.args.self.now.rest.now c.in_default.ensu
 
 pub returns : goal.returns
 returns c =
-    number_read c.args.self.now.rest.now c.in-Some.digits.now c.up_to.new.self.rest.now c.whole_number.result c.ok_or.result c.ok_or.ensures.value
-    c.in-Some.ensures c.whole_number.ensures.found c.whole_number.ensures.only
+    number_read c.args.self.now.rest.now c.in-Some.digits.now c.up_to.new.self.rest.now c.parse_decimal.result
+    c.ok_or.result c.ok_or.ensures.value
+    c.in-Some.ensures c.parse_decimal.ensures.found c.parse_decimal.ensures.only

@@ -1,6 +1,6 @@
 use Rattle.std.proofs.Common.{◌≤◌, length}
 use Rattle.atom_grammar.specs.Items.{person}
-use Rattle.atom_grammar.proofs.Lists.{IsGathered}
+use Rattle.atom_grammar.proofs.ManyLemmas.{IsGathered}
 use Rattle.atom_grammar.proofs.reader.Reader.persons.Given as goal
 
 abbrev pub invariant-loop-alloc : goal.invariant-loop-alloc

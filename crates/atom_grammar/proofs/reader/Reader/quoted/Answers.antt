@@ -1,7 +1,7 @@
 use Rattle.std.proofs.Common.{true}
 use Rattle.atom_grammar.specs.Parts.{quoted}
-use Rattle.atom_grammar.proofs.Readings.{no_memory}
-use Rattle.atom_grammar.proofs.Texts.{quoted_nowhere, quoted_refused, quoted_found, read_none, read_some}
+use Rattle.atom_grammar.proofs.ReadingLemmas.{no_memory}
+use Rattle.atom_grammar.proofs.TextLemmas.{quoted_nowhere, quoted_refused, quoted_found, read_none, read_some}
 use Rattle.atom_grammar.proofs.reader.Reader.quoted.Goals as goal
 
 pub returns-in_default : goal.returns-in_default
@@ -9,7 +9,8 @@ returns-in_default c = quoted_nowhere c.args.self.now.rest.now c.in_default.ensu
 
 pub returns-in_err-text : goal.returns-in_err-text
 returns-in_err-text c =
-    no_memory (λ value. value) quoted c.args.self.now.rest.now c.up_to.new.self.rest.now c.from_residual.result c.from_residual.ensures.1
+    no_memory (λ value. value) quoted c.args.self.now.rest.now c.up_to.new.self.rest.now c.from_residual.result
+    c.from_residual.ensures.1
 
 pub returns-in_default-2 : goal.returns-in_default-2
 returns-in_default-2 c =
@@ -18,5 +19,6 @@ returns-in_default-2 c =
 
 pub returns : goal.returns
 returns c =
-    quoted_found c.args.self.now.rest.now c.in-Some.written.now c.up_to.new.self.rest.now c.in-Some-2.text c.in-Some.ensures
+    quoted_found c.args.self.now.rest.now c.in-Some.written.now c.up_to.new.self.rest.now c.in-Some-2.text
+    c.in-Some.ensures
     (read_some true c.in-Some.written.now c.in-Some-2.text c.in_ok-text.field-0 c.in-Some-2.is c.in_ok-text.ensures)
