@@ -1,0 +1,229 @@
+//! Base addresses, the addresses below them, and the order of documents.
+
+use chain_links::{Address, Base, BaseFault, Place, Span, follows, whole_number};
+
+#[test]
+fn takes_the_grammar_alone(rt: HostRuntime) {
+    let cases: [(&[u8], bool); 26] = [
+        (b"http://feed.example/", true),
+        (b"http://feed.example", false),
+        (b"http://feed.example:80/", true),
+        (b"http://feed.example:1/", true),
+        (b"http://feed.example:0/", false),
+        (b"http://feed.example:65535/", true),
+        (b"http://feed.example:65536/", false),
+        (b"http://feed.example:4294967376/", false),
+        (b"http://feed.example:080/", false),
+        (b"http://feed.example:/", false),
+        (b"http://feed.example:80", false),
+        (b"http://Feed.example/", false),
+        (b"http://a..b/", false),
+        (b"http://.a/", false),
+        (b"http://a./", false),
+        (b"http://-/", true),
+        (b"http:///", false),
+        (b"http://a/b/", true),
+        (b"http://a/B-._~9/c/", true),
+        (b"http://a/b", false),
+        (b"http://a//", false),
+        (b"http://a/%41/", false),
+        (b"http://a/b?c/", false),
+        (b"https://a/", false),
+        (b"HTTP://a/", false),
+        (b"", false),
+    ];
+    for (text, is_base) in cases {
+        let base = Base::parse(rt.alloc(), text);
+        let want = if is_base {
+            Ok(text)
+        } else {
+            Err(BaseFault::BadBase)
+        };
+        assert_eq!(rt;
+            base.as_ref()
+                .map(|base| base.text())
+                .map_err(|fault| *fault),
+            want,
+            "{text:?}"
+        );
+    }
+}
+
+#[test]
+fn takes_at_most_200_bytes(rt: HostRuntime) {
+    let mut text = vec![in rt.alloc(); b'b'; 200].expect(&rt, "memory");
+    text[..9].copy_from_slice(b"http://a/");
+    text[199] = b'/';
+    let longest = Base::parse(rt.alloc(), &text).expect(&rt, "a base");
+    assert_eq!(rt; longest.text(), text.as_slice());
+    text[199] = b'b';
+    text.push(b'/').expect(&rt, "memory");
+    let fault = Base::parse(rt.alloc(), &text).err();
+    assert_eq!(rt; fault, Some(BaseFault::BadBase));
+}
+
+/// A base address and its parts.
+#[derive(Clone, Copy)]
+struct Parts {
+    text: &'static [u8],
+    host: &'static [u8],
+    port: u16,
+    path: &'static [u8],
+}
+
+#[test]
+fn tells_the_parts(rt: HostRuntime) {
+    for parts in [
+        Parts {
+            text: b"http://a/",
+            host: b"a",
+            port: 80,
+            path: b"/",
+        },
+        Parts {
+            text: b"http://feed.example:80/x/",
+            host: b"feed.example",
+            port: 80,
+            path: b"/x/",
+        },
+        Parts {
+            text: b"http://feed.example:65535/a.b/c/",
+            host: b"feed.example",
+            port: 65535,
+            path: b"/a.b/c/",
+        },
+    ] {
+        let base = Base::parse(rt.alloc(), parts.text).expect(&rt, "a base");
+        assert_eq!(rt; (base.text(), base.host()), (parts.text, parts.host));
+        assert_eq!(rt; (base.port(), base.path()), (parts.port, parts.path));
+    }
+}
+
+#[test]
+fn asks_the_url_parser(rt: HostRuntime) {
+    let cases: [(&[u8], bool); 9] = [
+        (b"http://feed.example/", true),
+        (b"http://feed.example:80/", false),
+        (b"http://feed.example:8080/", true),
+        (b"http://a/b/-._~/", true),
+        (b"http://a/./", false),
+        (b"http://a/b/../", false),
+        (b"http://127.0.0.1/", true),
+        (b"http://127.1/", false),
+        (b"http://1.2.3.4.5/", false),
+    ];
+    for (text, answer) in cases {
+        let base = Base::parse(rt.alloc(), text).expect(&rt, "a base");
+        assert_eq!(rt; base.checked(rt.alloc()), Ok(answer), "{text:?}");
+    }
+}
+
+#[test]
+fn reads_and_prints_addresses(rt: HostRuntime) {
+    let base = Base::parse(rt.alloc(), b"http://feed.example/").expect(&rt, "a base");
+    let cases: [(&[u8], Option<Address>); 16] = [
+        (b"http://feed.example/feed", Some(Address::Feed)),
+        (b"http://feed.example/archive/7", Some(Address::Archive(7))),
+        (
+            b"http://feed.example/archive/4294967295",
+            Some(Address::Archive(4_294_967_295)),
+        ),
+        (b"http://feed.example/member/1", Some(Address::Member(1))),
+        (b"http://feed.example/archive/07", None),
+        (b"http://feed.example/archive/0", None),
+        (b"http://feed.example/archive/4294967296", None),
+        (b"http://feed.example/archive/", None),
+        (b"http://feed.example/archive/7/", None),
+        (b"http://feed.example/archive/7a", None),
+        (b"http://feed.example/member/01", None),
+        (b"http://feed.example/feeds", None),
+        (b"http://feed.example/", None),
+        (b"http://other.example/feed", None),
+        (b"feed", None),
+        (b"", None),
+    ];
+    for (text, address) in cases {
+        let found = base.read(text);
+        assert_eq!(rt; found, address, "{text:?}");
+        if let Some(address) = found {
+            assert_eq!(rt;
+                base.print(rt.alloc(), address)
+                    .expect(&rt, "memory")
+                    .as_slice(),
+                text
+            );
+            assert_eq!(rt; base.printed_len(address), text.len());
+            let mut out = vec![in rt.alloc(); b'#'].expect(&rt, "memory");
+            assert_eq!(rt; base.print_into(&mut out, address), Ok(()));
+            assert_eq!(rt; out.as_slice().strip_prefix(b"#"), Some(text));
+        }
+    }
+}
+
+#[test]
+fn reads_whole_numbers(rt: HostRuntime) {
+    let cases: [(&[u8], Option<u32>); 9] = [
+        (b"1", Some(1)),
+        (b"10", Some(10)),
+        (b"4294967295", Some(4_294_967_295)),
+        (b"4294967296", None),
+        (b"0", None),
+        (b"01", None),
+        (b"1 ", None),
+        (b"+1", None),
+        (b"", None),
+    ];
+    for (text, number) in cases {
+        assert_eq!(rt; whole_number(text), number, "{text:?}");
+    }
+}
+
+/// Two documents, by the fields that decide whether one follows the other.
+#[derive(Clone, Copy)]
+struct Pair {
+    address: Address,
+    last: u32,
+    prev: u32,
+    first: u32,
+    follows: bool,
+}
+
+#[test]
+fn tells_what_follows(rt: HostRuntime) {
+    let pair = |address, last, prev, first, follows| Pair {
+        address,
+        last,
+        prev,
+        first,
+        follows,
+    };
+    let seven = Address::Archive(7);
+    for pair in [
+        pair(seven, 512, 7, 513, true),
+        pair(seven, 512, 8, 513, false),
+        pair(Address::Member(7), 512, 7, 513, false),
+        pair(Address::Feed, 512, 7, 513, false),
+        pair(seven, 512, 7, 512, false),
+        pair(seven, 512, 7, 514, false),
+        pair(seven, 0, 7, 1, true),
+        pair(seven, 4_294_967_295, 7, 0, false),
+    ] {
+        let older = Place {
+            address: pair.address,
+            span: Span {
+                first: 1,
+                last: pair.last,
+            },
+            prev: 6,
+        };
+        let newer = Place {
+            address: Address::Feed,
+            span: Span {
+                first: pair.first,
+                last: 600,
+            },
+            prev: pair.prev,
+        };
+        assert_eq!(rt; follows(&older, &newer), pair.follows);
+    }
+}

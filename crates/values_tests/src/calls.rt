@@ -1,0 +1,29 @@
+//! Listed calls that fail.
+
+use atom_values::{ListedCalls, Many};
+
+#[test]
+fn fails_by_the_list(rt: HostRuntime) {
+    // The numbers of calls are from 1, so the 0 in the list fails none.
+    let mut failing = Many::new(rt.alloc());
+    for number in [2, 0, 4, 2] {
+        failing.push(number).expect(&rt, "a number");
+    }
+    let mut calls = ListedCalls::new(failing);
+    assert_eq!(rt; (calls.made(), calls.faults()), (0, 0));
+    for (fails, made, faults) in [
+        (false, 1, 0),
+        (true, 2, 1),
+        (false, 3, 1),
+        (true, 4, 2),
+        (false, 5, 2),
+    ] {
+        let found = calls.next_fails();
+        assert_eq!(rt;
+            (found, calls.made(), calls.faults()),
+            (fails, made, faults)
+        );
+    }
+    calls.count_failure();
+    assert_eq!(rt; (calls.made(), calls.faults()), (5, 3));
+}
