@@ -2,12 +2,13 @@
 """Measures what the gate costs: runs `rt ci --anew` and adds up the processor seconds of each crate.
 
 Usage: bench/gate.py. It prints a line for each crate with the seconds of its check, its tests and its must-fail edits, and
-their sums. The seconds are read from /proc every quarter of a second, so a process loses at most its last quarter.
+their sums; the gate's own lines go to standard error. The seconds are read from /proc every quarter of a second, so a process loses at most its last quarter.
 """
 
 import os
 import re
 import subprocess
+import sys
 import time
 
 TICKS = os.sysconf("SC_CLK_TCK")
@@ -38,6 +39,17 @@ def kind_of(words, folder):
     return "tests" if "--test" in words else "check"
 
 
+def passed_on(output):
+    """Passes the gate's lines on to standard error, and returns its last line if that is among them."""
+    last = ""
+    for line in output:
+        sys.stderr.write(line)
+        if re.match(r"\d+ passed, \d+ failed", line):
+            last = line.strip()
+    sys.stderr.flush()
+    return last
+
+
 def main():
     seen = {}
     began = time.time()
@@ -48,13 +60,9 @@ def main():
         for key, words, folder, seconds in processes():
             crate = words[words.index("--crate-name") + 1] if "--crate-name" in words else "other"
             seen[key] = (crate, kind_of(words, folder), seconds)
-        for line in gate.stdout:
-            if re.match(r"\d+ passed, \d+ failed", line):
-                last = line.strip()
+        last = passed_on(gate.stdout) or last
         time.sleep(0.25)
-    for line in gate.stdout:
-        if re.match(r"\d+ passed, \d+ failed", line):
-            last = line.strip()
+    last = passed_on(gate.stdout) or last
     kinds = ["check", "tests", "edits"]
     table = {}
     for crate, kind, seconds in seen.values():
