@@ -2,7 +2,8 @@
 
 ghost use Rattle.std.specs.Prelude.{◌≤◌, length};
 
-use crate::rules::{apply, empty, feed_name, next, some_ask};
+use crate::rules::{apply, empty, next, some_ask};
+use crate::sealing::head;
 use archive_sealer::{archive, full_windows, subscription};
 use atom_values::Stamp;
 use atom_writer::Doc;
@@ -36,12 +37,7 @@ fn note(newest: &mut [Newest], doc: &Doc) {
 }
 
 /// Walks the chain of the history, and returns what it says of each member.
-fn walked(
-    rt: &impl Abort,
-    alloc: Global,
-    head: &Head,
-    history: &[Op],
-) -> Result<Vec<Newest>, Fail>
+fn walked(rt: &impl Abort, alloc: Global, head: &Head, history: &[Op]) -> Result<Vec<Newest>, Fail>
     requires { length history.now ≤ 1_000 }
 {
     let mut newest = vec![in alloc; Newest::None; plain_count(history) as usize]?;
@@ -83,22 +79,21 @@ fn the_chain_of_every_prefix_shows_the_fold(rt: HostRuntime) -> Result<(), Fail>
     let alloc = rt.alloc();
     let mut feed = empty(alloc)?;
     let mut seed = 7;
-    for now in 0..120 {
+    for step in 0..120 {
         seed = next(seed);
         let number = ((seed >> 33) % (u64::from(feed.members.count()) + 1)) as u32;
         let ask = some_ask(alloc, seed, number)?;
-        apply(&rt, &mut feed, ask, now)?;
+        apply(&rt, &mut feed, ask, step)?;
         let history = feed.history.as_slice();
         assert!(rt; history.len() <= 1_000);
-        for window in [1u32, 2, 3, 7, 100] {
-            let head = Head {
-                name: feed_name(alloc)?,
-                window,
-                capacity: 4_096,
-                created: Stamp::new(0).unwrap(),
-            };
+        for window in [1u8, 2, 3, 7, 100] {
+            let head = head(alloc, window)?;
             let shown = walked(&rt, alloc, &head, history)?;
-            assert_eq!(rt; shown.as_slice(), folded(alloc, history)?.as_slice(), "{window}");
+            assert_eq!(rt;
+                shown.as_slice(),
+                folded(alloc, history)?.as_slice(),
+                "{window}"
+            );
         }
     }
     Ok(())

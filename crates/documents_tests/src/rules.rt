@@ -71,7 +71,12 @@ pub(crate) fn empty(alloc: Global) -> Result<Feed, Fail>
 }
 
 /// Decides the ask, and commits the operation that it becomes.
-pub(crate) fn apply(rt: &impl Abort, feed: &mut Feed, ask: Ask, now: u64) -> Result<Option<RuleFault>, Fail>
+pub(crate) fn apply(
+    rt: &impl Abort,
+    feed: &mut Feed,
+    ask: Ask,
+    now: u64,
+) -> Result<Option<RuleFault>, Fail>
     requires { IsTableOf feed.old.members (pos 0) feed.old.history.items }
     ensures { OnOk result (IsTableOf feed.new.members (pos 0) feed.new.history.items) }
 {
