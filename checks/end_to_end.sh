@@ -5,21 +5,22 @@ top=$(CDPATH='' cd -- "$(dirname -- "$0")/.." && pwd) || exit 1
 tool=$top/feed_tool
 work=$(mktemp -d) || exit 1
 trap 'rm -rf "$work"' EXIT
-passed=0
-failed=0
+: >"$work/passed"
+: >"$work/failed"
 
 "$tool" apply 4 </dev/null >/dev/null || exit 1
 
 masked() { sed -E 's/[0-9]{4}-[0-9]{2}-[0-9]{2}T[0-9]{2}:[0-9]{2}:[0-9]{2}(\.[0-9]{3})?Z/NOW/g'; }
 
-# compares what stands in $work/status and $work/output with an expected status, and the expected text on standard input
+# compares $work/status and $work/output with an expected status and the expected text on standard input; it counts in
+# files, since it runs at the end of pipes
 compare() {
     cat >"$work/expected"
     masked <"$work/output" >"$work/masked"
     if [ "$(cat "$work/status")" = "$2" ] && cmp -s "$work/masked" "$work/expected"; then
-        passed=$((passed + 1))
+        echo "$1" >>"$work/passed"
     else
-        failed=$((failed + 1))
+        echo "$1" >>"$work/failed"
         printf 'FAILED: %s: status %s, expected %s\n' "$1" "$(cat "$work/status")" "$2"
         diff "$work/expected" "$work/masked" | head -n 20
     fi
@@ -159,5 +160,5 @@ gone 1 NOW
 entry 2 NOW Mirror list &lt;updated&gt; &amp; signed
 TEXT
 
-echo "$passed passed, $failed failed"
-[ "$failed" -eq 0 ]
+echo "$(wc -l <"$work/passed") passed, $(wc -l <"$work/failed") failed"
+[ ! -s "$work/failed" ]
