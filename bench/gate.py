@@ -14,15 +14,25 @@ import time
 TICKS = os.sysconf("SC_CLK_TCK")
 
 
-def processes():
-    """Yields the number, the words, the folder and the processor seconds of each of the prover's processes."""
+def is_below(name, top):
+    """Says whether a process was started by the process `top` or by one below it."""
+    while name not in ("0", "1"):
+        if name == top:
+            return True
+        with open(f"/proc/{name}/stat") as file:
+            name = file.read().rsplit(")", 1)[1].split()[1]
+    return False
+
+
+def processes(top):
+    """Yields the number, the words, the folder and the processor seconds of each of the prover's processes below `top`."""
     for name in os.listdir("/proc"):
         if not name.isdigit():
             continue
         try:
             with open(f"/proc/{name}/cmdline", "rb") as file:
                 words = file.read().decode(errors="replace").split("\0")
-            if not words[0].endswith("/rattle"):
+            if not words[0].endswith("/rattle") or not is_below(name, top):
                 continue
             with open(f"/proc/{name}/stat") as file:
                 fields = file.read().rsplit(")", 1)[1].split()
@@ -57,7 +67,7 @@ def main():
     os.set_blocking(gate.stdout.fileno(), False)
     last = ""
     while gate.poll() is None:
-        for key, words, folder, seconds in processes():
+        for key, words, folder, seconds in processes(str(gate.pid)):
             crate = words[words.index("--crate-name") + 1] if "--crate-name" in words else "other"
             seen[key] = (crate, kind_of(words, folder), seconds)
         last = passed_on(gate.stdout) or last

@@ -1,9 +1,15 @@
-//! Tests of the public calls of `member_rules` and `archive_sealer`.
+//! Tests of the public calls of `atom_writer`, `atom_grammar`, `member_rules` and `archive_sealer`.
 //!
 //! They stand in a crate of their own so that those crates are proved once, without their tests.
 #![tactic(auto)]
 
 #[cfg(test)]
+mod chain;
+#[cfg(test)]
+mod reading;
+#[cfg(test)]
 mod rules;
 #[cfg(test)]
 mod sealing;
+#[cfg(test)]
+mod writing;

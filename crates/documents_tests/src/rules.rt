@@ -51,14 +51,14 @@ pub(crate) fn entry(alloc: Global, number: u32, edited: i64, updated: i64) -> Re
 
 /// A feed with its history, and the table of the members after that history.
 #[derive(Drop)]
-struct Feed {
-    name: FeedName,
-    members: Members,
-    history: Vec<Op>,
+pub(crate) struct Feed {
+    pub(crate) name: FeedName,
+    pub(crate) members: Members,
+    pub(crate) history: Vec<Op>,
 }
 
 /// A feed that was made at the start of 1970.
-fn empty(alloc: Global) -> Result<Feed, Fail>
+pub(crate) fn empty(alloc: Global) -> Result<Feed, Fail>
     ensures table { IfOk result (λ feed. IsTableOf feed.members (pos 0) feed.history.items) }
     ensures empty { IfOk result (λ feed. feed.members.operations ≡ 0) }
 {
@@ -71,7 +71,12 @@ fn empty(alloc: Global) -> Result<Feed, Fail>
 }
 
 /// Decides the ask, and commits the operation that it becomes.
-fn apply(rt: &impl Abort, feed: &mut Feed, ask: Ask, now: u64) -> Result<Option<RuleFault>, Fail>
+pub(crate) fn apply(
+    rt: &impl Abort,
+    feed: &mut Feed,
+    ask: Ask,
+    now: u64,
+) -> Result<Option<RuleFault>, Fail>
     requires { IsTableOf feed.old.members (pos 0) feed.old.history.items }
     ensures { OnOk result (IsTableOf feed.new.members (pos 0) feed.new.history.items) }
 {
@@ -408,7 +413,7 @@ fn a_copy_of_a_head_is_equal(rt: HostRuntime) -> Result<(), Fail> {
 }
 
 /// The next number of a fixed sequence.
-fn next(seed: u64) -> u64 {
+pub(crate) fn next(seed: u64) -> u64 {
     seed.wrapping_mul(6_364_136_223_846_793_005)
         .wrapping_add(1_442_695_040_888_963_407)
 }
@@ -418,7 +423,7 @@ fn some_number(seed: u64, count: u32) -> u32 {
     ((seed >> 33) % (u64::from(count) + 2)) as u32
 }
 
-fn some_ask(alloc: Global, seed: u64, number: u32) -> Result<Ask, Fail> {
+pub(crate) fn some_ask(alloc: Global, seed: u64, number: u32) -> Result<Ask, Fail> {
     let drafts = Drafts {
         id: None,
         updated: if seed >> 60 == 0 { Some(9_000) } else { None },

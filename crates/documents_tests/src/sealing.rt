@@ -23,7 +23,7 @@ struct Case {
     expected: &'static str,
 }
 
-fn head(alloc: Global, window: u8) -> Result<Head, Fail> {
+pub(crate) fn head(alloc: Global, window: u8) -> Result<Head, Fail> {
     if !(1..=100).contains(&window) {
         Err("no window")?;
     }

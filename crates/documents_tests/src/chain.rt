@@ -1,0 +1,100 @@
+//! The documents of every prefix of a fixed history, walked from the subscription document back, show the plain fold.
+
+ghost use Rattle.std.specs.Prelude.{◌≤◌, length};
+
+use crate::rules::{apply, empty, next, some_ask};
+use crate::sealing::head;
+use archive_sealer::{archive, full_windows, subscription};
+use atom_values::Stamp;
+use atom_writer::Doc;
+use chain_links::follows;
+use deleted_entries::Item;
+use member_rules::{Head, Op, State, plain_count, plain_state};
+use std::alloc::Global;
+use std::process::Abort;
+use std::test::Fail;
+
+/// What the newest item of a member says: its entry's `updated`, or when it was deleted.
+#[derive(Clone, Copy, Debug, PartialEq, Eq)]
+enum Newest {
+    None,
+    Kept(Stamp),
+    Gone(Stamp),
+}
+
+/// Notes the items of a document for the members that no newer document has.
+fn note(newest: &mut [Newest], doc: &Doc) {
+    for item in doc.items.as_slice() {
+        if let Some(place) = newest.get_mut(item.number() as usize - 1) {
+            if *place == Newest::None {
+                *place = match item {
+                    Item::Kept(entry) => Newest::Kept(entry.updated),
+                    Item::Gone(tombstone) => Newest::Gone(tombstone.when),
+                };
+            }
+        }
+    }
+}
+
+/// Walks the chain of the history, and returns what it says of each member.
+fn walked(rt: &impl Abort, alloc: Global, head: &Head, history: &[Op]) -> Result<Vec<Newest>, Fail>
+    requires { length history.now ≤ 1_000 }
+{
+    let mut newest = vec![in alloc; Newest::None; plain_count(history) as usize]?;
+    let full = full_windows(head, history);
+    let mut newer = subscription(alloc, head, history)?;
+    note(&mut newest, &newer);
+    for _ in history {
+        let number = newer.prev;
+        if number == 0 {
+            break;
+        }
+        assert!(rt; number <= full);
+        let older = archive(alloc, head, history, number)?;
+        assert!(rt; follows(&older.place(), &newer.place()));
+        note(&mut newest, &older);
+        newer = older;
+    }
+    assert_eq!(rt; newer.span.first, 1);
+    Ok(newest)
+}
+
+/// What the fold says of each member, by a look at each operation.
+fn folded(alloc: Global, history: &[Op]) -> Result<Vec<Newest>, Fail>
+    requires { length history.now ≤ 1_000 }
+{
+    let mut states = Vec::new(alloc);
+    for before in 0..plain_count(history) {
+        states.push(match plain_state(history, before + 1) {
+            State::Never => Newest::None,
+            State::Live { updated, .. } => Newest::Kept(updated),
+            State::Gone { when } => Newest::Gone(when),
+        })?;
+    }
+    Ok(states)
+}
+
+#[test]
+fn the_chain_of_every_prefix_shows_the_fold(rt: HostRuntime) -> Result<(), Fail> {
+    let alloc = rt.alloc();
+    let mut feed = empty(alloc)?;
+    let mut seed = 7;
+    for step in 0..120 {
+        seed = next(seed);
+        let number = ((seed >> 33) % (u64::from(feed.members.count()) + 1)) as u32;
+        let ask = some_ask(alloc, seed, number)?;
+        apply(&rt, &mut feed, ask, step)?;
+        let history = feed.history.as_slice();
+        assert!(rt; history.len() <= 1_000);
+        for window in [1u8, 2, 3, 7, 100] {
+            let head = head(alloc, window)?;
+            let shown = walked(&rt, alloc, &head, history)?;
+            assert_eq!(rt;
+                shown.as_slice(),
+                folded(alloc, history)?.as_slice(),
+                "{window}"
+            );
+        }
+    }
+    Ok(())
+}
