@@ -1,5 +1,7 @@
 -- Stamp::parse, Stamp::print: the calendar
 pub mod CalendarLemmas
+-- Copies::copy of drafts and entries
+pub mod CopyLemmas
 -- Stamp::parse: forms of texts and tests of numbers
 pub mod DateFormLemmas
 -- Stamp::parse: a date text has the value that its parts state
@@ -18,3 +20,5 @@ pub mod PrintedLemmas
 pub mod UnescapeLemmas
 -- AtomText::of, unescape
 pub mod XmlTextLemmas
+-- Copies::copy of lists
+pub mod WalkLemmas

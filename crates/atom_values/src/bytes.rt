@@ -52,6 +52,8 @@ impl Eq for Bytes {
 }
 
 impl Copies for Bytes {
+    ghost rules = { λ bytes. Unit {0} };
+
     fn copy(&self, alloc: Global) -> Result<Bytes, NoMemory> {
         Bytes::of(alloc, self.slice())
     }

@@ -12,6 +12,10 @@ pub struct Category {
 }
 
 impl Copies for Category {
+    ghost use Rattle.atom_values.specs.Category.{IsCategory};
+
+    ghost rules = { IsCategory };
+
     fn copy(&self, alloc: Global) -> Result<Category, NoMemory> {
         Ok(Category {
             term: self.term.copy(alloc)?,

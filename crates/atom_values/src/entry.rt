@@ -196,12 +196,16 @@ impl Draft {
 }
 
 impl Copies for Draft {
+    ghost use Rattle.atom_values.specs.Entry.{IsDraft};
+
+    ghost rules = { IsDraft };
+
     fn copy(&self, alloc: Global) -> Result<Draft, NoMemory> {
         Ok(Draft {
             id: self.id.copy(alloc)?,
             title: self.title.copy(alloc)?,
-            updated: self.updated,
-            published: self.published,
+            updated: self.updated.copy(alloc)?,
+            published: self.published.copy(alloc)?,
             authors: self.authors.copy(alloc)?,
             contributors: self.contributors.copy(alloc)?,
             links: self.links.copy(alloc)?,
@@ -214,13 +218,17 @@ impl Copies for Draft {
 }
 
 impl Copies for Entry {
+    ghost use Rattle.atom_values.specs.Entry.{IsEntry};
+
+    ghost rules = { IsEntry };
+
     fn copy(&self, alloc: Global) -> Result<Entry, NoMemory> {
         Ok(Entry {
-            number: self.number,
-            edited: self.edited,
+            number: self.number.copy(alloc)?,
+            edited: self.edited.copy(alloc)?,
             title: self.title.copy(alloc)?,
-            updated: self.updated,
-            published: self.published,
+            updated: self.updated.copy(alloc)?,
+            published: self.published.copy(alloc)?,
             authors: self.authors.copy(alloc)?,
             contributors: self.contributors.copy(alloc)?,
             links: self.links.copy(alloc)?,

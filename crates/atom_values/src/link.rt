@@ -28,6 +28,10 @@ impl Link {
 }
 
 impl Copies for Link {
+    ghost use Rattle.atom_values.specs.Link.{IsLink};
+
+    ghost rules = { IsLink };
+
     fn copy(&self, alloc: Global) -> Result<Link, NoMemory> {
         Ok(Link {
             href: self.href.copy(alloc)?,

@@ -139,8 +139,11 @@ impl<T: PartialEq, const MAX: u32> PartialEq for Many<T, MAX> {
 
 impl<T: Copies + Drop, const MAX: u32> Copies for Many<T, MAX> {
     ghost use Rattle.std.specs.Prelude.{map};
+    ghost use Rattle.atom_values.specs.Listed.{IsListOf};
 
     ghost copied = { λ many. record { items = map T.copied many.items; spare = 0 } };
+
+    ghost rules = { λ many. IsListOf MAX T.rules many.items };
 
     fn copy(&self, alloc: Global) -> Result<Many<T, MAX>, NoMemory> {
         let mut items = Vec::with_capacity(alloc, self.items.len())?;

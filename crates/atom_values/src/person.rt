@@ -12,6 +12,10 @@ pub struct Person {
 }
 
 impl Copies for Person {
+    ghost use Rattle.atom_values.specs.Person.{IsPerson};
+
+    ghost rules = { IsPerson };
+
     fn copy(&self, alloc: Global) -> Result<Person, NoMemory> {
         Ok(Person {
             name: self.name.copy(alloc)?,

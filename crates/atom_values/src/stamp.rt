@@ -7,8 +7,11 @@ ghost use Rattle.atom_values.specs.DateFormula.{two_digits, shape_of, has_form, 
 ghost use Rattle.atom_values.specs.DateText.{digit_at};
 ghost use Rattle.atom_values.specs.Stamp.{IsStamp, since_year_zero, date_text, clock_text, fraction_text, printed};
 
+use crate::copies::Copies;
+use crate::memory::NoMemory;
 use jiff::ToSpan;
 use jiff::civil::{self, Date};
+use std::alloc::Global;
 use std::marker::Model;
 
 /// A timestamp of a feed (RFC 4287 section 3.3). Keeps whole milliseconds since 1970-01-01T00:00:00Z, from
@@ -106,6 +109,16 @@ impl Stamp {
         ensures bound { result < 315_569_520_000_000 }
     {
         (self.millis - Stamp::MIN_MILLIS) as u64
+    }
+}
+
+impl Copies for Stamp {
+    ghost rules = { IsStamp };
+
+    fn copy(&self, _alloc: Global) -> Result<Stamp, NoMemory> {
+        Ok(Stamp {
+            millis: self.millis,
+        })
     }
 }
 

@@ -171,6 +171,8 @@ impl Eq for AtomText {
 }
 
 impl Copies for AtomText {
+    ghost rules = { IsAtomText };
+
     fn copy(&self, alloc: Global) -> Result<AtomText, NoMemory> {
         Ok(AtomText {
             bytes: Vec::from_slice(alloc, self.bytes())?,
@@ -195,6 +197,10 @@ pub struct Text {
 }
 
 impl Copies for Text {
+    ghost use Rattle.atom_values.specs.Entry.{IsText};
+
+    ghost rules = { IsText };
+
     fn copy(&self, alloc: Global) -> Result<Text, NoMemory> {
         Ok(Text {
             kind: self.kind,

@@ -1,9 +1,9 @@
 -- The text that the code adds part by part is the joined text of the definitions.
 use Rattle.std.proofs.Common.{◌≡◌, ◌≢◌, ℕ, zero, suc, arith, rules, tests, nat_eq, false, List, [], ◌∷◌, ◌++◌, map, length, take, get_or, ◌+◌, ◌<◌, All, subst, refl, ap, sym, ◌∙◌, append_assoc, append-nil, codes}
-use Rattle.std.proofs.lemmas.List.{map-append, take_more}
-use Rattle.std.proofs.lemmas.List.Elements.{All-push}
+use Rattle.std.proofs.lemmas.List.{map-append}
 use Rattle.std.proofs.lemmas.Grind.{flat_map-append}
 use Rattle.std.specs.Prelude.{flat_map, IsTrue}
+use Rattle.atom_values.proofs.WalkLemmas.{take-one_more}
 use Rattle.atom_writer.specs.Doc.{is_placed, HasNext}
 use Rattle.atom_writer.specs.declared.doc.Kind.TheVariants.{Subscription, Archive as Sealed}
 use Rattle.chain_links.specs.declared.address.Address.TheVariants.{Archive}
@@ -65,12 +65,7 @@ pub has_next : (kind : Kind) (span : Span) (prev : ℕ) → IsTrue (is_placed ki
 has_next Subscription span prev placed = tt
 has_next (Sealed number) span prev placed = search (rules, tests)
 
--- In a loop over a list: the elements up to the next one, which is `x`.
-take-one_more : {X : Type 0} (xs : List X) (i : ℕ) (x : X) → i < length xs → x ≡ get_or xs i x
-    → take (i + 1) xs ≡ take i xs ++ x ∷ []
-take-one_more xs i x below is = take_more xs i x below ∙ ap (λ y. take i xs ++ y ∷ []) (sym is)
-
--- and their texts, one after another
+-- the texts of the elements up to the next one, which is `x`, one after another
 pub flat_map-more : {X : Type 0} (f : X → List ℕ) (xs : List X) (i : ℕ) (x : X) → i < length xs → x ≡ get_or xs i x
     → flat_map f (take i xs) ++ f x ≡ flat_map f (take (i + 1) xs)
 flat_map-more f xs i x below is =
@@ -78,12 +73,6 @@ flat_map-more f xs i x below is =
     flat_map-append f (take i xs) (x ∷ [])
     ∙ ap (λ (t : List ℕ). flat_map f (take i xs) ++ t) (append-nil (f x)) in
     sym (ap (flat_map f) (take-one_more xs i x below is) ∙ more)
-
--- and a rule that each of them keeps
-pub All-one_more : {X : Type 0} (P : X → Type 0) (xs : List X) (i : ℕ) (x : X) → i < length xs → x ≡ get_or xs i x
-    → All P (take i xs) → P x → All P (take (i + 1) xs)
-All-one_more P xs i x below is before here =
-    subst (All P) (sym (take-one_more xs i x below is)) (All-push P (take i xs) x before here)
 
 -- one more item
 pub joined-map-push : (f : Item → List ℕ) (items : List Item) (item : Item)

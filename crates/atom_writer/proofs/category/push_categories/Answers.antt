@@ -2,7 +2,8 @@ use Rattle.std.proofs.Common.{ℕ, List, subst}
 use Rattle.std.proofs.lemmas.List.Elements.{All-nil}
 use Rattle.atom_values.specs.Category.{IsCategory}
 use Rattle.atom_writer.specs.Parts.{category_text}
-use Rattle.atom_writer.proofs.PieceLemmas.{flat_map-more, All-one_more}
+use Rattle.atom_values.proofs.WalkLemmas.{All-one_more}
+use Rattle.atom_writer.proofs.PieceLemmas.{flat_map-more}
 use Rattle.atom_writer.proofs.category.push_categories.Goals as goal
 
 pub loop-category-init : goal.loop-category-init

@@ -2,7 +2,8 @@ use Rattle.std.proofs.Common.{ℕ, List, subst}
 use Rattle.std.proofs.lemmas.List.Elements.{All-nil}
 use Rattle.atom_values.specs.Link.{IsLink}
 use Rattle.atom_writer.specs.Parts.{link_text}
-use Rattle.atom_writer.proofs.PieceLemmas.{flat_map-more, All-one_more}
+use Rattle.atom_values.proofs.WalkLemmas.{All-one_more}
+use Rattle.atom_writer.proofs.PieceLemmas.{flat_map-more}
 use Rattle.atom_writer.proofs.link.push_links.Goals as goal
 
 pub loop-link-init : goal.loop-link-init

@@ -2,7 +2,8 @@ use Rattle.std.proofs.Common.{ℕ, List, subst}
 use Rattle.std.proofs.lemmas.List.Elements.{All-nil}
 use Rattle.deleted_entries.specs.Item.{IsItem}
 use Rattle.atom_writer.specs.Pieces.{item_piece}
-use Rattle.atom_writer.proofs.PieceLemmas.{joined-none, joined-map-more, All-one_more}
+use Rattle.atom_values.proofs.WalkLemmas.{All-one_more}
+use Rattle.atom_writer.proofs.PieceLemmas.{joined-none, joined-map-more}
 use Rattle.atom_writer.proofs.write.push_items.Goals as goal
 
 pub loop-item-init : goal.loop-item-init
