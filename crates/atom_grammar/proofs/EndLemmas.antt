@@ -183,11 +183,11 @@ pub refused_behind_end : (d : DocValue) → IsDoc d → (input rest : List ℕ) 
 refused_behind_end d is input rest split some = record {
   more = pieces d;
   split = split;
-  begins = record { document = d; lawful = is; later = []; begins = sym (append-nil (pieces d)) };
+  begins = record { value = d; lawful = is; later = []; begins = sym (append-nil (pieces d)) };
   unfinished = λ _ e. some e;
   stuck = λ p after begins at.
       let none : p ∷ begins.later ≡ [] =
-      (chain begins.document d begins.lawful is).whole (p ∷ begins.later) (begins.begins
+      (chain begins.value d begins.lawful is).whole (p ∷ begins.later) (begins.begins
       ∙ append_assoc (pieces d) (p ∷ []) begins.later) in
       absurd cc;
 }

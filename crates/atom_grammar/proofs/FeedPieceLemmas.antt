@@ -9,7 +9,7 @@ use Rattle.deleted_entries.specs.FeedId.{IsFeedId, feed_text}
 use Rattle.chain_links.specs.Address as address
 use Rattle.chain_links.specs.declared.place.Span.{Span}
 use Rattle.atom_writer.specs.Pieces.{id_piece, updated_piece, span_piece, link_piece, own_address}
-use Rattle.atom_grammar.specs.Reading.{IsReadInOneWay}
+use Rattle.atom_writer.specs.Reading.{IsReadInOneWay}
 use Rattle.atom_grammar.specs.declared.opening.Own.{Own}
 use Rattle.atom_grammar.specs.FeedParts.{own_piece, IsOwn, prev_piece, IsArchiveNumber, IsSpan}
 use Rattle.atom_grammar.proofs.ValueLemmas.{titled, authored}

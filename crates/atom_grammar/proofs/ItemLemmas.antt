@@ -12,7 +12,7 @@ use Rattle.atom_values.specs.Entry.{EntryValue}
 use Rattle.deleted_entries.specs.Tombstone.{TombstoneValue}
 use Rattle.atom_grammar.specs.Parts.{IsReadAlone, IsFound, IsAbsent, lacks, starts}
 use Rattle.atom_grammar.specs.Items.{item, entry, tombstone}
-use Rattle.atom_grammar.specs.Reading.{IsReadInOneWay}
+use Rattle.atom_writer.specs.Reading.{IsReadInOneWay}
 use Rattle.atom_grammar.proofs.EntryLemmas.{entry_alone, tombstone_alone}
 use Rattle.atom_grammar.proofs.NameLemmas.{base_lacks}
 

@@ -38,8 +38,6 @@ pub mod ReadingLemmas
 pub mod RefusalLemmas
 -- read_doc, clause `refused`: each step of a document
 pub mod RefusedLemmas
--- both laws: two lists of pieces, compared from the first
-pub mod SameLemmas
 -- read_doc: the parts of an item
 pub mod ShapeLemmas
 -- read_doc: spans and items that keep the rules of their place

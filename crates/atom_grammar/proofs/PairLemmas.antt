@@ -18,7 +18,7 @@ use Rattle.atom_grammar.specs.FeedParts.{own_piece, IsOwn, IsKind, prev_piece, I
 use Rattle.atom_grammar.proofs.ValueLemmas.{titled, authored}
 use Rattle.atom_grammar.proofs.FeedPieceLemmas.{id-one, title-one, updated-one, author-one, own-one, prev-one, span-one}
 use Rattle.atom_grammar.proofs.ItemLemmas.{item-one}
-use Rattle.atom_grammar.proofs.SameLemmas.{Same, Same-nil, Same-cons, Same-fixed, Same-append, Same-apart}
+use Rattle.atom_writer.proofs.SameLemmas.{Same, Same-nil, Same-cons, Same-fixed, Same-append, Same-apart}
 
 -- the pieces of the items, and the last
 unfoldable pub end_pieces : FeedName → List Item → List (List ℕ)

@@ -6,7 +6,7 @@ use Rattle.deleted_entries.specs.FeedId.{IsFeedId}
 use Rattle.atom_values.specs.XmlText.{IsAtomText}
 use Rattle.atom_values.proofs.XmlTextLemmas.{IsXmlText-nil}
 use Rattle.atom_writer.proofs.PieceLemmas.{joined-append, joined-none, joined-one}
-use Rattle.atom_grammar.specs.Reading.{IsReadInOneWay}
+use Rattle.atom_writer.specs.Reading.{IsReadInOneWay}
 use Rattle.atom_writer.specs.declared.doc.FeedName.{FeedName}
 use Rattle.atom_writer.specs.declared.doc.Kind.{Kind}
 use Rattle.atom_writer.specs.Doc.{DocValue, IsDoc}
@@ -91,10 +91,10 @@ pub refused : (d : DocValue) → IsDoc d → (read more : List (List ℕ)) (q : 
 refused d is read more q later goes_on input rest split none = record {
   more = more;
   split = split;
-  begins = record { document = d; lawful = is; later = q ∷ later; begins = goes_on };
+  begins = record { value = d; lawful = is; later = q ∷ later; begins = goes_on };
   unfinished = λ e _. absurd cc;
   stuck =
-      λ p after begins e. none begins.document begins.lawful p after begins.later (begins.begins
+      λ p after begins e. none begins.value begins.lawful p after begins.later (begins.begins
       ∙ append_assoc (read ++ more) (p ∷ []) begins.later) e;
 }
 

@@ -2,7 +2,6 @@ pub mod ListFaults
 pub mod FeedParts
 pub mod Items
 pub mod Parts
-pub mod Reading
 pub mod Refusal
 pub mod Stages
 pub mod EntryParts

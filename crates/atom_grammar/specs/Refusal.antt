@@ -1,29 +1,21 @@
 -- The offset at which bytes that are the text of no document are refused.
-use Rattle.std.specs.Prelude.{◌≡◌, ◌≢◌, ℕ, ◌≤◌, List, [], ◌∷◌, ◌++◌, length}
+use Rattle.std.specs.Prelude.{◌≡◌, ◌≢◌, ℕ, List, [], ◌∷◌, ◌++◌}
 use Rattle.atom_writer.specs.Doc.{DocValue, IsDoc}
-use Rattle.atom_writer.specs.Pieces.{pieces, joined, text}
+use Rattle.atom_writer.specs.Pieced.{Pieced, BeginsAValue, IsPlaceOfRefusal as IsPlace}
+use Rattle.atom_writer.specs.Pieces.{pieces, text}
+
+-- documents, and the pieces of each
+abbrev pub documents : Pieced DocValue
+documents = record { Is = IsDoc; pieces = pieces }
 
 -- the pieces begin the list of pieces of some document
-pub record BeginsADocument (read : List (List ℕ)) : Type 0 where
-  pub document : DocValue
-  pub lawful : IsDoc document
-  pub later : List (List ℕ)
-  pub begins : pieces document ≡ read ++ later
-
--- the bytes begin with these whole pieces
-pub record BeginsWithPieces (bytes : List ℕ) (read : List (List ℕ)) : Type 0 where
-  pub rest : List ℕ
-  pub split : bytes ≡ joined read ++ rest
+abbrev pub BeginsADocument : List (List ℕ) → Type 0
+BeginsADocument read = BeginsAValue documents read
 
 -- the offset is the total length of the longest list of whole pieces that the bytes begin with and that begins the list
 -- of some document
-pub record IsPlaceOfRefusal (bytes : List ℕ) (at : ℕ) : Type 0 where
-  pub read : List (List ℕ)
-  pub some : BeginsADocument read
-  pub there : BeginsWithPieces bytes read
-  pub place : at ≡ length (joined read)
-  pub longest : (other : List (List ℕ)) → BeginsADocument other → BeginsWithPieces bytes other
-      → length (joined other) ≤ at
+abbrev pub IsPlaceOfRefusal : List ℕ → ℕ → Type 0
+IsPlaceOfRefusal bytes at = IsPlace documents bytes at
 
 -- the bytes are the text of no document
 abbrev pub IsNoDocument : List ℕ → Type 0

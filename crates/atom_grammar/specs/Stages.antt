@@ -16,16 +16,13 @@ use Rattle.atom_grammar.specs.declared.part_fault.PartFault.{PartFault}
 use Rattle.atom_grammar.specs.declared.part_fault.PartFault.TheVariants.{Mismatch, NoMemory}
 use Rattle.atom_grammar.specs.FeedParts.{IsKind, own_piece, prev_link, prev_piece}
 use Rattle.atom_grammar.specs.Parts.{IsAbsent, literal, starts}
-use Rattle.atom_grammar.specs.Refusal.{BeginsADocument}
+use Rattle.atom_writer.specs.Pieced as refused
+use Rattle.atom_grammar.specs.Refusal.{documents}
 
 -- After the pieces `read`, the input is read up to `rest`, where no piece can stand. The pieces read so far begin a
 -- document, and they are not a whole document that ends with the input.
-pub record IsRefused (read : List (List ℕ)) (input rest : List ℕ) : Type 0 where
-  pub more : List (List ℕ)
-  pub split : input ≡ joined more ++ rest
-  pub begins : BeginsADocument (read ++ more)
-  pub unfinished : begins.later ≡ [] → rest ≡ [] → ⊥
-  pub stuck : (p after : List ℕ) → BeginsADocument ((read ++ more) ++ p ∷ []) → rest ≡ p ++ after → ⊥
+abbrev pub IsRefused : List (List ℕ) → List ℕ → List ℕ → Type 0
+IsRefused read input rest = refused.IsRefused documents read input rest
 
 -- the pieces up to the document's own address
 unfoldable pub opening_pieces : FeedName → Kind → ℤ → List (List ℕ)

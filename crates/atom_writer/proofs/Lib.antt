@@ -4,3 +4,7 @@ pub mod LengthLemmas
 pub mod NumberLemmas
 -- write_doc, doc_len, write_member: texts that are added part by part
 pub mod PieceLemmas
+-- for crates that read texts of pieces: one reading, and the offset of a refusal
+pub mod PiecedLemmas
+-- for crates that read texts of pieces: two lists of pieces, compared from the first
+pub mod SameLemmas

@@ -3,3 +3,5 @@ pub mod Entries
 pub mod Members
 pub mod Parts
 pub mod Pieces
+pub mod Pieced
+pub mod Reading

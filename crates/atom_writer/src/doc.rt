@@ -26,10 +26,14 @@ pub struct FeedName {
 }
 
 impl Copies for FeedName {
+    ghost use Rattle.atom_writer.specs.Doc.{IsFeedName};
+
+    ghost rules = { λ name. ∥ IsFeedName name ∥₁ };
+
     fn copy(&self, alloc: Global) -> Result<FeedName, NoMemory> {
         Ok(FeedName {
             base: self.base.copy(alloc)?,
-            id: self.id,
+            id: self.id.copy(alloc)?,
             title: self.title.copy(alloc)?,
             author: self.author.copy(alloc)?,
         })
@@ -171,13 +175,20 @@ impl Doc {
 }
 
 impl Copies for Doc {
+    ghost use Rattle.atom_writer.specs.Doc.{IsDoc};
+
+    ghost rules = { λ doc. ∥ IsDoc doc ∥₁ };
+
     fn copy(&self, alloc: Global) -> Result<Doc, NoMemory> {
         Ok(Doc {
             name: self.name.copy(alloc)?,
             kind: self.kind,
-            span: self.span,
-            prev: self.prev,
-            updated: self.updated,
+            span: Span {
+                first: self.span.first.copy(alloc)?,
+                last: self.span.last.copy(alloc)?,
+            },
+            prev: self.prev.copy(alloc)?,
+            updated: self.updated.copy(alloc)?,
             items: self.items.copy(alloc)?,
         })
     }

@@ -211,6 +211,8 @@ impl Base {
 }
 
 impl Copies for Base {
+    ghost rules = { λ base. ∥ IsBase base ∥₁ };
+
     fn copy(&self, alloc: Global) -> Result<Base, NoMemory> {
         Ok(Base {
             text: Vec::from_slice(alloc, &self.text)?,

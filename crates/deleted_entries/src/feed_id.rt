@@ -3,6 +3,8 @@ ghost use Rattle.std.specs.Int.{from_be_bytes, w32};
 ghost use Rattle.deleted_entries.specs.FeedId.{IsFeedId, IsMemberId, version, member_version, feed_text, member_id};
 ghost use Rattle.uuid.specs.Text.{parsed};
 
+use atom_values::{Copies, NoMemory};
+use std::alloc::Global;
 use std::marker::Model;
 use uuid::{Builder, Uuid};
 
@@ -59,6 +61,15 @@ impl FeedId {
         let mut out = [0u8; 36];
         out.copy_from_slice(text.as_bytes());
         out
+    }
+}
+
+impl Copies for FeedId {
+    ghost rules = { IsFeedId };
+
+    fn copy(&self, _alloc: Global) -> Result<FeedId, NoMemory> {
+        bytes_fit(self.uuid.as_bytes());
+        Ok(FeedId { uuid: self.uuid })
     }
 }
 

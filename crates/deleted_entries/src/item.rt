@@ -23,6 +23,19 @@ impl Model for Tombstone {
     ghost inverse = { λ v. record { number = v.number; when = v.when } };
 }
 
+impl Copies for Tombstone {
+    ghost use Rattle.deleted_entries.specs.Tombstone.{IsTombstone};
+
+    ghost rules = { IsTombstone };
+
+    fn copy(&self, alloc: Global) -> Result<Tombstone, NoMemory> {
+        Ok(Tombstone {
+            number: self.number.copy(alloc)?,
+            when: self.when.copy(alloc)?,
+        })
+    }
+}
+
 /// A document's item for one member.
 #[derive(Debug, Drop)]
 pub enum Item {
@@ -49,10 +62,14 @@ impl Item {
 }
 
 impl Copies for Item {
+    ghost use Rattle.deleted_entries.specs.Item.{IsItem};
+
+    ghost rules = { IsItem };
+
     fn copy(&self, alloc: Global) -> Result<Item, NoMemory> {
         match self {
             Item::Kept(entry) => Ok(Item::Kept(entry.copy(alloc)?)),
-            Item::Gone(tombstone) => Ok(Item::Gone(*tombstone)),
+            Item::Gone(tombstone) => Ok(Item::Gone(tombstone.copy(alloc)?)),
         }
     }
 }

@@ -1,6 +1,7 @@
 pub mod Removal
 pub mod Head
 pub mod Operation
+pub mod Ask
 pub mod Fold
 pub mod History
 pub mod Decide
@@ -11,4 +12,5 @@ pub mod Documents
 pub mod Shows
 pub mod Served
 pub mod Chain
+pub mod Coding
 pub mod Laws

@@ -13,14 +13,18 @@ pub enum Ask {
 }
 
 impl Copies for Ask {
+    ghost use Rattle.member_rules.specs.Ask.{IsAsk};
+
+    ghost rules = { IsAsk };
+
     fn copy(&self, alloc: Global) -> Result<Ask, NoMemory> {
         match self {
             Ask::Create(draft) => Ok(Ask::Create(draft.copy(alloc)?)),
             Ask::Replace { number, draft } => Ok(Ask::Replace {
-                number: *number,
+                number: number.copy(alloc)?,
                 draft: draft.copy(alloc)?,
             }),
-            Ask::Delete { number } => Ok(Ask::Delete { number: *number }),
+            Ask::Delete { number } => Ok(Ask::Delete { number: number.copy(alloc)? }),
         }
     }
 }

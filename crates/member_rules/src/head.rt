@@ -50,12 +50,16 @@ impl Model for Head {
 }
 
 impl Copies for Head {
+    ghost use Rattle.member_rules.specs.Head.{IsHead};
+
+    ghost rules = { λ head. ∥ IsHead head ∥₁ };
+
     fn copy(&self, alloc: Global) -> Result<Head, NoMemory> {
         Ok(Head {
             name: self.name.copy(alloc)?,
             window: self.window,
             capacity: self.capacity,
-            created: self.created,
+            created: self.created.copy(alloc)?,
         })
     }
 }

@@ -24,6 +24,19 @@ impl Model for Removal {
     ghost inverse = { λ v. record { tombstone = v.tombstone; moment = v.moment } };
 }
 
+impl Copies for Removal {
+    ghost use Rattle.member_rules.specs.Removal.{IsRemoval};
+
+    ghost rules = { IsRemoval };
+
+    fn copy(&self, alloc: Global) -> Result<Removal, NoMemory> {
+        Ok(Removal {
+            tombstone: self.tombstone.copy(alloc)?,
+            moment: self.moment.copy(alloc)?,
+        })
+    }
+}
+
 /// An accepted operation on a member (RFC 5023 sections 9.2 to 9.4). A history is a list of operations.
 #[derive(Debug, Drop)]
 pub enum Op {
@@ -62,11 +75,15 @@ impl Op {
 }
 
 impl Copies for Op {
+    ghost use Rattle.member_rules.specs.Operation.{IsOperation};
+
+    ghost rules = { IsOperation };
+
     fn copy(&self, alloc: Global) -> Result<Op, NoMemory> {
         match self {
             Op::Add(entry) => Ok(Op::Add(entry.copy(alloc)?)),
             Op::Change(entry) => Ok(Op::Change(entry.copy(alloc)?)),
-            Op::Remove(removal) => Ok(Op::Remove(*removal)),
+            Op::Remove(removal) => Ok(Op::Remove(removal.copy(alloc)?)),
         }
     }
 }

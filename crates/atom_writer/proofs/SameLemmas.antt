@@ -1,7 +1,7 @@
 -- Two lists of pieces are compared from the first piece on. While they agree, the next piece of neither is a proper
 -- prefix of the other's.
 use Rattle.std.proofs.Common.{◌≡◌, ◌≢◌, ℕ, ◌<◌, List, [], ◌∷◌, ◌++◌, refl, sym, ap, ◌∙◌, append-nil, arith, length, get_or}
-use Rattle.atom_grammar.specs.Reading.{IsReadInOneWay}
+use Rattle.atom_writer.specs.Reading.{IsReadInOneWay}
 
 -- the lists never part at pieces of which one is a proper front of the other
 abbrev pub IsFree : List (List ℕ) → List (List ℕ) → Type 0
