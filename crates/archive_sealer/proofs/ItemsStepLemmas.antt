@@ -54,7 +54,7 @@ unmet-none : (met : ℕ → Bool) (items : List Item) → ((q : ℕ) → met q �
 unmet-none met [] none = refl
 unmet-none met (item ∷ items) none = rw (none (item_number item), unmet-none met items none) refl
 
--- what has been taken of the items of operations, newest first, after so many of them
+-- the items taken after a number of operations, newest first
 pub Taken : (ℕ → Bool) → List Item → ℕ → List Op → Type 0
 Taken met items count operations = items ++ unmet met (newest_items (drop count operations)) ≡ newest_items operations
 

@@ -87,7 +87,7 @@ module _ (name : FeedName) (kind : Kind) (updated : ℤ) (input m1 : List ℕ) (
           (refused_items name kind updated prev span opening second.small third.lawful m3 after s)
       items_refused after NoMemory s is = absurd cc
 
-      -- neither an item nor the end stands there
+      -- neither an item nor the end comes next
       pub no_items : (after : List ℕ) (e : PartFault) (r : Result DocValue PartFault)
           → ReadsItems name span m3 (Err e) after → IsErrAnd r (λ s. s ≡ e) → ReadsDocument input r after
       no_items after e r s same = document_stopped input after e r same (items_refused after e s)
@@ -114,7 +114,7 @@ module _ (name : FeedName) (kind : Kind) (updated : ℤ) (input m1 : List ℕ) (
             ∙ ap (λ z. z ++ m5) (sym (joined-append head (each ++ end ∷ [])))
             ∙ ap (λ z. joined z ++ m5) (sym (whole-is document))
 
-        -- something stands behind the end
+        -- there are bytes after the end
         pub more_behind : (m5 : List ℕ) → m4 ≡ codes "</feed>\n" ++ m5 → m5 ≢ [] → IsRefused [] input m5
         more_behind m5 fifth some = refused_behind_end document is_whole input m5 (whole_split m5 fifth) some
 

@@ -1,4 +1,4 @@
--- What may stand behind the items of a document, and behind its end.
+-- The pieces that may follow the items of a document, and none may follow its end.
 use Rattle.std.proofs.Common.{◌≡◌, ◌≢◌, ◌⊎◌, inl, inr, ⊎_elim, ℕ, zero, suc, ◌<◌, ◌^◌, false, List, [], ◌∷◌, ◌++◌, ℤ, map, length, nat_eq, get_or, refl, sym, ap, ◌∙◌, subst, arith, codes, All, append-nil, append_assoc, length-append}
 use Rattle.std.proofs.lemmas.List.{append_cancel_left, map-append, take_at}
 use Rattle.std.proofs.lemmas.List.Elements.{All-head, All-tail, All-take}
@@ -92,7 +92,7 @@ behind_head name kind updated prev span opening is_of more other is e =
     (e ∙ append_assoc (read ++ links) (span_piece span ∷ []) more ∙ append_assoc read links (span_piece span ∷ more)) in
     behind_links name kind prev span is_of more other is b.same_kind b.tail other.prev refl
 
--- what may stand behind these items
+-- the pieces that may follow these items
 record IsOneMore (name : FeedName) (xs items : List Item) (p : List ℕ) : Type 0 where
   item : Item
   more : List Item
@@ -149,7 +149,7 @@ all-is : (name : FeedName) (read : List (List ℕ)) (items : List Item)
 unfolding end_pieces
 all-is name read items = sym (append_assoc read (map (item_piece name) items) (codes "</feed>\n" ∷ []))
 
--- neither one more item nor the end can stand there
+-- neither one more item nor the end comes next
 pub refused_items : (name : FeedName) (kind : Kind) (updated : ℤ) (prev : ℕ) (span : Span)
     → IsOpening name kind updated → prev < 2 ^ 32 → IsSpanOf kind prev span → (input rest : List ℕ)
     → EndsAt name span input rest → IsRefused (head_pieces name kind updated prev span) input rest
@@ -177,7 +177,7 @@ refused_items name kind updated prev span opening small is_of input rest ends =
     (λ end. ends.no_end tt after tt tt (at ∙ ap (λ z. z ++ after) end))
     (items_next name opening.is_name other.items ends.items is.items ends.read.lawful.each p left b.tail))
 
--- nothing may stand behind the end
+-- nothing may follow the end
 pub refused_behind_end : (d : DocValue) → IsDoc d → (input rest : List ℕ) → input ≡ joined (pieces d) ++ rest
     → rest ≢ [] → IsRefused [] input rest
 refused_behind_end d is input rest split some = record {

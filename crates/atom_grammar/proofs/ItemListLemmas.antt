@@ -99,7 +99,7 @@ module _ (name : FeedName) (span : Span) (before middle : List ℕ) (items : Lis
     no_end = not_there (codes "</feed>\n") middle goes_on;
   }
 
-  -- or none that may stands there
+  -- or no item that may follow comes next
   pub no_item : IsAbsent (item_behind name items) middle → starts (codes "</feed>\n") middle ≡ false
       → EndsAt name span before middle
   no_item none goes_on = record {

@@ -56,7 +56,7 @@ all_lack byte (x ∷ xs) none =
     (not_from_false (eqb x byte) (ne_eqb x byte (All-head (λ x. x ≢ byte) x xs none)))
     (all_lack byte xs (All-tail (λ x. x ≢ byte) x xs none))
 
--- a text is split at the last such byte
+-- a text is split at the last `byte`
 pub last_split : (byte : ℕ) (text : List ℕ) (at : ℕ) → at < length text → get_or text at 0 ≡ byte
     → ((k : ℕ) → at + 1 ≤ k → k < length text → get_or text k 0 ≢ byte)
     → (text ≡ take at text ++ byte ∷ take (length text - (at + 1)) (drop (at + 1) text))
@@ -130,7 +130,7 @@ pub own_nowhere : (input : List ℕ) → lacks 34 input ≡ true → IsAbsent ow
 own_nowhere input none other left is before e =
     no_cut 34 input (printed other.base (own_address other.kind)) left none before e
 
--- any address that stands there is the text before the quote
+-- an address that comes next is the text before the quote
 own_cut : (input front rest : List ℕ) → IsCutAt 34 input front rest → (other : Own) (left : List ℕ) → IsOwn other
     → BeginsWithByte 34 left → input ≡ printed other.base (own_address other.kind) ++ left
     → (front ≡ own_text other) × (rest ≡ left)

@@ -14,7 +14,7 @@ pub stops_here : {A : Type 0} (part : Part A) (input before : List ℕ) (stop : 
 stops_here part input before Mismatch e none = (refl, subst (λ z. IsAbsent part z) e none)
 stops_here part input before NoMemory e none = tt
 
--- what the reader met is no such part, and so no such piece
+-- the input begins with no part of this kind, and so with no piece of it
 pub stops_piece : {A B : Type 0} (part : Part A) (piece : Part B) (input before : List ℕ) (e : PartFault)
     (r : Result B PartFault) → input ≡ before → IsPartFault part input e → IsErrAnd r (λ s. s ≡ e)
     → (IsAbsent part before → IsAbsent piece before) → ReadsPiece piece before r before

@@ -49,7 +49,7 @@ ended_alone part bytes one v w rest left is_v is_w before_rest before_left e =
     (sym (append_assoc (part.text v) bytes rest) ∙ e ∙ append_assoc (part.text w) bytes left) in
     (p.0, append_cancel_left bytes rest left p.1)
 
--- a part that may stand before anything
+-- a part that anything may follow
 abbrev pub IsClosed : {A : Type 0} → Part A → Type 0
 IsClosed part = (rest : List ℕ) → part.Before rest
 
@@ -308,7 +308,7 @@ some_only bytes part closed input rest value there f (Some w) left is before e =
     let p = f.only w left is (closed left) e in
     (ap (λ x. Some x) p.0, p.1)
 
--- nothing stands there
+-- no part comes next
 pub optional_none : {A : Type 0} (bytes : List ℕ) (part : Part A) → Starts bytes part → (input : List ℕ)
     → starts bytes input ≡ false → IsFound (optional bytes part) input None input
 unfolding optional

@@ -198,7 +198,7 @@ span_is other is kind prev same_kind same_prev =
       few = is.rules.few;
     }))
 
--- what may stand behind the links: the span, and in a subscription document a link too
+-- the piece after the links: the span, and in a subscription document a link too
 at_span : (name : FeedName) (kind : Kind) (prev : ℕ) (rest after : List ℕ) (p : List ℕ) (left : List (List ℕ))
     (other : DocValue) → IsDoc other → other.kind ≡ kind → prev < 2 ^ 32 → IsPrev name kind prev rest
     → tail_pieces name kind other.span other.prev other.items ≡ links_pieces name kind prev ++ p ∷ left

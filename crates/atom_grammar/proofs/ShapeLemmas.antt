@@ -1,4 +1,4 @@
--- The kinds of parts of an item: each may stand before anything, and is read in one way.
+-- The kinds of parts of an item: anything may follow each, and each is read in one way.
 use Rattle.std.proofs.Common.{◌≡◌, ℕ, Bool, true, false, cond, List, [], ◌∷◌, ◌++◌, Option, Some, None, IfSome, refl, sym, ap, subst, ◌∙◌, append_assoc, arith}
 use lib.Utf8.{encode}
 use Rattle.std.specs.Str.{is_utf8, chars}
@@ -87,7 +87,7 @@ pub optional_date_alone : (start end : List ℕ) → IsReadAlone (optional start
 optional_date_alone start end =
     optional_alone start (date start end) (alone_closed _) (date_starts start end) (date_alone start end)
 
--- what stands behind an optional part, or a list, doesn't begin with these bytes, nor do they
+-- the text after an optional part, or a list, doesn't begin with these bytes, and no part in it does
 pub optional_skips : {A : Type 0} (bytes start : List ℕ) (part : Part A)
     → ((v : A) (rest : List ℕ) → starts bytes (part.text v ++ rest) ≡ false) → (o : Option A) (rest : List ℕ)
     → starts bytes rest ≡ false → starts bytes ((optional start part).text o ++ rest) ≡ false
@@ -130,7 +130,7 @@ html_only input rest split Plain left before e =
 html_only input rest split Html left before e =
     (refl, append_cancel_left (codes " type=\"html\"") rest left (sym split ∙ e))
 
--- a test that decides what stands there
+-- a test that decides which part comes next
 pub kind_plain : (input : List ℕ) → starts (codes " type=\"html\"") input ≡ false → IsFound kind input Plain input
 unfolding kind
 kind_plain input h = found kind kind_alone input Plain input tt h refl

@@ -1,4 +1,4 @@
--- A span and an item that keep the rules of the place where they stand.
+-- A span and an item that keep the rules of their place.
 use Rattle.std.proofs.Common.{◌≡◌, ℕ, ◌≤◌, List, [], ◌∷◌, map, Bool, false, ◌||◌, nat_eq, refl, ap, ◌∙◌, IsTrue}
 use Rattle.std.specs.List.{list_any}
 use Rattle.chain_links.specs.declared.place.Span.{Span}

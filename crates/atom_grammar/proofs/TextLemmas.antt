@@ -48,7 +48,7 @@ lacks_not byte [] rest e =
 lacks_not byte (x ∷ xs) rest e =
     lacks_not byte xs rest (and_parts (not (eqb x byte)) (lacks byte (xs ++ byte ∷ rest)) e).1
 
--- nothing is cut where the byte doesn't stand
+-- nothing is cut if the input doesn't have the byte
 pub no_cut : (byte : ℕ) (input front rest : List ℕ) → lacks byte input ≡ true → BeginsWithByte byte rest
     → input ≡ front ++ rest → ⊥
 no_cut byte input front rest e b split =
@@ -77,7 +77,7 @@ cut_same byte x y rest left lx ly a b e =
     let p = cut_once byte x y a.0 b.0 lx ly (ap (λ t. x ++ t) (sym a.1) ∙ e ∙ ap (λ t. y ++ t) b.1) in
     (p.0, a.1 ∙ ap (λ t. byte ∷ t) p.1 ∙ sym b.1)
 
--- no byte that is written for another is the delimiter, and none that stands for itself is
+-- no byte of a written form is the delimiter
 written_lacks : (byte b : ℕ) (a1 a2 a3 a4 a5 a6 a7 : Bool) → lacks byte (codes "&amp;") ≡ true
     → lacks byte (codes "&lt;") ≡ true → lacks byte (codes "&gt;") ≡ true → lacks byte (codes "&#13;") ≡ true
     → lacks byte (codes "&quot;") ≡ true → lacks byte (codes "&#9;") ≡ true → lacks byte (codes "&#10;") ≡ true

@@ -1,4 +1,4 @@
--- Texts that lack a byte, and what stands before it.
+-- Texts without a byte, and the text before its first and last occurrence.
 use Rattle.std.proofs.Common.{◌≡◌, ◌≢◌, ℕ, zero, suc, ◌+◌, ◌/◌, ◌%◌, ◌<◌, ◌≤◌, ◌^◌, Bool, true, false, cond, ◌==◌, ◌&&◌, not, List, [], ◌∷◌, ◌++◌, ℤ, Some, inl, refl, sym, ap, ◌∙◌, arith, rules, tests, codes, decimal}
 use Rattle.std.proofs.lemmas.Bool.{and_parts, true≢false}
 use Rattle.std.proofs.lemmas.Fmt.{decimal_by_steps}
@@ -33,7 +33,7 @@ Lacks-tested c (x ∷ xs) e =
     let p = and_parts (not (x == c)) (lacks c xs) e in
     ((λ h. let P : x ≢ c = search (rules, tests) in P h), Lacks-tested c xs p.1)
 
--- two texts up to the first such byte
+-- two texts up to the first `byte`
 pub until : (c : ℕ) (a b x y : List ℕ) → Lacks c a → Lacks c b → a ++ c ∷ x ≡ b ++ c ∷ y → (a ≡ b) × (x ≡ y)
 until c [] [] x y lacks_a lacks_b e = (refl, cc)
 until c [] (d ∷ b) x y lacks_a lacks_b e = let h : d ≡ c = cc in absurd (lacks_b.0 h)
@@ -51,7 +51,7 @@ has_none c [] (d ∷ b) y lacks_x e = cc
 has_none c (d ∷ x) [] y lacks_x e = let h : d ≡ c = cc in lacks_x.0 h
 has_none c (d ∷ x) (f ∷ b) y lacks_x e = let tails : x ≡ b ++ c ∷ y = cc in has_none c x b y lacks_x.1 tails
 
--- two texts from the last such byte on
+-- two texts from the last `byte` on
 pub behind_last : (c : ℕ) (a b x y : List ℕ) → Lacks c x → Lacks c y → a ++ c ∷ x ≡ b ++ c ∷ y → (a ≡ b) × (x ≡ y)
 behind_last c [] [] x y lacks_x lacks_y e = (refl, cc)
 behind_last c [] (d ∷ b) x y lacks_x lacks_y e = let h : x ≡ b ++ c ∷ y = cc in absurd (has_none c x b y lacks_x h)

@@ -142,7 +142,7 @@ abbrev pub lacks : ℕ → List ℕ → Bool
 lacks byte [] = true
 lacks byte (x ∷ xs) = not (x == byte) && lacks byte xs
 
--- the input is cut before the first such byte
+-- the input is cut before the first `byte`
 pub record IsCutAt (byte : ℕ) (input front rest : List ℕ) : Type 0 where
   pub split : input ≡ front ++ rest
   pub begins : BeginsWithByte byte rest

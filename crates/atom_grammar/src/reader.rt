@@ -43,7 +43,7 @@ impl<'a> Reader<'a> {
         }
     }
 
-    /// Reads up to the next such byte, and returns the bytes before it. `None` if there is no such byte.
+    /// Reads up to the next `byte`, and returns the bytes before it. `None` if the rest doesn't have it.
     pub(crate) fn up_to(&mut self, byte: u8) -> Option<&'a [u8]>
         ensures { MatchOption result (lacks byte self.old.rest.now ≡ true)
             (λ front. IsCutAt byte self.old.rest.now front.now self.new.rest.now) }
@@ -129,7 +129,7 @@ impl<'a> Reader<'a> {
     }
 }
 
-/// The index of the first such byte.
+/// The index of the first `byte`.
 fn first(text: &[u8], byte: u8) -> Option<usize>
     ensures { result ≡ position (λ x. x == byte) text.now }
 {

@@ -207,7 +207,7 @@ first_is first h =
     let day : first.day ≡ 1 = omega (arith, signed_arith, h.2) in
     rw (h.0, month, day) first_day
 
--- a date so many days after 0000-01-01
+-- the date of a number of days after 0000-01-01
 pub date_of_day : (first date : Date) (day : ℕ) → IsYmd (pos 0) (pos 1) (pos 1) first →
     epoch_day date ≡ epoch_day first +ℤ pos day → IsDateOfDay date day
 date_of_day first date day h e =

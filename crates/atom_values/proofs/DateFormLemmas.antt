@@ -1,4 +1,4 @@
--- Texts of a form, in which each 0 stands for a digit.
+-- Texts of a form, in which each 0 means a digit.
 use Rattle.std.proofs.Common.{rules, ◌*◌, ◌/◌, ◌%◌, Option, ℤ, pos, ◌-ℤ◌, IsSome, IfSome, ◌↔◌, codes, Bool, refl, cond}
 use Rattle.std.proofs.Common.{◌&&◌, nat_le, Some, None, ◌+◌, ◌≡◌, ◌≢◌, inl, inr, ℕ, ◌-◌, ◌<◌, ◌≤◌, true, false, List}
 use Rattle.std.proofs.Common.{map, length, get_or, sym, ap, ◌∙◌, arith}
@@ -32,7 +32,7 @@ has_form_not text form i within differs =
 shape_digit : (byte : ℕ) → shape_of byte ≡ 48 → byte - 48 ≤ 9
 shape_digit byte e = grind (arith, nat_tests)
 
--- a digit stands at each 0 of the form
+-- there is a digit at each 0 of the form
 pub form_digit : (text form : List ℕ) (i : ℕ) → has_form text form ≡ true → get_or form i 0 ≡ 48 → digit_at text i ≤ 9
 form_digit text form i h e =
     elim (cases_lt i (length text)) [
@@ -43,7 +43,7 @@ form_digit text form i h e =
       | inr past ↦ omega (arith, get_or_past text i 0 past)
     ]
 
--- so the parts of a date and time are numbers of so many digits
+-- so the parts of a date and time are numbers with their number of digits
 pub date_time_bounds : (text : List ℕ) → has_form text (codes "0000-00-00T00:00:00") ≡ true →
     (year_in text ≤ 9_999) × (month_in text ≤ 99) × (day_in text ≤ 99)
 date_time_bounds text h =
@@ -70,7 +70,7 @@ stamp_at_some z h = grind (arith, ints)
 stamp_at_none : (z : ℤ) → ¬ IsStamp z → None ≡ stamp_at z
 stamp_at_none z h = grind (arith, ints)
 
--- `Stamp::new` gives what stands for a number of milliseconds
+-- `Stamp::new` returns the timestamp of a number of milliseconds
 stamp_at_is : (given : Option ℤ) (z : ℤ) → IsSome given ↔ IsStamp z → IfSome given (λ stamp. stamp ≡ z) →
     given ≡ stamp_at z
 stamp_at_is None z range value = stamp_at_none z (λ h. let none : false ≡ true = range.1 h in cc)

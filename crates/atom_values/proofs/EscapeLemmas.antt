@@ -63,7 +63,7 @@ length-escaped_front quoted bytes i =
     let total = ap length parts ∙ length-append (escaped quoted (take i bytes)) (escaped quoted (drop i bytes)) in
     omega arith
 
--- what stands in `out` so far, with the run that is still to be copied, is what comes before and the escaped front
+-- `out` with the run that is still to be copied is the old content and the escaped front
 abbrev pub IsWritten : Bool → List ℕ → List ℕ → List ℕ → ℕ → ℕ → Type 0
 IsWritten quoted before out bytes copied at =
     out ++ take (at - copied) (drop copied bytes) ≡ before ++ escaped quoted (take at bytes)
@@ -119,7 +119,7 @@ run_more bytes copied at low within =
     ∙ ap (λ b. take (at - copied) (drop copied bytes) ++ b ∷ []) (get_or-drop copied bytes (at - copied) 0
     ∙ ap (λ n. get_or bytes n 0) place)
 
--- the byte at `at` stands for itself
+-- the byte at `at` is written as itself
 pub IsWritten-plain : (quoted : Bool) (before out bytes : List ℕ) (copied at : ℕ) → copied ≤ at → at < length bytes →
     IsWritten quoted before out bytes copied at → escaped_byte quoted (get_or bytes at 0) ≡ get_or bytes at 0 ∷ [] →
     IsWritten quoted before out bytes copied (at + 1)

@@ -42,7 +42,7 @@ no_fraction millis e = rw e
 pub some_fraction : (millis : ℕ) → 0 < millis → fraction_text millis ≡ 46 ∷ fixed_digits 3 millis
 some_fraction millis h = grind (arith, nat_tests)
 
--- the printed form stands at the front, and what lies behind it is as it was
+-- the printed form is at the front, and the bytes after it are unchanged
 pub record IsPrinted (z : ℤ) (result : ℕ) (old new : List ℕ) : Type 0 where
   pub length_is : result ≡ length (printed z)
   pub text : new ≡ printed z ++ drop result old

@@ -111,7 +111,7 @@ length-escaped quoted (x ∷ text) =
     let more = length-escaped quoted text in
     omega arith
 
--- nothing is written at the front where a byte stands there that is escaped and is no &
+-- no written form begins with a byte that is escaped, except &
 pub IsNotWritten-bare : (quoted : Bool) (written : List ℕ) (first : ℕ) (tail : List ℕ) → written ≡ first ∷ tail →
     first ≢ 38 → get_or (escaped_byte quoted first) 0 0 ≡ 38 → (b : ℕ) → IsNotWritten quoted written b
 IsNotWritten-bare quoted written first tail is other starts b rest same =
@@ -137,7 +137,7 @@ listed false false false false true a6 = (5, omega arith, refl)
 listed false false false false false true = (3, omega arith, refl)
 listed false false false false false false = (6, omega arith, refl)
 
--- nor where a & stands there and none of these bytes is written
+-- nor with a & that begins the reference of none of these bytes
 pub IsNotWritten-reference : (quoted : Bool) (written tail : List ℕ) → written ≡ 38 ∷ tail →
     ((k : ℕ) → k < 7 → IsNotWritten quoted written (get_or escaped_list k 0)) → (b : ℕ) → IsNotWritten quoted written b
 IsNotWritten-reference quoted written tail is none b rest same =
@@ -192,7 +192,7 @@ IsReadBack-stuck quoted written front rest parts some none = IsReadBack-none quo
     (λ t _ same. let later = escaped-after quoted t front rest (same ∙ sym parts) in
     begins quoted later.0 rest later.2 some none)
 
--- no text is written in so many bytes
+-- no text has a written form of this length
 pub IsReadBack-long : (quoted : Bool) (written : List ℕ) → 6 * 65_536 < length written → IsReadBack quoted written None
 IsReadBack-long quoted written long = IsReadBack-none quoted written
     (λ t rules same. let bound = length-escaped quoted t in let total = ap length same in let short = rules.short in

@@ -98,7 +98,7 @@ broken_next : (bytes : List ℕ) (k : ℕ) → utf8_valid_len bytes < k → k �
 unfolding is_xml_text utf8_valid_len
 broken_next bytes k above within = and_left _ _ (longer_than_valid bytes (length bytes) k above within)
 
--- the bytes begin with a text in which the first refused character stands at n
+-- the bytes begin with a text, and the first refused character is at n
 pub IsLongestXmlPrefix-refused : (bytes valid more : List ℕ) (n j : ℕ) → bytes ≡ valid ++ more → IsUtf8 valid →
     FindsBy (λ c. not (is_xml_char c)) valid (Some (n, j)) → IsCharBoundary valid n → IsLongestXmlPrefix bytes n
 IsLongestXmlPrefix-refused bytes valid more n j parts u found cut =

@@ -17,7 +17,7 @@ two_digits text i = 10 * digit_at text i + digit_at text (i + 1)
 abbrev pub shape_of : ℕ → ℕ
 shape_of byte = if is_ascii_digit byte then digit_zero else byte
 
--- the text has this form, where each 0 stands for a digit
+-- the text has this form, where each 0 means a digit
 abbrev pub has_form : List ℕ → List ℕ → Bool
 has_form text form = bytes_eq (map shape_of text) form
 

@@ -28,7 +28,7 @@ escaped_limit = 6 * text_limit
 abbrev pub IsNotWritten : Bool → List ℕ → ℕ → Type 0
 IsNotWritten quoted written b = (rest : List ℕ) → escaped_byte quoted b ++ rest ≢ written
 
--- `found` is the text whose escaped form the written bytes are, and None where there is no such text
+-- `found` is the text whose escaped form the written bytes are, and None if no text has that form
 pub record IsReadBack (quoted : Bool) (written : List ℕ) (found : Option (List ℕ)) : Type 0 where
   pub text : IfSome found IsAtomText
   pub exact : (t : List ℕ) → IsAtomText t → (found ≡ Some t) ↔ (escaped quoted t ≡ written)

@@ -190,7 +190,7 @@ fn shape_of(byte: u8) -> u8
     if byte.is_ascii_digit() { b'0' } else { byte }
 }
 
-/// Whether the text has this form, in which each `0` stands for a digit.
+/// Whether the text has this form, in which each `0` means any digit.
 fn has_form(text: &[u8], form: &[u8]) -> bool
     ensures { result ≡ has_form text.now form.now }
 {
@@ -315,7 +315,8 @@ fn offset_millis(text: &[u8]) -> i64
     if text.starts_with(b"-") { -size } else { size }
 }
 
-/// The timestamp of a date text, by its three parts. `None` if a part hasn't its form or there is no such timestamp.
+/// The timestamp of a date text, by its three parts. `None` if a part hasn't its form, the calendar hasn't the date, or
+/// the timestamp is out of range.
 fn value_of_parts(date_time: &[u8], fraction: &[u8], offset: &[u8]) -> Option<Stamp>
     ensures { result ≡ value_of_parts date_time.now fraction.now offset.now }
 {

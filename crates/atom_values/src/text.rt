@@ -15,7 +15,7 @@ use std::marker::Model;
 /// The greatest number of bytes of a feed's text.
 pub const MAX_TEXT: usize = 65_536;
 
-/// A text of a feed, which can stand in an XML document. Keeps that it is UTF-8 of XML characters (XML 1.0,
+/// A text of a feed, which an XML document can contain. Keeps that it is UTF-8 of XML characters (XML 1.0,
 /// production 2) with at most `MAX_TEXT` bytes.
 #[derive(Debug, Drop)]
 pub struct AtomText {
@@ -39,7 +39,7 @@ impl Model for AtomText {
 pub enum TextFault {
     /// There are more than `MAX_TEXT` bytes. `length` is their number.
     TooLong { length: usize },
-    /// The bytes before `at` are UTF-8 of XML characters, and no such character begins at `at`.
+    /// The bytes before `at` are UTF-8 of XML characters, and no XML character begins at `at`.
     NotXmlChar { at: usize },
     /// The copy of the bytes needed memory, and none was left.
     NoMemory,
@@ -73,7 +73,7 @@ impl From<AllocError> for TextFault {
     }
 }
 
-/// Whether the character may stand in XML text (XML 1.0, production 2).
+/// Whether XML text may contain the character (XML 1.0, production 2).
 fn is_xml_char(c: char) -> bool
     ensures { result ≡ is_xml_char c }
 {
@@ -99,7 +99,7 @@ fn first_fault(bytes: &[u8]) -> Option<usize>
 impl AtomText {
     ghost use Rattle.atom_values.specs.XmlText.{IsTextFault};
 
-    /// The text with these bytes. `TooLong` if there are more than `MAX_TEXT` bytes, whatever they are; else
+    /// The text with these bytes. `TooLong` if there are more than `MAX_TEXT` bytes, valid or not; else
     /// `NotXmlChar` if they aren't UTF-8 (RFC 3629) of XML characters; `NoMemory` if there is no memory for their copy.
     pub fn of(alloc: Global, bytes: &[u8]) -> Result<AtomText, TextFault>
         ensures text { IfOk result (λ text. text ≡ bytes.now) }
@@ -277,7 +277,8 @@ fn strip_escape(written: &[u8], byte: u8, quoted: bool) -> Option<&[u8]>
     written.strip_prefix(escape_of(byte, quoted)?.as_bytes())
 }
 
-/// The byte whose written form the bytes begin with, and the rest after it. `None` if they begin with no such form.
+/// The byte whose written form the bytes begin with, and the rest after it. `None` if they begin with no byte's written
+/// form.
 fn read_byte(written: &[u8], quoted: bool) -> Option<(u8, &[u8])>
     ensures { MatchOption result ((byte : ℕ) → IsNotWritten quoted written.now byte)
         (λ read. escaped_byte quoted read.0 ++ read.1.now ≡ written.now) }

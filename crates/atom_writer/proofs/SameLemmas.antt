@@ -53,7 +53,7 @@ Same-cons Is text one_way v w is_v is_w one other tail =
       value = λ e. let heads : text v ≡ text w = cc in (tail (same heads)).value cc;
     }
 
--- the same piece, whatever it is
+-- one piece in both lists
 pub Same-fixed : {R : Type 0} (p : List ℕ) (one other : List (List ℕ)) → Same one other R → Same (p ∷ one) (p ∷ other) R
 Same-fixed p one other tail = record {
   free = cons-free p p one other (λ rest e. refl) (λ _. tail.free);

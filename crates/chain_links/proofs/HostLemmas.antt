@@ -1,4 +1,4 @@
--- The walk over a host takes exactly the labels that stand there.
+-- The walk over a host takes exactly its labels.
 use Rattle.std.proofs.Common.{◌≡◌, ◌≢◌, ℕ, List, [], ◌∷◌, ◌++◌, length, get_or, drop, ◌+◌, ◌<◌, ◌≤◌, Bool, true, false}
 use Rattle.std.proofs.Common.{cond, ◌==◌, Option, Some, None, IsTrue, All, refl, sym, ap, ◌∙◌, eqb-true, ⊎_elim}
 use Rattle.std.proofs.lemmas.Bool.{cases_Bool, cond-true, true≢false, or_cases}
@@ -78,7 +78,7 @@ taken fresh (c ∷ cs) rest e =
     (λ apart. after_char fresh c cs rest apart e (taken true cs rest))
     (cases_Bool (is_label_char c))
 
--- what the walk leaves stands behind a host
+-- the rest that the walk leaves is the text after a host
 pub host_found : (text rest : List ℕ) → behind_host true text ≡ Some rest → HasHost text rest
 host_found text rest e =
     let t = taken true text rest e in (
@@ -127,7 +127,7 @@ pub host_only : (text : List ℕ) (labels : List (List ℕ)) (rest : List ℕ) �
 host_only text [] rest are ends e = absurd (are.0 refl)
 host_only text (l ∷ ls) rest are ends e = ap (behind_host true) e ∙ over_labels l ls rest are.1 ends
 
--- where the walk stands
+-- the state of the walk
 pub no_label : (text : List ℕ) (i : ℕ) (fresh : Bool) → behind_host fresh (drop i text) ≡ behind_host true text →
     i < length text → is_label_char (get_or text i 0) ≡ false → fresh ≡ true → behind_host true text ≡ None
 no_label text i fresh walk lt other begins =

@@ -20,7 +20,7 @@ read_on n (c ∷ cs) = read_on (n * 10 + (c - 48)) cs
 own : IsNumeralModel (λ ds. all_ascii_digits ds ≡ true) (read_on 0)
 own = numerals_by_fold _ tells_all_ascii_digits read_on (search rules)
 
--- the number below 2 ^ 32 whose digits stand there, after what was read before them, and what follows
+-- the number below 2 ^ 32 whose digits come next, with the digits read before, and the text after them
 abbrev pub number_after : ℕ → List ℕ → Option (ℕ × List ℕ)
 number_after n [] = Some (n, [])
 number_after n (c ∷ cs) =
@@ -147,7 +147,7 @@ number_only text n rest small ends e =
     ap (number_after 0) e ∙ over 0 (decimal n) rest (digits_decimal own n (omega arith)) (omega arith) ends
     ∙ ap (λ (x : ℕ). Some (x, rest)) v
 
--- where the walk stands
+-- the state of the walk
 pub number_ends : (text : List ℕ) (i n : ℕ) → number_after n (drop i text) ≡ number_after 0 text → i < length text →
     is_ascii_digit (get_or text i 0) ≡ false → number_after 0 text ≡ Some (n, drop i text)
 number_ends text i n walk lt other =

@@ -1,4 +1,4 @@
--- The parts of a base address stand where their lengths say.
+-- The offsets of a base address' parts follow from their lengths.
 use Rattle.std.proofs.Common.{◌≡◌, ℕ, ◌+◌, ◌-◌, List, ◌++◌, length, take, drop, unwrap_or, codes, sym, ap, ◌∙◌, arith}
 use Rattle.std.proofs.Common.{length-append, append_assoc, take_at, drop_at}
 use Rattle.std.proofs.lemmas.List.{take_rest}

@@ -5,7 +5,7 @@ use Rattle.std.proofs.lemmas.Bool.{cases_Bool, cond-true, true≢false}
 use Rattle.std.proofs.lemmas.List.Elements.{All-nil, All-cons, All-head, All-tail}
 use Rattle.chain_links.specs.Base.{is_segment_char, IsWord, AreSegments}
 
--- what stands behind the first `/`
+-- the text after the first `/`
 abbrev pub segments_text : List (List ℕ) → List ℕ
 segments_text segments = flat_map (λ segment. segment ++ 47 ∷ []) segments
 

@@ -165,7 +165,7 @@ impl Base {
         }
     }
 
-    /// Parses the address of a document below this base. `None` if the text is no such address. Takes no memory.
+    /// Parses the address of a document below this base. `None` if the text isn't one. Takes no memory.
     pub fn read(&self, text: &[u8]) -> Option<Address>
         ensures found { IfSome result (λ address. IsAddress address × (text.now ≡ printed self.now address)) }
         ensures only { (address : Address) → IsAddress address → text.now ≡ printed self.now address

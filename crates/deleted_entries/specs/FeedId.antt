@@ -33,7 +33,7 @@ member_bytes feed number =
 abbrev pub feed_text : List ℕ → List ℕ
 feed_text bytes = hyphenated_text lower bytes
 
--- the identifier that stands in documents (RFC 4287 section 4.2.6)
+-- the identifier in documents (RFC 4287 section 4.2.6)
 unfoldable pub member_id : List ℕ → ℕ → List ℕ
 member_id feed number = codes "urn:uuid:" ++ hyphenated_text lower (member_bytes feed number)
 

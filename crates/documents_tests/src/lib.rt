@@ -1,6 +1,6 @@
 //! Tests of the public calls of `atom_writer`, `atom_grammar`, `member_rules` and `archive_sealer`.
 //!
-//! They stand in a crate of their own so that those crates are proved once, without their tests.
+//! They are in a crate of their own so that those crates are proved once, without their tests.
 #![tactic(auto)]
 
 #[cfg(test)]

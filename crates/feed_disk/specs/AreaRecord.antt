@@ -85,7 +85,7 @@ abbrev pub UpTo : ℕ → List Change → Type 0
 UpTo call [] = ⊤
 UpTo call (change ∷ older) = call_of change ≤ call
 
--- A change of this number may follow these. It is later, unless the counter of calls stands at its end.
+-- A change of this number may follow these. It is later, unless the counter of calls is at its greatest value.
 abbrev pub ComesAfter : ℕ → List Change → Type 0
 ComesAfter call [] = ⊤
 ComesAfter call (change ∷ older) = (call_of change ≤ call) × (call < 2 ^ 64 - 1 → call_of change < call)

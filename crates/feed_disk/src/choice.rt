@@ -3,7 +3,7 @@ use atom_values::Bytes;
 /// The bytes and the size of a simulated crash: how `MemoryDisk::image` fills what is not synced.
 ///
 /// The old bytes and the old size are those of the last sync. The new ones are those after each write since,
-/// failed writes included. A byte is uncertain if such a write has it in its range, or if it is past the old
+/// failed writes included. A byte is uncertain if the range of one of these writes has it, or if it is past the old
 /// end.
 #[derive(Debug, Drop)]
 pub enum Choice {

@@ -26,7 +26,7 @@ records-padded bytes = elim (cases_lt (length bytes) 6) [
   | inr long ↦ ap records (padded_long bytes long)
 ]
 
--- an image stands for itself
+-- an image is its own image
 pub stands_same : (s t : DiskState) (area : Area) → AlwaysLeaves s t area (s.image_now area)
     → AlwaysLeaves s t area (StandsFor (s.image_now area))
 stands_same s t area run = always_weaker s t area (s.image_now area) (StandsFor (s.image_now area))

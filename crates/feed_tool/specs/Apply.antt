@@ -82,7 +82,7 @@ after_lines head moments history before (line ∷ later) =
     line_operation head moments history before line
     >>= λ operation. after_lines head moments (history ++ operation ∷ []) (before + 1) later
 
--- the history that an input makes. If the input is over the limit, the lines wholly within the limit come first
+-- the history that an input makes. If the input is over the limit, the lines within the limit come first
 unfoldable pub applied : HeadValue → (ℕ → ℕ) → List ℕ → Result (List Op) Fault
 applied head moments input =
     if nat_le (length input) input_limit

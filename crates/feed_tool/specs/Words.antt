@@ -33,7 +33,7 @@ use Rattle.feed_tool.specs.declared.words.Command.TheVariants.{Apply, Show}
 abbrev pub is_number : List ℕ → Bool
 is_number word = not (length word == 0) && list_all is_ascii_digit word
 
--- the number that the digits stand for
+-- the value of the digits
 abbrev pub number_value : List ℕ → ℕ
 number_value word = fold (λ n digit. 10 * n + (digit - 48)) 0 word
 

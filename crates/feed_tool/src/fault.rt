@@ -25,7 +25,7 @@ pub enum Fault {
 pub enum Refusal {
     /// The input is longer than the command's limit.
     TooLong,
-    /// The input isn't the text of a document: the piece that begins at this offset can't stand there.
+    /// The input isn't the text of a document: no piece of a document can begin at this offset.
     BadDocument { offset: u64 },
     /// The line is none of the command's.
     BadLine { line: u64 },

@@ -4,6 +4,7 @@ mod apply;
 mod faults;
 mod outside;
 mod show;
+mod words;
 
 use crate::outside::memory::{ListSink, ListSource, SetClock};
 use crate::run::run;
@@ -12,10 +13,10 @@ use std::alloc::Global;
 use std::process::Abort;
 use std::test::Fail;
 
-/// The moment at which the clock of most tests stands: 2023-11-14T22:13:20Z.
+/// The moment of the clock in most tests: 2023-11-14T22:13:20Z.
 const NOW: u64 = 1_700_000_000_000;
 
-/// A run of the program, whose failing calls of the input and the output are numbered from 1; 0 stands for none.
+/// A run of the program, whose failing calls of the input and the output are numbered from 1; 0 means none.
 #[derive(Clone, Copy, Debug)]
 struct Run<'a> {
     words: &'static [&'static str],

@@ -108,7 +108,7 @@ fn are_digits(word: &[u8]) -> bool
     word.iter().all(|byte| byte.is_ascii_digit())
 }
 
-/// The number that the digits stand for, or 101 where it is greater.
+/// The value of the digits, or 101 if it is greater.
 fn capped_value(digits: &[u8]) -> u32
     ensures { result ≡ min (number_value digits.now) 101 }
 {

@@ -1,4 +1,4 @@
--- Which item of a member stands last in a list of operations. An operation goes in by `item_of` alone.
+-- The last item of a member in a list of operations. The lemmas use an operation through `item_of` alone.
 use Rattle.std.proofs.Common.{◌≡◌, ◌≢◌, inl, inr, ℕ, nat_eq, List, [], ◌∷◌, ◌++◌, reverse, Option, Some, None}
 use Rattle.std.proofs.Common.{if◌then◌else◌, refl, ap, sym, ◌∙◌}
 use Rattle.std.specs.Prelude.{fold, option_map, unwrap_or}

@@ -75,7 +75,7 @@ state_of-push-other history operation number e =
         → state_by g l v ≡ state_by g' l' v'
     by_parts eg el ev = λ i. state_by (eg i) (el i) (ev i)
 
--- what a member is that this item stands for since this version
+-- the state of a member whose item is this one since this version
 abbrev pub state_with : Item → ℕ → State
 state_with (Kept entry) version = Live entry.updated version
 state_with (Gone tombstone) version = Deleted tombstone.when

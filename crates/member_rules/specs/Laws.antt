@@ -31,7 +31,7 @@ abbrev pub LawOfTheChain : Type 0
 LawOfTheChain = (head : HeadValue) (history : List Op) → IsHead head → IsLawful head history
     → ShowsTheFold (chain head history) history
 
--- an archive never changes: once its window is full, it is the same whatever operations follow
+-- an archive never changes: once its window is full, it is the same for all later operations
 abbrev pub ArchivesStay : Type 0
 ArchivesStay = (head : HeadValue) (history : List Op) (version number : ℕ) → version ≤ length history
     → number ≤ (windows_of head (take version history)).full

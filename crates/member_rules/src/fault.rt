@@ -10,7 +10,7 @@ pub enum RuleFault {
     /// The draft that replaces the member's entry has another identifier than the member.
     OtherId { number: u32, given: AtomText },
     /// The operation's moment would be past the greatest stamp. It has to be later than `last`, the moment of the last
-    /// operation, and the clock stands at `now` milliseconds since 1970.
+    /// operation, and the clock is at `now` milliseconds since 1970.
     ClockSpent { last: Stamp, now: u64 },
     /// The entry's piece of a document would have this length in bytes, which is more than [`crate::ENTRY_LIMIT`].
     TooLarge { length: u64 },

@@ -15,7 +15,7 @@ pub fn chain_shows_the_fold()
     ensures chain { LawOfTheChain }
 {}
 
-/// An archive never changes: once its window is full, it is the same whatever operations follow.
+/// An archive never changes: once its window is full, it is the same for all later operations.
 pub fn archives_stay()
     ensures { ArchivesStay }
 {}

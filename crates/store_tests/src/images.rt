@@ -116,7 +116,7 @@ fn exactly_the_listed_calls_fail(rt: HostRuntime) -> Result<(), Fail> {
     Ok(())
 }
 
-/// Makes three device calls on the journal, whatever they return: a write at its start, a sync and a size.
+/// Makes three device calls on the journal, and ignores their results: a write at its start, a sync and a size.
 fn write_sync_size<D: Disk>(disk: &mut D) {
     let _ = disk.write(Area::Journal, 0, b"VWXYZ");
     let _ = disk.sync(Area::Journal);

@@ -1,4 +1,4 @@
--- What stands behind the base is the place of one document.
+-- The text after the base is the suffix of one document's address.
 use Rattle.std.proofs.Common.{◌++◌, sym, ap, ◌∙◌}
 use Rattle.std.proofs.lemmas.Option.{none-some, same_Some, IfSome_then}
 use Rattle.chain_links.specs.Address.{suffix_text}
