@@ -3,7 +3,7 @@
 use crate::samples::{category, full_draft, full_link, html, person, stamp, text};
 use atom_values::{Bytes, Copies, Draft, Entry, Many};
 use chain_links::Base;
-use deleted_entries::{Item, Tombstone};
+use deleted_entries::{FeedId, Item, Tombstone};
 use std::alloc::Global;
 use std::fmt::Debug;
 use std::process::Abort;
@@ -26,6 +26,17 @@ fn copies_constructs(rt: HostRuntime) {
     compare(&rt, alloc, &person(&rt, alloc));
     compare(&rt, alloc, &full_link(&rt, alloc));
     compare(&rt, alloc, &category(&rt, alloc));
+}
+
+#[test]
+fn copies_plain_values(rt: HostRuntime) {
+    let alloc = rt.alloc();
+    let when = stamp(&rt, 6);
+    let feed = FeedId::parse(b"6d1f0c5a-93be-4c27-8d10-2b7f9e4a5c36").expect(&rt, "a feed");
+    compare(&rt, alloc, &7u32);
+    compare(&rt, alloc, &when);
+    compare(&rt, alloc, &feed);
+    compare(&rt, alloc, &Tombstone { number: 7, when });
 }
 
 #[test]
