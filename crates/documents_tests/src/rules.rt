@@ -214,75 +214,83 @@ const OWN: Drafts = Drafts {
     updated: None,
 };
 
+/// Steps, and the operation of the last.
+static OPERATIONS: [(&[Step], &str); 6] = [
+    (
+        &[(Create, 0, LAST)],
+        "Add 1 253402300799999 253402300799999",
+    ),
+    (&[(Create, 0, 5), (Create, 0, 5)], "Add 2 6 6"),
+    (&[(Create, 0, 5), (Create, 0, 3)], "Add 2 6 6"),
+    (&[(Create, 0, 5), (Replace, 1, 9)], "Change 1 9 9"),
+    (&[(Create, 0, 5), (Delete, 1, 9)], "Remove 1 9 9"),
+    (
+        &[(Create, 0, 5), (Delete, 1, 9), (Create, 0, 10)],
+        "Add 2 10 10",
+    ),
+];
+
+/// Steps whose drafts have an `updated`, and what the last becomes.
+static DATED_OPERATIONS: [(&[Step], &str); 3] = [
+    (&[(Create, 0, 5), (Delete, 1, 9)], "Remove 1 9 1000"),
+    (&[(Create, 0, 5), (Delete, 1, 2_000)], "Remove 1 2000 2000"),
+    (
+        &[(Create, 0, 5), (Delete, 1, 9), (Delete, 1, 10)],
+        "Deleted 1 1000",
+    ),
+];
+
 #[test]
 fn answers_the_operation(rt: HostRuntime) -> Result<(), Fail> {
-    let cases: [(&'static [Step], &'static str); 6] = [
-        (
-            &[(Create, 0, LAST)],
-            "Add 1 253402300799999 253402300799999",
-        ),
-        (&[(Create, 0, 5), (Create, 0, 5)], "Add 2 6 6"),
-        (&[(Create, 0, 5), (Create, 0, 3)], "Add 2 6 6"),
-        (&[(Create, 0, 5), (Replace, 1, 9)], "Change 1 9 9"),
-        (&[(Create, 0, 5), (Delete, 1, 9)], "Remove 1 9 9"),
-        (
-            &[(Create, 0, 5), (Delete, 1, 9), (Create, 0, 10)],
-            "Add 2 10 10",
-        ),
-    ];
-    expect(&rt, rt.alloc(), &PLAIN, &cases)?;
+    expect(&rt, rt.alloc(), &PLAIN, &OPERATIONS)?;
     // A tombstone isn't before the entry's `updated`.
-    let dated: [(&'static [Step], &'static str); 3] = [
-        (&[(Create, 0, 5), (Delete, 1, 9)], "Remove 1 9 1000"),
-        (&[(Create, 0, 5), (Delete, 1, 2_000)], "Remove 1 2000 2000"),
-        (
-            &[(Create, 0, 5), (Delete, 1, 9), (Delete, 1, 10)],
-            "Deleted 1 1000",
-        ),
-    ];
-    expect(&rt, rt.alloc(), &DATED, &dated)
+    expect(&rt, rt.alloc(), &DATED, &DATED_OPERATIONS)
 }
+
+/// Steps with the id of another member in drafts, and the refusal of the last.
+static REFUSALS: [(&[Step], &str); 11] = [
+    (&[(Delete, 0, 5)], "NotFound 0"),
+    (&[(Delete, 1, u64::MAX)], "NotFound 1"),
+    (&[(Create, 0, 5), (Replace, 0, 6)], "NotFound 0"),
+    (&[(Create, 0, 5), (Replace, 2, 6)], "NotFound 2"),
+    (
+        &[(Create, 0, 5), (Delete, 1, 9), (Delete, 1, 10)],
+        "Deleted 1 9",
+    ),
+    (
+        &[(Create, 0, 5), (Delete, 1, 9), (Replace, 1, u64::MAX)],
+        "Deleted 1 9",
+    ),
+    (&[(Create, 0, 5), (Replace, 1, 9)], "OtherId 1 6"),
+    (&[(Create, 0, 5), (Replace, 1, u64::MAX)], "OtherId 1 6"),
+    (
+        &[(Create, 0, LAST), (Create, 0, LAST)],
+        "ClockSpent 253402300799999 253402300799999",
+    ),
+    (
+        &[(Create, 0, LAST), (Delete, 1, 0)],
+        "ClockSpent 253402300799999 0",
+    ),
+    (
+        &[(Create, 0, u64::MAX)],
+        "ClockSpent 0 18446744073709551615",
+    ),
+];
+
+/// Steps with the member's own id in drafts, and what the last becomes.
+static OWN_ID: [(&[Step], &str); 2] = [
+    (&[(Create, 0, 5), (Replace, 1, 9)], "Change 1 9 9"),
+    (
+        &[(Create, 0, 5), (Replace, 1, u64::MAX)],
+        "ClockSpent 5 18446744073709551615",
+    ),
+];
 
 #[test]
 fn answers_the_first_refusal(rt: HostRuntime) -> Result<(), Fail> {
-    let cases: [(&'static [Step], &'static str); 11] = [
-        (&[(Delete, 0, 5)], "NotFound 0"),
-        (&[(Delete, 1, u64::MAX)], "NotFound 1"),
-        (&[(Create, 0, 5), (Replace, 0, 6)], "NotFound 0"),
-        (&[(Create, 0, 5), (Replace, 2, 6)], "NotFound 2"),
-        (
-            &[(Create, 0, 5), (Delete, 1, 9), (Delete, 1, 10)],
-            "Deleted 1 9",
-        ),
-        (
-            &[(Create, 0, 5), (Delete, 1, 9), (Replace, 1, u64::MAX)],
-            "Deleted 1 9",
-        ),
-        (&[(Create, 0, 5), (Replace, 1, 9)], "OtherId 1 6"),
-        (&[(Create, 0, 5), (Replace, 1, u64::MAX)], "OtherId 1 6"),
-        (
-            &[(Create, 0, LAST), (Create, 0, LAST)],
-            "ClockSpent 253402300799999 253402300799999",
-        ),
-        (
-            &[(Create, 0, LAST), (Delete, 1, 0)],
-            "ClockSpent 253402300799999 0",
-        ),
-        (
-            &[(Create, 0, u64::MAX)],
-            "ClockSpent 0 18446744073709551615",
-        ),
-    ];
-    expect(&rt, rt.alloc(), &OTHER, &cases)?;
+    expect(&rt, rt.alloc(), &OTHER, &REFUSALS)?;
     // The member's own identifier isn't refused.
-    let own: [(&'static [Step], &'static str); 2] = [
-        (&[(Create, 0, 5), (Replace, 1, 9)], "Change 1 9 9"),
-        (
-            &[(Create, 0, 5), (Replace, 1, u64::MAX)],
-            "ClockSpent 5 18446744073709551615",
-        ),
-    ];
-    expect(&rt, rt.alloc(), &OWN, &own)
+    expect(&rt, rt.alloc(), &OWN, &OWN_ID)
 }
 
 /// A text of ampersands, each of which takes five bytes in a document, followed by letters.
@@ -344,26 +352,28 @@ fn operation(alloc: Global, step: Step, stamp: i64) -> Result<Op, Fail> {
     })
 }
 
+/// Operations, the last moment, and whether they may follow.
+static FOLLOWING: [(Step, i64, bool); 11] = [
+    ((Create, 2, 6), 0, true),
+    ((Create, 2, 5), 0, false),
+    ((Create, 1, 6), 0, false),
+    ((Create, 3, 6), 0, false),
+    ((Replace, 1, 6), 1_000, true),
+    ((Replace, 1, 6), 999, false),
+    ((Replace, 2, 6), 1_000, false),
+    ((Delete, 1, 6), 1_000, true),
+    ((Delete, 1, 6), 999, false),
+    ((Delete, 1, 6), 1_001, false),
+    ((Delete, 2, 6), 1_000, false),
+];
+
 #[test]
 fn tells_which_operations_may_follow(rt: HostRuntime) -> Result<(), Fail> {
     // The history is one member, made at moment 5 with the `updated` 1,000.
     let mut feed = empty(rt.alloc())?;
     let ask = case_ask(rt.alloc(), &DATED, Create, 0)?;
     apply(&rt, &mut feed, ask, 5)?;
-    let cases: [(Step, i64, bool); 11] = [
-        ((Create, 2, 6), 0, true),
-        ((Create, 2, 5), 0, false),
-        ((Create, 1, 6), 0, false),
-        ((Create, 3, 6), 0, false),
-        ((Replace, 1, 6), 1_000, true),
-        ((Replace, 1, 6), 999, false),
-        ((Replace, 2, 6), 1_000, false),
-        ((Delete, 1, 6), 1_000, true),
-        ((Delete, 1, 6), 999, false),
-        ((Delete, 1, 6), 1_001, false),
-        ((Delete, 2, 6), 1_000, false),
-    ];
-    for (step, stamp, expected) in cases {
+    for (step, stamp, expected) in FOLLOWING {
         let operation = operation(rt.alloc(), step, stamp)?;
         assert_eq!(rt; feed.members.may_follow(&operation), expected);
     }

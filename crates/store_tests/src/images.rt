@@ -59,17 +59,19 @@ fn images_after(alloc: Global, call: u64) -> Result<Vec<u8>, Fail> {
     images_of(alloc, &disk, call)
 }
 
+/// The images that a crash within each call leaves, from call 0 on: one for each choice.
+static IMAGES: [&[u8]; 5] = [
+    b"abcd/ef// abcd/ef// abcd/ef// abcd/ef// abcd/ef// abcd/ef// ",
+    b"abcd/ef// abXYZ/ef// ab.../ef// ab12/ef// ab123/ef// ab123/ef// ",
+    b"abcd/ef// abXYZ/efgh// ab.../ef..// ab12/ef// ab123/ef4// ab123/ef4h// ",
+    // A sync does nothing before its end.
+    b"abcd/ef// abXYZ/efgh// ab.../ef..// ab12/ef// ab123/ef4// ab123/ef4h// ",
+    b"abXYZ/ef// abXYZ/efgh/ij/ abXYZ/ef../../ abXYZ/ef// abXYZ/ef1/2/ abXYZ/ef12/34/ ",
+];
+
 #[test]
 fn a_crash_leaves_the_choice(rt: HostRuntime) -> Result<(), Fail> {
-    let cases: [&[u8]; 5] = [
-        b"abcd/ef// abcd/ef// abcd/ef// abcd/ef// abcd/ef// abcd/ef// ",
-        b"abcd/ef// abXYZ/ef// ab.../ef// ab12/ef// ab123/ef// ab123/ef// ",
-        b"abcd/ef// abXYZ/efgh// ab.../ef..// ab12/ef// ab123/ef4// ab123/ef4h// ",
-        // A sync does nothing before its end.
-        b"abcd/ef// abXYZ/efgh// ab.../ef..// ab12/ef// ab123/ef4// ab123/ef4h// ",
-        b"abXYZ/ef// abXYZ/efgh/ij/ abXYZ/ef../../ abXYZ/ef// abXYZ/ef1/2/ abXYZ/ef12/34/ ",
-    ];
-    for (call, images) in cases.iter().enumerate() {
+    for (call, images) in IMAGES.iter().enumerate() {
         let left = images_after(rt.alloc(), call as u64)?;
         assert_eq!(rt; left.as_slice(), *images, "call {call}");
     }
@@ -99,18 +101,20 @@ fn outcomes(alloc: Global, failing: [u64; 2]) -> Result<([bool; 2], [bool; 2]), 
     Ok((looks(&mut disk), changes(&mut disk)))
 }
 
+/// Two calls that are listed to fail, and whether each of four calls works.
+static LISTED: [([u64; 2], ([bool; 2], [bool; 2])); 7] = [
+    ([0, 0], ([true, true], [true, true])),
+    ([1, 0], ([false, true], [true, true])),
+    ([2, 0], ([true, false], [true, true])),
+    ([3, 0], ([true, true], [false, true])),
+    ([4, 0], ([true, true], [true, false])),
+    ([5, 0], ([true, true], [true, true])),
+    ([4, 2], ([true, false], [true, false])),
+];
+
 #[test]
 fn exactly_the_listed_calls_fail(rt: HostRuntime) -> Result<(), Fail> {
-    let cases: [([u64; 2], ([bool; 2], [bool; 2])); 7] = [
-        ([0, 0], ([true, true], [true, true])),
-        ([1, 0], ([false, true], [true, true])),
-        ([2, 0], ([true, false], [true, true])),
-        ([3, 0], ([true, true], [false, true])),
-        ([4, 0], ([true, true], [true, false])),
-        ([5, 0], ([true, true], [true, true])),
-        ([4, 2], ([true, false], [true, false])),
-    ];
-    for (failing, works) in cases {
+    for (failing, works) in LISTED {
         assert_eq!(rt; outcomes(rt.alloc(), failing)?, works, "{failing:?}");
     }
     Ok(())
@@ -157,18 +161,20 @@ fn journals_after(alloc: Global, failing: u64, call: u64) -> Result<Vec<u8>, Fai
     Ok(all)
 }
 
+/// The call that fails, that of the crash, and the journal for the old bytes, the new ones, and after a sync.
+static JOURNALS: [(u64, u64, &[u8]); 5] = [
+    (0, 3, b"VWXYZ/VWXYZ/VWXYZ/"),
+    // The write fails. Its bytes may be on the disk until the sync.
+    (1, 2, b"abcd/VWXYZ/abcd/"),
+    (1, 3, b"abcd/abcd/abcd/"),
+    // The sync fails.
+    (2, 2, b"abcd/VWXYZ/VWXYZ/"),
+    (2, 3, b"abcd/VWXYZ/VWXYZ/"),
+];
+
 #[test]
 fn a_failed_call_leaves_its_bytes_uncertain(rt: HostRuntime) -> Result<(), Fail> {
-    let cases: [(u64, u64, &[u8]); 5] = [
-        (0, 3, b"VWXYZ/VWXYZ/VWXYZ/"),
-        // The write fails. Its bytes may be on the disk until the sync.
-        (1, 2, b"abcd/VWXYZ/abcd/"),
-        (1, 3, b"abcd/abcd/abcd/"),
-        // The sync fails.
-        (2, 2, b"abcd/VWXYZ/VWXYZ/"),
-        (2, 3, b"abcd/VWXYZ/VWXYZ/"),
-    ];
-    for (failing, call, journals) in cases {
+    for (failing, call, journals) in JOURNALS {
         let left = journals_after(rt.alloc(), failing, call)?;
         assert_eq!(rt; left.as_slice(), journals, "failing {failing}, call {call}");
     }

@@ -2,37 +2,39 @@
 
 use chain_links::{Address, Base, BaseFault, Place, Span, follows, whole_number};
 
+/// Texts, and whether they are base addresses.
+static BASES: [(&[u8], bool); 26] = [
+    (b"http://feed.example/", true),
+    (b"http://feed.example", false),
+    (b"http://feed.example:80/", true),
+    (b"http://feed.example:1/", true),
+    (b"http://feed.example:0/", false),
+    (b"http://feed.example:65535/", true),
+    (b"http://feed.example:65536/", false),
+    (b"http://feed.example:4294967376/", false),
+    (b"http://feed.example:080/", false),
+    (b"http://feed.example:/", false),
+    (b"http://feed.example:80", false),
+    (b"http://Feed.example/", false),
+    (b"http://a..b/", false),
+    (b"http://.a/", false),
+    (b"http://a./", false),
+    (b"http://-/", true),
+    (b"http:///", false),
+    (b"http://a/b/", true),
+    (b"http://a/B-._~9/c/", true),
+    (b"http://a/b", false),
+    (b"http://a//", false),
+    (b"http://a/%41/", false),
+    (b"http://a/b?c/", false),
+    (b"https://a/", false),
+    (b"HTTP://a/", false),
+    (b"", false),
+];
+
 #[test]
 fn takes_the_grammar_alone(rt: HostRuntime) {
-    let cases: [(&[u8], bool); 26] = [
-        (b"http://feed.example/", true),
-        (b"http://feed.example", false),
-        (b"http://feed.example:80/", true),
-        (b"http://feed.example:1/", true),
-        (b"http://feed.example:0/", false),
-        (b"http://feed.example:65535/", true),
-        (b"http://feed.example:65536/", false),
-        (b"http://feed.example:4294967376/", false),
-        (b"http://feed.example:080/", false),
-        (b"http://feed.example:/", false),
-        (b"http://feed.example:80", false),
-        (b"http://Feed.example/", false),
-        (b"http://a..b/", false),
-        (b"http://.a/", false),
-        (b"http://a./", false),
-        (b"http://-/", true),
-        (b"http:///", false),
-        (b"http://a/b/", true),
-        (b"http://a/B-._~9/c/", true),
-        (b"http://a/b", false),
-        (b"http://a//", false),
-        (b"http://a/%41/", false),
-        (b"http://a/b?c/", false),
-        (b"https://a/", false),
-        (b"HTTP://a/", false),
-        (b"", false),
-    ];
-    for (text, is_base) in cases {
+    for (text, is_base) in BASES {
         let base = Base::parse(rt.alloc(), text);
         let want = if is_base {
             Ok(text)
@@ -71,78 +73,85 @@ struct Parts {
     path: &'static [u8],
 }
 
+/// Base addresses and their parts.
+static PARTS: [Parts; 3] = [
+    Parts {
+        text: b"http://a/",
+        host: b"a",
+        port: 80,
+        path: b"/",
+    },
+    Parts {
+        text: b"http://feed.example:80/x/",
+        host: b"feed.example",
+        port: 80,
+        path: b"/x/",
+    },
+    Parts {
+        text: b"http://feed.example:65535/a.b/c/",
+        host: b"feed.example",
+        port: 65535,
+        path: b"/a.b/c/",
+    },
+];
+
 #[test]
 fn tells_the_parts(rt: HostRuntime) {
-    for parts in [
-        Parts {
-            text: b"http://a/",
-            host: b"a",
-            port: 80,
-            path: b"/",
-        },
-        Parts {
-            text: b"http://feed.example:80/x/",
-            host: b"feed.example",
-            port: 80,
-            path: b"/x/",
-        },
-        Parts {
-            text: b"http://feed.example:65535/a.b/c/",
-            host: b"feed.example",
-            port: 65535,
-            path: b"/a.b/c/",
-        },
-    ] {
+    for parts in PARTS {
         let base = Base::parse(rt.alloc(), parts.text).expect(&rt, "a base");
         assert_eq!(rt; (base.text(), base.host()), (parts.text, parts.host));
         assert_eq!(rt; (base.port(), base.path()), (parts.port, parts.path));
     }
 }
 
+/// Base addresses, and whether the URL parser prints the same text.
+static URL_TEXTS: [(&[u8], bool); 9] = [
+    (b"http://feed.example/", true),
+    (b"http://feed.example:80/", false),
+    (b"http://feed.example:8080/", true),
+    (b"http://a/b/-._~/", true),
+    (b"http://a/./", false),
+    (b"http://a/b/../", false),
+    (b"http://127.0.0.1/", true),
+    (b"http://127.1/", false),
+    (b"http://1.2.3.4.5/", false),
+];
+
 #[test]
 fn asks_the_url_parser(rt: HostRuntime) {
-    let cases: [(&[u8], bool); 9] = [
-        (b"http://feed.example/", true),
-        (b"http://feed.example:80/", false),
-        (b"http://feed.example:8080/", true),
-        (b"http://a/b/-._~/", true),
-        (b"http://a/./", false),
-        (b"http://a/b/../", false),
-        (b"http://127.0.0.1/", true),
-        (b"http://127.1/", false),
-        (b"http://1.2.3.4.5/", false),
-    ];
-    for (text, answer) in cases {
+    for (text, answer) in URL_TEXTS {
         let base = Base::parse(rt.alloc(), text).expect(&rt, "a base");
         assert_eq!(rt; base.checked(rt.alloc()), Ok(answer), "{text:?}");
     }
 }
 
+/// Texts, and the addresses that they are below the base.
+static READ: [(&[u8], Option<Address>); 16] = [
+    (b"http://feed.example/feed", Some(Address::Feed)),
+    (b"http://feed.example/archive/7", Some(Address::Archive(7))),
+    (
+        b"http://feed.example/archive/4294967295",
+        Some(Address::Archive(4_294_967_295)),
+    ),
+    (b"http://feed.example/member/1", Some(Address::Member(1))),
+    (b"http://feed.example/archive/07", None),
+    (b"http://feed.example/archive/0", None),
+    (b"http://feed.example/archive/4294967296", None),
+    (b"http://feed.example/archive/", None),
+    (b"http://feed.example/archive/7/", None),
+    (b"http://feed.example/archive/7a", None),
+    (b"http://feed.example/member/01", None),
+    (b"http://feed.example/feeds", None),
+    (b"http://feed.example/", None),
+    (b"http://other.example/feed", None),
+    (b"feed", None),
+    (b"", None),
+];
+
 #[test]
 fn reads_and_prints_addresses(rt: HostRuntime) {
     let base = Base::parse(rt.alloc(), b"http://feed.example/").expect(&rt, "a base");
-    let cases: [(&[u8], Option<Address>); 16] = [
-        (b"http://feed.example/feed", Some(Address::Feed)),
-        (b"http://feed.example/archive/7", Some(Address::Archive(7))),
-        (
-            b"http://feed.example/archive/4294967295",
-            Some(Address::Archive(4_294_967_295)),
-        ),
-        (b"http://feed.example/member/1", Some(Address::Member(1))),
-        (b"http://feed.example/archive/07", None),
-        (b"http://feed.example/archive/0", None),
-        (b"http://feed.example/archive/4294967296", None),
-        (b"http://feed.example/archive/", None),
-        (b"http://feed.example/archive/7/", None),
-        (b"http://feed.example/archive/7a", None),
-        (b"http://feed.example/member/01", None),
-        (b"http://feed.example/feeds", None),
-        (b"http://feed.example/", None),
-        (b"http://other.example/feed", None),
-        (b"feed", None),
-        (b"", None),
-    ];
-    for (text, address) in cases {
+    for (text, address) in READ {
         let found = base.read(text);
         assert_eq!(rt; found, address, "{text:?}");
         if let Some(address) = found {
@@ -160,20 +169,22 @@ fn reads_and_prints_addresses(rt: HostRuntime) {
     }
 }
 
+/// Texts, and the whole numbers that they are.
+static NUMBERS: [(&[u8], Option<u32>); 9] = [
+    (b"1", Some(1)),
+    (b"10", Some(10)),
+    (b"4294967295", Some(4_294_967_295)),
+    (b"4294967296", None),
+    (b"0", None),
+    (b"01", None),
+    (b"1 ", None),
+    (b"+1", None),
+    (b"", None),
+];
+
 #[test]
 fn reads_whole_numbers(rt: HostRuntime) {
-    let cases: [(&[u8], Option<u32>); 9] = [
-        (b"1", Some(1)),
-        (b"10", Some(10)),
-        (b"4294967295", Some(4_294_967_295)),
-        (b"4294967296", None),
-        (b"0", None),
-        (b"01", None),
-        (b"1 ", None),
-        (b"+1", None),
-        (b"", None),
-    ];
-    for (text, number) in cases {
+    for (text, number) in NUMBERS {
         assert_eq!(rt; whole_number(text), number, "{text:?}");
     }
 }
@@ -188,26 +199,70 @@ struct Pair {
     follows: bool,
 }
 
+const SEVEN: Address = Address::Archive(7);
+
+static PAIRS: [Pair; 8] = [
+    Pair {
+        address: SEVEN,
+        last: 512,
+        prev: 7,
+        first: 513,
+        follows: true,
+    },
+    Pair {
+        address: SEVEN,
+        last: 512,
+        prev: 8,
+        first: 513,
+        follows: false,
+    },
+    Pair {
+        address: Address::Member(7),
+        last: 512,
+        prev: 7,
+        first: 513,
+        follows: false,
+    },
+    Pair {
+        address: Address::Feed,
+        last: 512,
+        prev: 7,
+        first: 513,
+        follows: false,
+    },
+    Pair {
+        address: SEVEN,
+        last: 512,
+        prev: 7,
+        first: 512,
+        follows: false,
+    },
+    Pair {
+        address: SEVEN,
+        last: 512,
+        prev: 7,
+        first: 514,
+        follows: false,
+    },
+    Pair {
+        address: SEVEN,
+        last: 0,
+        prev: 7,
+        first: 1,
+        follows: true,
+    },
+    Pair {
+        address: SEVEN,
+        last: 4_294_967_295,
+        prev: 7,
+        first: 0,
+        follows: false,
+    },
+];
+
 #[test]
 fn tells_what_follows(rt: HostRuntime) {
-    let pair = |address, last, prev, first, follows| Pair {
-        address,
-        last,
-        prev,
-        first,
-        follows,
-    };
-    let seven = Address::Archive(7);
-    for pair in [
-        pair(seven, 512, 7, 513, true),
-        pair(seven, 512, 8, 513, false),
-        pair(Address::Member(7), 512, 7, 513, false),
-        pair(Address::Feed, 512, 7, 513, false),
-        pair(seven, 512, 7, 512, false),
-        pair(seven, 512, 7, 514, false),
-        pair(seven, 0, 7, 1, true),
-        pair(seven, 4_294_967_295, 7, 0, false),
-    ] {
+    for pair in PAIRS {
         let older = Place {
             address: pair.address,
             span: Span {

@@ -22,17 +22,19 @@ fn makes_a_draft_of_a_title(rt: HostRuntime) {
     }
 }
 
+/// The draft's `updated`, the stored one, and that of the new entry, which is made at 1,000.
+static UPDATES: [(Option<i64>, Option<i64>, i64); 6] = [
+    (None, None, 1_000),
+    (None, Some(999), 1_000),
+    (None, Some(1_001), 1_001),
+    (Some(999), None, 999),
+    (Some(999), Some(1_000), 1_000),
+    (Some(1_001), Some(1_000), 1_001),
+];
+
 #[test]
 fn updates_not_before_the_stored_entry(rt: HostRuntime) {
-    // Each row has the draft's `updated`, the stored one, and that of the new entry, which is made at 1,000.
-    for (asked, stored, updated) in [
-        (None, None, 1_000),
-        (None, Some(999), 1_000),
-        (None, Some(1_001), 1_001),
-        (Some(999), None, 999),
-        (Some(999), Some(1_000), 1_000),
-        (Some(1_001), Some(1_000), 1_001),
-    ] {
+    for (asked, stored, updated) in UPDATES {
         let moment = stamp(&rt, 1_000);
         let mut draft = Draft::titled(rt.alloc(), text(&rt, rt.alloc(), b"A"));
         draft.updated = asked.and_then(Stamp::new);

@@ -5,15 +5,18 @@ use atom_values::{
     Bytes, Category, Link, ListFault, MAX_CATEGORIES, MAX_LINKS, MAX_PERSONS, Many, Person,
 };
 
+/// Numbers, and the results of their pushes.
+static PUSHES: [(u32, Result<(), ListFault>); 3] = [
+    (7, Ok(())),
+    (8, Ok(())),
+    (9, Err(ListFault::TooMany { count: 2 })),
+];
+
 #[test]
 fn holds_at_most_its_limit(rt: HostRuntime) {
     let mut numbers: Many<u32, 2> = Many::new(rt.alloc());
     assert_eq!(rt; numbers.reserve(1), Ok(()));
-    for (number, answer) in [
-        (7, Ok(())),
-        (8, Ok(())),
-        (9, Err(ListFault::TooMany { count: 2 })),
-    ] {
+    for (number, answer) in PUSHES {
         assert_eq!(rt; numbers.push(number), answer);
     }
     assert_eq!(rt; numbers.as_slice(), [7, 8].as_slice());

@@ -1,51 +1,56 @@
 use super::{APPLY, Run, SHOW, expect};
 use std::test::Fail;
 
+const FAULT: &[u8] = b"input fault\n";
+
 const USAGE: &[u8] = b"usage: feed_tool init, apply, show, serve, mirror, audit, drill\n";
+
+/// Words that name no command.
+static NO_COMMANDS: [&[&str]; 17] = [
+    &[],
+    &["apply"],
+    &["apply", "4", "4"],
+    &["apply", ""],
+    &["apply", "0"],
+    &["apply", "101"],
+    &["apply", "4294967300"],
+    &["apply", "+4"],
+    &["apply", "4 "],
+    &["Apply", "4"],
+    &["4", "apply"],
+    &["drill", "7"],
+    &["Show"],
+    &["show "],
+    &["show", ""],
+    &["show", "4"],
+    &["apply", "show"],
+];
 
 #[test]
 fn refuses_words_that_name_no_command(rt: HostRuntime) -> Result<(), Fail> {
-    let cases: [&'static [&'static str]; 17] = [
-        &[],
-        &["apply"],
-        &["apply", "4", "4"],
-        &["apply", ""],
-        &["apply", "0"],
-        &["apply", "101"],
-        &["apply", "4294967300"],
-        &["apply", "+4"],
-        &["apply", "4 "],
-        &["Apply", "4"],
-        &["4", "apply"],
-        &["drill", "7"],
-        &["Show"],
-        &["show "],
-        &["show", ""],
-        &["show", "4"],
-        &["apply", "show"],
-    ];
-    for words in cases {
+    for words in NO_COMMANDS {
         expect(&rt, rt.alloc(), Run { words, ..APPLY }, 2, USAGE)?;
     }
     Ok(())
 }
 
+/// Commands, inputs, the failing calls of input and output, and how the run ends.
+static FAILING: [(Run, &[u8], (u64, u64), u8, &[u8]); 10] = [
+    (APPLY, b"add a\n", (1, 0), 9, FAULT),
+    (APPLY, b"add a\n", (2, 0), 9, FAULT),
+    (APPLY, b"subtract\n", (2, 0), 10, b"bad line 1\n"),
+    (APPLY, b"add a\n", (1, 1), 9, b""),
+    (APPLY, b"add a\n", (0, 1), 8, b""),
+    (APPLY, b"add\n", (0, 1), 10, b""),
+    (APPLY, b"add\n", (0, 2), 10, b"bad line 1\n"),
+    (SHOW, b"<feed>", (1, 0), 9, FAULT),
+    (SHOW, b"<feed>", (2, 0), 9, FAULT),
+    (SHOW, b"<feed>", (3, 1), 10, b""),
+];
+
 #[test]
 fn reports_each_failing_call(rt: HostRuntime) -> Result<(), Fail> {
-    let fault: &[u8] = b"input fault\n";
-    let cases: [(Run, &[u8], (u64, u64), u8, &[u8]); 10] = [
-        (APPLY, b"add a\n", (1, 0), 9, fault),
-        (APPLY, b"add a\n", (2, 0), 9, fault),
-        (APPLY, b"subtract\n", (2, 0), 10, b"bad line 1\n"),
-        (APPLY, b"add a\n", (1, 1), 9, b""),
-        (APPLY, b"add a\n", (0, 1), 8, b""),
-        (APPLY, b"add\n", (0, 1), 10, b""),
-        (APPLY, b"add\n", (0, 2), 10, b"bad line 1\n"),
-        (SHOW, b"<feed>", (1, 0), 9, fault),
-        (SHOW, b"<feed>", (2, 0), 9, fault),
-        (SHOW, b"<feed>", (3, 1), 10, b""),
-    ];
-    for (command, input, (failing_read, failing_write), status, printed) in cases {
+    for (command, input, (failing_read, failing_write), status, printed) in FAILING {
         let run_of = Run {
             input,
             failing_read,
