@@ -17,11 +17,15 @@
 #![tactic(auto)]
 
 mod area;
+mod area_file;
 mod area_record;
 mod areas;
 mod change;
 mod choice;
 mod disk;
+mod disk_counts;
+mod file_disk;
+mod folder;
 mod image;
 mod memory;
 mod overwrite;
@@ -29,4 +33,5 @@ mod overwrite;
 pub use area::Area;
 pub use choice::Choice;
 pub use disk::Disk;
+pub use file_disk::FileDisk;
 pub use memory::MemoryDisk;
