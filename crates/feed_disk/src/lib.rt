@@ -11,7 +11,10 @@
 //!
 //! The trait `Disk` promises for each moment, within and between device calls, which images a crash may leave
 //! of each area. `MemoryDisk` is proved to keep that promise. `MemoryDisk::image` makes one of those images,
-//! and some choice makes each of them. A disk whose content contracts can't see promises its counters alone.
+//! and some choice makes each of them.
+//!
+//! `FileDisk` is the disk of three files in a folder. Contracts can't see their content, so of this disk the
+//! counters alone are proved.
 //!
 //! The crate stands on the lists, the bytes and `ListedCalls` of `atom_values`.
 #![tactic(auto)]

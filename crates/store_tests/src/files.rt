@@ -35,10 +35,13 @@ fn write_abcd<D: Disk>(disk: &mut D) -> Result<(), Fail> {
     Ok(())
 }
 
+/// A disk of this system. A read of it may begin past the end, which other disks don't allow.
+type Files<'a> = FileDisk<'a, HostRuntime>;
+
 /// Appends the bytes that a read of the journal gives, and `/`.
-fn append_read<D: Disk>(
+fn append_read(
     all: &mut Vec<u8>,
-    disk: &mut D,
+    disk: &mut Files<'_>,
     offset: u64,
     room: usize,
 ) -> Result<(), Fail> {
@@ -50,7 +53,7 @@ fn append_read<D: Disk>(
 }
 
 /// Returns what reads of the journal give, each followed by `/`.
-fn reads<D: Disk>(alloc: Global, disk: &mut D) -> Result<Vec<u8>, Fail> {
+fn reads(alloc: Global, disk: &mut Files<'_>) -> Result<Vec<u8>, Fail> {
     let mut all = Vec::new(alloc);
     // The third read goes past the end. The last two begin at the end and past it.
     for (offset, room) in [(0u64, 4usize), (1, 2), (2, 8), (4, 8), (9, 8)] {
@@ -130,21 +133,28 @@ fn nothing_but_a_regular_file_is_opened(rt: HostRuntime) -> Result<(), Fail> {
     Ok(())
 }
 
+/// Returns which of the three files are there after a call on the mirror's area.
+fn made_files(rt: &HostRuntime, folder: &str) -> Result<[bool; 3], Fail> {
+    let alloc = rt.alloc();
+    let mut disk = FileDisk::new(alloc, rt, folder)?;
+    disk.size(Area::Mirror)?;
+    Ok([
+        fs::exists(rt, path_in(alloc, folder, "journal")?.as_str())?,
+        fs::exists(rt, path_in(alloc, folder, "sealed")?.as_str())?,
+        fs::exists(rt, path_in(alloc, folder, "mirror")?.as_str())?,
+    ])
+}
+
 #[test]
 fn a_call_opens_the_file_of_its_area(rt: HostRuntime) -> Result<(), Fail> {
-    let alloc = rt.alloc();
     let folder = new_folder(&rt, "area")?;
-    let mut disk = FileDisk::new(alloc, &rt, folder.as_str())?;
-    disk.size(Area::Mirror)?;
-    for (name, made) in [("journal", false), ("sealed", false), ("mirror", true)] {
-        let path = path_in(alloc, folder.as_str(), name)?;
-        assert_eq!(rt; fs::exists(&rt, path.as_str())?, made, "{name}");
-    }
+    let made = made_files(&rt, folder.as_str())?;
     fs::remove_dir_all(&rt, folder.as_str())?;
+    assert_eq!(rt; made, [false, false, true]);
     Ok(())
 }
 
-/// Appends `ab` and `c` to the journal, which has 14 bytes then.
+/// Appends `ab` and `c` to the journal.
 fn append_two(rt: &HostRuntime, folder: &str) -> Result<(), Fail> {
     let mut disk = FileDisk::new(rt.alloc(), rt, folder)?;
     append(rt.alloc(), &mut disk, b"ab")?;
@@ -163,22 +173,24 @@ fn payloads_after_cut(rt: &HostRuntime, folder: &str, size: u64) -> Result<Vec<u
     Ok(show_log(rt.alloc(), &mut disk)?.payloads)
 }
 
+/// Returns the payloads after some cuts, each list followed by a space.
+fn payloads_after_cuts(rt: &HostRuntime, folder: &str) -> Result<Vec<u8>, Fail> {
+    let mut all = Vec::new(rt.alloc());
+    // The log has 14 bytes. It is cut within the second frame, after that frame's gate, within the first
+    // frame, and to nothing.
+    for size in [14u64, 12, 8, 6, 0] {
+        all.extend_from_slice(&payloads_after_cut(rt, folder, size)?)?;
+        all.push(b' ')?;
+    }
+    Ok(all)
+}
+
 #[test]
 fn a_log_is_loaded_from_its_file(rt: HostRuntime) -> Result<(), Fail> {
     let folder = new_folder(&rt, "log")?;
     append_two(&rt, folder.as_str())?;
-    let cases: [(u64, &[u8]); 5] = [
-        (14, b"ab/c/"),
-        // Within the second frame, after its gate, and within the first frame.
-        (12, b"ab/"),
-        (8, b"ab/"),
-        (6, b""),
-        (0, b""),
-    ];
-    for (size, payloads) in cases {
-        let found = payloads_after_cut(&rt, folder.as_str(), size)?;
-        assert_eq!(rt; found.as_slice(), payloads, "size {size}");
-    }
+    let payloads = payloads_after_cuts(&rt, folder.as_str())?;
     fs::remove_dir_all(&rt, folder.as_str())?;
+    assert_eq!(rt; payloads.as_slice(), b"ab/c/ ab/ ab/   ".as_slice());
     Ok(())
 }
