@@ -1,5 +1,5 @@
 -- A disk of files after one device call: its images, which are any bytes, and its counters.
-use Rattle.std.proofs.Common.{◌≡◌, ◌⊎◌, inl, inr, ℕ, ◌≤◌, arith, Result, Err}
+use Rattle.std.proofs.Common.{◌≡◌, ◌⊎◌, inl, inr, ℕ, ◌≤◌, arith, Result, Ok, Err, IfOk, OnOk}
 use Rattle.std.proofs.lemmas.Bool.{cases_lt}
 use Rattle.atom_values.specs.Counts.{counted}
 use Rattle.feed_disk.specs.Disk.{TornFrom, Passes, CountsCall}
@@ -37,3 +37,12 @@ counts_failed s t e clock later faults more = record {
   failed = omega (arith, faults);
   worked = tt;
 }
+
+-- clauses on content that nobody is told
+pub if_ok_untold : {T E : Type 0} (P : T → Type 0) (result : Result T E) → IfOk result (λ value. ⊥ → P value)
+if_ok_untold P (Ok value) = λ told. absurd told
+if_ok_untold P (Err e) = tt
+
+pub on_ok_untold : {T E : Type 0} (P : Type 0) (result : Result T E) → OnOk result (⊥ → P)
+on_ok_untold P (Ok value) = λ told. absurd told
+on_ok_untold P (Err e) = tt

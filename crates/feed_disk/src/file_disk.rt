@@ -1,4 +1,6 @@
-ghost use Rattle.std.specs.Prelude.{◌≡◌, false, IfOk};
+ghost use Rattle.std.specs.Prelude.{◌≡◌, ◌≢◌, ◌≤◌, true, false, length, IfOk, OnErr, IsErr};
+ghost use Rattle.feed_disk.specs.Disk.{TornFrom, Passes, PassesBy, CountsCall};
+ghost use Rattle.feed_disk.specs.Raised.{raised};
 
 use crate::area::Area;
 use crate::disk::Disk;
@@ -10,11 +12,13 @@ use std::fs::File;
 use std::marker::Model;
 use std::rt::Files;
 
-/// A disk of three files `journal`, `sealed` and `mirror` in a folder.
+/// A disk of the three files `journal`, `sealed` and `mirror` in a folder.
 ///
-/// A file is opened at the first call on its area, stays open, and is locked until the disk is dropped. A
-/// missing file is made. While another process or disk has the file, calls on its area fail. After a sync
+/// A file is opened at the first call on its area, or made if it is missing. It stays open and locked until
+/// the disk is dropped. While another disk or process has it open, the calls on its area fail. After a sync
 /// that failed, all calls fail.
+///
+/// Contracts see the counters, and whether a sync has failed. They see no content.
 #[derive(Drop)]
 pub struct FileDisk<'a, R: Files<File = File>> {
     folder: Folder<'a, R>,
@@ -54,7 +58,14 @@ impl<R: Files<File = File>> Disk for FileDisk<'_, R> {
 
     ghost state = { file_state };
 
-    fn size(&mut self, area: Area) -> Result<u64, Failed> {
+    /// Returns the number of bytes of an area's file. Takes no memory.
+    fn size(&mut self, area: Area) -> Result<u64, Failed>
+        ensures refused { self.old.sync_failed ≡ true → IsErr result }
+        ensures stays { self.old.sync_failed ≡ true → self.new.sync_failed ≡ true }
+        ensures areas { (a : Area) → PassesBy (file_state self.old) (file_state self.new) a }
+        ensures counts { CountsCall (file_state self.old) (file_state self.new) result }
+        ensures read { self.new.bytes_read ≡ self.old.bytes_read }
+    {
         if self.counts.count_call() {
             return Err(Failed);
         }
@@ -62,7 +73,17 @@ impl<R: Files<File = File>> Disk for FileDisk<'_, R> {
         self.counts.count_result(size)
     }
 
-    fn read(&mut self, area: Area, at: u64, into: &mut [u8]) -> Result<usize, Failed> {
+    /// Reads the bytes from offset `at` on, until `into` is full or the file ends. Past the end there are none.
+    /// Takes no memory.
+    fn read(&mut self, area: Area, at: u64, into: &mut [u8]) -> Result<usize, Failed>
+        ensures refused { self.old.sync_failed ≡ true → IsErr result }
+        ensures stays { self.old.sync_failed ≡ true → self.new.sync_failed ≡ true }
+        ensures most { IfOk result (λ n. n ≤ length into.old) }
+        ensures areas { (a : Area) → PassesBy (file_state self.old) (file_state self.new) a }
+        ensures counts { CountsCall (file_state self.old) (file_state self.new) result }
+        ensures read { IfOk result (λ n. self.new.bytes_read ≡ raised self.old.bytes_read n) }
+        ensures unread { OnErr result (self.new.bytes_read ≡ self.old.bytes_read) }
+    {
         if self.counts.count_call() {
             return Err(Failed);
         }
@@ -72,7 +93,17 @@ impl<R: Files<File = File>> Disk for FileDisk<'_, R> {
         Ok(count)
     }
 
-    fn write(&mut self, area: Area, at: u64, from: &[u8]) -> Result<(), Failed> {
+    /// Writes all bytes of `from` from offset `at` on. If `at` is past the end, the bytes between are 0. A call
+    /// that fails may have written a part. Takes no memory.
+    fn write(&mut self, area: Area, at: u64, from: &[u8]) -> Result<(), Failed>
+        ensures refused { self.old.sync_failed ≡ true → IsErr result }
+        ensures stays { self.old.sync_failed ≡ true → self.new.sync_failed ≡ true }
+        ensures area { Passes (file_state self.old) (file_state self.new) area
+            (TornFrom at (length from.now) ((file_state self.old).image_now area)) }
+        ensures others { (a : Area) → a ≢ area → PassesBy (file_state self.old) (file_state self.new) a }
+        ensures counts { CountsCall (file_state self.old) (file_state self.new) result }
+        ensures read { self.new.bytes_read ≡ self.old.bytes_read }
+    {
         if self.counts.count_call() {
             return Err(Failed);
         }
@@ -80,7 +111,16 @@ impl<R: Files<File = File>> Disk for FileDisk<'_, R> {
         self.counts.count_result(written)
     }
 
-    fn sync(&mut self, area: Area) -> Result<(), Failed> {
+    /// Syncs an area's file. Takes no memory.
+    fn sync(&mut self, area: Area) -> Result<(), Failed>
+        ensures refused { self.old.sync_failed ≡ true → IsErr result }
+        ensures stays { self.old.sync_failed ≡ true → self.new.sync_failed ≡ true }
+        ensures area { Passes (file_state self.old) (file_state self.new) area
+            ((file_state self.old).image_now area) }
+        ensures others { (a : Area) → a ≢ area → PassesBy (file_state self.old) (file_state self.new) a }
+        ensures counts { CountsCall (file_state self.old) (file_state self.new) result }
+        ensures read { self.new.bytes_read ≡ self.old.bytes_read }
+    {
         if self.counts.count_call() {
             return Err(Failed);
         }
