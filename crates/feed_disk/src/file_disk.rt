@@ -73,8 +73,8 @@ impl<R: Files<File = File>> Disk for FileDisk<'_, R> {
         self.counts.count_result(size)
     }
 
-    /// Reads the bytes from offset `at` on, until `into` is full or the file ends. Past the end there are none.
-    /// Takes no memory.
+    /// Reads the bytes from offset `at` on, until `into` is full or the file ends. From past the end it reads
+    /// none. Takes no memory.
     fn read(&mut self, area: Area, at: u64, into: &mut [u8]) -> Result<usize, Failed>
         ensures refused { self.old.sync_failed ≡ true → IsErr result }
         ensures stays { self.old.sync_failed ≡ true → self.new.sync_failed ≡ true }
@@ -93,8 +93,8 @@ impl<R: Files<File = File>> Disk for FileDisk<'_, R> {
         Ok(count)
     }
 
-    /// Writes all bytes of `from` from offset `at` on. If `at` is past the end, the bytes between are 0. A call
-    /// that fails may have written a part. Takes no memory.
+    /// Writes all bytes of `from` from offset `at` on. If `at` is past the end, the bytes between are 0. A
+    /// failed call may have written a part. Takes no memory.
     fn write(&mut self, area: Area, at: u64, from: &[u8]) -> Result<(), Failed>
         ensures refused { self.old.sync_failed ≡ true → IsErr result }
         ensures stays { self.old.sync_failed ≡ true → self.new.sync_failed ≡ true }
