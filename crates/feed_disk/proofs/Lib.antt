@@ -6,6 +6,8 @@ pub mod ClockLemmas
 pub mod CrashLemmas
 -- `MemoryDisk::image`: `disk`, the part on bytes and marks since the last sync
 pub mod CutLemmas
+-- `FileDisk::write`: `area`
+pub mod FileLemmas
 -- `MemoryDisk::image`: `disk`, for `Choice::Fill`
 pub mod FillLemmas
 -- `MemoryDisk::image`: `among`, for one area

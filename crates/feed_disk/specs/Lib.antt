@@ -1,6 +1,7 @@
 pub mod AreaRecord
 pub mod Disk
 pub mod DiskLaw
+pub mod FileState
 pub mod Image
 pub mod ImageOf
 pub mod Memory

@@ -11,17 +11,24 @@
 //!
 //! The trait `Disk` promises for each moment, within and between device calls, which images a crash may leave
 //! of each area. `MemoryDisk` is proved to keep that promise. `MemoryDisk::image` makes one of those images,
-//! and some choice makes each of them. A disk whose content contracts can't see promises its counters alone.
+//! and some choice makes each of them.
+//!
+//! `FileDisk` is the disk of three files in a folder. Contracts can't see their content, so of this disk the
+//! counters alone are proved.
 //!
 //! The crate stands on the lists, the bytes and `ListedCalls` of `atom_values`.
 #![tactic(auto)]
 
 mod area;
+mod area_file;
 mod area_record;
 mod areas;
 mod change;
 mod choice;
 mod disk;
+mod disk_counts;
+mod file_disk;
+mod folder;
 mod image;
 mod memory;
 mod overwrite;
@@ -29,4 +36,5 @@ mod overwrite;
 pub use area::Area;
 pub use choice::Choice;
 pub use disk::Disk;
+pub use file_disk::FileDisk;
 pub use memory::MemoryDisk;

@@ -16,14 +16,14 @@ const CAPACITY: u64 = 68_719_476_736;
 
 /// How far an append came.
 #[derive(Clone, Copy, Debug, PartialEq, Eq)]
-enum Reached {
+pub enum Reached {
     Nothing,
     Loaded,
     Appended,
 }
 
 /// Loads the journal and appends a payload to it.
-fn append<D: Disk>(alloc: Global, disk: &mut D, payload: &[u8]) -> Result<Reached, Fail>
+pub fn append<D: Disk>(alloc: Global, disk: &mut D, payload: &[u8]) -> Result<Reached, Fail>
     requires { length payload.now ≤ 100 }
 {
     let framed = Framed::of(alloc, payload)?;
@@ -42,16 +42,16 @@ fn append<D: Disk>(alloc: Global, disk: &mut D, payload: &[u8]) -> Result<Reache
 
 /// A log as its calls show it.
 #[derive(Drop)]
-struct Shown {
+pub struct Shown {
     /// The payloads, each followed by `/`.
-    payloads: Vec<u8>,
-    size: u64,
+    pub payloads: Vec<u8>,
+    pub size: u64,
     /// The device calls of the load and of a read for each payload.
-    calls: u64,
+    pub calls: u64,
 }
 
 /// Loads the journal and reads each payload.
-fn show_log<D: Disk>(alloc: Global, disk: &mut D) -> Result<Shown, LogFault> {
+pub fn show_log<D: Disk>(alloc: Global, disk: &mut D) -> Result<Shown, LogFault> {
     let mut log = Log::load(alloc, disk, Area::Journal)?;
     let mut payloads = Vec::new(alloc);
     for index in 0..log.len() {
