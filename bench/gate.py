@@ -1,8 +1,8 @@
 #!/usr/bin/env python3
 """Measures what the gate costs: runs `rt ci --anew` and adds up the processor seconds of each crate.
 
-Usage: bench/gate.py [--kept]. With --kept it runs `rt ci`, which doesn't prove again what an earlier run on this machine
-proved. It prints a line for each crate with the seconds of its check, its tests and its must-fail edits, and their sums;
+Usage: bench/gate.py [--kept [NAME ..]]. With --kept it runs `rt ci NAME ..`, which doesn't prove again what an earlier run
+on this machine proved. It prints a line for each crate with the seconds of its check, its tests and its must-fail edits, and their sums;
 the gate's own lines go to standard error. The seconds are read from /proc every quarter of a second, so a process loses at
 most its last quarter.
 """
@@ -65,7 +65,7 @@ def passed_on(output):
 def main():
     seen = {}
     began = time.time()
-    words = ["rt", "ci"] if sys.argv[1:] == ["--kept"] else ["rt", "ci", "--anew"]
+    words = ["rt", "ci"] + (sys.argv[2:] if sys.argv[1:2] == ["--kept"] else ["--anew"])
     gate = subprocess.Popen(words, stdout=subprocess.PIPE, stderr=subprocess.STDOUT, text=True)
     os.set_blocking(gate.stdout.fileno(), False)
     last = ""
