@@ -6,7 +6,7 @@ pub mod ClockLemmas
 pub mod CrashLemmas
 -- `MemoryDisk::image`: `disk`, the part on bytes and marks since the last sync
 pub mod CutLemmas
--- `FileDisk::write`: `area`
+-- `FileDisk`: `area` of `write`, `counts`, and the trait's clauses on content
 pub mod FileLemmas
 -- `MemoryDisk::image`: `disk`, for `Choice::Fill`
 pub mod FillLemmas

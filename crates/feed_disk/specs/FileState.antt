@@ -1,9 +1,9 @@
--- A disk of files as contracts see it: its counters, and a content and images that say nothing.
+-- A disk of files as contracts see it, and its law, which is in specs/ for the reason that DiskLaw.antt gives.
 use Rattle.std.proofs.Common.{◌≤◌, [], arith}
 use Rattle.feed_disk.specs.Disk.{DiskState, IsDisk}
 use Rattle.feed_disk.specs.declared.disk_counts.DiskCounts.{DiskCounts}
 
--- contracts see no content, and a crash may leave any bytes
+-- The content means nothing, since nobody is told of it. A crash may leave any bytes at each moment that has begun.
 abbrev pub file_state : DiskCounts → DiskState
 file_state c = record {
   content = λ _. [];
