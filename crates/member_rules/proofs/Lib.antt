@@ -36,3 +36,7 @@ pub mod ChainLinksLemmas
 pub mod LawLemmas
 -- serves `archives_stay`, `served_stays_served` and `served_are_documents`
 pub mod ServedLemmas
+-- serves `read_op` and `read_head`: each field has one value
+pub mod FieldLemmas
+-- serves `read_op`: the fields of persons, links and categories
+pub mod PartLemmas

@@ -31,12 +31,16 @@ pub record StopsAt {A : Type 0} (pieced : Pieced A) (input rest : List ℕ) : Ty
   pub stuck : (other : A) → pieced.Is other → (behind : List (List ℕ)) (field after : List ℕ) (left : List (List ℕ))
       → pieced.pieces other ++ behind ≡ read ++ field ∷ left → rest ≡ field ++ after → ⊥
 
--- All fields are read at the start of the input, and `rest` is left; `view` is how contracts see the value. On a
--- mismatch `rest` begins with the field that can't stand there. Out of memory has no cause in the input.
+-- the fault has its cause: on a mismatch `rest` begins with the field that can't stand there; out of memory has no cause
+-- in the input
+abbrev pub IsFault : {A : Type 0} → Pieced A → List ℕ → FieldFault → List ℕ → Type 0
+IsFault pieced input Mismatch rest = StopsAt pieced input rest
+IsFault pieced input NoMemory rest = Unit {0}
+
+-- all fields are read at the start of the input, and `rest` is left; `view` is how contracts see the value
 abbrev pub ReadsAll : {A B : Type 0} → (A → B) → Pieced B → List ℕ → Result A FieldFault → List ℕ → Type 0
 ReadsAll view pieced input (Ok value) rest = BeginsWith pieced.Is (text_of pieced) input (view value) rest
-ReadsAll view pieced input (Err Mismatch) rest = StopsAt pieced input rest
-ReadsAll view pieced input (Err NoMemory) rest = Unit {0}
+ReadsAll view pieced input (Err fault) rest = IsFault pieced input fault rest
 
 -- the input is the fields of a value and nothing behind them
 abbrev pub ReadsWhole : {A : Type 0} → Pieced A → List ℕ → Result A FieldFault → List ℕ → Type 0

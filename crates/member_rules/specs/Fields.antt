@@ -30,12 +30,16 @@ IsAbsent {A} field input = (other : A) (left : List ℕ) → field.Is other → 
 abbrev pub HasOneValue : {A : Type 0} → Field A → Type 0
 HasOneValue field = IsReadInOneWay field.Is field.bytes
 
--- A field is read at the start of the input, and `rest` is left; `view` is how contracts see the value. On a mismatch
--- the whole input is left. Out of memory has no cause in the input.
+-- the fault has its cause: on a mismatch the field is absent, and the whole input is left; out of memory has no cause in
+-- the input
+abbrev pub IsFault : {A : Type 0} → Field A → List ℕ → FieldFault → List ℕ → Type 0
+IsFault field input Mismatch rest = (rest ≡ input) × IsAbsent field input
+IsFault field input NoMemory rest = Unit {0}
+
+-- a field is read at the start of the input, and `rest` is left; `view` is how contracts see the value
 abbrev pub ReadsAs : {A B : Type 0} → (A → B) → Field B → List ℕ → Result A FieldFault → List ℕ → Type 0
 ReadsAs view field input (Ok value) rest = BeginsWith field.Is field.bytes input (view value) rest
-ReadsAs view field input (Err Mismatch) rest = (rest ≡ input) × IsAbsent field input
-ReadsAs view field input (Err NoMemory) rest = Unit {0}
+ReadsAs view field input (Err fault) rest = IsFault field input fault rest
 
 abbrev pub Reads : {A : Type 0} → Field A → List ℕ → Result A FieldFault → List ℕ → Type 0
 Reads field input result rest = ReadsAs (λ value. value) field input result rest

@@ -14,6 +14,7 @@ pub mod Served
 pub mod Chain
 pub mod Coding
 pub mod Fields
+pub mod FieldFaults
 pub mod FieldLists
 pub mod EntryFields
 pub mod RemovalFields

@@ -6,6 +6,7 @@ ghost use Rattle.member_rules.specs.Head.{HeadValue, IsHead};
 ghost use Rattle.member_rules.specs.Operation.{IsOperation};
 ghost use Rattle.member_rules.specs.declared.operation.Op.{Op};
 
+mod bytes;
 mod coded;
 mod entry;
 mod entry_fields;

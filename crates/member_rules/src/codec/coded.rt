@@ -20,9 +20,12 @@ pub(crate) trait Coded {
 
     /// Reads a value. An error leaves the unread bytes as they were.
     fn read(alloc: Global, unread: &mut Unread) -> Result<Self, FieldFault>
-        ensures read { Reads field unread.old.rest.now result unread.new.rest.now }
-        // So the value is the only one that the bytes begin with.
-        ensures one_value { HasOneValue field };
+        ensures { Reads field unread.old.rest.now result unread.new.rest.now };
+
+    // For the proof alone, and compiled away: a law of a trait can't cite lemmas of its own crate, so it is the clause of
+    // a call.
+    fn has_one_value()
+        ensures { HasOneValue field };
 }
 
 impl<T: Coded + Drop> Coded for Option<T> {
@@ -30,24 +33,35 @@ impl<T: Coded + Drop> Coded for Option<T> {
 
     ghost field = { optional T.field };
 
+    #[tactic(auto, unfolding(crate::specs::Fields::optional))]
     fn push<W: Out>(&self, out: &mut W) -> Result<(), NoMemory> {
         match self {
             None => out.push(&[0]),
             Some(value) => {
                 out.push(&[1])?;
-                value.push(out)
+                value.push(out)?;
+                Ok(())
             }
         }
     }
 
     fn read(alloc: Global, unread: &mut Unread) -> Result<Option<T>, FieldFault> {
         let mut left = *unread;
-        let value = match left.byte()? {
-            0 => None,
-            1 => Some(T::read(alloc, &mut left)?),
-            _ => return Err(FieldFault::Mismatch),
-        };
-        *unread = left;
-        Ok(value)
+        match left.byte()? {
+            0 => {
+                *unread = left;
+                Ok(None)
+            }
+            1 => {
+                let value = T::read(alloc, &mut left)?;
+                *unread = left;
+                Ok(Some(value))
+            }
+            _ => Err(FieldFault::Mismatch),
+        }
+    }
+
+    fn has_one_value() {
+        T::has_one_value();
     }
 }

@@ -10,6 +10,7 @@ ghost use Rattle.member_rules.specs.EntryFields.{contents, dates_value, entries,
 ghost use Rattle.member_rules.specs.Fields.{Reads, ReadsAs, counted};
 ghost use Rattle.member_rules.specs.FieldLists.{ReadsAll};
 
+use crate::codec::bytes::push_number;
 use crate::codec::coded::Coded;
 use crate::codec::entry_fields::{Dates, Front, Lists, Persons, Texts};
 use crate::codec::fault::FieldFault;
@@ -25,7 +26,7 @@ pub(crate) fn push_entry<W: Out>(out: &mut W, entry: &Entry) -> Result<(), NoMem
     ensures failed { OnErr result W.can_fail }
     ensures rules { OnOk result (IsEntry entry.now) }
 {
-    out.push(&entry.number.to_be_bytes())?;
+    push_number(out, entry.number)?;
     entry.edited.push(out)?;
     entry.updated.push(out)?;
     entry.title.push(out)?;
@@ -36,7 +37,8 @@ pub(crate) fn push_entry<W: Out>(out: &mut W, entry: &Entry) -> Result<(), NoMem
     push_list(out, entry.categories.as_slice())?;
     entry.rights.push(out)?;
     entry.summary.push(out)?;
-    entry.content.push(out)
+    entry.content.push(out)?;
+    Ok(())
 }
 
 /// Reads a member's number, which is at least 1.

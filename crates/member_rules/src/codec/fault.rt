@@ -1,4 +1,5 @@
-use atom_values::NoMemory;
+use atom_values::{NoMemory, TextFault};
+use chain_links::BaseFault;
 
 /// Why a field is not read.
 #[derive(Clone, Copy, Debug, PartialEq, Eq)]
@@ -17,5 +18,32 @@ impl From<NoMemory> for FieldFault {
 
     fn from(_error: NoMemory) -> FieldFault {
         FieldFault::NoMemory
+    }
+}
+
+impl From<TextFault> for FieldFault {
+    ghost use Rattle.member_rules.specs.FieldFaults.{IsOfText};
+
+    ghost from_gives = { IsOfText };
+
+    fn from(fault: TextFault) -> FieldFault {
+        match fault {
+            TextFault::TooLong { length: _ } => FieldFault::Mismatch,
+            TextFault::NotXmlChar { at: _ } => FieldFault::Mismatch,
+            TextFault::NoMemory => FieldFault::NoMemory,
+        }
+    }
+}
+
+impl From<BaseFault> for FieldFault {
+    ghost use Rattle.member_rules.specs.FieldFaults.{IsOfBase};
+
+    ghost from_gives = { IsOfBase };
+
+    fn from(fault: BaseFault) -> FieldFault {
+        match fault {
+            BaseFault::BadBase => FieldFault::Mismatch,
+            BaseFault::NoMemory => FieldFault::NoMemory,
+        }
     }
 }

@@ -6,6 +6,7 @@ ghost use Rattle.member_rules.specs.Fields.{Reads};
 ghost use Rattle.member_rules.specs.Head.{IsHead};
 ghost use Rattle.member_rules.specs.HeadFields.{base, capacity, created, feed_id, first_format, name_parts, name_value, settings, settings_value, title, titles, titles_value, window};
 
+use crate::codec::bytes::{push_bytes, push_number, push_size};
 use crate::codec::coded::Coded;
 use crate::codec::fault::FieldFault;
 use crate::codec::head_fields::{Settings, Titles};
@@ -13,7 +14,7 @@ use crate::codec::unread::Unread;
 use crate::head::{CAPACITY_FLOOR, CAPACITY_LIMIT, Head, TITLE_LIMIT, WINDOW_LIMIT};
 use atom_values::{AtomText, NoMemory, Stamp};
 use atom_writer::{FeedName, Out};
-use chain_links::{Base, BaseFault};
+use chain_links::Base;
 use deleted_entries::FeedId;
 use std::alloc::Global;
 
@@ -27,15 +28,14 @@ pub(crate) fn push_head<W: Out>(out: &mut W, head: &Head) -> Result<(), NoMemory
     ensures rules { OnOk result ∥ IsHead head.now ∥₁ }
 {
     out.push(&[HEAD])?;
-    let base = head.name.base.text();
-    out.push(&(base.len() as u32).to_be_bytes())?;
-    out.push(base)?;
+    push_bytes(out, head.name.base.text())?;
     out.push(&head.name.id.bytes())?;
     head.name.title.push(out)?;
     head.name.author.push(out)?;
-    out.push(&head.window.to_be_bytes())?;
-    out.push(&head.capacity.to_be_bytes())?;
-    head.created.push(out)
+    push_number(out, head.window)?;
+    push_size(out, head.capacity)?;
+    head.created.push(out)?;
+    Ok(())
 }
 
 /// Reads the fields of a head, which are all the bytes.
@@ -116,14 +116,9 @@ fn read_base(alloc: Global, unread: &mut Unread) -> Result<Base, FieldFault>
     ensures { Reads base unread.old.rest.now result unread.new.rest.now }
 {
     let mut left = *unread;
-    match Base::parse(alloc, left.text()?) {
-        Ok(base) => {
-            *unread = left;
-            Ok(base)
-        }
-        Err(BaseFault::BadBase) => Err(FieldFault::Mismatch),
-        Err(BaseFault::NoMemory) => Err(FieldFault::NoMemory),
-    }
+    let base = Base::parse(alloc, left.text()?)?;
+    *unread = left;
+    Ok(base)
 }
 
 /// Reads a feed's identifier.

@@ -33,6 +33,8 @@ pub(crate) fn read_list<T: Coded + Drop, const MAX: u32>(
     ensures { ReadsAs (λ (m : Listed T). m.items) (listed MAX T.field)
         unread.old.rest.now result unread.new.rest.now }
 {
+    // For the proof alone: the items before one that isn't there are those of any list.
+    T::has_one_value();
     let mut left = *unread;
     let count = left.byte()?;
     if u32::from(count) > MAX {

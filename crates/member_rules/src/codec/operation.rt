@@ -6,6 +6,7 @@ ghost use Rattle.member_rules.specs.Fields.{Reads};
 ghost use Rattle.member_rules.specs.Operation.{IsOperation};
 ghost use Rattle.member_rules.specs.RemovalFields.{removals, stamp_from};
 
+use crate::codec::bytes::push_number;
 use crate::codec::coded::Coded;
 use crate::codec::entry::{push_entry, read_entry, read_number};
 use crate::codec::fault::FieldFault;
@@ -30,17 +31,20 @@ pub(crate) fn push_operation<W: Out>(out: &mut W, operation: &Op) -> Result<(), 
     match operation {
         Op::Add(entry) => {
             out.push(&[ADD])?;
-            push_entry(out, entry)
+            push_entry(out, entry)?;
+            Ok(())
         }
         Op::Change(entry) => {
             out.push(&[CHANGE])?;
-            push_entry(out, entry)
+            push_entry(out, entry)?;
+            Ok(())
         }
         Op::Remove(removal) => {
             out.push(&[REMOVE])?;
-            out.push(&removal.tombstone.number.to_be_bytes())?;
+            push_number(out, removal.tombstone.number)?;
             removal.moment.push(out)?;
-            removal.tombstone.when.push(out)
+            removal.tombstone.when.push(out)?;
+            Ok(())
         }
     }
 }

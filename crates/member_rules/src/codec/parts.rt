@@ -10,10 +10,12 @@ impl Coded for Person {
 
     ghost field = { person };
 
+    #[tactic(auto, unfolding(crate::specs::Fields::text, crate::specs::Fields::optional, crate::specs::Fields::person))]
     fn push<W: Out>(&self, out: &mut W) -> Result<(), NoMemory> {
         self.name.push(out)?;
         self.uri.push(out)?;
-        self.email.push(out)
+        self.email.push(out)?;
+        Ok(())
     }
 
     fn read(alloc: Global, unread: &mut Unread) -> Result<Person, FieldFault> {
@@ -24,6 +26,8 @@ impl Coded for Person {
         *unread = left;
         Ok(Person { name, uri, email })
     }
+
+    fn has_one_value() {}
 }
 
 impl Coded for Link {
@@ -31,13 +35,15 @@ impl Coded for Link {
 
     ghost field = { link };
 
+    #[tactic(auto, unfolding(crate::specs::Fields::text, crate::specs::Fields::optional, crate::specs::Fields::link))]
     fn push<W: Out>(&self, out: &mut W) -> Result<(), NoMemory> {
         self.href.push(out)?;
         self.rel.push(out)?;
         self.media.push(out)?;
         self.hreflang.push(out)?;
         self.title.push(out)?;
-        self.length.push(out)
+        self.length.push(out)?;
+        Ok(())
     }
 
     fn read(alloc: Global, unread: &mut Unread) -> Result<Link, FieldFault> {
@@ -58,6 +64,8 @@ impl Coded for Link {
             length,
         })
     }
+
+    fn has_one_value() {}
 }
 
 impl Coded for Category {
@@ -65,10 +73,12 @@ impl Coded for Category {
 
     ghost field = { category };
 
+    #[tactic(auto, unfolding(crate::specs::Fields::text, crate::specs::Fields::optional, crate::specs::Fields::category))]
     fn push<W: Out>(&self, out: &mut W) -> Result<(), NoMemory> {
         self.term.push(out)?;
         self.scheme.push(out)?;
-        self.label.push(out)
+        self.label.push(out)?;
+        Ok(())
     }
 
     fn read(alloc: Global, unread: &mut Unread) -> Result<Category, FieldFault> {
@@ -83,4 +93,6 @@ impl Coded for Category {
             label,
         })
     }
+
+    fn has_one_value() {}
 }

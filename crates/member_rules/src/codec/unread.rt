@@ -27,6 +27,7 @@ impl<'a> Unread<'a> {
     }
 
     /// Reads a byte.
+    #[tactic(auto, unfolding(crate::specs::Fields::byte))]
     pub(crate) fn byte(&mut self) -> Result<u8, FieldFault>
         ensures { Reads byte self.old.rest.now result self.new.rest.now }
     {

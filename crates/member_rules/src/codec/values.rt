@@ -1,10 +1,11 @@
 ghost use Rattle.std.specs.Prelude.{◌≡◌, ℤ, Some, IfSome};
 ghost use Rattle.atom_values.specs.Stamp.{IsStamp, since_year_zero};
 
+use crate::codec::bytes::{push_bytes, push_size};
 use crate::codec::coded::Coded;
 use crate::codec::fault::FieldFault;
 use crate::codec::unread::Unread;
-use atom_values::{AtomText, NoMemory, Stamp, Text, TextFault, TextKind};
+use atom_values::{AtomText, NoMemory, Stamp, Text, TextKind};
 use atom_writer::Out;
 use std::alloc::Global;
 
@@ -27,9 +28,9 @@ impl Coded for Stamp {
 
     ghost field = { stamp };
 
+    #[tactic(auto, unfolding(crate::specs::Fields::stamp))]
     fn push<W: Out>(&self, out: &mut W) -> Result<(), NoMemory> {
-        let since = (self.millis() - Stamp::MIN_MILLIS) as u64;
-        out.push(&since.to_be_bytes())
+        push_size(out, (self.millis() - Stamp::MIN_MILLIS) as u64)
     }
 
     fn read(_alloc: Global, unread: &mut Unread) -> Result<Stamp, FieldFault> {
@@ -40,6 +41,8 @@ impl Coded for Stamp {
         *unread = left;
         Ok(stamp)
     }
+
+    fn has_one_value() {}
 }
 
 impl Coded for AtomText {
@@ -47,23 +50,19 @@ impl Coded for AtomText {
 
     ghost field = { text };
 
+    #[tactic(auto, unfolding(crate::specs::Fields::text))]
     fn push<W: Out>(&self, out: &mut W) -> Result<(), NoMemory> {
-        let bytes = self.bytes();
-        out.push(&(bytes.len() as u32).to_be_bytes())?;
-        out.push(bytes)
+        push_bytes(out, self.bytes())
     }
 
     fn read(alloc: Global, unread: &mut Unread) -> Result<AtomText, FieldFault> {
         let mut left = *unread;
-        match AtomText::of(alloc, left.text()?) {
-            Ok(text) => {
-                *unread = left;
-                Ok(text)
-            }
-            Err(TextFault::NoMemory) => Err(FieldFault::NoMemory),
-            Err(_) => Err(FieldFault::Mismatch),
-        }
+        let text = AtomText::of(alloc, left.text()?)?;
+        *unread = left;
+        Ok(text)
     }
+
+    fn has_one_value() {}
 }
 
 impl Coded for TextKind {
@@ -71,6 +70,7 @@ impl Coded for TextKind {
 
     ghost field = { kind };
 
+    #[tactic(auto, unfolding(crate::specs::Fields::kind))]
     fn push<W: Out>(&self, out: &mut W) -> Result<(), NoMemory> {
         match self {
             TextKind::Plain => out.push(&[0]),
@@ -88,6 +88,8 @@ impl Coded for TextKind {
         *unread = left;
         Ok(kind)
     }
+
+    fn has_one_value() {}
 }
 
 impl Coded for Text {
@@ -95,9 +97,11 @@ impl Coded for Text {
 
     ghost field = { construct };
 
+    #[tactic(auto, unfolding(crate::specs::Fields::kind, crate::specs::Fields::text, crate::specs::Fields::construct))]
     fn push<W: Out>(&self, out: &mut W) -> Result<(), NoMemory> {
         self.kind.push(out)?;
-        self.value.push(out)
+        self.value.push(out)?;
+        Ok(())
     }
 
     fn read(alloc: Global, unread: &mut Unread) -> Result<Text, FieldFault> {
@@ -107,4 +111,6 @@ impl Coded for Text {
         *unread = left;
         Ok(Text { kind, value })
     }
+
+    fn has_one_value() {}
 }
