@@ -1,5 +1,5 @@
 -- Each field has one value, and readings of fields put together.
-use Rattle.std.proofs.Common.{◌≡◌, ◌≢◌, ℕ, zero, suc, ◌<◌, ◌≤◌, ◌^◌, ℤ, List, [], ◌∷◌, ◌++◌, Option, Some, None, length, take, drop, refl, sym, ap, subst, ◌∙◌, append_assoc, length-append, arith, All}
+use Rattle.std.proofs.Common.{◌≡◌, ◌≢◌, ℕ, zero, suc, ◌<◌, ◌≤◌, ◌^◌, ℤ, List, [], ◌∷◌, ◌++◌, Option, Some, None, Bool, false, ◌+◌, length, get_or, take, drop, refl, sym, ap, subst, ◌∙◌, append_assoc, length-append, arith, All}
 use Rattle.std.proofs.lemmas.Int.{ints}
 use Rattle.std.proofs.lemmas.List.{append-nil, take-append-drop, take_all}
 use Rattle.std.proofs.lemmas.List.Concat.{flat_map-append}
@@ -7,7 +7,10 @@ use Rattle.std.proofs.lemmas.List.Elements.{All-head, All-tail, All-nil, All-con
 use Rattle.std.proofs.lemmas.Nat.{from_be_bytes-to_be_bytes_4, from_be_bytes-to_be_bytes_8}
 use Rattle.std.specs.Int.{from_be_bytes, to_be_bytes, w32, w64}
 use Rattle.std.specs.Prelude.{IfSome, flat_map, Result, Ok, Err}
-use Rattle.std.specs.Result.{IsErrAnd}
+use Rattle.std.specs.Result.{IsErrAnd, OnOk, is_err}
+use Rattle.std.proofs.lemmas.Bool.{false≢true}
+use Rattle.atom_values.specs.declared.many.ListFault.{ListFault}
+use Rattle.atom_writer.proofs.PieceLemmas.{flat_map-more}
 use Rattle.atom_values.specs.Stamp.{IsStamp, since_year_zero}
 use Rattle.atom_values.specs.XmlText.{IsAtomText, IsTextFault, IsXmlText}
 use Rattle.atom_values.specs.declared.text.TextFault.{TextFault}
@@ -568,3 +571,14 @@ module _ {A : Type 0} (field : Field A) where
     lawful = (omega arith, g.lawful);
     split = g.split ∙ ap (λ n. n ∷ (flat_map field.bytes items ++ rest)) (sym size);
   }
+
+-- what is ensured of an item that was added
+pub pushed_items : (r : Result (Unit {0}) ListFault) (b : Bool) → b ≡ is_err r → b ≡ false → {P : Type 0} → OnOk r P → P
+pushed_items (Ok x) b is not p = p
+pushed_items (Err x) b is not p = absurd (false≢true (sym not ∙ is))
+
+-- a list of short fields is written in its order
+pub items_more : {A : Type 0} (bytes : A → List ℕ) (items : List A) (i : ℕ) (x : A) → i < length items
+    → x ≡ get_or items i x
+    → (length items ∷ flat_map bytes (take i items)) ++ bytes x ≡ length items ∷ flat_map bytes (take (i + 1) items)
+items_more bytes items i x below is = ap (λ z. length items ∷ z) (flat_map-more bytes items i x below is)

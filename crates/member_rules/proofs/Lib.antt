@@ -40,3 +40,9 @@ pub mod ServedLemmas
 pub mod FieldLemmas
 -- serves `read_op`: the fields of persons, links and categories
 pub mod PartLemmas
+-- serves `read_op` and `read_head`: fields with more rules than others of the same bytes
+pub mod RuledLemmas
+-- serves `read_op` and `read_head`: lists of fields
+pub mod SequenceLemmas
+-- serves `read_op`: the fields of an entry, one after another
+pub mod EntrySequences

@@ -44,6 +44,10 @@ ReadsAs view field input (Err fault) rest = IsFault field input fault rest
 abbrev pub Reads : {A : Type 0} → Field A → List ℕ → Result A FieldFault → List ℕ → Type 0
 Reads field input result rest = ReadsAs (λ value. value) field input result rest
 
+-- the greatest number of one byte
+abbrev pub byte_limit : ℕ
+byte_limit = 255
+
 unfoldable pub byte : Field ℕ
 byte = record { Is = λ b. b < 256; bytes = λ b. b ∷ [] }
 

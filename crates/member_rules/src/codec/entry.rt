@@ -1,4 +1,4 @@
-ghost use Rattle.std.specs.Prelude.{◌≡◌, OnOk, OnErr};
+ghost use Rattle.std.specs.Prelude.{◌≡◌, ◌||◌, is_some, OnOk, OnErr};
 ghost use Rattle.atom_values.specs.Entry.{IsEntry, IsWhole};
 ghost use Rattle.atom_values.specs.Link.{has_alternate, has_edit};
 ghost use Rattle.atom_values.specs.Listed.{Listed};
@@ -77,7 +77,7 @@ fn read_content(
 {
     let mut left = *unread;
     let content = Option::read(alloc, &mut left)?;
-    if content.is_none() && !shows_alternate(links) {
+    if !is_shown(&content, links) {
         return Err(FieldFault::Mismatch);
     }
     *unread = left;
@@ -205,6 +205,13 @@ fn put_together(front: Front, lists: Lists, texts: Texts) -> Entry
         summary,
         content,
     }
+}
+
+/// Whether there is content, or a link to another form of the entry.
+fn is_shown(content: &Option<Text>, links: &[Link]) -> bool
+    ensures { result ≡ (is_some content.now || has_alternate links.now) }
+{
+    content.is_some() || shows_alternate(links)
 }
 
 /// Whether a link has the relation `edit`.

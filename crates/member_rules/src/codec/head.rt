@@ -1,4 +1,4 @@
-ghost use Rattle.std.specs.Prelude.{◌≡◌, ◌≤◌, ◌≤ℤ◌, pos, length, OnOk, OnErr};
+ghost use Rattle.std.specs.Prelude.{◌≤◌, ◌↔◌, IsTrue, OnOk, OnErr};
 ghost use Rattle.atom_writer.specs.Pieced.{text_of};
 ghost use Rattle.member_rules.specs.Coding.{heads};
 ghost use Rattle.member_rules.specs.FieldLists.{ReadsAll, ReadsWhole};
@@ -148,13 +148,27 @@ fn read_title(alloc: Global, unread: &mut Unread) -> Result<AtomText, FieldFault
     Ok(title)
 }
 
+/// Whether a window may have this many operations.
+fn is_window(window: u32) -> bool
+    ensures { IsTrue result ↔ ((1 ≤ window) × (window ≤ WINDOW_LIMIT)) }
+{
+    window >= 1 && window <= WINDOW_LIMIT
+}
+
+/// Whether an area may be limited to this many bytes.
+fn is_capacity(capacity: u64) -> bool
+    ensures { IsTrue result ↔ ((CAPACITY_FLOOR ≤ capacity) × (capacity ≤ CAPACITY_LIMIT)) }
+{
+    capacity >= CAPACITY_FLOOR && capacity <= CAPACITY_LIMIT
+}
+
 /// Reads the number of operations of a window.
 fn read_window(unread: &mut Unread) -> Result<u32, FieldFault>
     ensures { Reads window unread.old.rest.now result unread.new.rest.now }
 {
     let mut left = *unread;
     let window = left.number()?;
-    if window == 0 || window > WINDOW_LIMIT {
+    if !is_window(window) {
         return Err(FieldFault::Mismatch);
     }
     *unread = left;
@@ -167,7 +181,7 @@ fn read_capacity(unread: &mut Unread) -> Result<u64, FieldFault>
 {
     let mut left = *unread;
     let capacity = left.size()?;
-    if capacity < CAPACITY_FLOOR || capacity > CAPACITY_LIMIT {
+    if !is_capacity(capacity) {
         return Err(FieldFault::Mismatch);
     }
     *unread = left;

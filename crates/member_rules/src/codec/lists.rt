@@ -1,7 +1,7 @@
 ghost use Rattle.std.specs.Prelude.{◌≤◌, All, length, OnOk, OnErr};
 ghost use Rattle.atom_values.specs.Listed.{Listed};
 ghost use Rattle.member_rules.specs.Coding.{list_field};
-ghost use Rattle.member_rules.specs.Fields.{ReadsAs, listed};
+ghost use Rattle.member_rules.specs.Fields.{ReadsAs, byte_limit, listed};
 
 use crate::codec::coded::Coded;
 use crate::codec::fault::FieldFault;
@@ -12,7 +12,7 @@ use std::alloc::Global;
 
 /// Adds the number of items and the items.
 pub(crate) fn push_list<T: Coded, W: Out>(out: &mut W, items: &[T]) -> Result<(), NoMemory>
-    requires { length items.now ≤ 255 }
+    requires { length items.now ≤ byte_limit }
     ensures added { OnOk result (W.adds out.old out.new (list_field T.field.bytes items.now)) }
     ensures failed { OnErr result W.can_fail }
     ensures rules { OnOk result (All T.field.Is items.now) }
@@ -30,6 +30,7 @@ pub(crate) fn read_list<T: Coded + Drop, const MAX: u32>(
     alloc: Global,
     unread: &mut Unread,
 ) -> Result<Many<T, MAX>, FieldFault>
+    requires { MAX ≤ byte_limit }
     ensures { ReadsAs (λ (m : Listed T). m.items) (listed MAX T.field)
         unread.old.rest.now result unread.new.rest.now }
 {

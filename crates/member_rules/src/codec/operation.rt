@@ -95,7 +95,7 @@ fn read_when(alloc: Global, unread: &mut Unread, moment: Stamp) -> Result<Stamp,
 {
     let mut left = *unread;
     let when = Stamp::read(alloc, &mut left)?;
-    if when < moment {
+    if when.millis() < moment.millis() {
         return Err(FieldFault::Mismatch);
     }
     *unread = left;
