@@ -1,8 +1,8 @@
 -- The lists of fields of an entry.
-use Rattle.std.proofs.Common.{◌≡◌, ℕ, ℤ, pos, List, [], Option, Some, None, refl, arith}
+use Rattle.std.proofs.Common.{◌≡◌, ℕ, ℤ, pos, List, [], ◌∷◌, ◌++◌, Option, Some, None, refl, sym, append-nil, append_assoc, arith}
 use Rattle.std.proofs.lemmas.Int.{ints}
 use Rattle.std.proofs.lemmas.List.Elements.{All-nil}
-use Rattle.atom_values.specs.Entry.{EntryValue, empty_text, person_limit, category_limit}
+use Rattle.atom_values.specs.Entry.{EntryValue, IsWhole, empty_text, person_limit, category_limit}
 use Rattle.atom_values.specs.Category.{IsCategory}
 use Rattle.atom_values.specs.Link.{IsLink}
 use Rattle.atom_values.specs.Person.{IsPerson}
@@ -13,9 +13,11 @@ use Rattle.atom_values.specs.declared.person.Person.{Person}
 use Rattle.atom_values.specs.declared.text.Text.{Text}
 use Rattle.atom_values.proofs.XmlTextLemmas.{IsXmlText-nil}
 use Rattle.atom_writer.specs.Pieced.{Pieced}
+use Rattle.atom_writer.specs.Pieces.{joined}
+use Rattle.atom_writer.proofs.PieceLemmas.{joined-cons, joined-none}
 use Rattle.atom_writer.proofs.PiecedLemmas.{AreCompared}
-use Rattle.member_rules.specs.Coding.{entry_fields}
-use Rattle.member_rules.specs.EntryFields.{linked, contents, dates, front, persons, lists, texts, parts, PartsValue, entry_of, entries}
+use Rattle.member_rules.specs.Coding.{entry_fields, list_field, number_field}
+use Rattle.member_rules.specs.EntryFields.{linked, contents, dates, front, persons, lists, texts, parts, FrontValue, ListsValue, TextsValue, PartsValue, entry_of, entries}
 use Rattle.member_rules.specs.FieldLists.{one, both, StopsAt}
 use Rattle.member_rules.specs.Fields.{Field, HasOneValue, IsAbsent, counted, number, stamp, text, construct, optional, listed, person, link, category}
 use Rattle.member_rules.proofs.FieldLemmas.{stamp_one, construct_one, optional_one, listed_one}
@@ -207,3 +209,19 @@ entry_begun input = renamed parts entries entry_of parts_of entry_renames input
 pub entries_compared : AreCompared entries
 entries_compared =
     renamed_compared parts entries entry_of parts_of entry_renames (sequence_compared parts parts_sequence)
+
+-- the rules of the fields together
+pub whole : (f : FrontValue) (l : ListsValue) (t : TextsValue) → front.Is f → lists.Is l → (texts l.1.0).Is t
+    → IsWhole f.0.0 l.1.0 t.1.1
+unfolding both entries
+whole f l t is_front is_lists is_texts = (entry_renames.is (f, (l, t)) (is_front, (is_lists, is_texts))).whole
+
+-- the fields that are written one after another
+pub entry_written : (e : EntryValue)
+    → number_field e.number ++ stamp.bytes e.edited ++ stamp.bytes e.updated ++ construct.bytes e.title
+    ++ (optional stamp).bytes e.published ++ list_field person.bytes e.authors ++ list_field person.bytes e.contributors
+    ++ list_field link.bytes e.links ++ list_field category.bytes e.categories ++ (optional construct).bytes e.rights
+    ++ (optional construct).bytes e.summary ++ (optional construct).bytes e.content
+    ≡ joined (entry_fields e)
+unfolding stamp construct optional person link category entry_fields
+entry_written e = sym (simp (joined-cons, joined-none, append-nil, append_assoc))

@@ -46,3 +46,7 @@ pub mod RuledLemmas
 pub mod SequenceLemmas
 -- serves `read_op`: the fields of an entry, one after another
 pub mod EntrySequences
+-- serves `read_op` and `read_head`: the first byte tells what follows
+pub mod KindLemmas
+-- serves `read_op`: the kinds of operations
+pub mod OperationLemmas
