@@ -1,5 +1,5 @@
 -- Lists of fields are compared and read one part after another.
-use Rattle.std.proofs.Common.{◌≡◌, ◌≢◌, ℕ, List, [], ◌∷◌, ◌++◌, refl, sym, ap, subst, ◌∙◌, append-nil, append_assoc, length, ◌-◌}
+use Rattle.std.proofs.Common.{◌≡◌, ◌≢◌, ℕ, List, [], ◌∷◌, ◌++◌, refl, sym, ap, subst, ◌∙◌, append-nil, append_assoc, length, nat_eq, true, false, true≢false, eqb-true, arith}
 use Rattle.std.specs.Prelude.{Result, Ok, Err}
 use Rattle.std.specs.Result.{IsErrAnd}
 use Rattle.atom_writer.specs.Pieced.{Pieced, IsRefused, text_of}
@@ -279,3 +279,29 @@ left_refused p compared input rest v found some = record {
       let none = (compared begins.value v begins.lawful found.lawful).whole (q ∷ begins.later) longer in
       absurd cc;
 }
+
+-- the fault of a list of fields is that of all the bytes
+pub not_whole : {A : Type 0} (p : Pieced A) (input after : List ℕ) (e : FieldFault) (r : Result A FieldFault)
+    → IsFault p input e after → IsErrAnd r (λ s. s ≡ e) → ReadsWhole p input r after
+not_whole p input after e (Ok x) s same = absurd same
+not_whole p input after Mismatch (Err x) s same =
+    let P : FieldFault → Type 0 = λ k. ReadsWhole p input (Err k) after in
+    subst P (sym same) (stops_refused p input after s)
+not_whole p input after NoMemory (Err x) s same =
+    let P : FieldFault → Type 0 = λ k. ReadsWhole p input (Err k) after in
+    subst P (sym same) tt
+
+-- nothing is left
+pub whole_read : {A : Type 0} (p : Pieced A) (input rest : List ℕ) (v : A) → BeginsWith p.Is (text_of p) input v rest
+    → nat_eq (length rest) 0 ≡ true → p.Is v × (input ≡ text_of p v)
+whole_read p input [] v found none = (found.lawful, found.split ∙ append-nil (joined (p.pieces v)))
+whole_read p input (x ∷ rest) v found none = absurd (omega (arith, eqb-true (length (x ∷ rest)) 0 none))
+
+pub some_left : (rest : List ℕ) → nat_eq (length rest) 0 ≡ false → rest ≢ []
+some_left rest some none = true≢false (sym (ap (λ (z : List ℕ). nat_eq (length z) 0) none) ∙ some)
+
+-- the refusal of all the bytes
+pub whole_refused : {A : Type 0} (p : Pieced A) (input after : List ℕ) (e : FieldFault) → e ≡ Mismatch
+    → ReadsWhole p input (Err e) after → IsRefused p [] input after
+whole_refused p input after Mismatch is r = r
+whole_refused p input after NoMemory is r = absurd cc
