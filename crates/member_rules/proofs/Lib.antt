@@ -50,3 +50,5 @@ pub mod EntrySequences
 pub mod KindLemmas
 -- serves `read_op`: the kinds of operations
 pub mod OperationLemmas
+-- serves `op_bytes` and `head_bytes`, `bound`
+pub mod PayloadLemmas

@@ -1,10 +1,10 @@
 -- The fields of operations, by the kind that the first byte tells.
-use Rattle.std.proofs.Common.{◌≡◌, ◌≢◌, ℕ, ◌<◌, ℤ, pos, List, [], ◌∷◌, ◌++◌, refl, sym, ap, subst, ◌∙◌, arith}
+use Rattle.std.proofs.Common.{◌≡◌, ◌≢◌, ℕ, ◌<◌, ℤ, pos, List, [], ◌∷◌, ◌++◌, refl, sym, ap, subst, ◌∙◌, append-nil, append_assoc, arith}
 use Rattle.std.proofs.lemmas.Int.{ints}
 use Rattle.atom_values.specs.Entry.{EntryValue}
 use Rattle.atom_writer.specs.Pieced.{Pieced, text_of}
 use Rattle.atom_writer.specs.Pieces.{joined}
-use Rattle.atom_writer.proofs.PieceLemmas.{joined-none}
+use Rattle.atom_writer.proofs.PieceLemmas.{joined-cons, joined-none}
 use Rattle.atom_writer.proofs.PiecedLemmas.{AreCompared}
 use Rattle.atom_writer.proofs.SameLemmas.{Same, Same-cons}
 use Rattle.member_rules.specs.Coding.{add_tag, change_tag, remove_tag, entry_fields, number_field, stamp_field, operation_fields, operations}
@@ -215,3 +215,13 @@ no_kind input no_add no_change no_remove = record {
       none_there input no_add no_change no_remove other after
       (f ∙ ap (λ z. z ++ after) (sym (tag_in other behind p left e)));
 }
+
+-- the fields that are written one after another
+pub removal_written : (r : RemovalValue)
+    → number_field r.tombstone.number ++ stamp.bytes r.moment ++ stamp.bytes r.tombstone.when ≡ text_of removals r
+unfolding stamp removals
+removal_written r = sym (simp (joined-cons, joined-none, append-nil, append_assoc))
+
+pub tagged_written : (o : Op) (tag : ℕ) (later : List (List ℕ)) → operation_fields o ≡ (tag ∷ []) ∷ later
+    → tag ∷ joined later ≡ text_of operations o
+tagged_written o tag later is = sym (ap joined is ∙ joined-cons (tag ∷ []) later)

@@ -4,6 +4,7 @@ ghost use Rattle.member_rules.specs.Coding.{operations};
 ghost use Rattle.member_rules.specs.FieldLists.{ReadsAll, ReadsWhole};
 ghost use Rattle.member_rules.specs.Fields.{Reads};
 ghost use Rattle.member_rules.specs.Operation.{IsOperation};
+ghost use Rattle.member_rules.specs.Removal.{IsRemoval};
 ghost use Rattle.member_rules.specs.RemovalFields.{removals, stamp_from};
 
 use crate::codec::bytes::push_number;
@@ -41,12 +42,22 @@ pub(crate) fn push_operation<W: Out>(out: &mut W, operation: &Op) -> Result<(), 
         }
         Op::Remove(removal) => {
             out.push(&[REMOVE])?;
-            push_number(out, removal.tombstone.number)?;
-            removal.moment.push(out)?;
-            removal.tombstone.when.push(out)?;
+            push_removal(out, removal)?;
             Ok(())
         }
     }
+}
+
+/// Adds the fields of the removal.
+fn push_removal<W: Out>(out: &mut W, removal: &Removal) -> Result<(), NoMemory>
+    ensures added { OnOk result (W.adds out.old out.new (text_of removals removal.now)) }
+    ensures failed { OnErr result W.can_fail }
+    ensures rules { OnOk result (IsRemoval removal.now) }
+{
+    push_number(out, removal.tombstone.number)?;
+    removal.moment.push(out)?;
+    removal.tombstone.when.push(out)?;
+    Ok(())
 }
 
 /// Reads the fields of an operation, which are all the bytes.
