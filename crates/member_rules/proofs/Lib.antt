@@ -52,3 +52,5 @@ pub mod KindLemmas
 pub mod OperationLemmas
 -- serves `op_bytes` and `head_bytes`, `bound`
 pub mod PayloadLemmas
+-- serves `read_head`: the fields of a head, one after another
+pub mod HeadLemmas

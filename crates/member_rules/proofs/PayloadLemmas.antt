@@ -15,6 +15,8 @@ use Rattle.atom_writer.specs.Pieced.{text_of}
 use Rattle.atom_writer.specs.Pieces.{joined}
 use Rattle.atom_writer.proofs.LengthLemmas.{flat_map-short}
 use Rattle.atom_writer.proofs.PieceLemmas.{joined-cons, joined-none}
+use mathlib.Core.Logic.{∥∥₁_elim}
+use native.Mathlib.Bridge.{le_prop}
 use Rattle.member_rules.specs.Coding.{number_field, stamp_field, text_field, option_field, list_field, construct_field, person_field, link_field, category_field, entry_fields, head_fields, heads, operation_fields, operations, payload_limit}
 use Rattle.member_rules.specs.Head.{HeadValue, IsHead}
 use Rattle.member_rules.specs.Operation.{IsOperation}
@@ -111,9 +113,9 @@ operation-short (Add e) is = simp joined-cons (omega (arith, entry_fields-short 
 operation-short (Change e) is = simp joined-cons (omega (arith, entry_fields-short e is))
 operation-short (Remove r) is = omega (arith, total-joined (operation_fields (Remove r)))
 
-pub head-short : (h : HeadValue) → IsHead h → length (text_of heads h) ≤ payload_limit
+head-short-by : (h : HeadValue) → IsHead h → length (text_of heads h) ≤ payload_limit
 unfolding head_fields total
-head-short h is =
+head-short-by h is =
     omega (
       arith,
       total-joined (head_fields h),
@@ -122,3 +124,6 @@ head-short h is =
       text_field-short h.name.title is.name.title,
       text_field-short h.name.author is.name.author,
     )
+
+pub head-short : (h : HeadValue) → ∥ IsHead h ∥₁ → length (text_of heads h) ≤ payload_limit
+head-short h is = ∥∥₁_elim is le_prop (head-short-by h)

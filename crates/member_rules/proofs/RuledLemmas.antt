@@ -1,5 +1,5 @@
 -- Fields with more rules than others of the same bytes.
-use Rattle.std.proofs.Common.{◌≡◌, ℕ, ◌<◌, ◌≤◌, ◌^◌, ℤ, List, Option, Bool, true, false, length, refl, sym, ◌∙◌, arith, subst, ap}
+use Rattle.std.proofs.Common.{◌≡◌, ℕ, ◌<◌, ◌≤◌, ◌^◌, ℤ, ◌+◌, List, ◌++◌, Option, Bool, true, false, length, length-append, take, drop, refl, sym, ◌∙◌, arith, subst, ap}
 use Rattle.std.proofs.lemmas.Bool.{false≢true}
 use Rattle.std.specs.Prelude.{Result, Ok, Err, ◌||◌, IsTrue}
 use Rattle.std.specs.Result.{IsErrAnd}
@@ -8,15 +8,16 @@ use Rattle.atom_values.specs.declared.link.Link.{Link}
 use Rattle.chain_links.specs.Base.{IsBase}
 use Rattle.chain_links.specs.declared.base.BaseFault.{BaseFault}
 use Rattle.chain_links.specs.declared.base.BaseFault.TheVariants.{BadBase, NoMemory as NoRoom}
+use Rattle.deleted_entries.specs.FeedId.{IsFeedId}
 use Rattle.atom_writer.specs.Reading.{BeginsWith}
 use Rattle.member_rules.specs.EntryFields.{linked, contents}
 use Rattle.member_rules.specs.FieldFaults.{IsOfBase}
-use Rattle.member_rules.specs.Fields.{Field, HasOneValue, IsFault, ReadsAs, number, size, bytes_of_text, counted, stamp, text, construct, optional, listed, link}
+use Rattle.member_rules.specs.Fields.{Field, HasOneValue, IsAbsent, IsFault, ReadsAs, number, size, bytes_of_text, counted, stamp, text, construct, optional, listed, link}
 use Rattle.member_rules.specs.HeadFields.{base, feed_id, title, window, capacity, created}
 use Rattle.member_rules.specs.RemovalFields.{stamp_from}
 use Rattle.member_rules.specs.declared.codec.fault.FieldFault.{FieldFault}
 use Rattle.member_rules.specs.declared.codec.fault.FieldFault.TheVariants.{Mismatch, NoMemory}
-use Rattle.member_rules.proofs.FieldLemmas.{Narrows, narrow_one, narrow_broken, counted_narrows, number_one, size_one, bytes_of_text_one, stamp_one, text_one, construct_one, optional_one, listed_one, one_value, same_size}
+use Rattle.member_rules.proofs.FieldLemmas.{Narrows, narrow_one, narrow_broken, counted_narrows, number_one, size_one, bytes_of_text_one, stamp_one, text_one, construct_one, optional_one, listed_one, one_value, same_size, cut}
 use Rattle.member_rules.proofs.PartLemmas.{link_one}
 
 pub counted_one : HasOneValue counted
@@ -110,3 +111,25 @@ pub none_shown : (a b : Bool) → a ≡ false → b ≡ false → ¬ IsTrue (a |
 none_shown false false x y is = false≢true is
 none_shown false true x y is = absurd (false≢true (sym y))
 none_shown true b x y is = absurd (false≢true (sym x))
+
+pub id_short : (input : List ℕ) → length input < 16 → IsAbsent feed_id input
+unfolding feed_id
+id_short input short other left is e = omega (arith, short, ap length e, length-append other left, is.size)
+
+-- the sixteen bytes are no identifier
+pub id_refused : (input front rest : List ℕ) → front ≡ take 16 input → rest ≡ drop 16 input
+    → length rest + 16 ≡ length input → ¬ IsFeedId front → IsAbsent feed_id input
+unfolding feed_id
+id_refused input front rest f r size broken other left is e =
+    let split : input ≡ front ++ rest = cut 16 input front rest f r in
+    let p =
+    same_size front other rest left (omega (arith, ap length split, length-append front rest, is.size)) (sym split ∙ e)
+    in
+    broken (subst IsFeedId (sym p.0) is)
+
+pub id_found : (input front rest id : List ℕ) → front ≡ take 16 input → rest ≡ drop 16 input → id ≡ front
+    → IsFeedId front → BeginsWith feed_id.Is feed_id.bytes input id rest
+unfolding feed_id
+id_found input front rest id f r same is =
+    let split : input ≡ front ++ rest = cut 16 input front rest f r in
+    record { lawful = subst IsFeedId (sym same) is; split = split ∙ ap (λ z. z ++ rest) (sym same) }

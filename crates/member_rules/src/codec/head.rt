@@ -54,7 +54,7 @@ fn read_format(alloc: Global, unread: &mut Unread) -> Result<Head, FieldFault>
     ensures { ReadsAll (λ head. head) heads unread.old.rest.now result unread.new.rest.now }
 {
     if unread.tag(HEAD) {
-        return read_head(alloc, unread);
+        return Ok(read_head(alloc, unread)?);
     }
     Err(FieldFault::Mismatch)
 }

@@ -1,4 +1,4 @@
-use Rattle.std.proofs.Common.{ℕ, List, subst, sym, refl}
+use Rattle.std.proofs.Common.{ℕ, List, subst, sym, ap, Err}
 use Rattle.atom_writer.specs.Reading.{BeginsWith}
 use Rattle.member_rules.specs.Fields.{bytes_of_text}
 use Rattle.member_rules.specs.HeadFields.{base}
@@ -13,7 +13,8 @@ returns-in_err-text c =
 
 pub returns-in_err-base : goal.returns-in_err-base
 returns-in_err-base c =
-    base_refused (λ t. t) c.args.unread.now.rest.now _ _ _ _ c.in_ok-text.ensures ?
+    base_refused (λ t. t) c.args.unread.now.rest.now _ _ _ _ c.in_ok-text.ensures
+    (λ e. c.in_err-base.ensures.refused (ap (λ z. Err z) e))
     c.from_residual-in_err-base.ensures.1
 
 pub returns : goal.returns
