@@ -1,25 +1,17 @@
 -- The lists of fields of an entry.
-use Rattle.std.proofs.Common.{◌≡◌, ℕ, ℤ, pos, List, [], ◌∷◌, ◌++◌, Option, Some, None, refl, sym, append-nil, append_assoc, arith}
+use Rattle.std.proofs.Common.{◌≡◌, ℕ, pos, List, [], ◌++◌, Some, None, refl, sym, append-nil, append_assoc, arith}
 use Rattle.std.proofs.lemmas.Int.{ints}
 use Rattle.std.proofs.lemmas.List.Elements.{All-nil}
 use Rattle.atom_values.specs.Entry.{EntryValue, IsWhole, empty_text, person_limit, category_limit}
-use Rattle.atom_values.specs.Category.{IsCategory}
-use Rattle.atom_values.specs.Link.{IsLink}
-use Rattle.atom_values.specs.Person.{IsPerson}
-use Rattle.atom_values.specs.XmlText.{IsAtomText}
-use Rattle.atom_values.specs.declared.category.Category.{Category}
 use Rattle.atom_values.specs.declared.link.Link.{Link}
-use Rattle.atom_values.specs.declared.person.Person.{Person}
-use Rattle.atom_values.specs.declared.text.Text.{Text}
 use Rattle.atom_values.proofs.XmlTextLemmas.{IsXmlText-nil}
-use Rattle.atom_writer.specs.Pieced.{Pieced}
 use Rattle.atom_writer.specs.Pieces.{joined}
 use Rattle.atom_writer.proofs.PieceLemmas.{joined-cons, joined-none}
 use Rattle.atom_writer.proofs.PiecedLemmas.{AreCompared}
 use Rattle.member_rules.specs.Coding.{entry_fields, list_field, number_field}
 use Rattle.member_rules.specs.EntryFields.{linked, contents, dates, front, persons, lists, texts, parts, FrontValue, ListsValue, TextsValue, PartsValue, entry_of, entries}
 use Rattle.member_rules.specs.FieldLists.{one, both, StopsAt}
-use Rattle.member_rules.specs.Fields.{Field, HasOneValue, IsAbsent, counted, number, stamp, text, construct, optional, listed, person, link, category}
+use Rattle.member_rules.specs.Fields.{Field, HasOneValue, IsAbsent, counted, stamp, construct, optional, listed, person, link, category}
 use Rattle.member_rules.proofs.FieldLemmas.{stamp_one, construct_one, optional_one, listed_one}
 use Rattle.member_rules.proofs.PartLemmas.{person_one, category_one}
 use Rattle.member_rules.proofs.RuledLemmas.{counted_one, linked_one, contents_one, construct_option_one}

@@ -1,5 +1,5 @@
 -- Each field has one value, and readings of fields put together.
-use Rattle.std.proofs.Common.{◌≡◌, ◌≢◌, ℕ, zero, suc, ◌<◌, ◌≤◌, ◌^◌, ℤ, List, [], ◌∷◌, ◌++◌, Option, Some, None, Bool, false, ◌+◌, length, get_or, take, drop, refl, sym, ap, subst, ◌∙◌, append_assoc, length-append, arith, All}
+use Rattle.std.proofs.Common.{◌≡◌, ◌≢◌, ℕ, ◌<◌, ◌≤◌, ◌^◌, ℤ, List, [], ◌∷◌, ◌++◌, Option, Some, None, Bool, false, ◌+◌, length, get_or, take, drop, refl, sym, ap, subst, ◌∙◌, append_assoc, length-append, arith, All}
 use Rattle.std.proofs.lemmas.Int.{ints}
 use Rattle.std.proofs.lemmas.List.{append-nil, take-append-drop, take_all}
 use Rattle.std.proofs.lemmas.List.Concat.{flat_map-append}
@@ -19,7 +19,7 @@ use Rattle.atom_values.specs.declared.text.Text.{Text}
 use Rattle.atom_values.specs.declared.text.TextKind.{TextKind}
 use Rattle.atom_values.specs.declared.text.TextKind.TheVariants.{Plain, Html}
 use Rattle.atom_writer.specs.Reading.{BeginsWith}
-use Rattle.member_rules.specs.Coding.{number_field, size_field, stamp_field, text_field, option_field, list_field, kind_byte}
+use Rattle.member_rules.specs.Coding.{number_field, size_field, option_field, kind_byte}
 use Rattle.member_rules.specs.FieldFaults.{IsOfText}
 use Rattle.member_rules.specs.Fields.{Field, HasOneValue, IsAbsent, IsFault, ReadsAs, byte, number, size, bytes_of_text, counted, stamp, text, kind, construct, optional, listed}
 use Rattle.member_rules.specs.declared.codec.fault.FieldFault.{FieldFault}
@@ -99,7 +99,7 @@ pub narrow_found : {A : Type 0} (wide narrow : Field A) → Narrows wide narrow 
 narrow_found wide narrow n input rest v found is = record {
   lawful = is;
   split = found.split ∙ ap (λ z. z ++ rest) (sym (n.bytes v));
-    }
+}
 
 pub counted_narrows : Narrows number counted
 unfolding number counted
@@ -130,7 +130,7 @@ unfoldable pub pair : {A B : Type 0} → Field A → Field B → Field (A × B)
 pair first second = record {
   Is = λ p. first.Is p.0 × second.Is p.1;
   bytes = λ p. first.bytes p.0 ++ second.bytes p.1;
-    }
+}
 
 pub pair_one : {A B : Type 0} (first : Field A) (second : Field B) → HasOneValue first → HasOneValue second
     → HasOneValue (pair first second)
@@ -167,7 +167,7 @@ pair_found first second input middle rest a b f s = record {
   lawful = (f.lawful, s.lawful);
   split = f.split ∙ ap (λ z. first.bytes a ++ z) s.split
       ∙ sym (append_assoc (first.bytes a) (second.bytes b) rest);
-    }
+}
 
 -- After some fields of `whole` were read at `input`, `left` remains to be read at `middle`. Its value completes the value
 -- of the whole.
@@ -185,7 +185,7 @@ pub then : {A B C : Type 0} {whole : Field C} {input middle after : List ℕ} {f
 then {first} {second} {value} one so f = record {
   found = λ more rest s. so.found (value, more) rest (pair_found first second _ _ _ _ _ f s);
   absent = λ none. so.absent (pair_stuck first second one _ _ _ f none);
-    }
+}
 
 -- one field's values are another's, seen in another way
 pub record Renames {A B : Type 0} (from : Field B) (to : Field A) (there : B → A) (back : A → B) : Type 0 where
@@ -202,8 +202,8 @@ begun from to there back r input = record {
     split = f.split ∙ ap (λ z. z ++ rest) (r.bytes value);
   };
   absent = λ none other left is e. none (back other) left (r.was other is)
-  (e ∙ ap (λ z. to.bytes z ++ left) (sym (r.again other)) ∙ ap (λ z. z ++ left) (sym (r.bytes (back other))));
-    }
+      (e ∙ ap (λ z. to.bytes z ++ left) (sym (r.again other)) ∙ ap (λ z. z ++ left) (sym (r.bytes (back other))));
+}
 
 pub renamed_one : {A B : Type 0} (from : Field B) (to : Field A) (there : B → A) (back : A → B)
     → Renames from to there back → HasOneValue from → HasOneValue to
@@ -261,7 +261,7 @@ construct_renames = record {
   bytes = λ b. refl;
   was = λ a is. (tt, is);
   again = λ a. refl;
-    }
+}
 
 pub construct_begun : (input : List ℕ) → Continues construct input (pair kind text) input construct_of
 construct_begun input =
@@ -382,13 +382,19 @@ unfolding text
 text_refused view input middle bytes fault (Ok x) found is same = absurd same
 text_refused view input middle bytes (TooLong n) (Err x) found is same =
     let P : FieldFault → Type 0 = λ k. IsFault text input k input in
-    subst P (sym same) (refl, narrow_broken bytes_of_text text text_narrows bytes_of_text_one input middle bytes found
-    (λ atom. omega (arith, is.0, atom.short)))
+    subst P (sym same) (
+      refl,
+      narrow_broken bytes_of_text text text_narrows bytes_of_text_one input middle bytes found
+          (λ atom. omega (arith, is.0, atom.short)),
+    )
 text_refused view input middle bytes (NotXmlChar at) (Err x) found is same =
     let P : FieldFault → Type 0 = λ k. IsFault text input k input in
-    subst P (sym same) (refl, narrow_broken bytes_of_text text text_narrows bytes_of_text_one input middle bytes found
-    (λ atom. is.1.longest (length bytes) is.1.before_end (omega arith)
-    (subst IsXmlText (sym (take_all (length bytes) bytes (omega arith))) atom.xml)))
+    subst P (sym same) (
+      refl,
+      narrow_broken bytes_of_text text text_narrows bytes_of_text_one input middle bytes found
+          (λ atom. is.1.longest (length bytes) is.1.before_end (omega arith)
+          (subst IsXmlText (sym (take_all (length bytes) bytes (omega arith))) atom.xml)),
+    )
 text_refused view input middle bytes NoRoom (Err x) found is same =
     let P : FieldFault → Type 0 = λ k. IsFault text input k input in
     subst P (sym same) tt

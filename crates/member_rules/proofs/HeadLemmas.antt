@@ -1,14 +1,14 @@
 -- The lists of fields of a head.
-use Rattle.std.proofs.Common.{◌≡◌, ◌≢◌, ℕ, zero, suc, ◌<◌, ℤ, pos, List, [], ◌∷◌, ◌++◌, None, All, replicate, refl, sym, ap, subst, ◌∙◌, append-nil, append_assoc, IsTrue, codes, arith}
+use Rattle.std.proofs.Common.{◌≡◌, ◌≢◌, ℕ, zero, suc, ◌<◌, pos, List, [], ◌∷◌, ◌++◌, None, All, replicate, refl, sym, ap, ◌∙◌, append-nil, append_assoc, IsTrue, codes, arith}
 use Rattle.std.proofs.lemmas.Int.{ints}
 use Rattle.std.proofs.lemmas.List.Elements.{All-nil, All-cons}
 use Rattle.atom_values.proofs.XmlTextLemmas.{IsXmlText-nil}
-use Rattle.atom_writer.specs.Pieced.{Pieced, text_of}
+use Rattle.atom_writer.specs.Pieced.{text_of}
 use Rattle.atom_writer.specs.Pieces.{joined}
 use Rattle.atom_writer.proofs.PieceLemmas.{joined-cons, joined-none}
 use Rattle.atom_writer.proofs.PiecedLemmas.{AreCompared}
-use Rattle.atom_writer.proofs.SameLemmas.{Same, Same-fixed}
-use Rattle.chain_links.specs.Base.{IsBase, base_text, is_label_char, is_segment_char, IsWord}
+use Rattle.atom_writer.proofs.SameLemmas.{Same-fixed}
+use Rattle.chain_links.specs.Base.{base_text, is_label_char, is_segment_char, IsWord}
 use Rattle.member_rules.specs.Coding.{head_tag, head_fields, heads, number_field, size_field, stamp_field, text_field}
 use Rattle.member_rules.specs.FieldLists.{one, both, StopsAt}
 use Rattle.member_rules.specs.Fields.{IsAbsent, stamp, text}

@@ -1,15 +1,11 @@
 -- Lists of fields whose first byte tells what follows.
-use Rattle.std.proofs.Common.{◌≡◌, ℕ, List, [], ◌∷◌, ◌++◌, refl, sym, ap, subst, ◌∙◌, append_assoc}
-use Rattle.std.specs.Prelude.{Result, Ok, Err}
-use Rattle.std.specs.Result.{IsErrAnd}
+use Rattle.std.proofs.Common.{◌≡◌, ℕ, List, [], ◌∷◌, ◌++◌, sym, ap, subst, ◌∙◌}
 use Rattle.atom_writer.specs.Pieced.{Pieced, text_of}
 use Rattle.atom_writer.specs.Pieces.{joined}
 use Rattle.atom_writer.specs.Reading.{BeginsWith}
 use Rattle.atom_writer.proofs.PieceLemmas.{joined-cons}
 use Rattle.atom_writer.proofs.SameLemmas.{Same}
-use Rattle.member_rules.specs.FieldLists.{StopsAt, IsFault, ReadsAll}
-use Rattle.member_rules.specs.declared.codec.fault.FieldFault.{FieldFault}
-use Rattle.member_rules.specs.declared.codec.fault.FieldFault.TheVariants.{Mismatch, NoMemory}
+use Rattle.member_rules.specs.FieldLists.{StopsAt}
 
 -- the values of a kind: their first field is this byte, and the others are those of `part`
 pub record IsKind {A O : Type 0} (whole : Pieced O) (tag : ℕ) (part : Pieced A) (into : A → O) : Type 0 where

@@ -1,13 +1,13 @@
 -- The fields of operations, by the kind that the first byte tells.
-use Rattle.std.proofs.Common.{◌≡◌, ◌≢◌, ℕ, ◌<◌, ℤ, pos, List, [], ◌∷◌, ◌++◌, refl, sym, ap, subst, ◌∙◌, append-nil, append_assoc, arith}
+use Rattle.std.proofs.Common.{◌≡◌, ◌≢◌, ℕ, ℤ, pos, List, [], ◌∷◌, ◌++◌, refl, sym, ap, subst, ◌∙◌, append-nil, append_assoc, arith}
 use Rattle.std.proofs.lemmas.Int.{ints}
 use Rattle.atom_values.specs.Entry.{EntryValue}
-use Rattle.atom_writer.specs.Pieced.{Pieced, text_of}
+use Rattle.atom_writer.specs.Pieced.{text_of}
 use Rattle.atom_writer.specs.Pieces.{joined}
 use Rattle.atom_writer.proofs.PieceLemmas.{joined-cons, joined-none}
 use Rattle.atom_writer.proofs.PiecedLemmas.{AreCompared}
 use Rattle.atom_writer.proofs.SameLemmas.{Same, Same-cons}
-use Rattle.member_rules.specs.Coding.{add_tag, change_tag, remove_tag, entry_fields, number_field, stamp_field, operation_fields, operations}
+use Rattle.member_rules.specs.Coding.{add_tag, change_tag, remove_tag, number_field, stamp_field, operation_fields, operations}
 use Rattle.member_rules.specs.EntryFields.{entries}
 use Rattle.member_rules.specs.FieldLists.{one, both, StopsAt}
 use Rattle.member_rules.specs.Fields.{byte, counted, stamp, IsAbsent}

@@ -1,9 +1,8 @@
 -- The fields of persons, links and categories.
-use Rattle.std.proofs.Common.{◌≡◌, ℕ, List, Option, refl, sym, ◌∙◌, ap, append_assoc}
+use Rattle.std.proofs.Common.{ℕ, List, Option, refl, append_assoc}
 use Rattle.atom_values.specs.declared.category.Category.{Category}
 use Rattle.atom_values.specs.declared.link.Link.{Link}
 use Rattle.atom_values.specs.declared.person.Person.{Person}
-use Rattle.member_rules.specs.Coding.{text_field, option_field}
 use Rattle.member_rules.specs.Fields.{Field, HasOneValue, text, optional, person, link, category}
 use Rattle.member_rules.proofs.FieldLemmas.{pair, pair_one, Continues, Renames, begun, renamed_one, text_one, optional_one}
 

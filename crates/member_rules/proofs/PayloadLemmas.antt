@@ -1,6 +1,6 @@
 -- How many bytes an operation and a head have at most, by the rules that their types keep.
-use Rattle.std.proofs.Common.{◌≡◌, ℕ, ◌+◌, ◌*◌, ◌<◌, ◌≤◌, ◌^◌, ℤ, List, [], ◌∷◌, ◌++◌, Option, Some, None, length, length-append, refl, arith, ap, All}
-use Rattle.std.specs.Prelude.{IfSome, flat_map, Result, Ok, Err, OnOk, OnErr}
+use Rattle.std.proofs.Common.{◌≡◌, ℕ, ◌+◌, ◌*◌, ◌≤◌, ℤ, List, [], ◌∷◌, Option, Some, None, length, length-append, arith, ap, All}
+use Rattle.std.specs.Prelude.{IfSome}
 use Rattle.std.proofs.lemmas.List.Elements.{All-weaker}
 use Rattle.atom_values.specs.declared.category.Category.{Category}
 use Rattle.atom_values.specs.declared.link.Link.{Link}
@@ -17,7 +17,7 @@ use Rattle.atom_writer.proofs.LengthLemmas.{flat_map-short}
 use Rattle.atom_writer.proofs.PieceLemmas.{joined-cons, joined-none}
 use mathlib.Core.Logic.{∥∥₁_elim}
 use native.Mathlib.Bridge.{le_prop}
-use Rattle.member_rules.specs.Coding.{number_field, stamp_field, text_field, option_field, list_field, construct_field, person_field, link_field, category_field, entry_fields, head_fields, heads, operation_fields, operations, payload_limit}
+use Rattle.member_rules.specs.Coding.{stamp_field, text_field, option_field, list_field, construct_field, person_field, link_field, category_field, entry_fields, head_fields, heads, operation_fields, operations, payload_limit}
 use Rattle.member_rules.specs.Head.{HeadValue, IsHead}
 use Rattle.member_rules.specs.Operation.{IsOperation}
 use Rattle.member_rules.specs.declared.operation.Op.{Op}

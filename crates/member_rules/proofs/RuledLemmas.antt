@@ -1,5 +1,5 @@
 -- Fields with more rules than others of the same bytes.
-use Rattle.std.proofs.Common.{◌≡◌, ℕ, ◌<◌, ◌≤◌, ◌^◌, ℤ, ◌+◌, List, ◌++◌, Option, Bool, true, false, length, length-append, take, drop, refl, sym, ◌∙◌, arith, subst, ap}
+use Rattle.std.proofs.Common.{◌≡◌, ℕ, ◌<◌, ℤ, ◌+◌, List, ◌++◌, Bool, true, false, length, length-append, take, drop, refl, sym, ◌∙◌, arith, subst, ap}
 use Rattle.std.proofs.lemmas.Bool.{false≢true}
 use Rattle.std.specs.Prelude.{Result, Ok, Err, ◌||◌, IsTrue}
 use Rattle.std.specs.Result.{IsErrAnd}
@@ -16,7 +16,6 @@ use Rattle.member_rules.specs.Fields.{Field, HasOneValue, IsAbsent, IsFault, Rea
 use Rattle.member_rules.specs.HeadFields.{base, feed_id, title, window, capacity, created}
 use Rattle.member_rules.specs.RemovalFields.{stamp_from}
 use Rattle.member_rules.specs.declared.codec.fault.FieldFault.{FieldFault}
-use Rattle.member_rules.specs.declared.codec.fault.FieldFault.TheVariants.{Mismatch, NoMemory}
 use Rattle.member_rules.proofs.FieldLemmas.{Narrows, narrow_one, narrow_broken, counted_narrows, number_one, size_one, bytes_of_text_one, stamp_one, text_one, construct_one, optional_one, listed_one, one_value, same_size, cut}
 use Rattle.member_rules.proofs.PartLemmas.{link_one}
 
@@ -101,8 +100,11 @@ unfolding base
 base_refused view input middle bytes fault (Ok x) found is same = absurd same
 base_refused view input middle bytes BadBase (Err x) found is same =
     let P : FieldFault → Type 0 = λ k. IsFault base input k input in
-    subst P (sym same) (refl, narrow_broken bytes_of_text base base_narrows bytes_of_text_one input middle bytes found
-    (is refl))
+    subst P (sym same) (
+      refl,
+      narrow_broken bytes_of_text base base_narrows bytes_of_text_one input middle bytes found
+          (is refl),
+    )
 base_refused view input middle bytes NoRoom (Err x) found is same =
     let P : FieldFault → Type 0 = λ k. IsFault base input k input in
     subst P (sym same) tt

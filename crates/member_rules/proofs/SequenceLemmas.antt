@@ -32,10 +32,9 @@ sequence_one field alone example is = record {
   lawful = is;
   heads = λ v w is_v is_w rest left e.
       let pieces : field.bytes v ≡ field.bytes w = cc in
-      let tails : rest ≡ left = cc in
-      (
+      let tails : rest ≡ left = cc in (
         (alone (field.bytes v) v w [] [] (record { lawful = is_v; split = sym (append-nil (field.bytes v)) })
-        (record { lawful = is_w; split = pieces ∙ sym (append-nil (field.bytes w)) })).0,
+            (record { lawful = is_w; split = pieces ∙ sym (append-nil (field.bytes w)) })).0,
         tails,
       );
   same = λ v w is_v is_w R rest left more. Same-cons field.Is field.bytes alone v w is_v is_w rest left more;

@@ -1,5 +1,5 @@
 -- Fields one after another: what it means to read all of them, and where reading stops.
-use Rattle.std.specs.Prelude.{◌≡◌, ◌≢◌, ℕ, List, [], ◌∷◌, ◌++◌, Result, Ok, Err}
+use Rattle.std.specs.Prelude.{◌≡◌, ℕ, List, [], ◌∷◌, ◌++◌, Result, Ok, Err}
 use Rattle.atom_writer.specs.Pieced.{Pieced, IsRefused, text_of}
 use Rattle.atom_writer.specs.Pieces.{joined}
 use Rattle.atom_writer.specs.Reading.{BeginsWith}

@@ -1,5 +1,5 @@
 -- The fields of a removal in the order in which they are read.
-use Rattle.std.specs.Prelude.{ℕ, ℤ, List, [], ◌∷◌, ◌≤ℤ◌}
+use Rattle.std.specs.Prelude.{ℕ, ℤ, [], ◌∷◌, ◌≤ℤ◌}
 use Rattle.atom_values.specs.Stamp.{IsStamp}
 use Rattle.atom_writer.specs.Pieced.{Pieced}
 use Rattle.member_rules.specs.Coding.{number_field, stamp_field}

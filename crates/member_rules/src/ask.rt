@@ -24,7 +24,9 @@ impl Copies for Ask {
                 number: number.copy(alloc)?,
                 draft: draft.copy(alloc)?,
             }),
-            Ask::Delete { number } => Ok(Ask::Delete { number: number.copy(alloc)? }),
+            Ask::Delete { number } => Ok(Ask::Delete {
+                number: number.copy(alloc)?,
+            }),
         }
     }
 }

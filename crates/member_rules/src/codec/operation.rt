@@ -20,7 +20,9 @@ use std::alloc::Global;
 
 /// The first byte of each kind of operation.
 const ADD: u8 = 1;
+
 const CHANGE: u8 = 2;
+
 const REMOVE: u8 = 3;
 
 /// Adds the fields of the operation.

@@ -16,10 +16,12 @@ returns-in_err-content c =
 pub returns-then-not-is_shown : goal.returns-then-not-is_shown
 unfolding contents
 returns-then-not-is_shown c =
-    let of = c.args.links.now in
-    (refl, narrow_broken (optional construct) (contents of) (contents_narrows of) construct_option_one
-    c.args.unread.now.rest.now _ _ c.in_ok-content.ensures
-    (λ is. false≢true (sym c.if-not-is_shown.true ∙ c.is_shown.ensures ∙ is.1)))
+    let of = c.args.links.now in (
+      refl,
+      narrow_broken (optional construct) (contents of) (contents_narrows of) construct_option_one
+          c.args.unread.now.rest.now _ _ c.in_ok-content.ensures
+          (λ is. false≢true (sym c.if-not-is_shown.true ∙ c.is_shown.ensures ∙ is.1)),
+    )
 
 pub returns : goal.returns
 unfolding contents

@@ -1,7 +1,7 @@
-use Rattle.member_rules.specs.FieldLists.{one, both}
+use Rattle.member_rules.specs.FieldLists.{one}
 use Rattle.member_rules.specs.Fields.{counted, stamp}
 use Rattle.member_rules.specs.EntryFields.{dates, dates_value}
-use Rattle.member_rules.proofs.SequenceLemmas.{begun, then, one_read, stops_first, stopped_field, stopped_list}
+use Rattle.member_rules.proofs.SequenceLemmas.{begun, then, one_read, stops_first, stopped_field}
 use Rattle.member_rules.proofs.EntrySequences.{counted_sequence, counted_stops, stamp_sequence, stamp_stops, stamps_sequence}
 use Rattle.member_rules.proofs.codec.entry.read_dates.Goals as goal
 

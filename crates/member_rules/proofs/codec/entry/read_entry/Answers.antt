@@ -1,4 +1,3 @@
-use Rattle.std.proofs.Common.{refl}
 use Rattle.member_rules.specs.EntryFields.{front, lists, texts, front_value, lists_value, texts_value, entries}
 use Rattle.member_rules.proofs.SequenceLemmas.{then, stops_first, stopped_list}
 use Rattle.member_rules.proofs.EntrySequences.{front_sequence, lists_sequence, texts_sequence, later_sequence, entry_begun, whole}

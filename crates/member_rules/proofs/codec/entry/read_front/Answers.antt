@@ -1,4 +1,4 @@
-use Rattle.member_rules.specs.FieldLists.{one, both}
+use Rattle.member_rules.specs.FieldLists.{one}
 use Rattle.member_rules.specs.Fields.{construct, optional, stamp}
 use Rattle.member_rules.specs.EntryFields.{dates, front, front_value}
 use Rattle.member_rules.proofs.SequenceLemmas.{begun, then, one_read, stops_first, stopped_field, stopped_list}

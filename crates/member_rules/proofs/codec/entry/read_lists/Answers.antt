@@ -1,4 +1,4 @@
-use Rattle.member_rules.specs.FieldLists.{one, both}
+use Rattle.member_rules.specs.FieldLists.{one}
 use Rattle.atom_values.specs.Entry.{category_limit}
 use Rattle.member_rules.specs.Fields.{listed, category}
 use Rattle.member_rules.specs.EntryFields.{linked, persons, lists, lists_value}

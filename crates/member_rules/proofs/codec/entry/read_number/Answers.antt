@@ -10,9 +10,11 @@ returns-in_err-number c =
 
 pub returns-then-number-eq0 : goal.returns-then-number-eq0
 unfolding counted
-returns-then-number-eq0 c =
-    (refl, narrow_broken number counted counted_narrows number_one c.args.unread.now.rest.now _ _ c.in_ok-number.ensures
-    (λ is. omega (arith, is.0)))
+returns-then-number-eq0 c = (
+  refl,
+  narrow_broken number counted counted_narrows number_one c.args.unread.now.rest.now _ _ c.in_ok-number.ensures
+      (λ is. omega (arith, is.0)),
+)
 
 pub returns : goal.returns
 unfolding number counted

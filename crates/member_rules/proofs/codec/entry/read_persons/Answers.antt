@@ -1,8 +1,8 @@
-use Rattle.member_rules.specs.FieldLists.{one, both}
+use Rattle.member_rules.specs.FieldLists.{one}
 use Rattle.atom_values.specs.Entry.{person_limit}
 use Rattle.member_rules.specs.Fields.{listed, person}
 use Rattle.member_rules.specs.EntryFields.{persons, persons_value}
-use Rattle.member_rules.proofs.SequenceLemmas.{begun, then, one_read, stops_first, stopped_field, stopped_list}
+use Rattle.member_rules.proofs.SequenceLemmas.{begun, then, one_read, stops_first, stopped_field}
 use Rattle.member_rules.proofs.EntrySequences.{persons_sequence, persons_stops}
 use Rattle.member_rules.proofs.codec.entry.read_persons.Goals as goal
 

@@ -1,7 +1,7 @@
-use Rattle.member_rules.specs.FieldLists.{one, both}
+use Rattle.member_rules.specs.FieldLists.{one}
 use Rattle.member_rules.specs.Fields.{optional, construct}
 use Rattle.member_rules.specs.EntryFields.{contents, texts, texts_value}
-use Rattle.member_rules.proofs.SequenceLemmas.{begun, then, one_read, stops_first, stopped_field, stopped_list}
+use Rattle.member_rules.proofs.SequenceLemmas.{begun, then, one_read, stops_first, stopped_field}
 use Rattle.member_rules.proofs.EntrySequences.{construct_option_sequence, construct_option_stops, summary_sequence, contents_sequence, contents_stops}
 use Rattle.member_rules.proofs.codec.entry.read_texts.Goals as goal
 

@@ -13,9 +13,11 @@ returns-in_err-capacity c =
 
 pub returns-then-not-is_capacity : goal.returns-then-not-is_capacity
 unfolding capacity
-returns-then-not-is_capacity c =
-    (refl, narrow_broken size capacity capacity_narrows size_one c.args.unread.now.rest.now _ _ c.in_ok-capacity.ensures
-    (λ is. false≢true (sym c.if-not-is_capacity.true ∙ c.is_capacity.ensures.1 is)))
+returns-then-not-is_capacity c = (
+  refl,
+  narrow_broken size capacity capacity_narrows size_one c.args.unread.now.rest.now _ _ c.in_ok-capacity.ensures
+      (λ is. false≢true (sym c.if-not-is_capacity.true ∙ c.is_capacity.ensures.1 is)),
+)
 
 pub returns : goal.returns
 unfolding capacity

@@ -13,9 +13,11 @@ returns-in_err-created c =
 
 pub returns-then-millis-lt0 : goal.returns-then-millis-lt0
 unfolding created
-returns-then-millis-lt0 c =
-    (refl, narrow_broken stamp created created_narrows stamp_one c.args.unread.now.rest.now _ _ c.in_ok-created.ensures
-    (λ is. omega (arith, ints, is.1)))
+returns-then-millis-lt0 c = (
+  refl,
+  narrow_broken stamp created created_narrows stamp_one c.args.unread.now.rest.now _ _ c.in_ok-created.ensures
+      (λ is. omega (arith, ints, is.1)),
+)
 
 pub returns : goal.returns
 unfolding stamp created

@@ -1,6 +1,5 @@
-use Rattle.member_rules.specs.FieldLists.{one, both}
 use Rattle.member_rules.specs.HeadFields.{name_parts, settings, first_format, name_value, settings_value}
-use Rattle.member_rules.proofs.SequenceLemmas.{begun, then, one_read, stops_first, stopped_field, stopped_list}
+use Rattle.member_rules.proofs.SequenceLemmas.{then, stops_first, stopped_list}
 use Rattle.member_rules.proofs.HeadLemmas.{name_sequence, settings_sequence, head_begun, head_rules}
 use Rattle.member_rules.proofs.codec.head.read_head.Goals as goal
 

@@ -1,4 +1,4 @@
-use Rattle.member_rules.specs.FieldLists.{one, both}
+use Rattle.member_rules.specs.FieldLists.{one}
 use Rattle.member_rules.specs.HeadFields.{base, feed_id, titles, name_parts, name_value}
 use Rattle.member_rules.proofs.SequenceLemmas.{begun, then, one_read, stops_first, stopped_field, stopped_list}
 use Rattle.member_rules.proofs.HeadLemmas.{base_sequence, base_stops, id_titles_sequence, feed_id_sequence, feed_id_stops, titles_sequence}

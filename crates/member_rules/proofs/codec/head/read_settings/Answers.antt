@@ -1,6 +1,6 @@
-use Rattle.member_rules.specs.FieldLists.{one, both}
+use Rattle.member_rules.specs.FieldLists.{one}
 use Rattle.member_rules.specs.HeadFields.{window, capacity, created, settings, settings_value}
-use Rattle.member_rules.proofs.SequenceLemmas.{begun, then, one_read, stops_first, stopped_field, stopped_list}
+use Rattle.member_rules.proofs.SequenceLemmas.{begun, then, one_read, stops_first, stopped_field}
 use Rattle.member_rules.proofs.HeadLemmas.{window_sequence, window_stops, limits_sequence, capacity_sequence, capacity_stops, created_sequence, created_stops}
 use Rattle.member_rules.proofs.codec.head.read_settings.Goals as goal
 

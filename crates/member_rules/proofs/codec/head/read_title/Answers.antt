@@ -12,9 +12,11 @@ returns-in_err-title c =
 
 pub returns-then-bytes-gt-TITLE_LIMIT : goal.returns-then-bytes-gt-TITLE_LIMIT
 unfolding title
-returns-then-bytes-gt-TITLE_LIMIT c =
-    (refl, narrow_broken text title title_narrows text_one c.args.unread.now.rest.now _ _ c.in_ok-title.ensures
-    (λ is. omega (arith, is.1, ap length c.bytes.ensures.bytes)))
+returns-then-bytes-gt-TITLE_LIMIT c = (
+  refl,
+  narrow_broken text title title_narrows text_one c.args.unread.now.rest.now _ _ c.in_ok-title.ensures
+      (λ is. omega (arith, is.1, ap length c.bytes.ensures.bytes)),
+)
 
 pub returns : goal.returns
 unfolding text title

@@ -1,6 +1,6 @@
-use Rattle.member_rules.specs.FieldLists.{one, both}
+use Rattle.member_rules.specs.FieldLists.{one}
 use Rattle.member_rules.specs.HeadFields.{title, titles, titles_value}
-use Rattle.member_rules.proofs.SequenceLemmas.{begun, then, one_read, stops_first, stopped_field, stopped_list}
+use Rattle.member_rules.proofs.SequenceLemmas.{begun, then, one_read, stops_first, stopped_field}
 use Rattle.member_rules.proofs.HeadLemmas.{title_sequence, title_stops}
 use Rattle.member_rules.proofs.codec.head.read_titles.Goals as goal
 

@@ -13,9 +13,11 @@ returns-in_err-window c =
 
 pub returns-then-not-is_window : goal.returns-then-not-is_window
 unfolding window
-returns-then-not-is_window c =
-    (refl, narrow_broken number window window_narrows number_one c.args.unread.now.rest.now _ _ c.in_ok-window.ensures
-    (λ is. false≢true (sym c.if-not-is_window.true ∙ c.is_window.ensures.1 is)))
+returns-then-not-is_window c = (
+  refl,
+  narrow_broken number window window_narrows number_one c.args.unread.now.rest.now _ _ c.in_ok-window.ensures
+      (λ is. false≢true (sym c.if-not-is_window.true ∙ c.is_window.ensures.1 is)),
+)
 
 pub returns : goal.returns
 unfolding window

@@ -1,5 +1,4 @@
-use Rattle.std.proofs.Common.{◌≡◌, refl, sym, ap, subst, ◌∙◌, arith, length, length-append, List, [], ◌∷◌}
-use Rattle.atom_values.specs.Listed.{Listed}
+use Rattle.std.proofs.Common.{◌≡◌, refl, sym, ap, subst, ◌∙◌, arith, length, length-append, [], ◌∷◌}
 use Rattle.member_rules.specs.Fields.{byte, listed}
 use Rattle.member_rules.proofs.FieldLemmas.{stopped, IsGathered, listed_absent, listed_past, listed_stuck, listed_found, gathered_none, gathered_more, pushed_items}
 use Rattle.member_rules.proofs.codec.lists.read_list.Goals as goal
@@ -12,9 +11,11 @@ returns-in_err-count g c =
     (listed_absent field g.row.MAX _ (omega (arith, c.requires)))
 
 pub returns-then-from : goal.returns-then-from
-returns-then-from g c =
-    (refl, listed_past g.T.Coded.field g.row.MAX c.args.unread.now.rest.now _ _ c.in_ok-count.ensures
-    (omega (arith, c.from.ensures, c.if-from.true)))
+returns-then-from g c = (
+  refl,
+  listed_past g.T.Coded.field g.row.MAX c.args.unread.now.rest.now _ _ c.in_ok-count.ensures
+      (omega (arith, c.from.ensures, c.if-from.true)),
+)
 
 pub loop-init : goal.loop-init
 loop-init g c =
@@ -40,8 +41,12 @@ loop-preserved g c =
     record {
       gathered = gathered_more g.T.Coded.field c.args.unread.now.rest.now _ _ _ _ _ _ c.loop.invariant.gathered
           c.in_ok-read.ensures new;
-      size = omega (arith, ap length new, length-append c.loop.items.items (c.in_ok-read.field-0 ∷ []),
-          c.loop.invariant.size);
+      size = omega (
+        arith,
+        ap length new,
+        length-append c.loop.items.items (c.in_ok-read.field-0 ∷ []),
+        c.loop.invariant.size,
+      );
     }
 
 pub returns : goal.returns

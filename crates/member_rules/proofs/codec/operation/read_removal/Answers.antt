@@ -1,6 +1,5 @@
-use Rattle.std.proofs.Common.{ap}
 use Rattle.member_rules.specs.Fields.{counted, stamp}
-use Rattle.member_rules.specs.FieldLists.{one, both}
+use Rattle.member_rules.specs.FieldLists.{one}
 use Rattle.member_rules.specs.RemovalFields.{removals, stamp_from}
 use Rattle.member_rules.proofs.EntrySequences.{counted_sequence, counted_stops, stamp_sequence, stamp_stops}
 use Rattle.member_rules.proofs.OperationLemmas.{removal_begun, moments_sequence, moment_tail, from_stops}

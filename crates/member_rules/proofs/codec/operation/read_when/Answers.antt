@@ -14,9 +14,11 @@ returns-in_err-when c =
 
 pub returns-then-millis : goal.returns-then-millis
 unfolding stamp_from
-returns-then-millis c =
-    (refl, narrow_broken stamp (stamp_from c.args.moment) (from_narrows c.args.moment) stamp_one
-    c.args.unread.now.rest.now _ _ c.in_ok-when.ensures (λ is. omega (arith, ints, is.1)))
+returns-then-millis c = (
+  refl,
+  narrow_broken stamp (stamp_from c.args.moment) (from_narrows c.args.moment) stamp_one
+      c.args.unread.now.rest.now _ _ c.in_ok-when.ensures (λ is. omega (arith, ints, is.1)),
+)
 
 pub returns : goal.returns
 unfolding stamp stamp_from

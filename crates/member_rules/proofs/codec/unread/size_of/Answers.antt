@@ -1,4 +1,4 @@
-use Rattle.std.proofs.Common.{refl, rules}
+use Rattle.std.proofs.Common.{rules}
 use Rattle.std.proofs.lemmas.Nat.{be_bytes_8}
 use Rattle.member_rules.proofs.codec.unread.size_of.Goals as goal
 

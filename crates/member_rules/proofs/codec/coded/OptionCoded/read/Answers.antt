@@ -25,6 +25,8 @@ returns-in_ok-value-in-1 g c =
     c.in_ok-value-in-1.ensures
 
 pub returns-in_default : goal.returns-in_default
-returns-in_default g c =
-    (refl, optional_past g.T.Coded.field c.args.unread.now.rest.now _ _ c.in_ok-byte.ensures (omega arith)
-    (omega arith))
+returns-in_default g c = (
+  refl,
+  optional_past g.T.Coded.field c.args.unread.now.rest.now _ _ c.in_ok-byte.ensures (omega arith)
+      (omega arith),
+)

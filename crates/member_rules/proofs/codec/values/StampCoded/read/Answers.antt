@@ -9,9 +9,11 @@ returns-in_err-size c =
     (stamp_absent _)
 
 pub returns-in_default : goal.returns-in_default
-returns-in_default c =
-    (refl, stamp_past c.args.unread.now.rest.now _ _ c.in_ok-size.ensures
-    (λ z is same. let past = c.in_default.ensures.only z is same in absurd cc))
+returns-in_default c = (
+  refl,
+  stamp_past c.args.unread.now.rest.now _ _ c.in_ok-size.ensures
+      (λ z is same. let past = c.in_default.ensures.only z is same in absurd cc),
+)
 
 pub returns : goal.returns
 returns c =

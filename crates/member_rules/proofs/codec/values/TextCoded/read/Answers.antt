@@ -1,5 +1,5 @@
 use Rattle.member_rules.specs.Fields.{kind, text, construct}
-use Rattle.member_rules.proofs.FieldLemmas.{stopped, begun, then, kind_one, pair_absent, construct_begun}
+use Rattle.member_rules.proofs.FieldLemmas.{stopped, then, kind_one, pair_absent, construct_begun}
 use Rattle.member_rules.proofs.codec.values.TextCoded.read.Goals as goal
 
 pub returns-in_err-kind : goal.returns-in_err-kind
