@@ -210,7 +210,11 @@ fn refuses_a_changed_field_of_a_head(rt: HostRuntime) -> Result<(), Fail> {
 #[test]
 fn refuses_each_prefix_at_its_last_field(rt: HostRuntime) -> Result<(), Fail> {
     for end in 0..ADD.len() {
-        let field = ADD_FIELDS.iter().rev().find(|start| **start <= end).copied();
+        let field = ADD_FIELDS
+            .iter()
+            .rev()
+            .find(|start| **start <= end)
+            .copied();
         let refusal = operation_refusal(&rt, rt.alloc(), &ADD[..end])?;
         assert_eq!(rt; refusal, field, "{end}");
     }
@@ -218,7 +222,12 @@ fn refuses_each_prefix_at_its_last_field(rt: HostRuntime) -> Result<(), Fail> {
 }
 
 /// A title of this many bytes, as the last field before `rest`.
-fn long_title(alloc: Global, front: &[u8], length: u32, rest: &[u8]) -> Result<Vec<u8>, AllocError> {
+fn long_title(
+    alloc: Global,
+    front: &[u8],
+    length: u32,
+    rest: &[u8],
+) -> Result<Vec<u8>, AllocError> {
     let mut made = Vec::new(alloc);
     made.extend_from_slice(front)?;
     made.extend_from_slice(&length.to_be_bytes())?;

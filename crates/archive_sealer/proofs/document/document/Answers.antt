@@ -13,7 +13,7 @@ items-requires c = rw c.split_at.ensures.back
 pub unwrap-requires : goal.unwrap-requires
 unwrap-requires c =
     let name : c.in_ok-name.name ≡ c.args.head.now.name =
-    c.in_ok-name.ensures ∙ ap (λ (h : HeadValue). h.name) c.head.view_is in
+    c.in_ok-name.ensures.same ∙ ap (λ (h : HeadValue). h.name) c.head.view_is in
     let updated : c.plain_last_moment-updated.result ≡ last_moment c.args.head.now.created c.args.covered.now =
     c.plain_last_moment-updated.ensures ∙ ap (λ (h : HeadValue). last_moment h.created c.args.covered.now)
     c.head.view_is in
@@ -26,7 +26,7 @@ unwrap-requires c =
 pub returns : goal.returns
 returns c =
     let name : c.in_ok-name.name ≡ c.args.head.now.name =
-    c.in_ok-name.ensures ∙ ap (λ (h : HeadValue). h.name) c.head.view_is in
+    c.in_ok-name.ensures.same ∙ ap (λ (h : HeadValue). h.name) c.head.view_is in
     let updated : c.plain_last_moment-updated.result ≡ last_moment c.args.head.now.created c.args.covered.now =
     c.plain_last_moment-updated.ensures ∙ ap (λ (h : HeadValue). last_moment h.created c.args.covered.now)
     c.head.view_is in
