@@ -55,7 +55,7 @@ cond-short true s t most first second = first
 cond-short false s t most first second = second
 
 -- lists whose texts are short
-flat_map-short : {X : Type 0} (f : X → List ℕ) (most : ℕ) (xs : List X) → All (λ x. length (f x) ≤ most) xs
+pub flat_map-short : {X : Type 0} (f : X → List ℕ) (most : ℕ) (xs : List X) → All (λ x. length (f x) ≤ most) xs
     → length (flat_map f xs) ≤ most * length xs
 flat_map-short f most [] are = omega arith
 flat_map-short f most (x ∷ xs) are =

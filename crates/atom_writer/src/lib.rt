@@ -10,7 +10,8 @@
 //! ```
 //!
 //! A [`Doc`] keeps the rules of the chain. Its text is the canonical text that `specs/Pieces.antt` defines, byte for
-//! byte. [`doc_len`] and [`entry_len`] return the length of a text and take no memory.
+//! byte. [`doc_len`] and [`entry_len`] return the length of a text and take no memory. [`Out`] lets a crate above write its
+//! texts in the same way: one function counts the bytes and writes them.
 //!
 //! Stands on `atom_values`, `chain_links` and `deleted_entries`. Prints numbers with `itoa`.
 #![tactic(auto)]
@@ -33,4 +34,5 @@ mod write;
 pub use doc::{Doc, FeedName, Kind, MAX_ARCHIVE, MAX_ITEMS, is_placed};
 pub use item::entry_len;
 pub use member::write_member;
+pub use out::{Count, Out};
 pub use write::{doc_len, write_doc};

@@ -1,4 +1,4 @@
-ghost use Rattle.std.specs.Prelude.{◌≡◌, ◌≤◌, ◌≢◌, ◌↔◌, ◌<◌, ◌^◌, ℕ, List, Some, All, length, drop, IsSome, IfSome};
+ghost use Rattle.std.specs.Prelude.{◌≡◌, ◌≤◌, ◌≢◌, ◌↔◌, ◌<◌, ◌^◌, ℕ, List, Some, None, All, length, drop, IsSome, IfSome};
 ghost use Rattle.std.specs.Int.{from_be_bytes, w32};
 ghost use Rattle.deleted_entries.specs.FeedId.{IsFeedId, IsMemberId, version, member_version, feed_text, member_id};
 ghost use Rattle.uuid.specs.Text.{parsed};
@@ -49,6 +49,30 @@ impl FeedId {
         } else {
             Some(FeedId { uuid })
         }
+    }
+
+    /// The identifier of these sixteen bytes (RFC 9562 section 4). `None` exactly if its version is 8.
+    pub fn of(bytes: [u8; 16]) -> Option<FeedId>
+        ensures found { IfSome result (λ id. (id ≡ bytes) × IsFeedId bytes) }
+        ensures refused { result ≡ None → ¬ IsFeedId bytes }
+    {
+        bytes_fit(&bytes);
+        if bytes[6] / 16 == MEMBER_VERSION {
+            None
+        } else {
+            Some(FeedId {
+                uuid: Uuid::from_bytes(bytes),
+            })
+        }
+    }
+
+    /// The sixteen bytes (RFC 9562 section 4).
+    pub fn bytes(&self) -> [u8; 16]
+        ensures bytes { result ≡ self.now }
+        ensures rules { IsFeedId self.now }
+    {
+        bytes_fit(self.uuid.as_bytes());
+        *self.uuid.as_bytes()
     }
 
     /// The identifier's text in lower case with hyphens (RFC 9562 section 4).

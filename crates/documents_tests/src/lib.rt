@@ -6,6 +6,8 @@
 #[cfg(test)]
 mod chain;
 #[cfg(test)]
+mod codec;
+#[cfg(test)]
 mod reading;
 #[cfg(test)]
 mod rules;

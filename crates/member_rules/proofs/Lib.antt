@@ -36,3 +36,21 @@ pub mod ChainLinksLemmas
 pub mod LawLemmas
 -- serves `archives_stay`, `served_stays_served` and `served_are_documents`
 pub mod ServedLemmas
+-- serves `read_op` and `read_head`: each field has one value
+pub mod FieldLemmas
+-- serves `read_op`: the fields of persons, links and categories
+pub mod PartLemmas
+-- serves `read_op` and `read_head`: fields with more rules than others of the same bytes
+pub mod RuledLemmas
+-- serves `read_op` and `read_head`: lists of fields
+pub mod SequenceLemmas
+-- serves `read_op`: the fields of an entry, one after another
+pub mod EntrySequences
+-- serves `read_op` and `read_head`: the first byte tells what follows
+pub mod KindLemmas
+-- serves `read_op`: the kinds of operations
+pub mod OperationLemmas
+-- serves `op_bytes` and `head_bytes`, `bound`
+pub mod PayloadLemmas
+-- serves `read_head`: the fields of a head, one after another
+pub mod HeadLemmas

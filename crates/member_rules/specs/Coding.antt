@@ -15,6 +15,10 @@ use Rattle.member_rules.specs.Operation.{IsOperation}
 use Rattle.member_rules.specs.declared.operation.Op.{Op}
 use Rattle.member_rules.specs.declared.operation.Op.TheVariants.{Add, Change, Remove}
 
+-- the most bytes of an operation, and of a head
+abbrev pub payload_limit : ℕ
+payload_limit = 67_108_864
+
 -- the first byte of a head's bytes
 abbrev pub head_tag : ℕ
 head_tag = 1

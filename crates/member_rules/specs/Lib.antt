@@ -13,4 +13,10 @@ pub mod Shows
 pub mod Served
 pub mod Chain
 pub mod Coding
+pub mod Fields
+pub mod FieldFaults
+pub mod FieldLists
+pub mod EntryFields
+pub mod RemovalFields
+pub mod HeadFields
 pub mod Laws

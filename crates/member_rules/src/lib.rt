@@ -17,6 +17,7 @@
 #![tactic(auto)]
 
 mod ask;
+mod codec;
 mod decision;
 mod fault;
 mod head;
@@ -27,6 +28,7 @@ mod plain;
 mod state;
 
 pub use ask::Ask;
+pub use codec::{CodecFault, head_bytes, op_bytes, read_head, read_op};
 pub use decision::{ENTRY_LIMIT, decide};
 pub use fault::RuleFault;
 pub use head::{CAPACITY_FLOOR, CAPACITY_LIMIT, Head, TITLE_LIMIT, WINDOW_LIMIT};

@@ -1,0 +1,266 @@
+//! Tests of the bytes of operations and heads. The bytes are written by hand, field by field.
+use atom_values::{AtomText, Draft, Stamp};
+use member_rules::{CodecFault, Op, head_bytes, op_bytes, read_head, read_op};
+use std::alloc::{AllocError, Global};
+use std::process::Abort;
+use std::test::Fail;
+
+/// An operation of the kind Add with each field.
+static ADD: &[u8] = b"\x01\
+\x00\x00\x00\x03\
+\x00\x00\x3a\x16\x3e\xe9\xc8\x00\
+\x00\x00\x3a\x16\x3e\xe9\xcb\xe8\
+\x01\x00\x00\x00\x05<b>A \
+\x01\x00\x00\x38\x8a\x6f\x04\x5f\xff\
+\x02\x00\x00\x00\x01N\x01\x00\x00\x00\x01u\x01\x00\x00\x00\x01e\x00\x00\x00\x01M\x00\x00\
+\x01\x00\x00\x00\x01P\x00\x00\
+\x02\x00\x00\x00\x01h\x00\x00\x00\x03via\x01\x00\x00\x00\x01t\x01\x00\x00\x00\x02en\x00\x01\x00\x00\x00\x0212\
+\x00\x00\x00\x01u\x00\x00\x00\x09alternate\x00\x00\x00\x00\
+\x01\x00\x00\x00\x01t\x01\x00\x00\x00\x01s\x00\
+\x01\x00\x00\x00\x00\x01r\
+\x01\x01\x00\x00\x00\x01s\
+\x00";
+
+/// Where the fields of that operation begin.
+static ADD_FIELDS: [usize; 13] = [0, 1, 5, 13, 21, 31, 40, 65, 73, 129, 142, 149, 156];
+
+/// An operation of the kind Change with a title and empty content.
+static CHANGE: &[u8] = b"\x02\
+\x00\x00\x00\x01\
+\x00\x00\x3a\x16\x3e\xe9\xc8\x00\
+\x00\x00\x3a\x16\x3e\xe9\xcb\xe8\
+\x00\x00\x00\x00\x01A\
+\x00\
+\x00\
+\x00\
+\x00\
+\x00\
+\x00\
+\x00\
+\x01\x00\x00\x00\x00\x00";
+
+/// An operation of the kind Remove, with the same moment twice.
+static REMOVE: &[u8] = b"\x03\
+\x00\x00\x00\x02\
+\x00\x00\x3a\x16\x3e\xe9\xc8\x00\
+\x00\x00\x3a\x16\x3e\xe9\xc8\x00";
+
+static HEAD: &[u8] = b"\x01\
+\x00\x00\x00\x14http://feed.example/\
+\x6d\x1f\x0c\x5a\x93\xbe\x4c\x27\x8d\x10\x2b\x7f\x9e\x4a\x5c\x36\
+\x00\x00\x00\x04Feed\
+\x00\x00\x00\x06Editor\
+\x00\x00\x00\x0a\
+\x00\x00\x00\x00\x40\x00\x00\x00\
+\x00\x00\x38\x8a\x6f\x04\x60\x00";
+
+/// The first byte that is replaced, how many bytes are replaced, the bytes in their place, and the offset of the
+/// refusal, if one is expected.
+type Change = (usize, usize, &'static [u8], Option<usize>);
+
+static CHANGE_CHANGES: [Change; 30] = [
+    (0, 1, b"\x00", Some(0)),
+    (0, 1, b"\x01", None),
+    (0, 1, b"\x04", Some(0)),
+    (1, 4, b"\x00\x00\x00\x00", Some(1)),
+    (1, 4, b"\xff\xff\xff\xff", None),
+    (5, 8, b"\x00\x01\x1f\x02\x41\x24\x3b\xff", None),
+    (5, 8, b"\x00\x01\x1f\x02\x41\x24\x3c\x00", Some(5)),
+    (5, 8, b"\xff\xff\xff\xff\xff\xff\xff\xff", Some(5)),
+    (13, 8, b"\x00\x01\x1f\x02\x41\x24\x3c\x00", Some(13)),
+    (21, 1, b"\x02", Some(21)),
+    (22, 4, b"\xff\xff\xff\xff", Some(21)),
+    (26, 1, b"\x01", Some(21)),
+    (26, 1, b"\xff", Some(21)),
+    (27, 1, b"\x02", Some(27)),
+    (27, 1, b"\x01\x00\x01\x1f\x02\x41\x24\x3c\x00", Some(27)),
+    (27, 1, b"\x01\x00\x00\x00\x00\x00\x00\x00\x00", None),
+    (28, 1, b"\x11", Some(28)),
+    (29, 1, b"\xff", Some(29)),
+    (29, 1, b"\x01\x00\x00\x00\x01P\x02\x00", Some(29)),
+    (
+        30,
+        1,
+        b"\x01\x00\x00\x00\x01u\x00\x00\x00\x04edit\x00\x00\x00\x00",
+        Some(30),
+    ),
+    (
+        30,
+        1,
+        b"\x01\x00\x00\x00\x01u\x00\x00\x00\x04Edit\x00\x00\x00\x00",
+        None,
+    ),
+    (30, 1, b"\x21", Some(30)),
+    (31, 1, b"\x41", Some(31)),
+    (32, 1, b"\x02", Some(32)),
+    (32, 1, b"\x01\x02\x00\x00\x00\x00", Some(32)),
+    (33, 1, b"\x03", Some(33)),
+    (34, 6, b"\x00", Some(34)),
+    (34, 1, b"\x02", Some(34)),
+    (40, 0, b"\x00", Some(40)),
+    (40, 0, b"\x02\x00", Some(40)),
+];
+
+static ADD_CHANGES: [Change; 4] = [
+    (124, 1, b"f", Some(156)),
+    (156, 1, b"\x01\x01\x00\x00\x00\x00", None),
+    (41, 4, b"\x00\x00\xff\xff", Some(40)),
+    (157, 0, b"\x00", Some(157)),
+];
+
+static REMOVE_CHANGES: [Change; 6] = [
+    (1, 4, b"\x00\x00\x00\x00", Some(1)),
+    (5, 8, b"\x00\x01\x1f\x02\x41\x24\x3c\x00", Some(5)),
+    (12, 1, b"\x01", Some(13)),
+    (20, 1, b"\x01", None),
+    (13, 8, b"\x00\x01\x1f\x02\x41\x24\x3c\x00", Some(13)),
+    (21, 0, b"\x00", Some(21)),
+];
+
+static HEAD_CHANGES: [Change; 18] = [
+    (0, 1, b"\x02", Some(0)),
+    (5, 1, b"H", Some(1)),
+    (1, 24, b"\x00\x00\x00\x00", Some(1)),
+    (31, 1, b"\x8c", Some(25)),
+    (31, 1, b"\x7c", None),
+    (45, 1, b"\x00", Some(41)),
+    (41, 4, b"\x00\x01\x00\x00", Some(41)),
+    (49, 10, b"\x00\x00\x00\x00", None),
+    (59, 4, b"\x00\x00\x00\x00", Some(59)),
+    (59, 4, b"\x00\x00\x00\x64", None),
+    (59, 4, b"\x00\x00\x00\x65", Some(59)),
+    (63, 8, b"\x00\x00\x00\x00\x00\x00\x0f\xff", Some(63)),
+    (63, 8, b"\x00\x00\x00\x00\x00\x00\x10\x00", None),
+    (63, 8, b"\x00\x00\x00\x10\x00\x00\x00\x00", None),
+    (63, 8, b"\x00\x00\x00\x10\x00\x00\x00\x01", Some(63)),
+    (71, 8, b"\x00\x00\x38\x8a\x6f\x04\x5f\xff", Some(71)),
+    (71, 8, b"\x00\x01\x1f\x02\x41\x24\x3c\x00", Some(71)),
+    (79, 0, b"\x00", Some(79)),
+];
+
+/// The bytes with some replaced.
+fn changed(alloc: Global, bytes: &[u8], change: &Change) -> Result<Vec<u8>, AllocError> {
+    let (at, count, new, _) = *change;
+    let front = bytes.get(..at).unwrap_or(bytes);
+    let back = bytes.get(at.saturating_add(count)..).unwrap_or(b"");
+    let mut made = Vec::new(alloc);
+    made.extend_from_slice(front)?;
+    made.extend_from_slice(new)?;
+    made.extend_from_slice(back)?;
+    Ok(made)
+}
+
+/// The offset at which the bytes are refused as an operation, or `None` if they are read and written back as they were.
+fn operation_refusal(rt: &impl Abort, alloc: Global, bytes: &[u8]) -> Result<Option<usize>, Fail> {
+    match read_op(alloc, bytes) {
+        Ok(operation) => {
+            let written = op_bytes(alloc, &operation)?;
+            assert_eq!(rt; written.as_slice(), bytes);
+            Ok(None)
+        }
+        Err(CodecFault::BadField { at }) => Ok(Some(at)),
+        Err(CodecFault::NoMemory) => panic!(rt; "out of memory"),
+    }
+}
+
+/// The same of a head.
+fn head_refusal(rt: &impl Abort, alloc: Global, bytes: &[u8]) -> Result<Option<usize>, Fail> {
+    match read_head(alloc, bytes) {
+        Ok(head) => {
+            let written = head_bytes(alloc, &head)?;
+            assert_eq!(rt; written.as_slice(), bytes);
+            Ok(None)
+        }
+        Err(CodecFault::BadField { at }) => Ok(Some(at)),
+        Err(CodecFault::NoMemory) => panic!(rt; "out of memory"),
+    }
+}
+
+#[test]
+fn refuses_a_changed_field_of_an_operation(rt: HostRuntime) -> Result<(), Fail> {
+    let alloc = rt.alloc();
+    let cases: [(&[u8], &[Change]); 3] = [
+        (ADD, &ADD_CHANGES),
+        (CHANGE, &CHANGE_CHANGES),
+        (REMOVE, &REMOVE_CHANGES),
+    ];
+    for (bytes, changes) in cases {
+        assert_eq!(rt; operation_refusal(&rt, alloc, bytes)?, None);
+        for change in changes {
+            let made = changed(alloc, bytes, change)?;
+            let refusal = operation_refusal(&rt, alloc, made.as_slice())?;
+            assert_eq!(rt; refusal, change.3, "{} {:?}", change.0, change.2);
+        }
+    }
+    Ok(())
+}
+
+#[test]
+fn refuses_a_changed_field_of_a_head(rt: HostRuntime) -> Result<(), Fail> {
+    let alloc = rt.alloc();
+    assert_eq!(rt; head_refusal(&rt, alloc, HEAD)?, None);
+    for change in &HEAD_CHANGES {
+        let made = changed(alloc, HEAD, change)?;
+        let refusal = head_refusal(&rt, alloc, made.as_slice())?;
+        assert_eq!(rt; refusal, change.3, "{} {:?}", change.0, change.2);
+    }
+    Ok(())
+}
+
+#[test]
+fn refuses_each_prefix_at_its_last_field(rt: HostRuntime) -> Result<(), Fail> {
+    for end in 0..ADD.len() {
+        let field = ADD_FIELDS
+            .iter()
+            .rev()
+            .find(|start| **start <= end)
+            .copied();
+        let refusal = operation_refusal(&rt, rt.alloc(), &ADD[..end])?;
+        assert_eq!(rt; refusal, field, "{end}");
+    }
+    Ok(())
+}
+
+/// A title of this many bytes, as the last field before `rest`.
+fn long_title(
+    alloc: Global,
+    front: &[u8],
+    length: u32,
+    rest: &[u8],
+) -> Result<Vec<u8>, AllocError> {
+    let mut made = Vec::new(alloc);
+    made.extend_from_slice(front)?;
+    made.extend_from_slice(&length.to_be_bytes())?;
+    for _ in 0..length {
+        made.push(b'a')?;
+    }
+    made.extend_from_slice(rest)?;
+    Ok(made)
+}
+
+#[test]
+fn texts_have_limits(rt: HostRuntime) -> Result<(), Fail> {
+    let alloc = rt.alloc();
+    for (length, refused) in [(65_536, None), (65_537, Some(21))] {
+        let made = long_title(alloc, &CHANGE[..22], length, &CHANGE[27..])?;
+        assert_eq!(rt; operation_refusal(&rt, alloc, made.as_slice())?, refused);
+    }
+    for (length, refused) in [(1_024, None), (1_025, Some(41))] {
+        let made = long_title(alloc, &HEAD[..41], length, &HEAD[49..])?;
+        assert_eq!(rt; head_refusal(&rt, alloc, made.as_slice())?, refused);
+    }
+    Ok(())
+}
+
+/// The operation of the bytes of [`CHANGE`] is made by other calls, so it isn't the reader that says what they mean.
+#[test]
+fn writes_an_operation_that_was_made(rt: HostRuntime) -> Result<(), Fail> {
+    let title = AtomText::of(rt.alloc(), b"A")?;
+    let mut draft = Draft::titled(rt.alloc(), title);
+    draft.updated = Stamp::new(1_700_000_001_000);
+    let edited = Stamp::new(1_700_000_000_000).ok_or("no moment")?;
+    let operation = Op::Change(draft.normal(1, edited, None));
+    let written = op_bytes(rt.alloc(), &operation)?;
+    assert_eq!(rt; written.as_slice(), CHANGE);
+    Ok(())
+}

@@ -1,0 +1,202 @@
+ghost use Rattle.std.specs.Prelude.{◌≤◌, ◌↔◌, IsTrue, OnOk, OnErr};
+ghost use Rattle.atom_writer.specs.Pieced.{text_of};
+ghost use Rattle.member_rules.specs.Coding.{heads};
+ghost use Rattle.member_rules.specs.FieldLists.{ReadsAll, ReadsWhole};
+ghost use Rattle.member_rules.specs.Fields.{Reads};
+ghost use Rattle.member_rules.specs.Head.{IsHead};
+ghost use Rattle.member_rules.specs.HeadFields.{base, capacity, created, feed_id, first_format, name_parts, name_value, settings, settings_value, title, titles, titles_value, window};
+
+use crate::codec::bytes::{push_bytes, push_number, push_size};
+use crate::codec::coded::Coded;
+use crate::codec::fault::FieldFault;
+use crate::codec::head_fields::{Settings, Titles};
+use crate::codec::unread::Unread;
+use crate::head::{CAPACITY_FLOOR, CAPACITY_LIMIT, Head, TITLE_LIMIT, WINDOW_LIMIT};
+use atom_values::{AtomText, NoMemory, Stamp};
+use atom_writer::{FeedName, Out};
+use chain_links::Base;
+use deleted_entries::FeedId;
+use std::alloc::Global;
+
+/// The first byte of a head, for its one format.
+const HEAD: u8 = 1;
+
+/// Adds the fields of the head.
+pub(crate) fn push_head<W: Out>(out: &mut W, head: &Head) -> Result<(), NoMemory>
+    ensures added { OnOk result (W.adds out.old out.new (text_of heads head.now)) }
+    ensures failed { OnErr result W.can_fail }
+    ensures rules { OnOk result ∥ IsHead head.now ∥₁ }
+{
+    out.push(&[HEAD])?;
+    push_bytes(out, head.name.base.text())?;
+    out.push(&head.name.id.bytes())?;
+    head.name.title.push(out)?;
+    head.name.author.push(out)?;
+    push_number(out, head.window)?;
+    push_size(out, head.capacity)?;
+    head.created.push(out)?;
+    Ok(())
+}
+
+/// Reads the fields of a head, which are all the bytes.
+pub(crate) fn read_whole(alloc: Global, unread: &mut Unread) -> Result<Head, FieldFault>
+    ensures { ReadsWhole heads unread.old.rest.now result unread.new.rest.now }
+{
+    let head = read_format(alloc, unread)?;
+    if !unread.rest.is_empty() {
+        return Err(FieldFault::Mismatch);
+    }
+    Ok(head)
+}
+
+/// Reads the fields of a head, by the format that its first byte names.
+fn read_format(alloc: Global, unread: &mut Unread) -> Result<Head, FieldFault>
+    ensures { ReadsAll (λ head. head) heads unread.old.rest.now result unread.new.rest.now }
+{
+    if unread.tag(HEAD) {
+        return Ok(read_head(alloc, unread)?);
+    }
+    Err(FieldFault::Mismatch)
+}
+
+/// Reads the fields of a head after its first byte.
+fn read_head(alloc: Global, unread: &mut Unread) -> Result<Head, FieldFault>
+    ensures { ReadsAll (λ head. head) first_format unread.old.rest.now result unread.new.rest.now }
+{
+    let name = read_name(alloc, unread)?;
+    let settings = read_settings(alloc, unread)?;
+    Ok(Head {
+        name,
+        window: settings.window,
+        capacity: settings.capacity,
+        created: settings.created,
+    })
+}
+
+/// Reads the name of the feed.
+fn read_name(alloc: Global, unread: &mut Unread) -> Result<FeedName, FieldFault>
+    ensures { ReadsAll name_value name_parts unread.old.rest.now result unread.new.rest.now }
+{
+    let base = read_base(alloc, unread)?;
+    let id = read_id(unread)?;
+    let titles = read_titles(alloc, unread)?;
+    Ok(FeedName {
+        base,
+        id,
+        title: titles.title,
+        author: titles.author,
+    })
+}
+
+/// Reads the two texts of a feed's name.
+fn read_titles(alloc: Global, unread: &mut Unread) -> Result<Titles, FieldFault>
+    ensures { ReadsAll titles_value titles unread.old.rest.now result unread.new.rest.now }
+{
+    let title = read_title(alloc, unread)?;
+    let author = read_title(alloc, unread)?;
+    Ok(Titles { title, author })
+}
+
+/// Reads the fields of a head after the feed's name.
+fn read_settings(alloc: Global, unread: &mut Unread) -> Result<Settings, FieldFault>
+    ensures { ReadsAll settings_value settings unread.old.rest.now result unread.new.rest.now }
+{
+    let window = read_window(unread)?;
+    let capacity = read_capacity(unread)?;
+    let created = read_created(alloc, unread)?;
+    Ok(Settings {
+        window,
+        capacity,
+        created,
+    })
+}
+
+/// Reads a base address.
+fn read_base(alloc: Global, unread: &mut Unread) -> Result<Base, FieldFault>
+    ensures { Reads base unread.old.rest.now result unread.new.rest.now }
+{
+    let mut left = *unread;
+    let base = Base::parse(alloc, left.text()?)?;
+    *unread = left;
+    Ok(base)
+}
+
+/// Reads a feed's identifier.
+fn read_id(unread: &mut Unread) -> Result<FeedId, FieldFault>
+    ensures { Reads feed_id unread.old.rest.now result unread.new.rest.now }
+{
+    let Some((bytes, rest)) = unread.rest.split_first_chunk::<16>() else {
+        return Err(FieldFault::Mismatch);
+    };
+    let Some(id) = FeedId::of(*bytes) else {
+        return Err(FieldFault::Mismatch);
+    };
+    unread.rest = rest;
+    Ok(id)
+}
+
+/// Reads a text of at most `TITLE_LIMIT` bytes.
+fn read_title(alloc: Global, unread: &mut Unread) -> Result<AtomText, FieldFault>
+    ensures { Reads title unread.old.rest.now result unread.new.rest.now }
+{
+    let mut left = *unread;
+    let title = AtomText::read(alloc, &mut left)?;
+    if title.bytes().len() > TITLE_LIMIT {
+        return Err(FieldFault::Mismatch);
+    }
+    *unread = left;
+    Ok(title)
+}
+
+/// Whether a window may have this many operations.
+fn is_window(window: u32) -> bool
+    ensures { IsTrue result ↔ ((1 ≤ window) × (window ≤ WINDOW_LIMIT)) }
+{
+    window >= 1 && window <= WINDOW_LIMIT
+}
+
+/// Whether an area may be limited to this many bytes.
+fn is_capacity(capacity: u64) -> bool
+    ensures { IsTrue result ↔ ((CAPACITY_FLOOR ≤ capacity) × (capacity ≤ CAPACITY_LIMIT)) }
+{
+    capacity >= CAPACITY_FLOOR && capacity <= CAPACITY_LIMIT
+}
+
+/// Reads the number of operations of a window.
+fn read_window(unread: &mut Unread) -> Result<u32, FieldFault>
+    ensures { Reads window unread.old.rest.now result unread.new.rest.now }
+{
+    let mut left = *unread;
+    let window = left.number()?;
+    if !is_window(window) {
+        return Err(FieldFault::Mismatch);
+    }
+    *unread = left;
+    Ok(window)
+}
+
+/// Reads the number of bytes that an area may have.
+fn read_capacity(unread: &mut Unread) -> Result<u64, FieldFault>
+    ensures { Reads capacity unread.old.rest.now result unread.new.rest.now }
+{
+    let mut left = *unread;
+    let capacity = left.size()?;
+    if !is_capacity(capacity) {
+        return Err(FieldFault::Mismatch);
+    }
+    *unread = left;
+    Ok(capacity)
+}
+
+/// Reads when the feed was made, which isn't before 1970.
+fn read_created(alloc: Global, unread: &mut Unread) -> Result<Stamp, FieldFault>
+    ensures { Reads created unread.old.rest.now result unread.new.rest.now }
+{
+    let mut left = *unread;
+    let created = Stamp::read(alloc, &mut left)?;
+    if created.millis() < 0 {
+        return Err(FieldFault::Mismatch);
+    }
+    *unread = left;
+    Ok(created)
+}

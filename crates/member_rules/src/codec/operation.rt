@@ -1,0 +1,116 @@
+ghost use Rattle.std.specs.Prelude.{◌≡◌, ◌≤ℤ◌, ℕ, OnOk, OnErr};
+ghost use Rattle.atom_writer.specs.Pieced.{text_of};
+ghost use Rattle.member_rules.specs.Coding.{operations};
+ghost use Rattle.member_rules.specs.FieldLists.{ReadsAll, ReadsWhole};
+ghost use Rattle.member_rules.specs.Fields.{Reads};
+ghost use Rattle.member_rules.specs.Operation.{IsOperation};
+ghost use Rattle.member_rules.specs.Removal.{IsRemoval};
+ghost use Rattle.member_rules.specs.RemovalFields.{removals, stamp_from};
+
+use crate::codec::bytes::push_number;
+use crate::codec::coded::Coded;
+use crate::codec::entry::{push_entry, read_entry, read_number};
+use crate::codec::fault::FieldFault;
+use crate::codec::unread::Unread;
+use crate::operation::{Op, Removal};
+use atom_values::{NoMemory, Stamp};
+use atom_writer::Out;
+use deleted_entries::Tombstone;
+use std::alloc::Global;
+
+/// The first byte of each kind of operation.
+const ADD: u8 = 1;
+
+const CHANGE: u8 = 2;
+
+const REMOVE: u8 = 3;
+
+/// Adds the fields of the operation.
+pub(crate) fn push_operation<W: Out>(out: &mut W, operation: &Op) -> Result<(), NoMemory>
+    ensures added { OnOk result (W.adds out.old out.new (text_of operations operation.now)) }
+    ensures failed { OnErr result W.can_fail }
+    ensures rules { OnOk result (IsOperation operation.now) }
+{
+    match operation {
+        Op::Add(entry) => {
+            out.push(&[ADD])?;
+            push_entry(out, entry)?;
+            Ok(())
+        }
+        Op::Change(entry) => {
+            out.push(&[CHANGE])?;
+            push_entry(out, entry)?;
+            Ok(())
+        }
+        Op::Remove(removal) => {
+            out.push(&[REMOVE])?;
+            push_removal(out, removal)?;
+            Ok(())
+        }
+    }
+}
+
+/// Adds the fields of the removal.
+fn push_removal<W: Out>(out: &mut W, removal: &Removal) -> Result<(), NoMemory>
+    ensures added { OnOk result (W.adds out.old out.new (text_of removals removal.now)) }
+    ensures failed { OnErr result W.can_fail }
+    ensures rules { OnOk result (IsRemoval removal.now) }
+{
+    push_number(out, removal.tombstone.number)?;
+    removal.moment.push(out)?;
+    removal.tombstone.when.push(out)?;
+    Ok(())
+}
+
+/// Reads the fields of an operation, which are all the bytes.
+pub(crate) fn read_whole(alloc: Global, unread: &mut Unread) -> Result<Op, FieldFault>
+    ensures { ReadsWhole operations unread.old.rest.now result unread.new.rest.now }
+{
+    let operation = read_operation(alloc, unread)?;
+    if !unread.rest.is_empty() {
+        return Err(FieldFault::Mismatch);
+    }
+    Ok(operation)
+}
+
+/// Reads the fields of an operation, by the kind that its first byte names.
+fn read_operation(alloc: Global, unread: &mut Unread) -> Result<Op, FieldFault>
+    ensures { ReadsAll (λ operation. operation) operations unread.old.rest.now result unread.new.rest.now }
+{
+    if unread.tag(ADD) {
+        return Ok(Op::Add(read_entry(alloc, unread)?));
+    }
+    if unread.tag(CHANGE) {
+        return Ok(Op::Change(read_entry(alloc, unread)?));
+    }
+    if unread.tag(REMOVE) {
+        return Ok(Op::Remove(read_removal(alloc, unread)?));
+    }
+    Err(FieldFault::Mismatch)
+}
+
+/// Reads the fields of a removal.
+fn read_removal(alloc: Global, unread: &mut Unread) -> Result<Removal, FieldFault>
+    ensures { ReadsAll (λ removal. removal) removals unread.old.rest.now result unread.new.rest.now }
+{
+    let number = read_number(unread)?;
+    let moment = Stamp::read(alloc, unread)?;
+    let when = read_when(alloc, unread, moment)?;
+    Ok(Removal {
+        tombstone: Tombstone { number, when },
+        moment,
+    })
+}
+
+/// Reads a timestamp that isn't before the moment.
+fn read_when(alloc: Global, unread: &mut Unread, moment: Stamp) -> Result<Stamp, FieldFault>
+    ensures { Reads (stamp_from moment) unread.old.rest.now result unread.new.rest.now }
+{
+    let mut left = *unread;
+    let when = Stamp::read(alloc, &mut left)?;
+    if when.millis() < moment.millis() {
+        return Err(FieldFault::Mismatch);
+    }
+    *unread = left;
+    Ok(when)
+}
