@@ -17,11 +17,6 @@ use Rattle.member_rules.proofs.PartLemmas.{person_one, category_one}
 use Rattle.member_rules.proofs.RuledLemmas.{counted_one, linked_one, contents_one, construct_option_one}
 use Rattle.member_rules.proofs.SequenceLemmas.{IsSequence, Continues, Renames, sequence_one, sequence_both, sequence_compared, stops_one, renamed, renamed_compared}
 
--- a value of each field, and so a list of it alone
-module _ {A : Type 0} (field : Field A) (alone : HasOneValue field) (example : A) (is : field.Is example) where
-  pub single : IsSequence (one field)
-  single = sequence_one field alone example is
-
 counted_is : counted.Is 1
 unfolding counted
 counted_is = (omega arith, omega arith)

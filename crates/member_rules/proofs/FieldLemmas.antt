@@ -117,14 +117,6 @@ stopped part view whole at after input NoMemory (Err x) s same f =
     let P : FieldFault → Type 0 = λ k. IsFault whole input k input in
     subst P (sym same) tt
 
--- memory ran out
-pub no_memory : {B C : Type 0} (view : C → B) (whole : Field B) (input rest : List ℕ) (r : Result C FieldFault)
-    → IsErrAnd r (λ s. s ≡ NoMemory) → ReadsAs view whole input r rest
-no_memory view whole input rest (Ok x) same = absurd same
-no_memory view whole input rest (Err x) same =
-    let P : FieldFault → Type 0 = λ k. IsFault whole input k rest in
-    subst P (sym same) tt
-
 -- two fields, one after the other
 unfoldable pub pair : {A B : Type 0} → Field A → Field B → Field (A × B)
 pair first second = record {
@@ -150,7 +142,8 @@ pair_absent first second input none other left is e =
     none other.0 (second.bytes other.1 ++ left) is.0 (e
     ∙ append_assoc (first.bytes other.0) (second.bytes other.1) left)
 
-pub pair_stuck : {A B : Type 0} (first : Field A) (second : Field B) → HasOneValue first → (input middle : List ℕ) (a : A)
+pub pair_stuck : {A B : Type 0} (first : Field A) (second : Field B) → HasOneValue first → (input middle : List ℕ)
+    (a : A)
     → BeginsWith first.Is first.bytes input a middle → IsAbsent second middle → IsAbsent (pair first second) input
 unfolding pair
 pair_stuck first second one input middle a found none other left is e =
@@ -510,7 +503,8 @@ module _ {A : Type 0} (field : Field A) where
     pub lawful : All field.Is items
     pub split : input ≡ count ∷ (flat_map field.bytes items ++ rest)
 
-  pub listed_absent : (most : ℕ) (input : List ℕ) → most < 256 → IsAbsent byte input → IsAbsent (listed most field) input
+  pub listed_absent : (most : ℕ) (input : List ℕ) → most < 256 → IsAbsent byte input → IsAbsent
+      (listed most field) input
   unfolding byte listed
   listed_absent most input small none other left is e =
       none (length other) (flat_map field.bytes other ++ left) (omega (arith, is.0)) e

@@ -15,13 +15,15 @@ pub record IsKind {A O : Type 0} (whole : Pieced O) (tag : ℕ) (part : Pieced A
   pub only : (o : O) (behind more : List (List ℕ)) → whole.pieces o ++ behind ≡ (tag ∷ []) ∷ more
       → (a : A) × (o ≡ into a)
 
-module _ {A O : Type 0} (whole : Pieced O) (tag : ℕ) (part : Pieced A) (into : A → O) (kind : IsKind whole tag part into)
+module _ {A O : Type 0} (whole : Pieced O) (tag : ℕ) (part : Pieced A) (into : A → O)
+    (kind : IsKind whole tag part into)
     (input middle : List ℕ) (tagged : input ≡ tag ∷ middle) where
   pub kind_found : (a : A) (rest : List ℕ) → BeginsWith part.Is (text_of part) middle a rest
       → BeginsWith whole.Is (text_of whole) input (into a) rest
   kind_found a rest f = record {
     lawful = kind.is a f.lawful;
-    split = tagged ∙ ap (λ z. tag ∷ z) f.split ∙ ap (λ (z : List ℕ). z ++ rest) (sym (joined-cons (tag ∷ []) (part.pieces a)))
+    split = tagged ∙ ap (λ z. tag ∷ z) f.split ∙ ap (λ (z : List ℕ). z ++ rest) (sym (joined-cons (tag ∷ [])
+        (part.pieces a)))
         ∙ ap (λ z. joined z ++ rest) (sym (kind.pieces a));
   }
 

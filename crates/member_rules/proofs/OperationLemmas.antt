@@ -161,15 +161,6 @@ tag_small (Add entry) = omega arith
 tag_small (Change entry) = omega arith
 tag_small (Remove removal) = omega arith
 
-tag_first : (a b : Op) → Same (body_of a) (body_of b) (a ≡ b)
-    → Same (byte.bytes (tag_of a) ∷ body_of a) (byte.bytes (tag_of b) ∷ body_of b) (a ≡ b)
-    → Same (operation_fields a) (operation_fields b) (a ≡ b)
-unfolding byte
-tag_first a b _ s =
-    let P : List (List ℕ) → Type 0 = λ z. Same z (operation_fields b) (a ≡ b) in
-    let Q : List (List ℕ) → Type 0 = λ z. Same ((tag_of a ∷ []) ∷ body_of a) z (a ≡ b) in
-    subst P (sym (fields-is a)) (subst Q (sym (fields-is b)) s)
-
 pub operations_compared : AreCompared operations
 unfolding byte
 operations_compared a b is_a is_b =

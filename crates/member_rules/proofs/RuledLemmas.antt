@@ -109,11 +109,6 @@ base_refused view input middle bytes NoRoom (Err x) found is same =
     let P : FieldFault → Type 0 = λ k. IsFault base input k input in
     subst P (sym same) tt
 
-pub none_shown : (a b : Bool) → a ≡ false → b ≡ false → ¬ IsTrue (a || b)
-none_shown false false x y is = false≢true is
-none_shown false true x y is = absurd (false≢true (sym y))
-none_shown true b x y is = absurd (false≢true (sym x))
-
 pub id_short : (input : List ℕ) → length input < 16 → IsAbsent feed_id input
 unfolding feed_id
 id_short input short other left is e = omega (arith, short, ap length e, length-append other left, is.size)

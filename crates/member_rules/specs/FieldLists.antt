@@ -31,8 +31,8 @@ pub record StopsAt {A : Type 0} (pieced : Pieced A) (input rest : List ℕ) : Ty
   pub stuck : (other : A) → pieced.Is other → (behind : List (List ℕ)) (field after : List ℕ) (left : List (List ℕ))
       → pieced.pieces other ++ behind ≡ read ++ field ∷ left → rest ≡ field ++ after → ⊥
 
--- the fault has its cause: on a mismatch `rest` begins with the field that can't stand there; out of memory has no cause
--- in the input
+-- the fault has its cause: on a mismatch `rest` begins with the field that can't stand there; out of memory has no
+-- cause in the input
 abbrev pub IsFault : {A : Type 0} → Pieced A → List ℕ → FieldFault → List ℕ → Type 0
 IsFault pieced input Mismatch rest = StopsAt pieced input rest
 IsFault pieced input NoMemory rest = Unit {0}

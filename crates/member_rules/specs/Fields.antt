@@ -30,8 +30,8 @@ IsAbsent {A} field input = (other : A) (left : List ℕ) → field.Is other → 
 abbrev pub HasOneValue : {A : Type 0} → Field A → Type 0
 HasOneValue field = IsReadInOneWay field.Is field.bytes
 
--- the fault has its cause: on a mismatch the field is absent, and the whole input is left; out of memory has no cause in
--- the input
+-- the fault has its cause: on a mismatch the field is absent, and the whole input is left; out of memory has no cause
+-- in the input
 abbrev pub IsFault : {A : Type 0} → Field A → List ℕ → FieldFault → List ℕ → Type 0
 IsFault field input Mismatch rest = (rest ≡ input) × IsAbsent field input
 IsFault field input NoMemory rest = Unit {0}

@@ -75,7 +75,8 @@ pub fn op_bytes(alloc: Global, operation: &Op) -> Result<Vec<u8>, NoMemory>
 /// The bytes are read once, and each text is copied once.
 pub fn read_op(alloc: Global, bytes: &[u8]) -> Result<Op, CodecFault>
     // The bytes are those of the operation that is returned.
-    ensures found { IfOk result (λ operation. IsOperation operation × (bytes.now ≡ text_of operations operation)) }
+    ensures found { IfOk result (λ operation.
+        IsOperation operation × (bytes.now ≡ text_of operations operation)) }
     // Each operation's bytes are read as that operation, unless memory runs out.
     ensures only { (operation : Op) → IsOperation operation → bytes.now ≡ text_of operations operation
         → (result ≡ Ok operation) ⊎ (result ≡ Err CodecFault.NoMemory) }

@@ -22,8 +22,8 @@ pub(crate) trait Coded {
     fn read(alloc: Global, unread: &mut Unread) -> Result<Self, FieldFault>
         ensures { Reads field unread.old.rest.now result unread.new.rest.now };
 
-    // For the proof alone, and compiled away: a law of a trait can't cite lemmas of its own crate, so it is the clause of
-    // a call.
+    // For the proof alone, and compiled away: a law of a trait can't cite lemmas of its own crate, so this is the
+    // clause of a call.
     fn has_one_value()
         ensures { HasOneValue field };
 }

@@ -25,7 +25,8 @@ returns-in_err-edited c =
 pub returns-in_err-updated : goal.returns-in_err-updated
 returns-in_err-updated c =
     let input = c.args.unread.now.rest.now in
-    stopped_field stamp dates_value dates _ _ input _ _ c.in_err-updated.ensures c.from_residual-in_err-updated.ensures.1
+    stopped_field stamp dates_value dates _ _ input _ _ c.in_err-updated.ensures
+    c.from_residual-in_err-updated.ensures.1
     (λ none. (then (one stamp) _ stamp_sequence (then (one counted) _ counted_sequence (begun dates input)
     (one_read counted _ _ _ c.in_ok-number.ensures))
     (one_read stamp _ _ _ c.in_ok-edited.ensures)).stops _

@@ -16,7 +16,8 @@ returns-in_err-dates c =
 pub returns-in_err-title : goal.returns-in_err-title
 returns-in_err-title c =
     let input = c.args.unread.now.rest.now in
-    stopped_field construct front_value front _ _ input _ _ c.in_err-title.ensures c.from_residual-in_err-title.ensures.1
+    stopped_field construct front_value front _ _ input _ _ c.in_err-title.ensures
+    c.from_residual-in_err-title.ensures.1
     (λ none. (then dates _ dates_sequence (begun front input)
     c.in_ok-dates.ensures).stops _
     (stops_first (one construct) _ (λ _ _. stamp_option_sequence) _ _
@@ -25,7 +26,8 @@ returns-in_err-title c =
 pub returns-in_err-published : goal.returns-in_err-published
 returns-in_err-published c =
     let input = c.args.unread.now.rest.now in
-    stopped_field (optional stamp) front_value front _ _ input _ _ c.in_err-published.ensures c.from_residual-in_err-published.ensures.1
+    stopped_field (optional stamp) front_value front _ _ input _ _ c.in_err-published.ensures
+    c.from_residual-in_err-published.ensures.1
     (λ none. (then (one construct) _ construct_sequence (then dates _ dates_sequence (begun front input)
     c.in_ok-dates.ensures)
     (one_read construct _ _ _ c.in_ok-title.ensures)).stops _

@@ -15,7 +15,8 @@ unfolding linked
 returns-then-names_edit c = (
   refl,
   narrow_broken links linked linked_narrows links_one c.args.unread.now.rest.now _ _ c.in_ok-links.ensures
-      (λ is. true≢false (sym c.if-names_edit.true ∙ c.names_edit.ensures ∙ ap has_edit c.as_slice.ensures.items ∙ is.1)),
+      (λ is. true≢false (sym c.if-names_edit.true ∙ c.names_edit.ensures ∙ ap has_edit c.as_slice.ensures.items
+      ∙ is.1)),
 )
 
 pub returns : goal.returns

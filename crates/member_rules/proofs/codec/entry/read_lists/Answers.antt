@@ -26,7 +26,8 @@ returns-in_err-links c =
 pub returns-in_err-categories : goal.returns-in_err-categories
 returns-in_err-categories c =
     let input = c.args.unread.now.rest.now in
-    stopped_field (listed category_limit category) lists_value lists _ _ input _ _ c.in_err-categories.ensures c.from_residual-in_err-categories.ensures.1
+    stopped_field (listed category_limit category) lists_value lists _ _ input _ _ c.in_err-categories.ensures
+    c.from_residual-in_err-categories.ensures.1
     (λ none. (then (one linked) _ linked_sequence (then persons _ both_persons_sequence (begun lists input)
     c.in_ok-persons.ensures)
     (one_read linked _ _ _ c.in_ok-links.ensures)).stops _

@@ -14,7 +14,8 @@ returns-in_err-name c =
 pub returns-in_err-settings : goal.returns-in_err-settings
 returns-in_err-settings c =
     let input = c.args.unread.now.rest.now in
-    stopped_list settings (λ h. h) first_format _ _ input _ _ c.in_err-settings.ensures c.from_residual-in_err-settings.ensures.1
+    stopped_list settings
+    (λ h. h) first_format _ _ input _ _ c.in_err-settings.ensures c.from_residual-in_err-settings.ensures.1
     (λ stop. (then name_parts _ name_sequence (head_begun input)
     c.in_ok-name.ensures).stops _
     stop)

@@ -24,7 +24,8 @@ returns-in_err-id c =
 pub returns-in_err-titles : goal.returns-in_err-titles
 returns-in_err-titles c =
     let input = c.args.unread.now.rest.now in
-    stopped_list titles name_value name_parts _ _ input _ _ c.in_err-titles.ensures c.from_residual-in_err-titles.ensures.1
+    stopped_list titles name_value name_parts _ _ input _ _ c.in_err-titles.ensures
+    c.from_residual-in_err-titles.ensures.1
     (λ stop. (then (one feed_id) _ feed_id_sequence (then (one base) _ base_sequence (begun name_parts input)
     (one_read base _ _ _ c.in_ok-base.ensures))
     (one_read feed_id _ _ _ c.in_ok-id.ensures)).stops _

@@ -15,7 +15,8 @@ returns-in_err-window c =
 pub returns-in_err-capacity : goal.returns-in_err-capacity
 returns-in_err-capacity c =
     let input = c.args.unread.now.rest.now in
-    stopped_field capacity settings_value settings _ _ input _ _ c.in_err-capacity.ensures c.from_residual-in_err-capacity.ensures.1
+    stopped_field capacity settings_value settings _ _ input _ _ c.in_err-capacity.ensures
+    c.from_residual-in_err-capacity.ensures.1
     (λ none. (then (one window) _ window_sequence (begun settings input)
     (one_read window _ _ _ c.in_ok-window.ensures)).stops _
     (stops_first (one capacity) _ (λ _ _. created_sequence) _ _
@@ -24,7 +25,8 @@ returns-in_err-capacity c =
 pub returns-in_err-created : goal.returns-in_err-created
 returns-in_err-created c =
     let input = c.args.unread.now.rest.now in
-    stopped_field created settings_value settings _ _ input _ _ c.in_err-created.ensures c.from_residual-in_err-created.ensures.1
+    stopped_field created settings_value settings _ _ input _ _ c.in_err-created.ensures
+    c.from_residual-in_err-created.ensures.1
     (λ none. (then (one capacity) _ capacity_sequence (then (one window) _ window_sequence (begun settings input)
     (one_read window _ _ _ c.in_ok-window.ensures))
     (one_read capacity _ _ _ c.in_ok-capacity.ensures)).stops _

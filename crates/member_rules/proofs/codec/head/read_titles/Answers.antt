@@ -15,7 +15,8 @@ returns-in_err-title c =
 pub returns-in_err-author : goal.returns-in_err-author
 returns-in_err-author c =
     let input = c.args.unread.now.rest.now in
-    stopped_field title titles_value titles _ _ input _ _ c.in_err-author.ensures c.from_residual-in_err-author.ensures.1
+    stopped_field title titles_value titles _ _ input _ _ c.in_err-author.ensures
+    c.from_residual-in_err-author.ensures.1
     (λ none. (then (one title) _ title_sequence (begun titles input)
     (one_read title _ _ _ c.in_ok-title.ensures)).stops _
     (title_stops _ none))

@@ -16,7 +16,11 @@ returns-clause-added g c =
 pub returns-clause-rules : goal.returns-clause-rules
 unfolding stamp
 returns-clause-rules g c = rw (← c.removal.view_is, ← c.removal-inside.view_is) (record {
-  tombstone = record { number = (c.removal-inside.invariant, c.in_ok-push_number.ensures.rules); when = c.in_ok-push-2.ensures.rules };
+  tombstone = record {
+    number =
+        (c.removal-inside.invariant, c.in_ok-push_number.ensures.rules);
+    when = c.in_ok-push-2.ensures.rules;
+  };
   moment = c.in_ok-push.ensures.rules;
   in_order = omega (arith, ints, rw (← c.removal-inside.view_is) at c.removal.invariant.le);
 })

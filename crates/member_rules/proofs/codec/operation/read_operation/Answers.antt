@@ -17,7 +17,8 @@ returns-in_err-read_entry c =
 
 pub returns-then-tag : goal.returns-then-tag
 returns-then-tag c =
-    kind_found operations add_tag entries (λ e. Add e) adds c.args.unread.now.rest.now _ (c.if-tag.ensures.next refl) _ _
+    kind_found operations add_tag entries (λ e. Add e) adds c.args.unread.now.rest.now _
+    (c.if-tag.ensures.next refl) _ _
     c.in_ok-read_entry.ensures
 
 pub returns-in_err-read_entry-2 : goal.returns-in_err-read_entry-2

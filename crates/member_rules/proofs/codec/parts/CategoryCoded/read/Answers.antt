@@ -24,4 +24,5 @@ returns-in_err-label c =
 pub returns : goal.returns
 returns c =
     let input = c.args.unread.now.rest.now in
-    (then option_one (then text_one (category_begun input) c.in_ok-term.ensures) c.in_ok-scheme.ensures).found _ _ c.in_ok-label.ensures
+    (then option_one (then text_one
+    (category_begun input) c.in_ok-term.ensures) c.in_ok-scheme.ensures).found _ _ c.in_ok-label.ensures

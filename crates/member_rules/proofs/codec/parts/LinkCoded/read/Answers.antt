@@ -1,7 +1,7 @@
-use Rattle.member_rules.specs.Fields.{text, optional, link}
-use Rattle.member_rules.proofs.FieldLemmas.{stopped, then, text_one, pair_absent}
-use Rattle.member_rules.proofs.PartLemmas.{option_one, link_begun}
+use Rattle.member_rules.proofs.FieldLemmas.{pair_absent, stopped, text_one, then}
+use Rattle.member_rules.proofs.PartLemmas.{link_begun, option_one}
 use Rattle.member_rules.proofs.codec.parts.LinkCoded.read.Goals as goal
+use Rattle.member_rules.specs.Fields.{link, optional, text}
 
 pub returns-in_err-href : goal.returns-in_err-href
 returns-in_err-href c =
@@ -12,34 +12,54 @@ returns-in_err-href c =
 pub returns-in_err-rel : goal.returns-in_err-rel
 returns-in_err-rel c =
     let input = c.args.unread.now.rest.now in
+    let after_href = then text_one (link_begun input) c.in_ok-href.ensures in
     stopped text _ link _ _ input _ _ c.in_err-rel.ensures c.from_residual-in_err-rel.ensures.1
-    (λ none. (then text_one (link_begun input) c.in_ok-href.ensures).absent (pair_absent _ _ _ none))
+    (λ none. after_href.absent (pair_absent _ _ _ none))
 
 pub returns-in_err-media : goal.returns-in_err-media
 returns-in_err-media c =
     let input = c.args.unread.now.rest.now in
+    let after_href = then text_one (link_begun input) c.in_ok-href.ensures in
+    let after_rel = then text_one after_href c.in_ok-rel.ensures in
     stopped (optional text) _ link _ _ input _ _ c.in_err-media.ensures c.from_residual-in_err-media.ensures.1
-    (λ none. (then text_one (then text_one (link_begun input) c.in_ok-href.ensures) c.in_ok-rel.ensures).absent (pair_absent _ _ _ none))
+    (λ none. after_rel.absent (pair_absent _ _ _ none))
 
 pub returns-in_err-hreflang : goal.returns-in_err-hreflang
 returns-in_err-hreflang c =
     let input = c.args.unread.now.rest.now in
+    let after_href = then text_one (link_begun input) c.in_ok-href.ensures in
+    let after_rel = then text_one after_href c.in_ok-rel.ensures in
+    let after_media = then option_one after_rel c.in_ok-media.ensures in
     stopped (optional text) _ link _ _ input _ _ c.in_err-hreflang.ensures c.from_residual-in_err-hreflang.ensures.1
-    (λ none. (then option_one (then text_one (then text_one (link_begun input) c.in_ok-href.ensures) c.in_ok-rel.ensures) c.in_ok-media.ensures).absent (pair_absent _ _ _ none))
+    (λ none. after_media.absent (pair_absent _ _ _ none))
 
 pub returns-in_err-title : goal.returns-in_err-title
 returns-in_err-title c =
     let input = c.args.unread.now.rest.now in
+    let after_href = then text_one (link_begun input) c.in_ok-href.ensures in
+    let after_rel = then text_one after_href c.in_ok-rel.ensures in
+    let after_media = then option_one after_rel c.in_ok-media.ensures in
+    let after_hreflang = then option_one after_media c.in_ok-hreflang.ensures in
     stopped (optional text) _ link _ _ input _ _ c.in_err-title.ensures c.from_residual-in_err-title.ensures.1
-    (λ none. (then option_one (then option_one (then text_one (then text_one (link_begun input) c.in_ok-href.ensures) c.in_ok-rel.ensures) c.in_ok-media.ensures) c.in_ok-hreflang.ensures).absent (pair_absent _ _ _ none))
+    (λ none. after_hreflang.absent (pair_absent _ _ _ none))
 
 pub returns-in_err-length : goal.returns-in_err-length
 returns-in_err-length c =
     let input = c.args.unread.now.rest.now in
+    let after_href = then text_one (link_begun input) c.in_ok-href.ensures in
+    let after_rel = then text_one after_href c.in_ok-rel.ensures in
+    let after_media = then option_one after_rel c.in_ok-media.ensures in
+    let after_hreflang = then option_one after_media c.in_ok-hreflang.ensures in
+    let after_title = then option_one after_hreflang c.in_ok-title.ensures in
     stopped (optional text) _ link _ _ input _ _ c.in_err-length.ensures c.from_residual-in_err-length.ensures.1
-    (then option_one (then option_one (then option_one (then text_one (then text_one (link_begun input) c.in_ok-href.ensures) c.in_ok-rel.ensures) c.in_ok-media.ensures) c.in_ok-hreflang.ensures) c.in_ok-title.ensures).absent
+    after_title.absent
 
 pub returns : goal.returns
 returns c =
     let input = c.args.unread.now.rest.now in
-    (then option_one (then option_one (then option_one (then text_one (then text_one (link_begun input) c.in_ok-href.ensures) c.in_ok-rel.ensures) c.in_ok-media.ensures) c.in_ok-hreflang.ensures) c.in_ok-title.ensures).found _ _ c.in_ok-length.ensures
+    let after_href = then text_one (link_begun input) c.in_ok-href.ensures in
+    let after_rel = then text_one after_href c.in_ok-rel.ensures in
+    let after_media = then option_one after_rel c.in_ok-media.ensures in
+    let after_hreflang = then option_one after_media c.in_ok-hreflang.ensures in
+    let after_title = then option_one after_hreflang c.in_ok-title.ensures in
+    after_title.found _ _ c.in_ok-length.ensures

@@ -24,4 +24,5 @@ returns-in_err-email c =
 pub returns : goal.returns
 returns c =
     let input = c.args.unread.now.rest.now in
-    (then option_one (then text_one (person_begun input) c.in_ok-name.ensures) c.in_ok-uri.ensures).found _ _ c.in_ok-email.ensures
+    (then option_one (then text_one
+    (person_begun input) c.in_ok-name.ensures) c.in_ok-uri.ensures).found _ _ c.in_ok-email.ensures

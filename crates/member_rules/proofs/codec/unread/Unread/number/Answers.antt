@@ -7,5 +7,6 @@ returns-in_default c = (refl, number_short c.args.self.now.rest.now c.in_default
 
 pub returns : goal.returns
 returns c =
-    number_found c.args.self.now.rest.now _ _ c.number_of.result c.number_of.type_inv c.number_of.ensures c.in-Some.ensures.cases.0
+    number_found c.args.self.now.rest.now _ _ c.number_of.result c.number_of.type_inv c.number_of.ensures
+    c.in-Some.ensures.cases.0
     c.in-Some.ensures.cases.1

@@ -7,5 +7,6 @@ returns-in_default c = (refl, size_short c.args.self.now.rest.now c.in_default.e
 
 pub returns : goal.returns
 returns c =
-    size_found c.args.self.now.rest.now _ _ c.size_of.result c.size_of.type_inv c.size_of.ensures c.in-Some.ensures.cases.0
+    size_found c.args.self.now.rest.now _ _ c.size_of.result c.size_of.type_inv c.size_of.ensures
+    c.in-Some.ensures.cases.0
     c.in-Some.ensures.cases.1
