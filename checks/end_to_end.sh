@@ -142,6 +142,12 @@ head -c 60000000 /dev/zero >"$work/input"
 (ulimit -v 40000 && "$top/out/feed_tool" show <"$work/input" >"$work/output" 2>"$work/errors"; echo $? >"$work/status")
 echo 'no memory' | compare 'out of memory' 5
 
+# memory runs out while the words are read: the program's first allocation fails, in a run that the kit makes
+(cd "$top/crates/feed_tool" && rt try --fail-alloc 1 -- apply 4 </dev/null) >"$work/tried" 2>&1
+grep -x 'no memory' "$work/tried" >"$work/output"
+sed -n 's/^run=ended status=\([0-9]*\).*/\1/p' "$work/tried" >"$work/status"
+echo 'no memory' | compare 'out of memory for the words' 5
+
 # the launcher through a symbolic link, from another folder
 ln -s "$tool" "$work/linked"
 (cd / && printf 'add a\n' | "$work/linked" apply 101 >"$work/output" 2>"$work/errors"; echo $? >"$work/status")
