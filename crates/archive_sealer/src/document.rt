@@ -56,6 +56,14 @@ pub fn full_windows(head: &Head, history: &[Op]) -> u32
     history.len() as u32 / head.window
 }
 
+/// How many windows of the history are sealed. A full window is sealed when the next operation comes.
+pub fn sealed_windows(head: &Head, history: &[Op]) -> u32
+    requires { length history.now ≤ history_limit }
+    ensures { result ≡ (windows_of head.now history.now).sealed }
+{
+    (history.len() as u32).saturating_sub(1) / head.window
+}
+
 /// The document of this kind that has the covered operations after the first `before`.
 fn document(
     alloc: Global,

@@ -17,4 +17,4 @@
 mod document;
 mod items;
 
-pub use document::{archive, full_windows, subscription};
+pub use document::{archive, full_windows, sealed_windows, subscription};

@@ -9,8 +9,6 @@ use Rattle.std.proofs.lemmas.List.{take_at, drop_at, take-append-drop}
 use Rattle.std.proofs.lemmas.List.Elements.{All-head, All-tail}
 use Rattle.std.proofs.lemmas.Str.Parse.{IsNumeralModel, numerals_by_fold, tells_all_ascii_digits}
 use Rattle.std.proofs.lemmas.Fmt.{digits_decimal, decimal_injective}
-use mathlib.Core.Logic.{∥∥₁_elim}
-use mathlib.Core.Bool.{Bool-set}
 use Rattle.chain_links.specs.Base.{IsBase, IsPort, IsWord, AreSegments, is_label_char, is_segment_char, host_text, port_text, path_text}
 use Rattle.chain_links.specs.Address.{IsAddress, printed, suffix_text}
 use Rattle.chain_links.specs.declared.address.Address.{Address}
@@ -153,9 +151,6 @@ base_lacks base is =
     (labels_lack p.labels is.rules.labels.1)
     (lacks_append 34 (port_text p.port) (path_text p.segments) (port_lacks p.port is.rules.port)
     (segments_lack p.segments is.rules.segments)))
-
-pub some_base_lacks : (base : List ℕ) → ∥ IsBase base ∥₁ → lacks 34 base ≡ true
-some_base_lacks base h = ∥∥₁_elim h (Bool-set (lacks 34 base) true) (base_lacks base)
 
 place_lacks : (a : Address) → IsAddress a → lacks 34 (suffix_text a) ≡ true
 place_lacks Feed is = refl

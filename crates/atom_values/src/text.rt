@@ -128,8 +128,9 @@ impl AtomText {
         }
     }
 
-    /// The text with these bytes, without a copy. `None` if they are no text of a feed.
-    fn checked(bytes: Vec<u8>) -> Option<AtomText>
+    /// The text with these bytes, without a copy, for a reader that has already made one. `None` if they are more than
+    /// 65,536, or no XML text in UTF-8.
+    pub fn from_vec(bytes: Vec<u8>) -> Option<AtomText>
         ensures { MatchOption result (¬ (IsAtomText bytes.items))
             (λ text. (text ≡ bytes.items) × IsAtomText bytes.items) }
     {
@@ -317,5 +318,5 @@ pub fn unescape(alloc: Global, written: &[u8], quoted: bool) -> Result<Option<At
         bytes.push(byte)?;
         rest = tail;
     }
-    Ok(AtomText::checked(bytes))
+    Ok(AtomText::from_vec(bytes))
 }

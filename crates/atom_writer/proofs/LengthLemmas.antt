@@ -1,7 +1,7 @@
 -- How long a written text is at most, by the rules that its value keeps. No length comes near the end of a count.
-use Rattle.std.proofs.Common.{◌≡◌, ℕ, zero, suc, ◌+◌, ◌*◌, ◌%◌, ◌<◌, ◌≤◌, ◌^◌, List, [], ◌∷◌, ◌++◌, ℤ, length, map, All, Bool, true, false, Option, Some, None, IfSome, codes, decimal, get_or, cond, ◌==◌, lit≤, if◌then◌else◌, IsTrue, rules, tests, arith, length-append, refl}
+use Rattle.std.proofs.Common.{◌≡◌, ℕ, zero, suc, ◌+◌, ◌*◌, ◌%◌, ◌<◌, ◌≤◌, ◌^◌, List, [], ◌∷◌, ℤ, length, map, All, Bool, true, false, Option, Some, None, IfSome, codes, decimal, get_or, cond, ◌==◌, lit≤, IsTrue, rules, tests, arith, length-append, refl}
 use Rattle.std.proofs.lemmas.Fmt.{length-decimal-le}
-use Rattle.std.proofs.lemmas.List.Elements.{All-head, All-tail, All-weaker, All-map}
+use Rattle.std.proofs.lemmas.List.Elements.{All-head, All-tail, All-weaker}
 use Rattle.std.specs.Prelude.{flat_map, Result, Ok, Err, OnOk, OnErr}
 use Rattle.atom_values.specs.declared.category.Category.{Category}
 use Rattle.atom_values.specs.declared.link.Link.{Link}
@@ -20,7 +20,6 @@ use Rattle.atom_values.specs.Stamp.{date_text, clock_text, fraction_text, fixed_
 use Rattle.atom_values.specs.XmlText.{IsAtomText}
 use Rattle.atom_values.proofs.EscapeLemmas.{length-escaped_byte}
 use Rattle.chain_links.specs.Base.{IsBase}
-use Rattle.chain_links.proofs.AddressLemmas.{base_short}
 use Rattle.chain_links.specs.declared.place.Span.{Span}
 use Rattle.chain_links.specs.Address as address
 use Rattle.chain_links.specs.Address.{IsAddress, suffix_text}
@@ -32,8 +31,6 @@ use Rattle.deleted_entries.specs.Tombstone.{TombstoneValue}
 use Rattle.deleted_entries.specs.declared.item.Item.{Item}
 use Rattle.deleted_entries.specs.declared.item.Item.TheVariants.{Kept, Gone}
 use Rattle.deleted_entries.proofs.IdLemmas.{length-by_index}
-use mathlib.Core.Logic.{∥∥₁_elim}
-use native.Mathlib.Bridge.{le_prop}
 use Rattle.atom_writer.specs.declared.doc.FeedName.{FeedName}
 use Rattle.atom_writer.specs.declared.doc.Kind.{Kind}
 use Rattle.atom_writer.specs.declared.doc.Kind.TheVariants.{Subscription, Archive as Sealed}
@@ -238,9 +235,9 @@ entry_piece-short name e short is =
     ))
 
 -- a count holds the length of an entry's piece
-pub entry_piece-counted : (name : FeedName) (e : EntryValue) → ∥ IsBase name.base ∥₁ → IsEntry e
+pub entry_piece-counted : (name : FeedName) (e : EntryValue) → IsBase name.base → IsEntry e
     → length (entry_piece name e) < 2 ^ 64
-entry_piece-counted name e base is = omega (arith, entry_piece-short name e (base_short name.base base) is)
+entry_piece-counted name e base is = omega (arith, entry_piece-short name e base.short is)
 
 shown_authors-short : (name : FeedName) (authors : List Person) → (authors ≡ [] → IsAtomText name.author)
     → IsListOf 16 IsPerson authors → length (shown_authors name authors) ≤ 20_000_000
@@ -251,7 +248,7 @@ shown_authors-short name (person ∷ more) author is =
     persons_text-short (codes "author") (person ∷ more) (omega arith) is.0 is.1
 
 -- a count holds the length of a member document
-pub member_text-counted : (name : FeedName) (e : EntryValue) → ∥ IsBase name.base ∥₁
+pub member_text-counted : (name : FeedName) (e : EntryValue) → IsBase name.base
     → (e.authors ≡ [] → IsAtomText name.author) → IsEntry e → length (member_text name e) < 2 ^ 64
 unfolding member_text declaration_piece member_open
 member_text-counted name e base author is =
@@ -260,10 +257,10 @@ member_text-counted name e base author is =
       arith,
       front_text-short name e is,
       shown_authors-short name e.authors author is.authors,
-      back_text-short name e (base_short name.base base) is,
+      back_text-short name e base.short is,
     ))
 
-tombstone_piece-short : (name : FeedName) (t : TombstoneValue) → length (tombstone_piece name t) ≤ 200
+pub tombstone_piece-short : (name : FeedName) (t : TombstoneValue) → length (tombstone_piece name t) ≤ 200
 unfolding tombstone_piece
 tombstone_piece-short name t = simp length-append (omega (arith, member_id-length name.id t.number, stamp-short t.when))
 
@@ -272,13 +269,14 @@ item_piece-short : (name : FeedName) (item : Item) → length name.base ≤ 200 
 item_piece-short name (Kept e) short is = entry_piece-short name e short is
 item_piece-short name (Gone t) short is = omega (arith, tombstone_piece-short name t)
 
-items-short : (name : FeedName) (items : List Item) → length name.base ≤ 200 → All IsItem items
-    → length (joined (map (item_piece name) items)) ≤ 220_000_000 * length items
+items-short : (name : FeedName) (most : ℕ) (items : List Item) → All (λ item. length (item_piece name item) ≤ most) items
+    → length (joined (map (item_piece name) items)) ≤ most * length items
 unfolding joined
-items-short name [] short are = omega arith
-items-short name (item ∷ items) short are =
-    let first = item_piece-short name item short (All-head IsItem item items are) in
-    let rest = items-short name items short (All-tail IsItem item items are) in
+items-short name most [] are = omega arith
+items-short name most (item ∷ items) are =
+    let first = All-head (λ (i : Item). length (item_piece name i) ≤ most) item items are in
+    let rest = items-short name most items
+    (All-tail (λ (i : Item). length (item_piece name i) ≤ most) item items are) in
     simp length-append (omega (arith, first, rest))
 
 name_pieces-short : (name : FeedName) (updated : ℤ) → IsFeedName name
@@ -336,9 +334,10 @@ unfolding span_piece
 span_piece-short span first last =
     simp length-append (omega (arith, decimal-short span.first first, decimal-short span.last last))
 
--- a count holds the length of a document
-text-counted-by : (d : DocValue) → IsDoc d → length (text d) < 2 ^ 64
-text-counted-by d is =
+-- how long a document is at most, by the most bytes of the piece of an item
+pub text-short : (d : DocValue) (most : ℕ) → IsDoc d → All (λ item. length (item_piece d.name item) ≤ most) d.items
+    → length (text d) ≤ 900_000 + most * length d.items
+text-short d most is are =
     let short = is.name.base.short in
     let placed = is.rules.placed in
     rw (← text-is d, ← joined-place d.name d.kind d.span d.prev)
@@ -351,10 +350,12 @@ text-counted-by d is =
       prev_pieces-short d.name d.prev short is.prev,
       next_pieces-short d.name d.kind short (has_next d.kind d.span d.prev placed),
       span_piece-short d.span is.first is.last,
-      items-short d.name d.items short is.items,
-      is.rules.few,
-      is.rules.room,
+      items-short d.name most d.items are,
     )))
 
-pub text-counted : (d : DocValue) → ∥ IsDoc d ∥₁ → length (text d) < 2 ^ 64
-text-counted d h = ∥∥₁_elim h le_prop (text-counted-by d)
+-- a count holds the length of a document
+pub text-counted : (d : DocValue) → IsDoc d → length (text d) < 2 ^ 64
+text-counted d is =
+    let are = All-weaker IsItem (λ item. length (item_piece d.name item) ≤ 220_000_000)
+    (λ item is_item. item_piece-short d.name item is.name.base.short is_item) d.items is.items in
+    omega (arith, text-short d 220_000_000 is are, is.rules.few, is.rules.room)

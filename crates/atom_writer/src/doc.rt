@@ -28,7 +28,7 @@ pub struct FeedName {
 impl Copies for FeedName {
     ghost use Rattle.atom_writer.specs.Doc.{IsFeedName};
 
-    ghost rules = { λ name. ∥ IsFeedName name ∥₁ };
+    ghost rules = { λ name. IsFeedName name };
 
     fn copy(&self, alloc: Global) -> Result<FeedName, NoMemory> {
         Ok(FeedName {
@@ -177,7 +177,7 @@ impl Doc {
 impl Copies for Doc {
     ghost use Rattle.atom_writer.specs.Doc.{IsDoc};
 
-    ghost rules = { λ doc. ∥ IsDoc doc ∥₁ };
+    ghost rules = { λ doc. IsDoc doc };
 
     fn copy(&self, alloc: Global) -> Result<Doc, NoMemory> {
         Ok(Doc {

@@ -22,7 +22,7 @@ fn push_edit_link<W: Out>(out: &mut W, name: &FeedName, number: u32) -> Result<(
     requires { 1 ≤ number }
     ensures added { OnOk result (W.adds out.old out.new (edit_link name.now number)) }
     ensures failed { OnErr result W.can_fail }
-    ensures base { OnOk result ∥ IsBase name.now.base ∥₁ }
+    ensures base { OnOk result (IsBase name.now.base) }
 {
     out.push(b"<link rel=\"edit\" href=\"")?;
     out.push_address(&name.base, Address::Member(number))?;
@@ -76,7 +76,7 @@ pub fn push_front<W: Out>(out: &mut W, name: &FeedName, entry: &Entry) -> Result
 pub fn push_back<W: Out>(out: &mut W, name: &FeedName, entry: &Entry) -> Result<(), NoMemory>
     ensures added { OnOk result (W.adds out.old out.new (back_text name.now entry.now)) }
     ensures failed { OnErr result W.can_fail }
-    ensures base { OnOk result ∥ IsBase name.now.base ∥₁ }
+    ensures base { OnOk result (IsBase name.now.base) }
 
     ensures contributors { OnOk result (IsListOf person_limit IsPerson entry.now.contributors) }
     ensures links { OnOk result (IsListOf link_limit IsLink entry.now.links) }
@@ -99,7 +99,7 @@ pub fn push_back<W: Out>(out: &mut W, name: &FeedName, entry: &Entry) -> Result<
 pub fn push_inner<W: Out>(out: &mut W, name: &FeedName, entry: &Entry) -> Result<(), NoMemory>
     ensures added { OnOk result (W.adds out.old out.new (inner_text name.now entry.now)) }
     ensures failed { OnErr result W.can_fail }
-    ensures base { OnOk result ∥ IsBase name.now.base ∥₁ }
+    ensures base { OnOk result (IsBase name.now.base) }
     ensures rules { OnOk result (IsEntry entry.now) }
 {
     push_front(out, name, entry)?;

@@ -33,7 +33,7 @@ fn push_tombstone<W: Out>(
 fn push_entry<W: Out>(out: &mut W, name: &FeedName, entry: &Entry) -> Result<(), NoMemory>
     ensures added { OnOk result (W.adds out.old out.new (entry_piece name.now entry.now)) }
     ensures failed { OnErr result W.can_fail }
-    ensures base { OnOk result ∥ IsBase name.now.base ∥₁ }
+    ensures base { OnOk result (IsBase name.now.base) }
     ensures rules { OnOk result (IsEntry entry.now) }
 {
     out.push(b"<entry>")?;

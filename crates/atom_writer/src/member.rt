@@ -50,7 +50,7 @@ fn push_shown_authors<W: Out>(
 fn push_member<W: Out>(out: &mut W, name: &FeedName, entry: &Entry) -> Result<(), NoMemory>
     ensures added { OnOk result (W.adds out.old out.new (member_text name.now entry.now)) }
     ensures failed { OnErr result W.can_fail }
-    ensures base { OnOk result ∥ IsBase name.now.base ∥₁ }
+    ensures base { OnOk result (IsBase name.now.base) }
     ensures rules { OnOk result (IsEntry entry.now) }
     ensures author { OnOk result (entry.now.authors ≡ [] → IsAtomText name.now.author) }
 {

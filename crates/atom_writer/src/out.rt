@@ -41,7 +41,7 @@ pub trait Out {
         requires { IsAddress to }
         ensures added { OnOk result (adds self.old self.new (address.printed base.now to)) }
         ensures failed { OnErr result can_fail }
-        ensures rules { ∥ IsBase base.now ∥₁ };
+        ensures rules { IsBase base.now };
 
     /// No bytes are added by adding nothing.
     ghost starts: { (a : Self) → adds a a [] };

@@ -14,7 +14,7 @@ fn push_link<W: Out>(out: &mut W, rel: &[u8], name: &FeedName, to: Address) -> R
     requires { IsAddress to }
     ensures added { OnOk result (W.adds out.old out.new (link_piece rel.now name.now to)) }
     ensures failed { OnErr result W.can_fail }
-    ensures base { OnOk result ∥ IsBase name.now.base ∥₁ }
+    ensures base { OnOk result (IsBase name.now.base) }
 {
     out.push(b"<link rel=\"")?;
     out.push(rel)?;
@@ -92,7 +92,7 @@ pub fn push_place<W: Out>(
         (joined (place_pieces name.now kind span prev))) }
     ensures failed { OnErr result W.can_fail }
 
-    ensures base { OnOk result ∥ IsBase name.now.base ∥₁ }
+    ensures base { OnOk result (IsBase name.now.base) }
     ensures first { OnOk result (span.first < 2 ^ 32) }
     ensures last { OnOk result (span.last < 2 ^ 32) }
     ensures prev { OnOk result (prev < 2 ^ 32) }

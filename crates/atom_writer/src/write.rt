@@ -28,7 +28,7 @@ fn push_items<W: Out>(out: &mut W, name: &FeedName, items: &[Item]) -> Result<()
 fn push_doc<W: Out>(out: &mut W, doc: &Doc) -> Result<(), NoMemory>
     ensures added { OnOk result (W.adds out.old out.new (text doc.now)) }
     ensures failed { OnErr result W.can_fail }
-    ensures rules { OnOk result ∥ IsDoc doc.now ∥₁ }
+    ensures rules { OnOk result (IsDoc doc.now) }
 {
     push_name(out, &doc.name, doc.updated)?;
     push_place(out, &doc.name, doc.kind, doc.span, doc.prev)?;
@@ -52,7 +52,7 @@ pub fn write_doc(alloc: Global, doc: &Doc) -> Result<Vec<u8>, NoMemory>
 pub fn doc_len(doc: &Doc) -> u64
     ensures length { result ≡ length (text doc.now) }
     // The rules that the types of the document keep.
-    ensures rules { ∥ IsDoc doc.now ∥₁ }
+    ensures rules { IsDoc doc.now }
 {
     let mut count = Count { bytes: 0 };
     // A count takes no memory, so this can't fail.

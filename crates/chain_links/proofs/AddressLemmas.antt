@@ -1,13 +1,10 @@
 -- A printed address is the base and a place, and no two addresses print the same.
-use Rattle.std.proofs.Common.{◌≡◌, ℕ, ◌+◌, ◌≤◌, ◌<◌, ◌^◌, List, ◌++◌, length, get_or, length-append, codes, decimal}
+use Rattle.std.proofs.Common.{◌≡◌, ℕ, ◌+◌, ◌<◌, ◌^◌, List, ◌++◌, length, get_or, length-append, codes, decimal}
 use Rattle.std.proofs.Common.{arith, refl, ap}
-use native.Mathlib.Bridge.{le_prop}
-use mathlib.Core.Logic.{∥∥₁_elim}
 use Rattle.std.proofs.lemmas.List.{append_cancel_left}
 use Rattle.std.proofs.lemmas.Fmt.{decimal_injective}
 use Rattle.chain_links.specs.declared.address.Address.{Address}
 use Rattle.chain_links.specs.declared.address.Address.TheVariants.{Feed, Archive, Member}
-use Rattle.chain_links.specs.Base.{IsBase}
 use Rattle.chain_links.specs.Address.{IsAddress, printed, suffix_text}
 
 pub printed-is : (base : List ℕ) (address : Address) → printed base address ≡ base ++ suffix_text address
@@ -18,9 +15,6 @@ pub length-printed : (base : List ℕ) (address : Address) →
     length (printed base address) ≡ length base + length (suffix_text address)
 unfolding printed
 length-printed base address = length-append base (suffix_text address)
-
-pub base_short : (text : List ℕ) → ∥ IsBase text ∥₁ → length text ≤ 200
-base_short text h = ∥∥₁_elim h le_prop (λ b. b.short)
 
 same_numbers : (m n : ℕ) → m < 2 ^ 32 → n < 2 ^ 32 → decimal m ≡ decimal n → m ≡ n
 same_numbers m n small_m small_n e = decimal_injective m n (omega arith) (omega arith) e

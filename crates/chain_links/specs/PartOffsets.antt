@@ -10,7 +10,7 @@ pub record ArePartOffsets (parts : BaseParts) (text : List ℕ) (host_end number
 
 -- the text is a base address, and its parts are at these offsets
 pub record HasParts (text : List ℕ) (host_end number path_start : ℕ) : Type 0 where
-  pub base : ∥ IsBase text ∥₁
+  pub base : IsBase text
   pub host_in : length scheme ≤ host_end
   pub path_behind : host_end ≤ path_start
   pub path_in : path_start ≤ length text

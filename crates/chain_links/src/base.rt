@@ -119,7 +119,7 @@ impl Base {
     /// The whole text.
     pub fn text(&self) -> &[u8]
         ensures text { result.now ≡ self.now }
-        ensures base { ∥ IsBase self.now ∥₁ }
+        ensures base { IsBase self.now }
         // The text has one reading only.
         ensures one_reading { (p q : BaseParts) → Spells p self.now → Spells q self.now → p ≡ q }
     {
@@ -211,7 +211,7 @@ impl Base {
 }
 
 impl Copies for Base {
-    ghost rules = { λ base. ∥ IsBase base ∥₁ };
+    ghost rules = { λ base. IsBase base };
 
     fn copy(&self, alloc: Global) -> Result<Base, NoMemory> {
         Ok(Base {

@@ -4,12 +4,12 @@ use Rattle.std.proofs.Common.{length, take, refl, ap, subst, ◌∙◌, add-one,
 use Rattle.std.proofs.lemmas.Nat.{le-div}
 use Rattle.std.proofs.lemmas.Bool.{cases_lt}
 use Rattle.std.proofs.lemmas.List.{length-take-le}
-use Rattle.std.proofs.Math.Nat.{div-mul-le_self, div-eq_of_lt-le, mul-le-mul_right}
+use Rattle.std.proofs.Math.Nat.{div-le_self, div-le_of_le-mul, div-mul-le_self, div-eq_of_lt-le, mul-le-mul_right}
 use Rattle.member_rules.specs.declared.operation.Op.{Op}
 use Rattle.member_rules.specs.Head.{HeadValue, IsHead, window_limit}
 use Rattle.member_rules.specs.Windows.{windows_of}
 use Rattle.member_rules.specs.Chain.{IsOpenCut}
-use Rattle.member_rules.specs.Laws.{SealsInTurn}
+use Rattle.member_rules.specs.Laws.{SealsInTurn, SealedAreFull}
 
 -- the archives cut the first operations, each into a run of 1 to 100 operations
 pub record IsCut (ends : ℕ → ℕ) (archives count : ℕ) : Type 0 where
@@ -184,6 +184,17 @@ pub sealed-are_full : (head : HeadValue) (history : List Op) → IsHead head
     → (windows_of head history).sealed ≤ (windows_of head history).full
 unfolding windows_of
 sealed-are_full head history is_head = sealed-full head.window (length history) is_head.limits.window.0
+
+pub windows-sealed : SealedAreFull
+unfolding windows_of
+windows-sealed head history is_head =
+    let low = is_head.limits.window.0 in
+    let ends = sealed-ends head.window (length history) low in
+    record {
+      full = sealed-full head.window (length history) low;
+      all_but_one = div-le_of_le-mul head.window (omega (arith, ends.1));
+      few = div-le_self (length history) head.window;
+    }
 
 pub sealed-stay : (head : HeadValue) (history : List Op) (version : ℕ) → IsHead head → version ≤ length history
     → (windows_of head (take version history)).sealed ≤ (windows_of head history).sealed

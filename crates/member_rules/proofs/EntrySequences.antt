@@ -11,7 +11,7 @@ use Rattle.atom_writer.proofs.PiecedLemmas.{AreCompared}
 use Rattle.member_rules.specs.Coding.{entry_fields, list_field, number_field}
 use Rattle.member_rules.specs.EntryFields.{linked, contents, dates, front, persons, lists, texts, parts, FrontValue, ListsValue, TextsValue, PartsValue, entry_of, entries}
 use Rattle.member_rules.specs.FieldLists.{one, both, StopsAt}
-use Rattle.member_rules.specs.Fields.{Field, HasOneValue, IsAbsent, counted, stamp, construct, optional, listed, person, link, category}
+use Rattle.member_rules.specs.Fields.{Field, IsAbsent, counted, stamp, construct, optional, listed, person, link, category}
 use Rattle.member_rules.proofs.FieldLemmas.{stamp_one, construct_one, optional_one, listed_one}
 use Rattle.member_rules.proofs.PartLemmas.{person_one, category_one}
 use Rattle.member_rules.proofs.RuledLemmas.{counted_one, linked_one, contents_one, construct_option_one}

@@ -108,18 +108,19 @@ item_of-keeps (Add entry) h = h
 item_of-keeps (Change entry) h = h
 item_of-keeps (Remove removal) h = h.tombstone
 
-in_place-keeps : (item : Option Item) (older : List Item) → IfSome item IsItem → All IsItem older
-    → All IsItem (in_place item older)
-in_place-keeps None older h hs = hs
-in_place-keeps (Some item) older h hs = All-cons IsItem item (without (item_number item) older) h
-    (All-filter (λ (other : Item). not (nat_eq (item_number other) (item_number item))) IsItem older hs)
+in_place-each : (Q : Item → Type 0) (item : Option Item) (older : List Item) → IfSome item Q → All Q older
+    → All Q (in_place item older)
+in_place-each Q None older h hs = hs
+in_place-each Q (Some item) older h hs = All-cons Q item (without (item_number item) older) h
+    (All-filter (λ (other : Item). not (nat_eq (item_number other) (item_number item))) Q older hs)
 
-newest-keeps : (operations : List Op) → All IsOperation operations → All IsItem (newest_items operations)
-newest-keeps [] h = All-nil IsItem
-newest-keeps (operation ∷ older) h =
-    in_place-keeps (item_of operation) (newest_items older)
-    (item_of-keeps operation (All-head IsOperation operation older h))
-    (newest-keeps older (All-tail IsOperation operation older h))
+newest-each : (P : Op → Type 0) (Q : Item → Type 0) → ((operation : Op) → P operation → IfSome (item_of operation) Q)
+    → (operations : List Op) → All P operations → All Q (newest_items operations)
+newest-each P Q keeps [] h = All-nil Q
+newest-each P Q keeps (operation ∷ older) h =
+    in_place-each Q (item_of operation) (newest_items older)
+    (keeps operation (All-head P operation older h))
+    (newest-each P Q keeps older (All-tail P operation older h))
 
 All-reverse : {X : Type 0} (P : X → Type 0) (xs : List X) → All P xs → All P (reverse xs)
 All-reverse P [] h = All-nil P
@@ -127,9 +128,15 @@ All-reverse P (x ∷ xs) h =
     rw (reverse-append (x ∷ []) xs) (All-append P (reverse xs) (x ∷ []) (All-reverse P xs (All-tail P x xs h))
     (All-cons P x [] (All-head P x xs h) (All-nil P)))
 
+-- what each operation's item keeps, each of the items does
+pub items-each : (P : Op → Type 0) (Q : Item → Type 0)
+    → ((operation : Op) → P operation → IfSome (item_of operation) Q) → (operations : List Op) → All P operations
+    → All Q (items_of operations)
+items-each P Q keeps operations h = rw (items_of-newest operations)
+    (newest-each P Q keeps (reverse operations) (All-reverse P operations h))
+
 pub items-keep : (operations : List Op) → All IsOperation operations → All IsItem (items_of operations)
-items-keep operations h = rw (items_of-newest operations)
-    (newest-keeps (reverse operations) (All-reverse IsOperation operations h))
+items-keep operations h = items-each IsOperation IsItem item_of-keeps operations h
 
 moment-keeps : (operation : Op) → IsOperation operation → IsStamp (moment_of operation)
 moment-keeps (Add entry) h = h.edited

@@ -22,10 +22,12 @@ pub mod NewestItemsLemmas
 pub mod ItemsLemmas
 -- serves `chain_shows_the_fold`, `cuts`: what the items of a list of operations keep
 pub mod ItemsKeptLemmas
--- serves `chain_shows_the_fold`, `windows`, and `windows_seal_in_turn`
+-- serves `chain_shows_the_fold`, `windows`, `windows_seal_in_turn` and `sealed_windows_are_full`
 pub mod CutLemmas
 -- serves `chain_shows_the_fold`, `cuts`: the rules of documents
 pub mod DocumentRulesLemmas
+-- serves `documents_are_short`
+pub mod ShortLemmas
 -- serves `live_of_is_shown`
 pub mod ShowsLemmas
 -- serves `chain_shows_the_fold`, `cuts`: what the documents show
@@ -50,7 +52,7 @@ pub mod EntrySequences
 pub mod KindLemmas
 -- serves `read_op`: the kinds of operations
 pub mod OperationLemmas
--- serves `op_bytes` and `head_bytes`, `bound`
+-- serves `op_bytes` and `head_bytes`, `bound`, and `operations_are_long`
 pub mod PayloadLemmas
 -- serves `read_head`: the fields of a head, one after another
 pub mod HeadLemmas

@@ -1,4 +1,4 @@
--- How many bytes an operation and a head have at most, by the rules that their types keep.
+-- How many bytes an operation and a head have at most, and an operation at least, by the rules that their types keep.
 use Rattle.std.proofs.Common.{◌≡◌, ℕ, ◌+◌, ◌*◌, ◌≤◌, ℤ, List, [], ◌∷◌, Option, Some, None, length, length-append, arith, ap, All}
 use Rattle.std.specs.Prelude.{IfSome}
 use Rattle.std.proofs.lemmas.List.Elements.{All-weaker}
@@ -15,10 +15,9 @@ use Rattle.atom_writer.specs.Pieced.{text_of}
 use Rattle.atom_writer.specs.Pieces.{joined}
 use Rattle.atom_writer.proofs.LengthLemmas.{flat_map-short}
 use Rattle.atom_writer.proofs.PieceLemmas.{joined-cons, joined-none}
-use mathlib.Core.Logic.{∥∥₁_elim}
-use native.Mathlib.Bridge.{le_prop}
 use Rattle.member_rules.specs.Coding.{stamp_field, text_field, option_field, list_field, construct_field, person_field, link_field, category_field, entry_fields, head_fields, heads, operation_fields, operations, payload_limit}
 use Rattle.member_rules.specs.Head.{HeadValue, IsHead}
+use Rattle.member_rules.specs.Laws.{OperationsAreLong}
 use Rattle.member_rules.specs.Operation.{IsOperation}
 use Rattle.member_rules.specs.declared.operation.Op.{Op}
 use Rattle.member_rules.specs.declared.operation.Op.TheVariants.{Add, Change, Remove}
@@ -113,9 +112,15 @@ operation-short (Add e) is = simp joined-cons (omega (arith, entry_fields-short 
 operation-short (Change e) is = simp joined-cons (omega (arith, entry_fields-short e is))
 operation-short (Remove r) is = omega (arith, total-joined (operation_fields (Remove r)))
 
-head-short-by : (h : HeadValue) → IsHead h → length (text_of heads h) ≤ payload_limit
+pub operation-long : OperationsAreLong
+unfolding entry_fields total
+operation-long (Add e) is = omega (arith, total-joined (operation_fields (Add e)))
+operation-long (Change e) is = omega (arith, total-joined (operation_fields (Change e)))
+operation-long (Remove r) is = omega (arith, total-joined (operation_fields (Remove r)))
+
+pub head-short : (h : HeadValue) → IsHead h → length (text_of heads h) ≤ payload_limit
 unfolding head_fields total
-head-short-by h is =
+head-short h is =
     omega (
       arith,
       total-joined (head_fields h),
@@ -124,6 +129,3 @@ head-short-by h is =
       text_field-short h.name.title is.name.title,
       text_field-short h.name.author is.name.author,
     )
-
-pub head-short : (h : HeadValue) → ∥ IsHead h ∥₁ → length (text_of heads h) ≤ payload_limit
-head-short h is = ∥∥₁_elim is le_prop (head-short-by h)

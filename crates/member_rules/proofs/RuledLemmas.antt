@@ -1,7 +1,6 @@
 -- Fields with more rules than others of the same bytes.
-use Rattle.std.proofs.Common.{◌≡◌, ℕ, ◌<◌, ℤ, ◌+◌, List, ◌++◌, Bool, true, false, length, length-append, take, drop, refl, sym, ◌∙◌, arith, subst, ap}
-use Rattle.std.proofs.lemmas.Bool.{false≢true}
-use Rattle.std.specs.Prelude.{Result, Ok, Err, ◌||◌, IsTrue}
+use Rattle.std.proofs.Common.{◌≡◌, ℕ, ◌<◌, ℤ, ◌+◌, List, ◌++◌, length, length-append, take, drop, refl, sym, ◌∙◌, arith, subst, ap}
+use Rattle.std.specs.Prelude.{Result, Ok, Err}
 use Rattle.std.specs.Result.{IsErrAnd}
 use Rattle.atom_values.specs.Entry.{link_limit}
 use Rattle.atom_values.specs.declared.link.Link.{Link}

@@ -2,15 +2,19 @@
 use Rattle.std.specs.Prelude.{◌≡◌, ◌≢◌, ◌↔◌, ◌⊎◌, ℕ, ◌+◌, ◌-◌, ◌≤◌, ℤ, List, [], ◌∷◌, ◌++◌, Some, length, take}
 use Rattle.std.specs.Prelude.{slice_get, All}
 use Rattle.atom_values.specs.Entry.{EntryValue}
+use Rattle.atom_writer.specs.Pieced.{text_of}
+use Rattle.atom_writer.specs.Pieces.{text}
 use Rattle.atom_writer.specs.Doc.{DocValue, IsDoc}
 use Rattle.member_rules.specs.declared.operation.Op.{Op}
 use Rattle.member_rules.specs.declared.operation.Op.TheVariants.{Add, Change}
 use Rattle.member_rules.specs.declared.state.State.TheVariants.{Live}
+use Rattle.member_rules.specs.Coding.{operations, payload_limit}
 use Rattle.member_rules.specs.Head.{HeadValue, IsHead}
 use Rattle.member_rules.specs.Fold.{fold_of, made, state_of}
 use Rattle.member_rules.specs.History.{AreFollowing, IsLawful}
 use Rattle.member_rules.specs.Windows.{Windows, windows_of}
-use Rattle.member_rules.specs.Documents.{archive}
+use Rattle.member_rules.specs.Documents.{archive, subscription}
+use Rattle.member_rules.specs.Operation.{IsOperation}
 use Rattle.member_rules.specs.Shows.{Shows, live_of}
 use Rattle.member_rules.specs.Served.{Served, IsServedDoc}
 use Rattle.member_rules.specs.Chain.{IsOpenCut, chain_of, chain, ShowsTheFold}
@@ -64,6 +68,30 @@ pub record SealsInTurn (before after : Windows) (count : ℕ) : Type 0 where
 abbrev pub WindowsSealInTurn : Type 0
 WindowsSealInTurn = (head : HeadValue) (history : List Op) (operation : Op) → IsHead head
     → SealsInTurn (windows_of head history) (windows_of head (history ++ operation ∷ [])) (length history)
+
+-- A sealed window is full, and at most one full window isn't sealed yet. Each full window has an operation.
+pub record HasSealed (windows : Windows) (count : ℕ) : Type 0 where
+  pub full : windows.sealed ≤ windows.full
+  pub all_but_one : windows.full ≤ windows.sealed + 1
+  pub few : windows.full ≤ count
+
+abbrev pub SealedAreFull : Type 0
+SealedAreFull = (head : HeadValue) (history : List Op) → IsHead head
+    → HasSealed (windows_of head history) (length history)
+
+-- the documents of a lawful history are within the limit of a payload
+abbrev pub DocumentsAreShort : Type 0
+DocumentsAreShort = (head : HeadValue) (history : List Op) → IsHead head → IsLawful head history
+    → (length (text (subscription head history)) ≤ payload_limit)
+    × ((number : ℕ) → 1 ≤ number → number ≤ (windows_of head history).full
+    → length (text (archive head history number)) ≤ payload_limit)
+
+-- the fewest bytes of an operation, those of a removal
+abbrev pub least_operation : ℕ
+least_operation = 21
+
+abbrev pub OperationsAreLong : Type 0
+OperationsAreLong = (operation : Op) → IsOperation operation → least_operation ≤ length (text_of operations operation)
 
 -- the number of a live member is from 1 to the number of members made
 abbrev pub LiveMembersAreMade : Type 0

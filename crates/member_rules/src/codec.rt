@@ -32,7 +32,7 @@ use unread::Unread;
 /// Why bytes are not read as an operation or as a head.
 #[derive(Clone, Copy, Debug, PartialEq, Eq)]
 pub enum CodecFault {
-    /// The bytes are those of no value. The first field that can't stand there begins at offset `at`.
+    /// The bytes are those of no value. The first field that is wrong begins at offset `at`.
     BadField { at: usize },
     /// Out of memory.
     NoMemory,
@@ -101,7 +101,7 @@ pub fn head_bytes(alloc: Global, head: &Head) -> Result<Vec<u8>, NoMemory>
     ensures bytes { IfOk result (λ written. written.items ≡ text_of heads head.now) }
     ensures bound { length (text_of heads head.now) ≤ payload_limit }
     // The rules that the types of the head keep.
-    ensures rules { ∥ IsHead head.now ∥₁ }
+    ensures rules { IsHead head.now }
 {
     let mut count = Count { bytes: 0 };
     // A count takes no memory, so this can't fail.

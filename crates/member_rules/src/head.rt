@@ -52,7 +52,7 @@ impl Model for Head {
 impl Copies for Head {
     ghost use Rattle.member_rules.specs.Head.{IsHead};
 
-    ghost rules = { λ head. ∥ IsHead head ∥₁ };
+    ghost rules = { λ head. IsHead head };
 
     fn copy(&self, alloc: Global) -> Result<Head, NoMemory> {
         Ok(Head {

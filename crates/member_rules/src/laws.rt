@@ -1,6 +1,9 @@
 ghost use Rattle.member_rules.specs.Laws.{LawOfCuts, WindowsAreACut, LawOfTheChain, ArchivesStay, ServedStays};
 ghost use Rattle.member_rules.specs.Laws.{ServedAreDocuments, PrefixesAreLawful, WindowsSealInTurn};
+ghost use Rattle.member_rules.specs.Laws.{SealedAreFull, DocumentsAreShort, OperationsAreLong};
 ghost use Rattle.member_rules.specs.Laws.{LiveMembersAreMade, VersionsSetTheEntry, LiveOfIsShown};
+ghost use Rattle.member_rules.specs.Coding.{heads, operations};
+ghost use Rattle.atom_writer.specs.Pieced.{HasOneReading};
 
 // The functions of this file do nothing. Each exists for its contract, which is a law over the definitions of specs/.
 
@@ -39,6 +42,27 @@ pub fn prefixes_are_lawful()
 /// An operation that follows a full open window seals it as an archive. Any other operation seals nothing.
 pub fn windows_seal_in_turn()
     ensures { WindowsSealInTurn }
+{}
+
+/// Sealed windows are full, and all full windows but the newest are sealed.
+pub fn sealed_windows_are_full()
+    ensures { SealedAreFull }
+{}
+
+/// The documents of a lawful history have at most 67,108,864 bytes each, so that each fits into one payload of a log.
+pub fn documents_are_short()
+    ensures { DocumentsAreShort }
+{}
+
+/// An operation has at least the bytes of a removal.
+pub fn operations_are_long()
+    ensures { OperationsAreLong }
+{}
+
+/// Bytes are those of one operation at most, and of one head at most.
+pub fn bytes_have_one_reading()
+    ensures operations { HasOneReading operations }
+    ensures heads { HasOneReading heads }
 {}
 
 /// The number of a live member is from 1 to the number of members made.

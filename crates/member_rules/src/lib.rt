@@ -1,9 +1,11 @@
-//! The rules on the members of a feed: the operation that an ask becomes, the members after a history, and the documents
-//! of a history. Stands on `atom_writer`.
+//! The rules on the members of a feed: the operation that an ask becomes, the members after a history, the documents of a
+//! history, and the bytes of operations and heads. Stands on `atom_writer`.
 //!
 //! - [`decide`] is exactly the decision that specs/ defines.
 //! - [`Members`] answers what the fold of a history does.
 //! - The documents of a history show exactly its live entries: [`chain_shows_the_fold`] and the laws beside it.
+//! - [`op_bytes`] and [`head_bytes`] write operations and heads as bytes, and [`read_op`] and [`read_head`] read exactly
+//!   these bytes.
 //!
 //! Begin with [`decide`], over a table of the members:
 //!
@@ -33,8 +35,9 @@ pub use decision::{ENTRY_LIMIT, decide};
 pub use fault::RuleFault;
 pub use head::{CAPACITY_FLOOR, CAPACITY_LIMIT, Head, TITLE_LIMIT, WINDOW_LIMIT};
 pub use laws::{
-    archives_stay, chain_shows_the_fold, live_members_are_made, live_of_is_shown,
-    prefixes_are_lawful, served_are_documents, served_stays_served, versions_set_the_entry,
+    archives_stay, bytes_have_one_reading, chain_shows_the_fold, documents_are_short,
+    live_members_are_made, live_of_is_shown, operations_are_long, prefixes_are_lawful,
+    sealed_windows_are_full, served_are_documents, served_stays_served, versions_set_the_entry,
     windows_seal_in_turn,
 };
 pub use members::{HISTORY_LIMIT, Members};

@@ -25,7 +25,7 @@ const HEAD: u8 = 1;
 pub(crate) fn push_head<W: Out>(out: &mut W, head: &Head) -> Result<(), NoMemory>
     ensures added { OnOk result (W.adds out.old out.new (text_of heads head.now)) }
     ensures failed { OnErr result W.can_fail }
-    ensures rules { OnOk result ∥ IsHead head.now ∥₁ }
+    ensures rules { OnOk result (IsHead head.now) }
 {
     out.push(&[HEAD])?;
     push_bytes(out, head.name.base.text())?;

@@ -31,4 +31,4 @@ returns c =
     let end = nil_from_length c.loop-rest.rest.now (eqb-true _ 0 (sym c.is_empty.ensures ∙ c.loop-rest-test.false)) in
     let whole = sym (append-nil (escaped c.args.quoted c.loop-rest.bytes.items))
     ∙ ap (λ xs. escaped c.args.quoted c.loop-rest.bytes.items ++ xs) (sym end) ∙ c.loop-rest.invariant in
-    IsReadBack-all c.args.quoted c.args.written.now c.loop-rest.bytes.items c.checked.result whole c.checked.ensures
+    IsReadBack-all c.args.quoted c.args.written.now c.loop-rest.bytes.items c.from_vec.result whole c.from_vec.ensures

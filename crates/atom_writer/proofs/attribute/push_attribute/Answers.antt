@@ -1,4 +1,3 @@
-use Rattle.std.proofs.Common.{arith, length-append}
 use Rattle.atom_writer.specs.Parts.{attribute}
 use Rattle.atom_writer.proofs.attribute.push_attribute.Goals as goal
 

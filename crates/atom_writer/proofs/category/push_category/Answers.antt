@@ -1,4 +1,3 @@
-use Rattle.std.proofs.Common.{arith, length-append}
 use Rattle.atom_writer.specs.Parts.{category_text}
 use Rattle.atom_writer.proofs.category.push_category.Goals as goal
 

@@ -1,4 +1,3 @@
-use Rattle.std.proofs.Common.{arith, length-append, ap, length}
 use Rattle.atom_writer.specs.Entries.{construct}
 use Rattle.atom_writer.proofs.construct.push_construct.Goals as goal
 

@@ -1,4 +1,3 @@
-use Rattle.std.proofs.Common.{arith, length-append}
 use Rattle.atom_writer.specs.Parts.{element}
 use Rattle.atom_writer.proofs.element.push_element.Goals as goal
 

@@ -1,4 +1,3 @@
-use Rattle.std.proofs.Common.{arith, length-append}
 use Rattle.atom_writer.specs.Entries.{back_text}
 use Rattle.atom_writer.proofs.entry.push_back.Goals as goal
 

@@ -1,4 +1,3 @@
-use Rattle.std.proofs.Common.{arith, length-append}
 use Rattle.atom_writer.specs.Entries.{edit_link}
 use Rattle.atom_writer.proofs.entry.push_edit_link.Goals as goal
 

@@ -1,5 +1,3 @@
-use Rattle.std.proofs.Common.{◌≤◌, arith, length-append, length, subst}
-use Rattle.atom_values.specs.Entry.{EntryValue}
 use Rattle.atom_writer.specs.Entries.{front_text}
 use Rattle.atom_writer.proofs.entry.push_front.Goals as goal
 

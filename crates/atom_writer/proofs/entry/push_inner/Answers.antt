@@ -1,4 +1,4 @@
-use Rattle.std.proofs.Common.{arith, length-append, ap, ◌∙◌}
+use Rattle.std.proofs.Common.{ap, ◌∙◌}
 use Rattle.atom_values.specs.Entry.{EntryValue}
 use Rattle.atom_writer.specs.Entries.{inner_text}
 use Rattle.atom_writer.proofs.entry.push_inner.Goals as goal

@@ -1,4 +1,3 @@
-use Rattle.std.proofs.Common.{arith, length-append}
 use Rattle.atom_writer.specs.Pieces.{entry_piece}
 use Rattle.atom_writer.proofs.item.push_entry.Goals as goal
 

@@ -1,5 +1,3 @@
-use Rattle.std.proofs.Common.{◌≤◌, arith, length-append, length, subst}
-use Rattle.deleted_entries.specs.Tombstone.{TombstoneValue}
 use Rattle.atom_writer.specs.Pieces.{tombstone_piece}
 use Rattle.atom_writer.proofs.item.push_tombstone.Goals as goal
 

@@ -1,4 +1,3 @@
-use Rattle.std.proofs.Common.{arith, length-append}
 use Rattle.atom_writer.specs.Parts.{link_text}
 use Rattle.atom_writer.proofs.link.push_link.Goals as goal
 

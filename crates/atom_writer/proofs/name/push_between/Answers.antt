@@ -1,4 +1,3 @@
-use Rattle.std.proofs.Common.{arith, length-append}
 use Rattle.atom_writer.proofs.name.push_between.Goals as goal
 
 pub returns-clause-added : goal.returns-clause-added

@@ -1,4 +1,3 @@
-use Rattle.std.proofs.Common.{arith, length-append, ap, length}
 use Rattle.atom_writer.specs.Pieces.{id_piece}
 use Rattle.atom_writer.proofs.name.push_id_piece.Goals as goal
 

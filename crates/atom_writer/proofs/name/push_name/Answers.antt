@@ -1,4 +1,3 @@
-use Rattle.std.proofs.Common.{arith, length-append}
 use Rattle.atom_writer.specs.Pieces.{joined, name_pieces}
 use Rattle.atom_writer.proofs.name.push_name.Goals as goal
 

@@ -1,4 +1,3 @@
-use Rattle.std.proofs.Common.{arith, length-append}
 use Rattle.atom_writer.specs.Pieces.{updated_piece}
 use Rattle.atom_writer.proofs.name.push_updated_piece.Goals as goal
 

@@ -1,4 +1,3 @@
-use Rattle.std.proofs.Common.{arith, length-append}
 use Rattle.atom_writer.specs.Parts.{person_text}
 use Rattle.atom_writer.proofs.person.push_person.Goals as goal
 

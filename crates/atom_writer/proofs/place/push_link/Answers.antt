@@ -1,4 +1,3 @@
-use Rattle.std.proofs.Common.{arith, length-append}
 use Rattle.atom_writer.specs.Pieces.{link_piece}
 use Rattle.atom_writer.proofs.place.push_link.Goals as goal
 

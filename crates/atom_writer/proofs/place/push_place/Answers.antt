@@ -1,4 +1,3 @@
-use Rattle.std.proofs.Common.{arith, length-append}
 use Rattle.atom_writer.proofs.PieceLemmas.{joined-place}
 use Rattle.atom_writer.proofs.place.push_place.Goals as goal
 

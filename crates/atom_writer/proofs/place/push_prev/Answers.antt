@@ -1,4 +1,3 @@
-use Rattle.std.proofs.Common.{arith}
 use Rattle.atom_writer.proofs.PieceLemmas.{prev_none, prev_some}
 use Rattle.atom_writer.proofs.place.push_prev.Goals as goal
 

@@ -1,6 +1,3 @@
-use Rattle.std.proofs.Common.{◌≤◌, length, subst, arith, length-append}
-use mathlib.Core.Logic.{∥∥₁_map}
-use Rattle.atom_writer.specs.Pieces.{text}
 use Rattle.atom_writer.proofs.PieceLemmas.{text-is}
 use Rattle.atom_writer.proofs.write.push_doc.Goals as goal
 
@@ -17,12 +14,12 @@ returns-clause-rules g c =
     let name = c.in_ok-push_name.ensures in
     let place = c.in_ok-push_place.ensures in
     rw (← c.doc.view_is)
-    (∥∥₁_map place.base (λ base. record {
-      name = record { base = base; id = name.id; title = name.title; author = name.author };
+    (record {
+      name = record { base = place.base; id = name.id; title = name.title; author = name.author };
       first = place.first;
       last = place.last;
       prev = place.prev;
       updated = name.updated;
       items = rw c.as_slice.ensures.items at c.in_ok-push_items.ensures.rules;
       rules = c.doc.invariant;
-    }))
+    })

@@ -57,7 +57,7 @@ returns-clause-offsets c =
     let at_port : length c.in_ok-behind.behind.now ≡ length (port_text has_port.0) + length c.in_ok-number.path.now =
     ap length has_port.3 ∙ length-append (port_text has_port.0) c.in_ok-number.path.now in
     record {
-      base = ∣ returns-clause-base c ∣₁;
+      base = returns-clause-base c;
       host_in = omega arith;
       path_behind = omega arith;
       path_in = omega arith;

@@ -1,6 +1,6 @@
 use Rattle.std.proofs.Common.{sym, ap, ◌∙◌}
 use Rattle.atom_grammar.specs.Parts.{starts}
-use Rattle.atom_grammar.proofs.NameLemmas.{address_elsewhere, address_nowhere, address_read, some_base_lacks}
+use Rattle.atom_grammar.proofs.NameLemmas.{address_elsewhere, address_nowhere, address_read, base_lacks}
 use Rattle.atom_grammar.proofs.reader.Reader.address.Goals as goal
 
 pub returns-then-not-at : goal.returns-then-not-at
@@ -15,4 +15,4 @@ pub returns : goal.returns
 returns c =
     address_read c.args.base.now c.args.self.now.rest.now c.in-Some.written.now c.up_to.new.self.rest.now
     c.read.result c.ok_or.result c.ok_or.ensures.value
-    (some_base_lacks c.args.base.now c.text.ensures.base) c.in-Some.ensures c.read.ensures.found c.read.ensures.only
+    (base_lacks c.args.base.now c.text.ensures.base) c.in-Some.ensures c.read.ensures.found c.read.ensures.only

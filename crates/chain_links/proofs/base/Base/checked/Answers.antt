@@ -1,12 +1,10 @@
 -- A base address is ASCII, so it is always a text.
 use Rattle.std.proofs.Common.{IsUtf8, List, ℕ, subst, sym}
-use mathlib.Core.HLevel.{⊥_prop}
-use mathlib.Core.Logic.{∥∥₁_elim}
 use Rattle.chain_links.proofs.AsciiLemmas.{base_utf8}
 use Rattle.chain_links.proofs.base.Base.checked.Goals as goal
 
 pub returns-in_default : goal.returns-in_default
 returns-in_default c =
-    absurd (∥∥₁_elim c.self.invariant.base ⊥_prop (λ base.
     let P : List ℕ → Type 0 = λ t. IsUtf8 t in
-    c.in_default.ensures.cases.0 (subst P (sym c.deref.ensures.value) (base_utf8 c.self.inside.text.items base))))
+    absurd (c.in_default.ensures.cases.0
+    (subst P (sym c.deref.ensures.value) (base_utf8 c.self.inside.text.items c.self.invariant.base)))

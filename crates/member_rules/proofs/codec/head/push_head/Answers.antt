@@ -1,13 +1,11 @@
 use Rattle.std.proofs.Common.{ℕ, List, subst, arith, ap, length}
-use mathlib.Core.Logic.{∥∥₁_map}
-use Rattle.chain_links.proofs.AddressLemmas.{base_short}
 use Rattle.member_rules.specs.Fields.{text, stamp}
 use Rattle.member_rules.proofs.HeadLemmas.{head_written}
 use Rattle.member_rules.proofs.codec.head.push_head.Goals as goal
 
 pub push_bytes-requires : goal.push_bytes-requires
 push_bytes-requires g c =
-    omega (arith, base_short c.head.inside.name.base c.text.ensures.base, ap length c.text.ensures.text)
+    omega (arith, c.text.ensures.base.short, ap length c.text.ensures.text)
 
 pub returns-clause-added : goal.returns-clause-added
 returns-clause-added g c =
@@ -24,13 +22,13 @@ returns-clause-added g c =
 
 pub returns-clause-rules : goal.returns-clause-rules
 unfolding text stamp
-returns-clause-rules g c = rw (← c.head.view_is) (∥∥₁_map c.text.ensures.base (λ base. record {
+returns-clause-rules g c = rw (← c.head.view_is) (record {
   name = record {
-    base = base;
+    base = c.text.ensures.base;
     id = c.bytes.ensures.rules;
     title = c.in_ok-push-3.ensures.rules;
     author = c.in_ok-push-4.ensures.rules;
   };
   created = c.in_ok-push-5.ensures.rules;
   limits = c.head.invariant;
-}))
+})

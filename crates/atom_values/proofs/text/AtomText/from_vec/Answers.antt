@@ -1,5 +1,5 @@
 use Rattle.atom_values.proofs.XmlTextLemmas.{IsXmlText-refused}
-use Rattle.atom_values.proofs.text.AtomText.checked.Goals as goal
+use Rattle.atom_values.proofs.text.AtomText.from_vec.Goals as goal
 
 pub returns-in-Some : goal.returns-in-Some
 returns-in-Some c text =
