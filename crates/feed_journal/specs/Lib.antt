@@ -1,4 +1,5 @@
 pub mod Framed
+pub mod Laws
 pub mod Limits
 pub mod Log
 pub mod Records

@@ -26,6 +26,7 @@ mod append;
 mod extent;
 mod fault;
 mod framed;
+mod laws;
 mod limits;
 mod log;
 mod scan;
@@ -34,4 +35,5 @@ mod synced_write;
 
 pub use fault::{DiskFault, LogFault};
 pub use framed::Framed;
+pub use laws::begun_images_are_whole;
 pub use log::Log;

@@ -130,7 +130,8 @@ impl Log {
     /// Returns the number of bytes up to the closed gate after the payloads, which is counted too.
     pub fn size(&self) -> u64
         requires { self.now.spent ≡ false }
-        ensures { result ≡ self.now.size }
+        ensures size { result ≡ self.now.size }
+        ensures rules { IsLog self.now }
     {
         self.size
     }
