@@ -189,7 +189,7 @@ fn expect(
 ) -> Result<(), Fail> {
     for (steps, expected) in cases {
         let answer = last_answer(rt, alloc, drafts, steps)?;
-        assert_eq!(rt; answer.as_str(), *expected);
+        assert!(rt; answer.as_str() == *expected);
     }
     Ok(())
 }
@@ -330,7 +330,7 @@ fn entries_have_a_greatest_length(rt: HostRuntime) -> Result<(), Fail> {
     ] {
         let draft = large_draft(rt.alloc(), ampersands, others)?;
         let answer = large_answer(rt.alloc(), draft)?;
-        assert_eq!(rt; answer.as_str(), expected);
+        assert!(rt; answer.as_str() == expected);
     }
     Ok(())
 }
@@ -375,7 +375,7 @@ fn tells_which_operations_may_follow(rt: HostRuntime) -> Result<(), Fail> {
     apply(&rt, &mut feed, ask, 5)?;
     for (step, stamp, expected) in FOLLOWING {
         let operation = operation(rt.alloc(), step, stamp)?;
-        assert_eq!(rt; feed.members.may_follow(&operation), expected);
+        assert!(rt; feed.members.may_follow(&operation) == expected);
     }
     Ok(())
 }
@@ -389,7 +389,7 @@ fn expect_equal_copy<T: Copies + Debug + Drop>(
     let copy = value.copy(alloc)?;
     let copied = format!(in alloc; "{copy:?}")?;
     let original = format!(in alloc; "{value:?}")?;
-    assert_eq!(rt; copied.as_str(), original.as_str());
+    assert!(rt; copied.as_str() == original.as_str());
     Ok(())
 }
 
@@ -451,11 +451,11 @@ fn compare(rt: &impl Abort, feed: &Feed, number: u32) -> Result<(), Fail> {
     let (members, history) = (&feed.members, feed.history.as_slice());
     assert!(rt; history.len() < 10_000);
     let created = Stamp::new(0).ok_or("no moment")?;
-    assert_eq!(rt; members.state(number), plain_state(history, number));
-    assert_eq!(rt; members.count(), plain_count(history));
-    assert_eq!(rt; members.last_moment(), plain_last_moment(created, history));
+    assert!(rt; members.state(number) == plain_state(history, number));
+    assert!(rt; members.count() == plain_count(history));
+    assert!(rt; members.last_moment() == plain_last_moment(created, history));
     if history.len() % 250 == 0 {
-        assert_eq!(rt; members.live_count(), plain_live_count(history));
+        assert!(rt; members.live_count() == plain_live_count(history));
     }
     Ok(())
 }

@@ -149,7 +149,7 @@ fn documents_of_histories(rt: HostRuntime) -> Result<(), Fail> {
         archive_of_one,
     ] {
         let doc = document(rt.alloc(), &case)?;
-        assert_eq!(rt; doc_text(rt.alloc(), &doc)?.as_str(), case.expected);
+        assert!(rt; doc_text(rt.alloc(), &doc)?.as_str() == case.expected);
     }
     Ok(())
 }

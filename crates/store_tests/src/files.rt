@@ -76,7 +76,7 @@ fn synced_bytes_are_read_by_the_next_disk(rt: HostRuntime) -> Result<(), Fail> {
     let folder = new_folder(&rt, "reads")?;
     let found = written_reads(&rt, folder.as_str())?;
     fs::remove_dir_all(&rt, folder.as_str())?;
-    assert_eq!(rt; found.as_slice(), b"abcd/bc/cd///".as_slice());
+    assert!(rt; found.as_slice() == b"abcd/bc/cd///".as_slice());
     Ok(())
 }
 
@@ -107,8 +107,8 @@ fn a_file_has_one_disk_at_a_time(rt: HostRuntime) -> Result<(), Fail> {
     let folder = new_folder(&rt, "lock")?;
     let (during, after) = second_sizes(&rt, folder.as_str())?;
     fs::remove_dir_all(&rt, folder.as_str())?;
-    assert_eq!(rt; during, ([None, Some(0), Some(0)], 3));
-    assert_eq!(rt; after, ([Some(4), Some(0), Some(0)], 6));
+    assert!(rt; during == ([None, Some(0), Some(0)], 3));
+    assert!(rt; after == ([Some(4), Some(0), Some(0)], 6));
     Ok(())
 }
 
@@ -129,7 +129,7 @@ fn nothing_but_a_regular_file_is_opened(rt: HostRuntime) -> Result<(), Fail> {
     let folder = new_folder(&rt, "regular")?;
     let found = irregular_sizes(&rt, folder.as_str())?;
     fs::remove_dir_all(&rt, folder.as_str())?;
-    assert_eq!(rt; found, (([None, None, Some(0)], 3), false));
+    assert!(rt; found == (([None, None, Some(0)], 3), false));
     Ok(())
 }
 
@@ -150,7 +150,7 @@ fn a_call_opens_the_file_of_its_area(rt: HostRuntime) -> Result<(), Fail> {
     let folder = new_folder(&rt, "area")?;
     let made = made_files(&rt, folder.as_str())?;
     fs::remove_dir_all(&rt, folder.as_str())?;
-    assert_eq!(rt; made, [false, false, true]);
+    assert!(rt; made == [false, false, true]);
     Ok(())
 }
 
@@ -191,6 +191,6 @@ fn a_log_is_loaded_from_its_file(rt: HostRuntime) -> Result<(), Fail> {
     append_two(&rt, folder.as_str())?;
     let payloads = payloads_after_cuts(&rt, folder.as_str())?;
     fs::remove_dir_all(&rt, folder.as_str())?;
-    assert_eq!(rt; payloads.as_slice(), b"ab/c/ ab/ ab/   ".as_slice());
+    assert!(rt; payloads.as_slice() == b"ab/c/ ab/ ab/   ".as_slice());
     Ok(())
 }

@@ -80,10 +80,7 @@ fn a_load_finds_the_payloads(rt: HostRuntime) -> Result<(), Fail> {
         all.push(b' ')?;
     }
     // A payload is found once its last byte has a byte after it.
-    assert_eq!(rt;
-        all.as_slice(),
-        b"        ab/ ab/ ab/ ab/ ab/ ab/ ab/c/ ".as_slice()
-    );
+    assert!(rt; all.as_slice() == b"        ab/ ab/ ab/ ab/ ab/ ab/ ab/c/ ".as_slice());
     Ok(())
 }
 
@@ -99,7 +96,7 @@ fn a_closed_gate_or_a_long_payload_ends_the_list(rt: HostRuntime) -> Result<(), 
         all.extend_from_slice(&payloads_of(rt.alloc(), &area)?)?;
         all.push(b' ')?;
     }
-    assert_eq!(rt; all.as_slice(), b"  ab/ ab/ ab/ ab/ ".as_slice());
+    assert!(rt; all.as_slice() == b"  ab/ ab/ ab/ ab/ ".as_slice());
     Ok(())
 }
 
@@ -107,7 +104,7 @@ fn a_closed_gate_or_a_long_payload_ends_the_list(rt: HostRuntime) -> Result<(), 
 fn a_log_counts_its_bytes_and_its_calls(rt: HostRuntime) -> Result<(), Fail> {
     let mut disk = disk_of(rt.alloc(), &TWO, [0, 0])?;
     let log = show_log(rt.alloc(), &mut disk)?;
-    assert_eq!(rt; (log.size, log.calls), (14, 6));
+    assert!(rt; (log.size, log.calls) == (14, 6));
     Ok(())
 }
 
@@ -124,18 +121,15 @@ fn appended<D: Disk>(alloc: Global, disk: &mut D) -> Result<Vec<u8>, Fail> {
 fn an_append_has_these_bytes(rt: HostRuntime) -> Result<(), Fail> {
     let mut disk = disk_of(rt.alloc(), b"", [0, 0])?;
     let bytes = appended(rt.alloc(), &mut disk)?;
-    assert_eq!(rt;
-        bytes.as_slice(),
-        b"\x01\x00\x00\x00\x02ab\x01\x00\x00\x00\x01c\x00/".as_slice()
-    );
+    assert!(rt; bytes.as_slice() == b"\x01\x00\x00\x00\x02ab\x01\x00\x00\x00\x01c\x00/".as_slice());
     Ok(())
 }
 
 #[test]
 fn a_payload_has_this_form(rt: HostRuntime) -> Result<(), Fail> {
     let framed = Framed::of(rt.alloc(), b"de")?;
-    assert_eq!(rt; (framed.needed(), framed.length()), (7, 2));
-    assert_eq!(rt; framed.tail(), b"\x00\x00\x00\x02de\x00".as_slice());
+    assert!(rt; (framed.needed(), framed.length()) == (7, 2));
+    assert!(rt; framed.tail() == b"\x00\x00\x00\x02de\x00".as_slice());
     Ok(())
 }
 
@@ -191,9 +185,8 @@ fn a_crash_leaves_the_list_before_or_after(rt: HostRuntime) -> Result<(), Fail> 
         (8, b"+c/ab/+ab/c/+c/"),
     ];
     for (call, lists) in cases {
-        assert_eq!(rt;
-            recovered(rt.alloc(), call)?.as_slice(),
-            lists,
+        assert!(rt;
+            recovered(rt.alloc(), call)?.as_slice() == lists,
             "call {call}"
         );
     }
@@ -222,7 +215,7 @@ fn each_device_call_of_an_append_may_fail(rt: HostRuntime) -> Result<(), Fail> {
             5..=7 => (Reached::Loaded, b"".as_slice()),
             _ => (Reached::Loaded, b"ab/".as_slice()),
         };
-        assert_eq!(rt; (reached, found.as_slice()), wanted, "call {call}");
+        assert!(rt; (reached, found.as_slice()) == wanted, "call {call}");
     }
     Ok(())
 }
@@ -233,9 +226,8 @@ fn a_failed_call_of_a_load_or_a_read_is_a_disk_fault(rt: HostRuntime) -> Result<
     // The load makes the device calls 1 to 4, and the reads 5 and 6.
     for call in 1u64..7 {
         let mut disk = disk_of(alloc, &TWO, [call, 0])?;
-        assert_eq!(rt;
-            show_log(alloc, &mut disk).err(),
-            Some(LogFault::DiskFault),
+        assert!(rt;
+            show_log(alloc, &mut disk).err() == Some(LogFault::DiskFault),
             "call {call}"
         );
     }

@@ -41,11 +41,11 @@ fn takes_the_grammar_alone(rt: HostRuntime) {
         } else {
             Err(BaseFault::BadBase)
         };
-        assert_eq!(rt;
+        assert!(rt;
             base.as_ref()
                 .map(|base| base.text())
-                .map_err(|fault| *fault),
-            want,
+                .map_err(|fault| *fault)
+                == want,
             "{text:?}"
         );
     }
@@ -57,11 +57,11 @@ fn takes_at_most_200_bytes(rt: HostRuntime) {
     text[..9].copy_from_slice(b"http://a/");
     text[199] = b'/';
     let longest = Base::parse(rt.alloc(), &text).expect(&rt, "a base");
-    assert_eq!(rt; longest.text(), text.as_slice());
+    assert!(rt; longest.text() == text.as_slice());
     text[199] = b'b';
     text.push(b'/').expect(&rt, "memory");
     let fault = Base::parse(rt.alloc(), &text).err();
-    assert_eq!(rt; fault, Some(BaseFault::BadBase));
+    assert!(rt; fault == Some(BaseFault::BadBase));
 }
 
 /// A base address and its parts.
@@ -99,8 +99,8 @@ static PARTS: [Parts; 3] = [
 fn tells_the_parts(rt: HostRuntime) {
     for parts in PARTS {
         let base = Base::parse(rt.alloc(), parts.text).expect(&rt, "a base");
-        assert_eq!(rt; (base.text(), base.host()), (parts.text, parts.host));
-        assert_eq!(rt; (base.port(), base.path()), (parts.port, parts.path));
+        assert!(rt; (base.text(), base.host()) == (parts.text, parts.host));
+        assert!(rt; (base.port(), base.path()) == (parts.port, parts.path));
     }
 }
 
@@ -121,7 +121,7 @@ static URL_TEXTS: [(&[u8], bool); 9] = [
 fn asks_the_url_parser(rt: HostRuntime) {
     for (text, answer) in URL_TEXTS {
         let base = Base::parse(rt.alloc(), text).expect(&rt, "a base");
-        assert_eq!(rt; base.checked(rt.alloc()), Ok(answer), "{text:?}");
+        assert!(rt; base.checked(rt.alloc()) == Ok(answer), "{text:?}");
     }
 }
 
@@ -153,18 +153,18 @@ fn reads_and_prints_addresses(rt: HostRuntime) {
     let base = Base::parse(rt.alloc(), b"http://feed.example/").expect(&rt, "a base");
     for (text, address) in READ {
         let found = base.read(text);
-        assert_eq!(rt; found, address, "{text:?}");
+        assert!(rt; found == address, "{text:?}");
         if let Some(address) = found {
-            assert_eq!(rt;
+            assert!(rt;
                 base.print(rt.alloc(), address)
                     .expect(&rt, "memory")
-                    .as_slice(),
-                text
+                    .as_slice()
+                    == text
             );
-            assert_eq!(rt; base.printed_len(address), text.len());
+            assert!(rt; base.printed_len(address) == text.len());
             let mut out = vec![in rt.alloc(); b'#'].expect(&rt, "memory");
-            assert_eq!(rt; base.print_into(&mut out, address), Ok(()));
-            assert_eq!(rt; out.as_slice().strip_prefix(b"#"), Some(text));
+            assert!(rt; base.print_into(&mut out, address) == Ok(()));
+            assert!(rt; out.as_slice().strip_prefix(b"#") == Some(text));
         }
     }
 }
@@ -185,7 +185,7 @@ static NUMBERS: [(&[u8], Option<u32>); 9] = [
 #[test]
 fn reads_whole_numbers(rt: HostRuntime) {
     for (text, number) in NUMBERS {
-        assert_eq!(rt; whole_number(text), number, "{text:?}");
+        assert!(rt; whole_number(text) == number, "{text:?}");
     }
 }
 
@@ -279,6 +279,6 @@ fn tells_what_follows(rt: HostRuntime) {
             },
             prev: pair.prev,
         };
-        assert_eq!(rt; follows(&older, &newer), pair.follows);
+        assert!(rt; follows(&older, &newer) == pair.follows);
     }
 }

@@ -10,7 +10,7 @@ use std::process::Abort;
 
 fn compare<T: Copies + Debug + Drop + PartialEq>(rt: &impl Abort, alloc: Global, value: &T) {
     let copy = value.copy(alloc).expect(rt, "a copy");
-    assert_eq!(rt; copy, *value);
+    assert!(rt; copy == *value);
 }
 
 #[test]
@@ -53,35 +53,29 @@ fn copies_options_and_lists(rt: HostRuntime) {
 }
 
 fn compare_drafts(rt: &impl Abort, one: &Draft, other: &Draft) {
-    assert_eq!(rt; one.id, other.id);
-    assert_eq!(rt; one.title, other.title);
-    assert_eq!(rt;
-        (one.updated, one.published),
-        (other.updated, other.published)
-    );
-    assert_eq!(rt; one.authors, other.authors);
-    assert_eq!(rt; one.contributors, other.contributors);
-    assert_eq!(rt; one.links, other.links);
-    assert_eq!(rt; one.categories, other.categories);
-    assert_eq!(rt; one.rights, other.rights);
-    assert_eq!(rt; one.summary, other.summary);
-    assert_eq!(rt; one.content, other.content);
+    assert!(rt; one.id == other.id);
+    assert!(rt; one.title == other.title);
+    assert!(rt; (one.updated, one.published) == (other.updated, other.published));
+    assert!(rt; one.authors == other.authors);
+    assert!(rt; one.contributors == other.contributors);
+    assert!(rt; one.links == other.links);
+    assert!(rt; one.categories == other.categories);
+    assert!(rt; one.rights == other.rights);
+    assert!(rt; one.summary == other.summary);
+    assert!(rt; one.content == other.content);
 }
 
 fn compare_entries(rt: &impl Abort, one: &Entry, other: &Entry) {
-    assert_eq!(rt; (one.number, one.edited), (other.number, other.edited));
-    assert_eq!(rt; one.title, other.title);
-    assert_eq!(rt;
-        (one.updated, one.published),
-        (other.updated, other.published)
-    );
-    assert_eq!(rt; one.authors, other.authors);
-    assert_eq!(rt; one.contributors, other.contributors);
-    assert_eq!(rt; one.links, other.links);
-    assert_eq!(rt; one.categories, other.categories);
-    assert_eq!(rt; one.rights, other.rights);
-    assert_eq!(rt; one.summary, other.summary);
-    assert_eq!(rt; one.content, other.content);
+    assert!(rt; (one.number, one.edited) == (other.number, other.edited));
+    assert!(rt; one.title == other.title);
+    assert!(rt; (one.updated, one.published) == (other.updated, other.published));
+    assert!(rt; one.authors == other.authors);
+    assert!(rt; one.contributors == other.contributors);
+    assert!(rt; one.links == other.links);
+    assert!(rt; one.categories == other.categories);
+    assert!(rt; one.rights == other.rights);
+    assert!(rt; one.summary == other.summary);
+    assert!(rt; one.content == other.content);
 }
 
 fn full_entry(rt: &impl Abort, alloc: Global) -> Entry {
@@ -112,7 +106,7 @@ fn copies_items(rt: HostRuntime) {
         .expect(&rt, "an item")
     {
         Item::Kept(_) => assert!(rt; false, "a tombstone became an entry"),
-        Item::Gone(copy) => assert_eq!(rt; copy, tombstone),
+        Item::Gone(copy) => assert!(rt; copy == tombstone),
     }
 }
 
@@ -120,7 +114,7 @@ fn copies_items(rt: HostRuntime) {
 fn copies_a_base(rt: HostRuntime) {
     let base = Base::parse(rt.alloc(), b"http://feed.example:8080/a/").expect(&rt, "a base");
     let copy = base.copy(rt.alloc()).expect(&rt, "a copy");
-    assert_eq!(rt; copy.text(), b"http://feed.example:8080/a/".as_slice());
-    assert_eq!(rt; copy.host(), b"feed.example".as_slice());
-    assert_eq!(rt; (copy.port(), copy.path()), (8080, b"/a/".as_slice()));
+    assert!(rt; copy.text() == b"http://feed.example:8080/a/".as_slice());
+    assert!(rt; copy.host() == b"feed.example".as_slice());
+    assert!(rt; (copy.port(), copy.path()) == (8080, b"/a/".as_slice()));
 }

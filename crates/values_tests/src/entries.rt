@@ -12,13 +12,13 @@ fn makes_a_draft_of_a_title(rt: HostRuntime) {
         kind: TextKind::Plain,
         value: text(&rt, rt.alloc(), b"A"),
     };
-    assert_eq!(rt; draft.title, plain);
-    assert_eq!(rt; draft.id, None);
-    assert_eq!(rt; (draft.updated, draft.published), (None, None));
-    assert_eq!(rt; (draft.authors.len(), draft.contributors.len()), (0, 0));
-    assert_eq!(rt; (draft.links.len(), draft.categories.len()), (0, 0));
+    assert!(rt; draft.title == plain);
+    assert!(rt; draft.id == None);
+    assert!(rt; (draft.updated, draft.published) == (None, None));
+    assert!(rt; (draft.authors.len(), draft.contributors.len()) == (0, 0));
+    assert!(rt; (draft.links.len(), draft.categories.len()) == (0, 0));
     for text in [&draft.rights, &draft.summary, &draft.content] {
-        assert_eq!(rt; *text, None);
+        assert!(rt; *text == None);
     }
 }
 
@@ -39,8 +39,8 @@ fn updates_not_before_the_stored_entry(rt: HostRuntime) {
         let mut draft = Draft::titled(rt.alloc(), text(&rt, rt.alloc(), b"A"));
         draft.updated = asked.and_then(Stamp::new);
         let entry = draft.normal(7, moment, stored.and_then(Stamp::new));
-        assert_eq!(rt; (entry.number, entry.edited), (7, moment));
-        assert_eq!(rt; entry.updated.millis(), updated);
+        assert!(rt; (entry.number, entry.edited) == (7, moment));
+        assert!(rt; entry.updated.millis() == updated);
     }
 }
 
@@ -48,18 +48,15 @@ fn updates_not_before_the_stored_entry(rt: HostRuntime) {
 fn keeps_the_other_fields(rt: HostRuntime) {
     let want = full_draft(&rt, rt.alloc());
     let entry = full_draft(&rt, rt.alloc()).normal(7, stamp(&rt, 0), None);
-    assert_eq!(rt; entry.title, want.title);
-    assert_eq!(rt; entry.published, want.published);
-    assert_eq!(rt; entry.authors, want.authors);
-    assert_eq!(rt; entry.contributors, want.contributors);
-    assert_eq!(rt;
-        entry.links.as_slice(),
-        [full_link(&rt, rt.alloc())].as_slice()
-    );
-    assert_eq!(rt; entry.categories, want.categories);
-    assert_eq!(rt; entry.rights, want.rights);
-    assert_eq!(rt; entry.summary, want.summary);
-    assert_eq!(rt; entry.content, want.content);
+    assert!(rt; entry.title == want.title);
+    assert!(rt; entry.published == want.published);
+    assert!(rt; entry.authors == want.authors);
+    assert!(rt; entry.contributors == want.contributors);
+    assert!(rt; entry.links.as_slice() == [full_link(&rt, rt.alloc())].as_slice());
+    assert!(rt; entry.categories == want.categories);
+    assert!(rt; entry.rights == want.rights);
+    assert!(rt; entry.summary == want.summary);
+    assert!(rt; entry.content == want.content);
 }
 
 fn links(rt: &impl Abort, alloc: Global, relations: &[&[u8]]) -> Many<Link, 32> {
@@ -82,8 +79,8 @@ fn compare_links(
     draft.links = links(rt, alloc, given);
     let entry = draft.normal(1, stamp(rt, 0), None);
     let found = entry.content.as_ref().map(|content| content.value.bytes());
-    assert_eq!(rt; found, content);
-    assert_eq!(rt; entry.links, links(rt, alloc, left));
+    assert!(rt; found == content);
+    assert!(rt; entry.links == links(rt, alloc, left));
 }
 
 #[test]

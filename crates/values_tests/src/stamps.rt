@@ -27,7 +27,7 @@ fn prints(rt: HostRuntime) {
         );
         let mut into = [b'#'; 24];
         let length = Stamp::new(millis).expect(&rt, text).print(&mut into);
-        assert_eq!(rt; (length, into), (text.len(), want), "at {millis}");
+        assert!(rt; (length, into) == (text.len(), want), "at {millis}");
     }
 }
 
@@ -58,7 +58,7 @@ fn reads(rt: HostRuntime) {
     printed_is_read();
     for (text, millis) in READ {
         let stamp = Stamp::parse(text.as_bytes()).expect(&rt, text);
-        assert_eq!(rt; stamp.millis(), millis, "{text}");
+        assert!(rt; stamp.millis() == millis, "{text}");
     }
 }
 

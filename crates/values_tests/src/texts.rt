@@ -26,11 +26,11 @@ fn takes_xml_characters_alone(rt: HostRuntime) {
             Some(at) => Err(TextFault::NotXmlChar { at }),
             None => Ok(bytes),
         };
-        assert_eq!(rt;
+        assert!(rt;
             text.as_ref()
                 .map(|text| text.bytes())
-                .map_err(|fault| *fault),
-            want,
+                .map_err(|fault| *fault)
+                == want,
             "{bytes:?}"
         );
     }
@@ -40,11 +40,11 @@ fn takes_xml_characters_alone(rt: HostRuntime) {
 fn bounds_the_length(rt: HostRuntime) {
     let longest = vec![in rt.alloc(); b'a'; 65_536].expect(&rt, "memory");
     let text = AtomText::of(rt.alloc(), longest.as_slice()).expect(&rt, "a text");
-    assert_eq!(rt; text.bytes(), longest.as_slice());
+    assert!(rt; text.bytes() == longest.as_slice());
     for byte in [b'a', 0xFF] {
         let long = vec![in rt.alloc(); byte; 65_537].expect(&rt, "memory");
         let fault = AtomText::of(rt.alloc(), long.as_slice()).err();
-        assert_eq!(rt; fault, Some(TextFault::TooLong { length: 65_537 }));
+        assert!(rt; fault == Some(TextFault::TooLong { length: 65_537 }));
     }
 }
 
@@ -71,9 +71,9 @@ fn escapes(rt: HostRuntime) {
     for (bytes, quoted, written) in ESCAPED {
         let text = AtomText::of(rt.alloc(), bytes).expect(&rt, "a text");
         let mut out = vec![in rt.alloc(); b'#'].expect(&rt, "memory");
-        assert_eq!(rt; escape_into(&mut out, &text, quoted), Ok(()));
-        assert_eq!(rt; out.as_slice().strip_prefix(b"#"), Some(written));
-        assert_eq!(rt; escaped_len(&text, quoted), written.len());
+        assert!(rt; escape_into(&mut out, &text, quoted) == Ok(()));
+        assert!(rt; out.as_slice().strip_prefix(b"#") == Some(written));
+        assert!(rt; escaped_len(&text, quoted) == written.len());
     }
 }
 
@@ -106,9 +106,8 @@ static WRITTEN: [(&[u8], bool, Option<&[u8]>); 17] = [
 fn reads_back_what_is_escaped(rt: HostRuntime) {
     for (written, quoted, bytes) in WRITTEN {
         let text = unescape(rt.alloc(), written, quoted).expect(&rt, "memory");
-        assert_eq!(rt;
-            text.as_ref().map(|text| text.bytes()),
-            bytes,
+        assert!(rt;
+            text.as_ref().map(|text| text.bytes()) == bytes,
             "{written:?}"
         );
     }
