@@ -1,0 +1,28 @@
+-- `Store::archive`: the seal that is read
+pub mod ArchiveLemmas
+-- `Store::load`, `Store::init` and `Store::commit`: both areas at each moment
+pub mod BothLemmas
+-- `Store::commit`: `most`
+pub mod CountLemmas
+-- `Store::member`: the entry that an operation's bytes set
+pub mod EntryLemmas
+-- `Store::load`: the clause `only`
+pub mod FaultLemmas
+-- `Store::load`: the journal and the history
+pub mod HistoryLemmas
+-- `Store::init`: the store that it makes, and the disk before that
+pub mod InitLemmas
+-- `Store::load`: `moments`, `settled` and `rests`
+pub mod LoadedLemmas
+-- `Store::load`: its steps, which write nothing
+pub mod ReadingLemmas
+-- `Store::prepare`: its refusals
+pub mod RefusalLemmas
+-- `Store::due_seal`: the number and the length of the next seal
+pub mod SealLemmas
+-- `Store::append_seal` and `Store::append_operation`: the seals
+pub mod SealListLemmas
+-- `Store::commit`, `moments`, and `settled` of it, of `Store::load` and of `Store::init`
+pub mod SettleLemmas
+-- `Store::append_seal` and `Store::append_operation`: `stands`
+pub mod StoreLemmas

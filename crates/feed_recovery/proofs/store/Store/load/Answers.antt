@@ -1,0 +1,123 @@
+use Rattle.std.proofs.Common.{List, ℕ, subst}
+use Rattle.std.proofs.lemmas.Result.{err_from_is_err_and}
+use Rattle.feed_disk.specs.declared.area.Area.TheVariants.{Journal, Sealed, Mirror}
+use Rattle.feed_journal.specs.Records.{records}
+use Rattle.feed_recovery.specs.Faults.{IsLoadFault}
+use Rattle.feed_recovery.specs.Store.{seal_count}
+use Rattle.feed_recovery.proofs.FaultLemmas.{opens_without}
+use Rattle.feed_recovery.proofs.LoadedLemmas.{all_same, alone_stands, journal_same, journal_stands}
+use Rattle.feed_recovery.proofs.LoadedLemmas.{loaded_calls, loaded_rests, mirror_alone, mirror_journal}
+use Rattle.feed_recovery.proofs.LoadedLemmas.{sealed_journal, sealed_same, sealed_stands, settled_stays}
+use Rattle.feed_recovery.proofs.ReadingLemmas.{reads_begin}
+use Rattle.feed_recovery.proofs.SettleLemmas.{rest_settles}
+use Rattle.feed_recovery.proofs.store.Store.load.Goals as goal
+
+pub returns-in_err-journal-clause-moments : goal.returns-in_err-journal-clause-moments
+returns-in_err-journal-clause-moments g c = λ tells head operations least settled.
+    let s = g.D.Disk.state c.args.disk.now in
+    let m = g.D.Disk.state c.load.new.disk in
+    settled_stays s m head operations least (g.met.D.Disk.is_disk c.args.disk.now) (c.load.ensures.moments tells)
+    (alone_stands s m Sealed (c.load.ensures.others Sealed sealed_journal)) settled
+
+pub returns-in_err-journal-clause-mirror : goal.returns-in_err-journal-clause-mirror
+returns-in_err-journal-clause-mirror g c = c.load.ensures.others Mirror mirror_journal
+
+pub returns-in_err-seals-clause-moments : goal.returns-in_err-seals-clause-moments
+returns-in_err-seals-clause-moments g c = λ tells head operations least settled.
+    let s = g.D.Disk.state c.args.disk.now in
+    let m = g.D.Disk.state c.load.new.disk in
+    let t = g.D.Disk.state c.load-2.new.disk in
+    let others = c.load.ensures.others in
+    let others' = c.load-2.ensures.others in
+    settled_stays s t head operations least (g.met.D.Disk.is_disk c.args.disk.now)
+    (journal_stands s m t t others others' (reads_begin t) (c.load.ensures.moments tells))
+    (sealed_stands s m t t others others' (reads_begin t) (c.load-2.ensures.moments tells)) settled
+
+pub returns-in_err-seals-clause-mirror : goal.returns-in_err-seals-clause-mirror
+returns-in_err-seals-clause-mirror g c =
+    let t = g.D.Disk.state c.load-2.new.disk in
+    mirror_alone (g.D.Disk.state c.args.disk.now) (g.D.Disk.state c.load.new.disk) t t c.load.ensures.others
+    c.load-2.ensures.others (reads_begin t)
+
+pub returns-in_err-store-clause-only : goal.returns-in_err-store-clause-only
+returns-in_err-store-clause-only g c = λ tells head history seals opens.
+    let s = g.D.Disk.state c.args.disk.now in
+    let m = g.D.Disk.state c.load.new.disk in
+    let t = g.D.Disk.state c.load-2.new.disk in
+    let fault = c.in_err-store.field-0.0 in
+    let same = c.in_ok-journal.ensures.same tells in
+    let same' = c.in_ok-seals.ensures.same tells in
+    let first = journal_same s m t t c.load.ensures.others c.load-2.ensures.others same same' in
+    let second = sealed_same s m t t c.load.ensures.others c.load-2.ensures.others same same' in
+    let cause = subst (λ (l : List (List ℕ)). IsLoadFault l (records (s.content Sealed)) fault) first
+    (subst (λ (l : List (List ℕ)). IsLoadFault (records (t.content Journal)) l fault) second
+    (c.in_err-store.ensures.fault.cause tells)) in
+    let returned = err_from_is_err_and c.from_residual-in_err-store.result
+    c.from_residual-in_err-store.ensures.1 in
+    rw (returned.1, returned.2)
+    (opens_without (s.content Journal) (s.content Sealed) head history seals opens fault cause)
+
+pub returns-in_err-store-clause-moments : goal.returns-in_err-store-clause-moments
+returns-in_err-store-clause-moments g c = λ tells head operations least settled.
+    let s = g.D.Disk.state c.args.disk.now in
+    let m = g.D.Disk.state c.load.new.disk in
+    let t = g.D.Disk.state c.load-2.new.disk in
+    let u = g.D.Disk.state c.reopen.new.disk in
+    let others = c.load.ensures.others in
+    let others' = c.load-2.ensures.others in
+    let reads = c.reopen.ensures.reads in
+    settled_stays s u head operations least (g.met.D.Disk.is_disk c.args.disk.now)
+    (journal_stands s m t u others others' reads (c.load.ensures.moments tells))
+    (sealed_stands s m t u others others' reads (c.load-2.ensures.moments tells)) settled
+
+pub returns-in_err-store-clause-mirror : goal.returns-in_err-store-clause-mirror
+returns-in_err-store-clause-mirror g c =
+    mirror_alone (g.D.Disk.state c.args.disk.now) (g.D.Disk.state c.load.new.disk) (g.D.Disk.state c.load-2.new.disk)
+    (g.D.Disk.state c.reopen.new.disk) c.load.ensures.others c.load-2.ensures.others c.reopen.ensures.reads
+
+pub returns-clause-same : goal.returns-clause-same
+returns-clause-same g c = λ tells. all_same (g.D.Disk.state c.args.disk.now) (g.D.Disk.state c.load.new.disk)
+    (g.D.Disk.state c.load-2.new.disk) (g.D.Disk.state c.reopen.new.disk) c.load.ensures.others
+    c.load-2.ensures.others (c.in_ok-journal.ensures.same tells) (c.in_ok-seals.ensures.same tells)
+    c.reopen.ensures.reads
+
+pub returns-clause-moments : goal.returns-clause-moments
+returns-clause-moments g c = λ tells head operations least settled.
+    let s = g.D.Disk.state c.args.disk.now in
+    let m = g.D.Disk.state c.load.new.disk in
+    let t = g.D.Disk.state c.load-2.new.disk in
+    let u = g.D.Disk.state c.reopen.new.disk in
+    let others = c.load.ensures.others in
+    let others' = c.load-2.ensures.others in
+    let reads = c.reopen.ensures.reads in
+    settled_stays s u head operations least (g.met.D.Disk.is_disk c.args.disk.now)
+    (journal_stands s m t u others others' reads (c.load.ensures.moments tells))
+    (sealed_stands s m t u others others' reads (c.load-2.ensures.moments tells)) settled
+
+pub returns-clause-rests : goal.returns-clause-rests
+returns-clause-rests g c = λ tells whole. loaded_rests (g.D.Disk.state c.args.disk.now) (g.D.Disk.state c.load.new.disk)
+    (g.D.Disk.state c.load-2.new.disk) (g.D.Disk.state c.reopen.new.disk) c.load.ensures.others
+    c.load-2.ensures.others c.reopen.ensures.reads (c.in_ok-journal.ensures.rests tells)
+    (c.in_ok-seals.ensures.rests tells) whole
+
+pub returns-clause-settled : goal.returns-clause-settled
+returns-clause-settled g c = λ tells whole.
+    let u = g.D.Disk.state c.reopen.new.disk in
+    let store = c.in_ok-store.store in
+    rest_settles c.begun_images_are_whole.ensures u store.head store.history (seal_count store)
+    (c.in_ok-store.ensures.stands tells).opens
+    (loaded_rests (g.D.Disk.state c.args.disk.now) (g.D.Disk.state c.load.new.disk) (g.D.Disk.state c.load-2.new.disk)
+    u c.load.ensures.others c.load-2.ensures.others c.reopen.ensures.reads (c.in_ok-journal.ensures.rests tells)
+    (c.in_ok-seals.ensures.rests tells) whole)
+
+pub returns-clause-mirror : goal.returns-clause-mirror
+returns-clause-mirror g c =
+    mirror_alone (g.D.Disk.state c.args.disk.now) (g.D.Disk.state c.load.new.disk) (g.D.Disk.state c.load-2.new.disk)
+    (g.D.Disk.state c.reopen.new.disk) c.load.ensures.others c.load-2.ensures.others c.reopen.ensures.reads
+
+pub returns-clause-calls : goal.returns-clause-calls
+returns-clause-calls g c =
+    loaded_calls (g.D.Disk.state c.args.disk.now) (g.D.Disk.state c.load.new.disk) (g.D.Disk.state c.load-2.new.disk)
+    (g.D.Disk.state c.reopen.new.disk) c.in_ok-journal.journal.calls c.in_ok-seals.seals.calls _
+    c.in_ok-journal.ensures.calls.0 c.in_ok-seals.ensures.calls.0 c.in_ok-journal.ensures.calls.1
+    c.in_ok-seals.ensures.calls.1 c.in_ok-store.ensures.calls

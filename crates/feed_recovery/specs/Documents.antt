@@ -1,0 +1,69 @@
+-- What a store returns of its archives and members.
+use Rattle.std.specs.Prelude.{◌≡◌, ◌⊎◌, ℕ, ◌≤◌, List, ℤ, Some}
+use Rattle.atom_values.specs.Entry.{EntryValue, IsEntry}
+use Rattle.atom_writer.specs.Members.{member_text}
+use Rattle.atom_writer.specs.Pieced.{text_of}
+use Rattle.atom_writer.specs.declared.doc.FeedName.{FeedName}
+use Rattle.feed_recovery.specs.Store.{StoreValue}
+use Rattle.feed_recovery.specs.declared.fault.MemberFault.{MemberFault}
+use Rattle.feed_recovery.specs.declared.fault.MemberFault.TheVariants.{NotFound, Deleted, DiskFault, Changed, NoMemory}
+use Rattle.member_rules.specs.Coding.{operations}
+use Rattle.member_rules.specs.Fold.{fold_of, state_of}
+use Rattle.member_rules.specs.Windows.{windows_of}
+use Rattle.member_rules.specs.declared.operation.Op.{Op}
+use Rattle.member_rules.specs.declared.operation.Op.TheVariants.{Add, Change}
+use Rattle.member_rules.specs.declared.state.State.TheVariants.{Never, Live, Gone}
+
+-- how many archives are sealed
+abbrev pub sealed_count : StoreValue → ℕ
+sealed_count store = (windows_of store.head store.history).sealed
+
+-- the archive of this number is sealed
+abbrev pub IsSealed : StoreValue → ℕ → Type 0
+IsSealed store number = (1 ≤ number) × (number ≤ sealed_count store)
+
+-- the member is live, with the entry that this operation set, counted from 1
+pub record IsLiveSince (history : List Op) (number version : ℕ) : Type 0 where
+  pub updated : ℤ
+  pub state : state_of history number ≡ Live updated version
+
+-- the bytes are the member document of an entry of this member
+pub record IsMemberDocument (store : StoreValue) (number : ℕ) (written : List ℕ) : Type 0 where
+  pub entry : EntryValue
+  pub is_entry : IsEntry entry
+  pub named : entry.number ≡ number
+  pub text : written ≡ member_text store.head.name entry
+
+-- the bytes are the member document of the entry that the member has
+pub record IsLiveDocument (store : StoreValue) (number : ℕ) (written : List ℕ) : Type 0 where
+  pub entry : EntryValue
+  pub live : (fold_of store.history).live number ≡ Some entry
+  pub text : written ≡ member_text store.head.name entry
+
+-- Why a member's document isn't returned. A read is made only of a live member, of the operation that set its entry.
+abbrev pub IsMemberFault : StoreValue → ℕ → MemberFault → Type 0
+IsMemberFault store number (NotFound named) = (named ≡ number) × (state_of store.history number ≡ Never)
+IsMemberFault store number (Deleted named when) = (named ≡ number) × (state_of store.history number ≡ Gone when)
+IsMemberFault store number DiskFault = (version : ℕ) × IsLiveSince store.history number version
+IsMemberFault store number (Changed index) = IsLiveSince store.history number index
+IsMemberFault store number NoMemory = (version : ℕ) × IsLiveSince store.history number version
+
+-- the bytes are those of an operation that sets this entry
+abbrev pub Sets : List ℕ → EntryValue → Type 0
+Sets payload entry = (payload ≡ text_of operations (Add entry)) ⊎ (payload ≡ text_of operations (Change entry))
+
+-- the bytes are the member document of the entry, which is of this member, that the operation's bytes set
+pub record IsDocumentOf (name : FeedName) (payload : List ℕ) (number : ℕ) (written : List ℕ) : Type 0 where
+  pub entry : EntryValue
+  pub is_entry : IsEntry entry
+  pub named : entry.number ≡ number
+  pub sets : Sets payload entry
+  pub text : written ≡ member_text name entry
+
+-- why the entry of operation `version` isn't read
+abbrev pub IsEntryFault : ℕ → MemberFault → Type 0
+IsEntryFault version (NotFound number) = ⊥
+IsEntryFault version (Deleted number when) = ⊥
+IsEntryFault version DiskFault = Unit {0}
+IsEntryFault version (Changed index) = index ≡ version
+IsEntryFault version NoMemory = Unit {0}

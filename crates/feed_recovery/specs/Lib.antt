@@ -1,0 +1,9 @@
+pub mod Opening
+pub mod Settled
+pub mod Init
+pub mod Faults
+pub mod Loading
+pub mod Store
+pub mod Prepare
+pub mod Commit
+pub mod Documents

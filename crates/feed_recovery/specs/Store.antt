@@ -1,0 +1,55 @@
+-- A store as contracts see it.
+use Rattle.std.specs.Prelude.{◌≡◌, ℕ, ◌+◌, ◌*◌, ◌<◌, min, Bool, ◌||◌, List, length}
+use Rattle.atom_values.specs.Counts.{counter_limit}
+use Rattle.feed_disk.specs.Disk.{DiskState}
+use Rattle.feed_disk.specs.declared.area.Area.TheVariants.{Journal, Sealed}
+use Rattle.feed_journal.specs.Log.{LogValue, IsListed}
+use Rattle.feed_recovery.specs.Opening.{IsSealCount, Opens}
+use Rattle.member_rules.specs.Head.{HeadValue, IsHead}
+use Rattle.member_rules.specs.History.{IsLawful}
+use Rattle.member_rules.specs.Table.{Table, IsTableOf}
+use Rattle.member_rules.specs.declared.operation.Op.{Op}
+
+-- its head, its history, the table of the members, the logs of its two areas, and the number of operations that the
+-- history can take without memory
+pub record StoreValue : Type 0 where
+  pub head : HeadValue
+  pub history : List Op
+  pub members : Table
+  pub journal : LogValue
+  pub seals : LogValue
+  pub spare : ℕ
+
+-- the number of seals
+abbrev pub seal_count : StoreValue → ℕ
+seal_count store = length store.seals.extents
+
+-- the number of device calls of its two logs, which stays at the greatest u64
+abbrev pub call_count : StoreValue → ℕ
+call_count store = min (store.journal.calls + store.seals.calls) counter_limit
+
+-- a device call failed, so the store has to be loaded again
+abbrev pub is_spent : StoreValue → Bool
+is_spent store = store.journal.spent || store.seals.spent
+
+-- the fewest bytes by which an operation makes the journal longer: those of a removal, and the header of its frame
+abbrev pub least_frame : ℕ
+least_frame = 26
+
+-- The rules that a store keeps. By `long` a journal within the limit of an area has fewer payloads than a log may have,
+-- so a commit needs no condition on their number.
+pub record KeepsStore (store : StoreValue) : Type 0 where
+  pub head : IsHead store.head
+  pub lawful : IsLawful store.head store.history
+  pub members : IsTableOf store.members store.head.created store.history
+  pub journal_area : store.journal.area ≡ Journal
+  pub sealed_area : store.seals.area ≡ Sealed
+  pub records : length store.journal.extents ≡ length store.history + 1
+  pub seals : IsSealCount store.head store.history (seal_count store)
+  pub long : least_frame * length store.history < store.journal.size
+
+-- the store stands for the content of the disk: the content opens to it, and its logs list the content
+pub record StandsFor (disk : DiskState) (store : StoreValue) : Type 0 where
+  pub opens : Opens (disk.content Journal) (disk.content Sealed) store.head store.history (seal_count store)
+  pub journal : IsListed store.journal (disk.content Journal)
+  pub seals : IsListed store.seals (disk.content Sealed)

@@ -1,0 +1,236 @@
+ghost use Rattle.std.specs.Prelude.{◌≡◌, ◌≢◌, ◌↔◌, ◌-◌, ◌≤◌, ℕ, true, false, length, slice_get, IfOk, IfErr, OnOk};
+ghost use Rattle.atom_values.specs.Counts.{Rose};
+ghost use Rattle.atom_values.specs.Entry.{EntryValue, IsEntry};
+ghost use Rattle.atom_writer.specs.Pieces.{text};
+ghost use Rattle.feed_disk.specs.Moments.{LeavesAlone};
+ghost use Rattle.feed_disk.specs.declared.area.Area.{Area as AreaValue};
+ghost use Rattle.feed_disk.specs.declared.area.Area.TheVariants.{Journal};
+ghost use Rattle.feed_journal.specs.Log.{MakesCalls, MakesSome};
+ghost use Rattle.feed_journal.specs.Records.{records};
+ghost use Rattle.feed_recovery.specs.Documents.{IsDocumentOf, IsEntryFault, IsLiveDocument, IsLiveSince};
+ghost use Rattle.feed_recovery.specs.Documents.{IsMemberDocument, IsMemberFault, IsSealed, Sets, sealed_count};
+ghost use Rattle.feed_recovery.specs.Opening.{seal_of};
+ghost use Rattle.feed_recovery.specs.Store.{StandsFor, call_count, is_spent};
+ghost use Rattle.member_rules.specs.Documents as documents;
+
+use crate::fault::{ArchiveFault, MemberFault};
+use crate::store::Store;
+use archive_sealer::subscription;
+use atom_values::{Entry, NoMemory, Stamp};
+use atom_writer::{FeedName, write_doc, write_member};
+use feed_disk::Disk;
+use feed_journal::LogFault;
+use member_rules::{CodecFault, Op, State, read_op};
+use std::alloc::Global;
+
+impl Store {
+    /// Returns the text of the subscription document. It makes no device call.
+    pub fn subscription(&mut self) -> Result<Vec<u8>, NoMemory>
+        requires { is_spent self.old ≡ false }
+        ensures document { IfOk result (λ written.
+            written.items ≡ text (documents.subscription self.old.head self.old.history)) }
+        ensures same { self.new ≡ self.old }
+    {
+        let document = subscription(self.alloc, &self.head, self.history.as_slice())?;
+        write_doc(self.alloc, &document)
+    }
+
+    /// Returns the text of a sealed archive, as it was sealed, in one device call.
+    ///
+    /// Errors:
+    ///
+    /// - `NotSealed` exactly if the number is 0 or past [`Store::sealed`].
+    /// - `DiskFault` if the disk's count of faults rose. Then the store is spent.
+    /// - `Changed` if the disk gave less of the seal than the store has for it. Never on a disk whose content
+    ///   contracts see.
+    /// - `NoMemory`.
+    pub fn archive<D: Disk>(&mut self, disk: &mut D, number: u32) -> Result<Vec<u8>, ArchiveFault>
+        requires unspent { is_spent self.old ≡ false }
+        requires stands { D.told → StandsFor (D.state disk.old) self.old }
+        ensures document { IfOk result (λ written.
+            D.told → written.items ≡ seal_of self.old.head self.old.history number) }
+        ensures sealed { OnOk result (IsSealed self.old number) }
+        ensures refused { (result ≡ Err (ArchiveFault.NotSealed number (sealed_count self.old)))
+            ↔ (¬ IsSealed self.old number) }
+        ensures numbers { (n sealed : ℕ) → result ≡ Err (ArchiveFault.NotSealed n sealed)
+            → (n ≡ number) × (sealed ≡ sealed_count self.old) }
+        ensures never { D.told → (index : ℕ) → result ≢ Err (ArchiveFault.Changed index) }
+        ensures changed { (index : ℕ) → result ≡ Err (ArchiveFault.Changed index) → index ≡ number - 1 }
+
+        // No area changes, and of the store only the count of calls. After `DiskFault` it is spent.
+        ensures areas { (a : AreaValue) → LeavesAlone (D.state disk.old) (D.state disk.new) a }
+        ensures same { result ≢ Err ArchiveFault.DiskFault → self.new ≡ record self.old {
+          seals = record self.old.seals { calls = self.new.seals.calls };
+        } }
+        ensures spent { result ≡ Err ArchiveFault.DiskFault → self.new ≡ record self.old {
+          seals = record self.old.seals { calls = self.new.seals.calls; spent = true };
+        } }
+        ensures stands { result ≢ Err ArchiveFault.DiskFault
+            → D.told → StandsFor (D.state disk.new) self.new }
+
+        ensures one { OnOk result (MakesCalls (D.state disk.old) (D.state disk.new)
+            (call_count self.old) (call_count self.new) 1) }
+        ensures calls { MakesSome (D.state disk.old) (D.state disk.new)
+            (call_count self.old) (call_count self.new) }
+        ensures later { (D.state disk.old).faults ≤ (D.state disk.new).faults }
+        ensures failed { result ≡ Err ArchiveFault.DiskFault
+            → Rose (D.state disk.old).faults (D.state disk.new).faults }
+        ensures unfailed { result ≢ Err ArchiveFault.DiskFault
+            → (D.state disk.new).faults ≡ (D.state disk.old).faults }
+    {
+        let sealed = self.sealed();
+        if number == 0 || number > sealed {
+            return Err(ArchiveFault::NotSealed { number, sealed });
+        }
+        match self.seals.read(disk, number - 1) {
+            Ok(text) => Ok(text),
+            Err(LogFault::DiskFault) => {
+                self.spent = true;
+                Err(ArchiveFault::DiskFault)
+            }
+            Err(LogFault::Changed { index }) => Err(ArchiveFault::Changed { index }),
+            Err(LogFault::NoMemory) => Err(ArchiveFault::NoMemory),
+        }
+    }
+
+    /// Returns the member document of a live member. It reads the entry from the journal, in one device call.
+    ///
+    /// Errors:
+    ///
+    /// - `NotFound` exactly if no member with this number was ever made.
+    /// - `Deleted` exactly if the member was deleted.
+    /// - `DiskFault` if the disk's count of faults rose. Then the store is spent.
+    /// - `Changed` if the disk gave less of the operation than the store has for it, or an operation that
+    ///   doesn't set the member's entry. Never on a disk whose content contracts see.
+    /// - `NoMemory`.
+    pub fn member<D: Disk>(&mut self, disk: &mut D, number: u32) -> Result<Vec<u8>, MemberFault>
+        requires unspent { is_spent self.old ≡ false }
+        requires stands { D.told → StandsFor (D.state disk.old) self.old }
+        ensures document { IfOk result (λ written. D.told → IsLiveDocument self.old number written.items) }
+        // Of any disk, it is the document of an entry of this member.
+        ensures entry { IfOk result (λ written. IsMemberDocument self.old number written.items) }
+        ensures live { OnOk result ((version : ℕ) × IsLiveSince self.old.history number version) }
+        ensures refused { IfErr result (IsMemberFault self.old number) }
+        ensures never { D.told → (index : ℕ) → result ≢ Err (MemberFault.Changed index) }
+
+        // No area changes, and of the store only the count of calls. After `DiskFault` it is spent.
+        ensures areas { (a : AreaValue) → LeavesAlone (D.state disk.old) (D.state disk.new) a }
+        ensures same { result ≢ Err MemberFault.DiskFault → self.new ≡ record self.old {
+          journal = record self.old.journal { calls = self.new.journal.calls };
+        } }
+        ensures spent { result ≡ Err MemberFault.DiskFault → self.new ≡ record self.old {
+          journal = record self.old.journal { calls = self.new.journal.calls; spent = true };
+        } }
+        ensures stands { result ≢ Err MemberFault.DiskFault
+            → D.told → StandsFor (D.state disk.new) self.new }
+
+        ensures one { OnOk result (MakesCalls (D.state disk.old) (D.state disk.new)
+            (call_count self.old) (call_count self.new) 1) }
+        ensures calls { MakesSome (D.state disk.old) (D.state disk.new)
+            (call_count self.old) (call_count self.new) }
+        ensures later { (D.state disk.old).faults ≤ (D.state disk.new).faults }
+        ensures failed { result ≡ Err MemberFault.DiskFault
+            → Rose (D.state disk.old).faults (D.state disk.new).faults }
+        ensures unfailed { result ≢ Err MemberFault.DiskFault
+            → (D.state disk.new).faults ≡ (D.state disk.old).faults }
+    {
+        let (updated, version) = match self.state(number) {
+            State::Never => return Err(MemberFault::NotFound { number }),
+            State::Gone { when } => return Err(MemberFault::Deleted { number, when }),
+            State::Live { updated, version } => (updated, version),
+        };
+        let payload = self.read_operation(disk, version)?;
+        document_of(
+            self.alloc,
+            &self.head.name,
+            payload.as_slice(),
+            number,
+            updated,
+            version,
+        )
+    }
+
+    /// Reads the bytes of operation `version`, counted from 1, from the journal.
+    fn read_operation<D: Disk>(
+        &mut self,
+        disk: &mut D,
+        version: u32,
+    ) -> Result<Vec<u8>, MemberFault>
+        requires unspent { is_spent self.old ≡ false }
+        requires within { version ≤ length self.old.history }
+        requires stands { D.told → StandsFor (D.state disk.old) self.old }
+        ensures payload { IfOk result (λ payload. D.told
+            → slice_get (records ((D.state disk.old).content Journal)) version ≡ Some payload.items) }
+        ensures refused { IfErr result (IsEntryFault version) }
+        ensures never { D.told → (index : ℕ) → result ≢ Err (MemberFault.Changed index) }
+        ensures areas { (a : AreaValue) → LeavesAlone (D.state disk.old) (D.state disk.new) a }
+        ensures same { result ≢ Err MemberFault.DiskFault → self.new ≡ record self.old {
+          journal = record self.old.journal { calls = self.new.journal.calls };
+        } }
+        ensures spent { result ≡ Err MemberFault.DiskFault → self.new ≡ record self.old {
+          journal = record self.old.journal { calls = self.new.journal.calls; spent = true };
+        } }
+        ensures stands { result ≢ Err MemberFault.DiskFault
+            → D.told → StandsFor (D.state disk.new) self.new }
+        ensures one { OnOk result (MakesCalls (D.state disk.old) (D.state disk.new)
+            (call_count self.old) (call_count self.new) 1) }
+        ensures calls { MakesSome (D.state disk.old) (D.state disk.new)
+            (call_count self.old) (call_count self.new) }
+        ensures later { (D.state disk.old).faults ≤ (D.state disk.new).faults }
+        ensures failed { result ≡ Err MemberFault.DiskFault
+            → Rose (D.state disk.old).faults (D.state disk.new).faults }
+        ensures unfailed { result ≢ Err MemberFault.DiskFault
+            → (D.state disk.new).faults ≡ (D.state disk.old).faults }
+    {
+        match self.journal.read(disk, version) {
+            Ok(payload) => Ok(payload),
+            Err(LogFault::DiskFault) => {
+                self.spent = true;
+                Err(MemberFault::DiskFault)
+            }
+            Err(LogFault::Changed { index }) => Err(MemberFault::Changed { index }),
+            Err(LogFault::NoMemory) => Err(MemberFault::NoMemory),
+        }
+    }
+}
+
+/// Returns the member document of the entry that the bytes of operation `version` set. Any other bytes are
+/// `Changed`, and so is an entry of another member or with another `updated`: a disk whose content contracts
+/// don't see may give them.
+fn document_of(
+    alloc: Global,
+    name: &FeedName,
+    payload: &[u8],
+    number: u32,
+    updated: Stamp,
+    version: u32,
+) -> Result<Vec<u8>, MemberFault>
+    ensures document { IfOk result (λ written. IsDocumentOf name.now payload.now number written.items) }
+    ensures refused { IfErr result (IsEntryFault version) }
+    ensures no_fault { result ≢ Err MemberFault.DiskFault }
+    ensures never { (entry : EntryValue) → IsEntry entry → Sets payload.now entry
+        → entry.number ≡ number → entry.updated ≡ updated
+        → (index : ℕ) → result ≢ Err (MemberFault.Changed index) }
+{
+    let entry = entry_of(alloc, payload, version)?;
+    if entry.number != number || entry.updated != updated {
+        return Err(MemberFault::Changed { index: version });
+    }
+    Ok(write_member(alloc, name, &entry)?)
+}
+
+/// Returns the entry that the bytes of operation `version` set.
+fn entry_of(alloc: Global, payload: &[u8], version: u32) -> Result<Entry, MemberFault>
+    ensures entry { IfOk result (λ entry. IsEntry entry × Sets payload.now entry) }
+    ensures refused { IfErr result (IsEntryFault version) }
+    ensures no_fault { result ≢ Err MemberFault.DiskFault }
+    ensures never { (entry : EntryValue) → IsEntry entry → Sets payload.now entry
+        → (index : ℕ) → result ≢ Err (MemberFault.Changed index) }
+{
+    match read_op(alloc, payload) {
+        Ok(Op::Add(entry) | Op::Change(entry)) => Ok(entry),
+        Ok(Op::Remove(_)) => Err(MemberFault::Changed { index: version }),
+        Err(CodecFault::BadField { .. }) => Err(MemberFault::Changed { index: version }),
+        Err(CodecFault::NoMemory) => Err(MemberFault::NoMemory),
+    }
+}
