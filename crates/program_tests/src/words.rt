@@ -1,0 +1,213 @@
+//! Words, and the commands that they are read as.
+use std::alloc::Global;
+use std::process::Abort;
+use std::str;
+use std::test::Fail;
+use tool_words::{Command, Show, WordsFault, read_words};
+
+/// The options that `init` needs, each with a value.
+static NEEDED: [(&str, &str); 4] = [
+    ("base", "http://feed.example/"),
+    ("uuid", "6d1f0c5a-93be-4c27-8d10-2b7f9e4a5c36"),
+    ("title", "Feed"),
+    ("author", "Editor"),
+];
+
+/// Words, separated by single spaces, and what they are read as. A `*` stands for the options that `init` needs, and
+/// `*title` and the like for one of them. A `_` stands for a space in a word.
+static ROWS: [(&str, &str); 66] = [
+    ("apply", "apply"),
+    ("apply 1", "apply 1"),
+    ("apply 100", "apply 100"),
+    ("apply 0004", "apply 4"),
+    ("apply 0", "usage"),
+    ("apply 101", "usage"),
+    ("apply 18446744073709551617", "usage"),
+    ("apply ", "usage"),
+    ("apply +4", "usage"),
+    ("apply -4", "usage"),
+    ("apply 4_", "usage"),
+    ("apply 4 5", "usage"),
+    ("apply --window 4", "usage"),
+    ("show", "show"),
+    ("show feed", "show feed"),
+    ("show archive 7", "show archive 7"),
+    ("show archive 4294967295", "show archive 4294967295"),
+    ("show member 001", "show member 1"),
+    ("show member 4294967295", "show member 4294967295"),
+    ("show archive 0", "usage"),
+    ("show archive 4294967296", "usage"),
+    ("show member 0", "usage"),
+    ("show member 4294967296", "usage"),
+    ("show archive", "usage"),
+    ("show archive 7 8", "usage"),
+    ("show feed 1", "usage"),
+    ("show page 1", "usage"),
+    ("show Feed", "usage"),
+    ("show 7", "usage"),
+    ("", "usage"),
+    ("--", "usage"),
+    ("Apply 4", "usage"),
+    ("appl 4", "usage"),
+    ("init *", "init / Feed Editor 10 1073741824"),
+    (
+        "init * --window 100 --capacity 4096",
+        "init / Feed Editor 100 4096",
+    ),
+    (
+        "init --capacity=68719476736 * --window=01",
+        "init / Feed Editor 1 68719476736",
+    ),
+    (
+        "init *author --title=A_feed *uuid *base",
+        "init / A feed Editor 10 1073741824",
+    ),
+    (
+        "init *base *uuid --title=a=b= --author =",
+        "init / a=b= = 10 1073741824",
+    ),
+    (
+        "init *uuid *title *author --base=http://feed.example:8080/a/",
+        "init :8080/a/ Feed Editor 10 1073741824",
+    ),
+    (
+        "init *base *title *author --uuid=6D1F0C5A93BE4C278D102B7F9E4A5C36",
+        "init / Feed Editor 10 1073741824",
+    ),
+    ("init", "usage"),
+    ("init *base *uuid *title", "usage"),
+    ("init *base *uuid *author", "usage"),
+    ("init *base *title *author", "usage"),
+    ("init *uuid *title *author", "usage"),
+    ("init * --window 0", "usage"),
+    ("init * --window 101", "usage"),
+    ("init * --window=-4", "usage"),
+    ("init * --window=", "usage"),
+    ("init * --window", "usage"),
+    ("init * -window 4", "usage"),
+    ("init * --capacity 4095", "usage"),
+    ("init * --capacity 68719476737", "usage"),
+    ("init * --window 10 --window=10", "usage"),
+    ("init * *title", "usage"),
+    ("init * --limit 4", "usage"),
+    ("init * --=4", "usage"),
+    ("init * 4", "usage"),
+    ("init * --", "usage"),
+    ("init 4 *", "usage"),
+    ("init *base *uuid *author --title -", "usage"),
+    ("init *base *uuid *author --title ", "usage"),
+    ("init *base *uuid *author --title \u{FFFE}", "usage"),
+    (
+        "init *uuid *title *author --base http://feed.example:80/",
+        "usage",
+    ),
+    (
+        "init *uuid *title *author --base http://feed.example",
+        "usage",
+    ),
+    (
+        "init *base *title *author --uuid 6d1f0c5a-93be-8c27-8d10-2b7f9e4a5c36",
+        "usage",
+    ),
+];
+
+/// The words that a row stands for.
+fn spelled(alloc: Global, row: &str) -> Result<Vec<String>, Fail> {
+    let mut words = Vec::new(alloc);
+    for word in row.split(' ') {
+        match word.strip_prefix('*') {
+            None => words.push(word.replace(alloc, '_', " ")?)?,
+            Some(wanted) => push_needed(alloc, &mut words, wanted)?,
+        }
+    }
+    Ok(words)
+}
+
+/// Appends the option of this name among those that `init` needs, or all of them where the name is empty.
+fn push_needed(alloc: Global, words: &mut Vec<String>, wanted: &str) -> Result<(), Fail> {
+    for (name, value) in NEEDED.iter() {
+        if wanted.is_empty() || wanted == *name {
+            words.push(format!(in alloc; "--{name}")?)?;
+            words.push(String::from_str(alloc, value)?)?;
+        }
+    }
+    Ok(())
+}
+
+/// What the words are read as. A feed is shown by what its base address has behind `http://feed.example`, by its title
+/// and by its author.
+fn reading(rt: &impl Abort, alloc: Global, words: &[String]) -> Result<String, Fail> {
+    let command = match read_words(alloc, words) {
+        Ok(command) => command,
+        Err(WordsFault::Usage) => return Ok(String::from_str(alloc, "usage")?),
+        Err(WordsFault::NoMemory) => return Err(WordsFault::NoMemory.into()),
+    };
+    Ok(match command {
+        Command::Apply { window: None } => String::from_str(alloc, "apply")?,
+        Command::Apply {
+            window: Some(window),
+        } => format!(in alloc; "apply {window}")?,
+        Command::Show(Show::Document) => String::from_str(alloc, "show")?,
+        Command::Show(Show::Feed) => String::from_str(alloc, "show feed")?,
+        Command::Show(Show::Archive(number)) => format!(in alloc; "show archive {number}")?,
+        Command::Show(Show::Member(number)) => format!(in alloc; "show member {number}")?,
+        Command::Init {
+            name,
+            window,
+            capacity,
+        } => {
+            assert_eq!(rt; name.id.print().as_slice(), NEEDED[1].1.as_bytes());
+            let base = str::from_utf8(name.base.text())?;
+            let base = base
+                .strip_prefix("http://feed.example")
+                .ok_or("another base address")?;
+            let title = str::from_utf8(name.title.bytes())?;
+            let author = str::from_utf8(name.author.bytes())?;
+            format!(in alloc; "init {base} {title} {author} {window} {capacity}")?
+        }
+    })
+}
+
+/// Whether words are read where both the title and the author have this many bytes.
+fn is_read(rt: &impl Abort, alloc: Global, length: usize) -> Result<bool, Fail> {
+    let mut words = spelled(alloc, "init *base *uuid --title")?;
+    let mut text = String::new(alloc);
+    for _ in 0..length {
+        text.push('x')?;
+    }
+    words.push(text.clone()?)?;
+    words.push(format!(in alloc; "--author={text}")?)?;
+    Ok(reading(rt, alloc, words.as_slice())?.as_str() != "usage")
+}
+
+#[test]
+fn titles_have_a_limit(rt: HostRuntime) -> Result<(), Fail> {
+    let alloc = rt.alloc();
+    assert!(rt; is_read(&rt, alloc, 1_024)?);
+    assert!(rt; !is_read(&rt, alloc, 1_025)?);
+    Ok(())
+}
+
+#[test]
+fn reads_words_as_a_command(rt: HostRuntime) -> Result<(), Fail> {
+    let alloc = rt.alloc();
+    for (row, wanted) in ROWS.iter() {
+        let words = spelled(alloc, row)?;
+        let read = reading(&rt, alloc, words.as_slice())?;
+        assert_eq!(rt; read.as_str(), *wanted, "{row}");
+    }
+    Ok(())
+}
+
+#[test]
+fn a_fault_has_a_sentence(rt: HostRuntime) -> Result<(), Fail> {
+    let cases = [
+        (WordsFault::Usage, "the words are those of no command"),
+        (WordsFault::NoMemory, "no memory"),
+    ];
+    for (fault, sentence) in cases {
+        let text = format!(in rt.alloc(); "{fault}")?;
+        assert!(rt; text.as_str() == sentence);
+    }
+    Ok(())
+}

@@ -1,0 +1,34 @@
+-- The words of a command by their first word.
+use Rattle.std.proofs.Common.{◌≡◌, ◌⊎◌, ℕ, List, ◌∷◌, Option, Result, Ok, Err, IfOk}
+use Rattle.std.proofs.Common.{codes, bytes_eq, false, refl, sym, ◌∙◌, subst}
+use Rattle.std.proofs.lemmas.Bool.{true≢false}
+use Rattle.std.proofs.lemmas.Slice.Eq.{bytes_eq-Decides}
+use Rattle.atom_writer.specs.declared.doc.FeedName.{FeedName}
+use Rattle.tool_words.specs.Words.{IsApply, IsCommandOf, IsInit}
+use Rattle.tool_words.specs.declared.command.Command.{Command}
+use Rattle.tool_words.specs.declared.command.Command.TheVariants.{Init, Apply, Show}
+use Rattle.tool_words.specs.declared.fault.WordsFault.{WordsFault}
+use Rattle.tool_words.specs.declared.fault.WordsFault.TheVariants.{NoMemory}
+
+other_first : (one other : List ℕ) (rest behind : List (List ℕ)) → bytes_eq one other ≡ false →
+    one ∷ rest ≡ other ∷ behind → ⊥
+other_first one other rest behind test e =
+    let same : one ≡ other = cc in true≢false (sym ((bytes_eq-Decides one other).1 same) ∙ test)
+
+module _ (words rest : List (List ℕ)) (r : Result Command WordsFault) where
+  pub init_only : words ≡ codes "init" ∷ rest →
+      ((name : FeedName) (window capacity : ℕ) → IsInit rest name window capacity →
+      (r ≡ Ok (Init name window capacity)) ⊎ (r ≡ Err NoMemory)) → (command : Command) → IsCommandOf words command →
+      (r ≡ Ok command) ⊎ (r ≡ Err NoMemory)
+  init_only spelt only (Init name window capacity) (behind, e, i) =
+      let same : behind ≡ rest = cc in only name window capacity (subst (λ b. IsInit b name window capacity) same i)
+  init_only spelt only (Apply window) (behind, e, i) =
+      absurd (other_first (codes "init") (codes "apply") rest behind refl (sym spelt ∙ e))
+  init_only spelt only (Show shown) (behind, e, i) =
+      absurd (other_first (codes "init") (codes "show") rest behind refl (sym spelt ∙ e))
+
+pub apply_found : (words rest : List (List ℕ)) (r : Result Command WordsFault) → words ≡ codes "apply" ∷ rest →
+    IfOk r (λ command. (window : Option ℕ) × (command ≡ Apply window) × IsApply rest window) →
+    IfOk r (IsCommandOf words)
+apply_found words rest (Ok command) spelt (window, e, i) = subst (IsCommandOf words) (sym e) (rest, spelt, i)
+apply_found words rest (Err fault) spelt h = tt

@@ -1,0 +1,5 @@
+pub mod CommandLemmas
+pub mod FaultLemmas
+pub mod InitLemmas
+pub mod OptionLemmas
+pub mod WordLemmas

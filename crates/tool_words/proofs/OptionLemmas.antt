@@ -1,0 +1,179 @@
+-- Words that begin with options are those of one list of options only.
+use Rattle.std.proofs.Common.{◌≡◌, ◌≢◌, ℕ, List, [], ◌∷◌, ◌++◌, All, Any, Bool, true, false, not, ◌==◌, None}
+use Rattle.std.proofs.Common.{IsTrue, map, get_or, bytes_eq, refl, sym, ap, ◌∙◌, subst, append_assoc}
+use Rattle.std.proofs.Common.{append-nil, ⊎_elim}
+use Rattle.std.specs.Prelude.{flat_map, if◌then◌else◌}
+use Rattle.std.specs.List.{list_all}
+use Rattle.std.proofs.lemmas.Grind.{flat_map-append}
+use Rattle.std.proofs.lemmas.List.{map-append}
+use Rattle.std.proofs.lemmas.List.Elements.{All-nil, All-head, All-tail, All-push, All-map}
+use Rattle.std.proofs.lemmas.List.Sums.{AllPass-from_list_all}
+use Rattle.std.proofs.lemmas.Slice.Eq.{bytes_eq-Decides}
+use Rattle.std.proofs.lemmas.Bool.{cases_Bool, false_from_ne_true, true≢false}
+use Rattle.tool_words.specs.Options.{Given, AreDistinct, AreOptions, spelled, is_value, value_of}
+use Rattle.tool_words.specs.Reading.{BeginsWith, MayFollow, apart}
+use Rattle.tool_words.specs.Words.{init_options}
+
+abbrev name_of : Given → List ℕ
+name_of given = given.name
+
+abbrev IsKnown : Given → Type 0
+IsKnown given = Any (λ name. name ≡ given.name) init_options
+
+abbrev HasValue : Given → Type 0
+HasValue given = IsTrue (is_value given.value)
+
+-- the words begin with options, which are given; the rest comes after them
+pub record AreBegun (words : List (List ℕ)) (given : List Given) (rest : List (List ℕ)) : Type 0 where
+  pub options : List Given
+  pub spelt : words ≡ flat_map spelled options ++ rest
+  pub same : map apart options ≡ given
+  pub known : All IsKnown options
+  pub values : All HasValue options
+  pub distinct : AreDistinct (map name_of options)
+
+-- of all the options, those that aren't given are the rest
+pub record IsLeft (given : List Given) (rest : List (List ℕ)) (all : List Given) : Type 0 where
+  pub left : List Given
+  pub spelt : rest ≡ flat_map spelled left
+  pub same : map apart all ≡ given ++ map apart left
+
+-- the next of all the options
+pub record IsNext (given : List Given) (rest : List (List ℕ)) (all : List Given) : Type 0 where
+  pub option : Given
+  pub left : List Given
+  pub spelt : rest ≡ spelled option ++ flat_map spelled left
+  pub same : map apart all ≡ given ++ apart option ∷ map apart left
+  pub free : All (λ c. c ≢ 61) option.name
+  pub may : MayFollow given (apart option)
+
+middle : {X : Type 0} (P : X → Type 0) (xs : List X) (y : X) (ys : List X) → All P (xs ++ y ∷ ys) → P y
+middle P [] y ys h = All-head P y ys h
+middle P (x ∷ xs) y ys h = middle P xs y ys (All-tail P x (xs ++ y ∷ ys) h)
+
+map_apart : {Y : Type 0} (f : Given → Y) → ((g : Given) → f (apart g) ≡ f g) → (options : List Given) →
+    map f (map apart options) ≡ map f options
+map_apart f e [] = refl
+map_apart f e (x ∷ xs) = cc (e x, map_apart f e xs)
+
+not_equal : (c : ℕ) → not (c == 61) ≡ true → c ≢ 61
+not_equal c h e = let k = rw e at h in cc
+
+-- names of options of `init` have no `=`
+known_free : (name : List ℕ) → Any (λ known. known ≡ name) init_options → All (λ c. c ≢ 61) name
+known_free name (k, known, inside, at, same) =
+    let at_place : list_all (λ c. not (c == 61)) (get_or init_options k known) ≡ true =
+    AllPass-from_list_all (list_all (λ c. not (c == 61))) init_options refl k known inside in
+    let all : list_all (λ c. not (c == 61)) name ≡ true = rw (at, same) at at_place in
+    λ i d within.
+    not_equal (get_or name i d) (AllPass-from_list_all (λ c. not (c == 61)) name all i d within)
+
+other_name : (one other : List ℕ) → one ≢ other → bytes_eq one other ≡ false
+other_name one other ne = false_from_ne_true (bytes_eq one other) (λ e. ne ((bytes_eq-Decides one other).0 e))
+
+-- the value of a name that no option has
+value_of_other : (name : List ℕ) (x : Given) (xs : List Given) → value_of name (x ∷ xs) ≡ None →
+    (x.name ≢ name) × (value_of name xs ≡ None)
+value_of_other name x xs h =
+    ⊎_elim
+    (λ same. absurd (let k = rw same at h in cc))
+    (λ other. (λ e. absurd (true≢false (sym ((bytes_eq-Decides x.name name).1 e) ∙ other)), rw other at h))
+    (cases_Bool (bytes_eq x.name name))
+
+fresh_of_distinct : (given : List Given) (next : Given) (more : List Given) →
+    AreDistinct (map name_of (given ++ next ∷ more)) → value_of next.name given ≡ None
+fresh_of_distinct [] next more h = refl
+fresh_of_distinct (x ∷ xs) next more h =
+    let ne : next.name ≢ x.name = middle (λ other. other ≢ x.name) (map name_of xs) next.name (map name_of more)
+    (subst (All (λ other. other ≢ x.name)) (map-append name_of xs (next ∷ more)) h.0) in
+    rw (other_name x.name next.name (λ e. ne (sym e))) (fresh_of_distinct xs next more h.1)
+
+distinct_push : (given : List Given) (next : Given) → AreDistinct (map name_of given) →
+    value_of next.name given ≡ None → AreDistinct (map name_of (given ++ next ∷ []))
+distinct_push [] next h fresh = (All-nil (λ other. other ≢ next.name), tt)
+distinct_push (x ∷ xs) next h fresh =
+    let p = value_of_other next.name x xs fresh in (
+      subst (All (λ other. other ≢ x.name)) (sym (map-append name_of xs (next ∷ [])))
+          (All-push (λ other. other ≢ x.name) (map name_of xs) next.name h.0 (λ e. p.0 (sym e))),
+      distinct_push xs next h.1 p.1,
+    )
+
+pub value_of-apart : (name : List ℕ) (options : List Given) → value_of name (map apart options) ≡ value_of name options
+value_of-apart name [] = refl
+value_of-apart name (x ∷ xs) = rw (value_of-apart name xs)
+
+-- the options so far
+pub begun_more : (words : List (List ℕ)) (given : List Given) (rest : List (List ℕ)) (next : Given)
+    (left : List (List ℕ)) → AreBegun words given rest → BeginsWith rest next left → next ≡ apart next →
+    MayFollow given next → AreBegun words (given ++ next ∷ []) left
+begun_more words given rest next left h begins flat may =
+    let option : Given = record { name = next.name; value = next.value; joined = begins.0 } in
+    let before = flat_map spelled h.options in
+    record {
+      options = h.options ++ option ∷ [];
+      spelt = h.spelt ∙ ap (λ r. before ++ r) begins.1 ∙ sym (append_assoc before (spelled option) left)
+          ∙ ap (λ b. b ++ left) (ap (λ b. before ++ b) (sym (append-nil (spelled option)))
+          ∙ sym (flat_map-append spelled h.options (option ∷ [])));
+      same = map-append apart h.options (option ∷ []) ∙ ap (λ g. g ++ apart next ∷ []) h.same
+          ∙ ap (λ g. given ++ g ∷ []) (sym flat);
+      known = All-push IsKnown h.options option h.known may.known;
+      values = All-push HasValue h.options option h.values may.value;
+      distinct = distinct_push h.options option h.distinct
+          (sym (value_of-apart next.name h.options) ∙ ap (value_of next.name) h.same ∙ may.fresh);
+    }
+
+-- the options that are left
+pub left_next : (words : List (List ℕ)) (given : List Given) (rest : List (List ℕ)) (all left : List Given) →
+    AreOptions init_options words all → rest ≡ flat_map spelled left → map apart all ≡ given ++ map apart left →
+    rest ≢ [] → IsNext given rest all
+left_next words given rest all [] h spelt same some = absurd (some spelt)
+left_next words given rest all (option ∷ more) h spelt same some =
+    let known : IsKnown option = middle IsKnown given (apart option) (map apart more)
+    (subst (All IsKnown) same (All-map IsKnown apart all h.known)) in
+    let names : map name_of all ≡ map name_of (given ++ apart option ∷ map apart more) =
+    sym (map_apart name_of (λ _. refl) all) ∙ ap (map name_of) same in
+    record {
+      option = option;
+      left = more;
+      spelt = spelt;
+      same = same;
+      free = known_free option.name known;
+      may = record {
+        value = middle HasValue given (apart option) (map apart more)
+            (subst (All HasValue) same (All-map HasValue apart all h.values));
+        known = known;
+        fresh = fresh_of_distinct given (apart option) (map apart more) (subst AreDistinct names h.distinct);
+      };
+    }
+
+word_of_each : (b : Bool) (joined first second : List ℕ) (rest : List (List ℕ)) →
+    [] ≡ (if b then joined ∷ [] else first ∷ second ∷ []) ++ rest → ⊥
+word_of_each true joined first second rest e = cc
+word_of_each false joined first second rest e = cc
+
+begins_some : (words : List (List ℕ)) (given : Given) (rest : List (List ℕ)) → BeginsWith words given rest → words ≢ []
+begins_some words given rest begins e = word_of_each begins.0 _ _ _ rest (sym e ∙ begins.1)
+
+none_of : (left : List Given) → [] ≡ flat_map spelled left → left ≡ []
+none_of [] e = refl
+none_of (option ∷ more) e = absurd (word_of_each option.joined _ _ _ (flat_map spelled more) e)
+
+-- where the first option is the only one that the words begin with, it is the next one
+pub left_more : (words : List (List ℕ)) (given : List Given) (rest : List (List ℕ)) (all : List Given) (next : Given)
+    (left : List (List ℕ)) → AreOptions init_options words all → IsLeft given rest all → BeginsWith rest next left →
+    ((option : Given) (behind : List (List ℕ)) → All (λ c. c ≢ 61) option.name → rest ≡ spelled option ++ behind →
+    (next ≡ apart option) × (left ≡ behind)) → MayFollow given next × IsLeft (given ++ next ∷ []) left all
+left_more words given rest all next left h l begins only =
+    let n = left_next words given rest all l.left h l.spelt l.same (begins_some rest next left begins) in
+    let (same, behind) = only n.option (flat_map spelled n.left) n.free n.spelt in (
+      subst (MayFollow given) (sym same) n.may,
+      record {
+        left = n.left;
+        spelt = behind;
+        same = n.same ∙ ap (λ o. given ++ o ∷ map apart n.left) (sym same)
+            ∙ sym (append_assoc given (next ∷ []) (map apart n.left));
+      },
+    )
+
+pub left_none : (given : List Given) (all : List Given) → IsLeft given [] all → given ≡ map apart all
+left_none given all l = sym (l.same ∙ ap (λ left. given ++ map apart left) (none_of l.left l.spelt) ∙ append-nil given)

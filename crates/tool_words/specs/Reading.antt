@@ -1,0 +1,28 @@
+-- Options as the code keeps them, which doesn't keep whether an option was in one word or in two.
+use Rattle.std.specs.Prelude.{◌≡◌, ℕ, List, ◌++◌, Bool, false, None, Any, IsTrue, map}
+use Rattle.tool_words.specs.Options.{Given, AreOptions, spelled, is_value, value_of}
+use Rattle.tool_words.specs.Words.{init_options}
+use Rattle.tool_words.specs.declared.options.Given.{Given as Kept}
+
+-- the same option in two words
+abbrev pub apart : Given → Given
+apart given = record { name = given.name; value = given.value; joined = false }
+
+-- the option that is kept
+abbrev pub option_of : Kept → Given
+option_of kept = record { name = kept.name.now; value = kept.value.now; joined = false }
+
+-- the words are those of the option, in one word or in two, and then the others
+abbrev pub BeginsWith : List (List ℕ) → Given → List (List ℕ) → Type 0
+BeginsWith words given rest =
+    (joined : Bool) × (words ≡ spelled (record { name = given.name; value = given.value; joined = joined }) ++ rest)
+
+-- the option has a value and a known name, which no other option has
+pub record MayFollow (options : List Given) (given : Given) : Type 0 where
+  pub value : IsTrue (is_value given.value)
+  pub known : Any (λ name. name ≡ given.name) init_options
+  pub fresh : value_of given.name options ≡ None
+
+-- the words are those of `init` with these options
+abbrev pub AreRead : List (List ℕ) → List Given → Type 0
+AreRead words given = (options : List Given) × AreOptions init_options words options × (map apart options ≡ given)

@@ -1,0 +1,100 @@
+-- The words of each command.
+use Rattle.std.specs.Prelude.{◌≡◌, ◌≢◌, ℕ, ◌-◌, ◌≤◌, ◌^◌, List, [], ◌∷◌, Option, Some, None, codes, length}
+use Rattle.uuid.specs.Text.{parsed}
+use Rattle.atom_values.specs.XmlText.{IsAtomText}
+use Rattle.atom_writer.specs.declared.doc.FeedName.{FeedName}
+use Rattle.chain_links.specs.Base.{IsBase}
+use Rattle.chain_links.specs.Checked.{IsUrlText}
+use Rattle.deleted_entries.specs.FeedId.{version, member_version}
+use Rattle.tool_words.specs.Numbers.{IsNumber}
+use Rattle.tool_words.specs.Options.{Given, AreOptions, value_of}
+use Rattle.tool_words.specs.declared.command.Command.{Command}
+use Rattle.tool_words.specs.declared.command.Command.TheVariants.{Init, Apply, Show}
+use Rattle.tool_words.specs.declared.command.Show.{Show as Shown}
+use Rattle.tool_words.specs.declared.command.Show.TheVariants.{Document, Feed, Archive, Member}
+
+-- the most operations of a window, and how many it has where the words don't say
+abbrev pub window_limit : ℕ
+window_limit = 100
+
+abbrev pub default_window : ℕ
+default_window = 10
+
+-- how many bytes an area may be limited to, at least and at most, and where the words don't say
+abbrev pub capacity_floor : ℕ
+capacity_floor = 4_096
+
+abbrev pub capacity_limit : ℕ
+capacity_limit = 68_719_476_736
+
+abbrev pub default_capacity : ℕ
+default_capacity = 1_073_741_824
+
+-- how many bytes a feed's title and its author may have
+abbrev pub name_limit : ℕ
+name_limit = 1_024
+
+abbrev pub init_options : List (List ℕ)
+init_options =
+    codes "base" ∷ codes "uuid" ∷ codes "title" ∷ codes "author" ∷ codes "window" ∷ codes "capacity" ∷ []
+
+-- the value is this number in the range, or is left out and the number is the default
+abbrev pub IsNumberOr : ℕ → ℕ → ℕ → Option (List ℕ) → ℕ → Type 0
+IsNumberOr default least most None number = number ≡ default
+IsNumberOr default least most (Some word) number = IsNumber least most word number
+
+-- the value is a feed's title or author
+pub record IsNameText (value : Option (List ℕ)) (text : List ℕ) : Type 0 where
+  pub there : value ≡ Some text
+  pub is_text : IsAtomText text
+  pub short : length text ≤ name_limit
+
+-- the value is the identifier of a feed
+pub record IsFeedIdText (value : Option (List ℕ)) (id : List ℕ) : Type 0 where
+  pub text : List ℕ
+  pub there : value ≡ Some text
+  pub is_id : parsed text ≡ Some id
+  pub of_a_feed : version id ≢ member_version
+
+-- the options name the feed
+pub record IsNamed (options : List Given) (name : FeedName) : Type 0 where
+  pub base : value_of (codes "base") options ≡ Some name.base
+  pub is_base : IsBase name.base
+  pub is_url : IsUrlText name.base
+  pub id : IsFeedIdText (value_of (codes "uuid") options) name.id
+  pub title : IsNameText (value_of (codes "title") options) name.title
+  pub author : IsNameText (value_of (codes "author") options) name.author
+
+-- the words after `init`
+pub record IsInit (words : List (List ℕ)) (name : FeedName) (window capacity : ℕ) : Type 0 where
+  pub options : List Given
+  pub are_options : AreOptions init_options words options
+  pub is_named : IsNamed options name
+  pub is_window : IsNumberOr default_window 1 window_limit (value_of (codes "window") options) window
+  pub is_capacity :
+      IsNumberOr default_capacity capacity_floor capacity_limit (value_of (codes "capacity") options) capacity
+
+-- the words after `apply`
+abbrev pub IsApply : List (List ℕ) → Option ℕ → Type 0
+IsApply words None = words ≡ []
+IsApply words (Some window) = (word : List ℕ) × (words ≡ word ∷ []) × IsNumber 1 window_limit word window
+
+-- the number of an archive or of a member
+abbrev pub IsNumbered : List ℕ → List (List ℕ) → ℕ → Type 0
+IsNumbered kind words number =
+    (word : List ℕ) × (words ≡ kind ∷ word ∷ []) × IsNumber 1 (2 ^ 32 - 1) word number
+
+-- the words after `show`
+abbrev pub IsShow : List (List ℕ) → Shown → Type 0
+IsShow words Document = words ≡ []
+IsShow words Feed = words ≡ codes "feed" ∷ []
+IsShow words (Archive number) = IsNumbered (codes "archive") words number
+IsShow words (Member number) = IsNumbered (codes "member") words number
+
+abbrev pub IsCommandOf : List (List ℕ) → Command → Type 0
+IsCommandOf words (Init name window capacity) =
+    (rest : List (List ℕ)) × (words ≡ codes "init" ∷ rest) × IsInit rest name window capacity
+IsCommandOf words (Apply window) =
+    (rest : List (List ℕ)) × (words ≡ codes "apply" ∷ rest) × IsApply rest window
+IsCommandOf words (Show shown) =
+    (rest : List (List ℕ)) × (words ≡ codes "show" ∷ rest) × IsShow rest shown
