@@ -123,6 +123,130 @@ cp "$top/out/feed_tool" "$work/$(printf 'tool\377')"
 echo $? >"$work/status"
 echo "$usage" | compare 'a path of the program that is not UTF-8' 2
 
+# a store in a folder of its own: stored WORDS.. runs the program there
+mkdir "$work/store"
+stored() {
+    (cd "$work/store" && "$tool" "$@" <"$work/input" >"$work/output" 2>"$work/errors"; echo $? >"$work/status")
+}
+# prints the summary of the document that was printed
+summarized() {
+    "$tool" show <"$work/output" >"$work/summary" 2>"$work/errors" && cp "$work/summary" "$work/output"
+}
+init_words="init --base http://feed.example/ --uuid 6d1f0c5a-93be-4c27-8d10-2b7f9e4a5c36 --title Feed --author Editor"
+
+: >"$work/input"
+stored show feed
+echo 'not init' | compare 'a folder without a store' 6
+# shellcheck disable=SC2086
+stored $init_words --window 4
+echo 'ready' | compare 'init' 0
+# shellcheck disable=SC2086
+stored $init_words
+echo 'already init' | compare 'init of a store' 6
+printf 'add a\nadd b\nadd c\nadd d\n' >"$work/input"
+stored apply
+summarized
+compare 'apply of a window' 0 <<'TEXT'
+subscription
+feed 6d1f0c5a-93be-4c27-8d10-2b7f9e4a5c36
+span 1 4
+prev 0
+updated NOW
+entry 4 NOW d
+entry 3 NOW c
+entry 2 NOW b
+entry 1 NOW a
+TEXT
+: >"$work/input"
+stored show archive 1
+echo 'archive 1 not sealed 0' | compare 'an archive that is not sealed' 12
+printf 'add e' >"$work/input"
+stored apply
+summarized
+compare 'apply past a window' 0 <<'TEXT'
+subscription
+feed 6d1f0c5a-93be-4c27-8d10-2b7f9e4a5c36
+span 5 5
+prev 1
+updated NOW
+entry 5 NOW e
+TEXT
+: >"$work/input"
+stored show archive 1
+summarized
+compare 'a sealed archive' 0 <<'TEXT'
+archive 1
+feed 6d1f0c5a-93be-4c27-8d10-2b7f9e4a5c36
+span 1 4
+prev 0
+updated NOW
+entry 4 NOW d
+entry 3 NOW c
+entry 2 NOW b
+entry 1 NOW a
+TEXT
+printf 'remove 5\nsubtract\nadd f\n' >"$work/input"
+stored apply
+echo 'bad line 2' | compare 'a bad line on a store' 10
+: >"$work/input"
+stored show member 5
+echo 'member 5 deleted' | compare 'a deleted member of a store' 12
+stored show member 6
+echo 'member 6 not found' | compare 'a member that a store never had' 12
+
+# a crash: the journal ends within the frame of its last operation
+head -c $(($(wc -c <"$work/store/journal") - 10)) "$work/store/journal" >"$work/cut" && cp "$work/cut" "$work/store/journal"
+stored show member 5
+head -c 38 "$work/output" >"$work/front" && cp "$work/front" "$work/output"
+printf '<?xml version="1.0" encoding="utf-8"?>' | compare 'a store whose last operation was cut' 0
+printf 'add f\n' >"$work/input"
+stored apply
+summarized
+compare 'an operation after the cut' 0 <<'TEXT'
+subscription
+feed 6d1f0c5a-93be-4c27-8d10-2b7f9e4a5c36
+span 5 6
+prev 1
+updated NOW
+entry 6 NOW f
+entry 5 NOW e
+TEXT
+
+# damage: the first byte of the second operation, whose payload begins behind the frames of the head and of the first
+printf '\011' | dd of="$work/store/journal" bs=1 seek=134 conv=notrunc 2>/dev/null
+: >"$work/input"
+stored apply
+echo 'bad store journal 2 0' | compare 'a damaged journal' 6
+
+# stores that have no room
+for options in '--window 4' '--window 1'; do
+    rm -f "$work/store/journal" "$work/store/sealed" "$work/store/mirror"
+    : >"$work/input"
+    # shellcheck disable=SC2086
+    stored $init_words $options --capacity 4096
+    case $options in
+        *4) awk 'BEGIN { while (count++ < 1024) title = title "a"; while (lines++ < 4) print "add " title }' >"$work/input"
+            full='full journal 3289 1068 4096' ;;
+        *) seq 10 | sed 's/.*/add Hello/' >"$work/input"
+            full='full sealed 3793 964 4096' ;;
+    esac
+    stored apply
+    echo "$full" | sed 's/^full sealed [0-9]* [0-9]*/full sealed/' >"$work/full"
+    sed -i 's/^full sealed [0-9]* [0-9]*/full sealed/' "$work/output"
+    compare "a store without room, $options" 11 <"$work/full"
+done
+
+# a second program on the same store while the first waits for its input
+mkfifo "$work/pipe"
+(cd "$work/store" && exec "$tool" apply <"$work/pipe" >"$work/first" 2>&1) &
+exec 3>"$work/pipe"
+sleep 1
+: >"$work/input"
+stored show feed
+echo 'disk fault' | compare 'a store that another program has open' 4
+exec 3>&-
+wait
+
 # failing calls
 "$tool" apply 4 <"$work" >"$work/output" 2>"$work/errors"
 echo $? >"$work/status"

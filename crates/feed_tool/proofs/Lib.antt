@@ -1,22 +1,38 @@
 -- `commands_have_one_answer`
 pub mod AnswerLemmas
--- `run`, clauses `answered` and `alone`
+-- the commands on a store: what they answer
+pub mod AnswerOnLemmas
+-- `run::answer`, the answer of each command
+pub mod CommandLemmas
+-- `run` and `run::answer`, the clauses on the disk
+pub mod DiskLemmas
+-- `run`
 pub mod EndLemmas
 -- `history_of`, clauses `refused` and `unrefused`
 pub mod FaultLemmas
 -- `history_of`, clauses `history` and `lawful`
 pub mod HistoryLemmas
+-- `init`
+pub mod InitLemmas
 -- `line_ask` and the definitions of lines
 pub mod LineLemmas
 -- `Lines::next`
 pub mod LinesLemmas
--- `run`, clauses `answered` and `alone`
+-- the commands on a store: what a crash leaves
+pub mod MomentsLemmas
+-- `run`
 pub mod PrintLemmas
--- `history_of`, clauses `history`, `refused` and `unrefused`
+-- the loops over the lines of an input
 pub mod ProgressLemmas
+-- `apply` on a store: what a line makes
+pub mod RoomLemmas
+-- `run`
+pub mod RunLemmas
 -- `show`, clause `shown`
 pub mod ShowLemmas
+-- the loops over the lines of an input
+pub mod StepLemmas
+-- the commands on a store
+pub mod StoreLemmas
 -- `summary`
 pub mod SummaryLemmas
--- `command_of`
-pub mod WordLemmas

@@ -1,51 +1,5 @@
 -- The lines of bytes one after another, and what a line asks.
-use Rattle.std.proofs.Common.{
-  ◌≡◌,
-  ◌≢◌,
-  ◌⊎◌,
-  ℕ,
-  zero,
-  suc,
-  ◌+◌,
-  ◌-◌,
-  ◌<◌,
-  ◌≤◌,
-  ◌^◌,
-  Bool,
-  true,
-  false,
-  ◌&&◌,
-  cond,
-  if◌then◌else◌,
-  eqb,
-  List,
-  [],
-  ◌∷◌,
-  ◌++◌,
-  length,
-  take,
-  drop,
-  codes,
-  decimal,
-  Option,
-  Some,
-  None,
-  option_map,
-  option_and_then,
-  IfSome,
-  nat_eq,
-  nat_le,
-  nat_lt,
-  refl,
-  sym,
-  ap,
-  ◌∙◌,
-  ⊎_elim,
-  arith,
-  lt-ltb,
-  ltb-true,
-  leb-true,
-}
+use Rattle.std.proofs.Common.{◌≡◌, ◌≢◌, ◌⊎◌, ℕ, ◌+◌, ◌-◌, ◌<◌, ◌≤◌, ◌^◌, Bool, true, false, ◌&&◌, cond, if◌then◌else◌, eqb, List, [], ◌∷◌, ◌++◌, length, take, drop, codes, decimal, Option, Some, None, option_map, option_and_then, IfSome, nat_eq, nat_le, nat_lt, refl, sym, ap, ◌∙◌, ⊎_elim, arith, lt-ltb, ltb-true, leb-true}
 use Rattle.std.specs.List.{All, flat_map, starts_with}
 use Rattle.std.specs.Str.{bytes_eq}
 use Rattle.std.specs.Str.Parse.{digits_value, AllDigits}
@@ -53,19 +7,15 @@ use Rattle.std.proofs.lemmas.Bool.{and_parts, both_ways, cases_lt, false_from_ne
 use Rattle.std.proofs.lemmas.Bool.Decides.{nat_tests}
 use Rattle.std.proofs.lemmas.Fmt.{digits_value-decimal, length-decimal-le}
 use Rattle.std.proofs.lemmas.List.{append_assoc, take_all, length-drop, length-take-le}
-use Rattle.std.proofs.lemmas.List.Elements.{All-head, All-nil, All-tail}
+use Rattle.std.proofs.lemmas.List.Elements.{All-head, All-tail}
 use Rattle.std.proofs.lemmas.Slice.Eq.{bytes_eq-Decides}
 use Rattle.std.proofs.lemmas.Str.Parse.{numerals_by_value, tells_digits}
 use Rattle.atom_values.specs.declared.text.TextFault.{TextFault}
 use Rattle.atom_values.specs.declared.text.TextFault.TheVariants.{TooLong, NotXmlChar, NoMemory}
-use Rattle.atom_values.specs.Category.{IsCategory}
-use Rattle.atom_values.specs.Entry.{DraftValue, IsDraft, titled}
-use Rattle.atom_values.specs.Link.{IsLink}
-use Rattle.atom_values.specs.Person.{IsPerson}
+use Rattle.atom_values.specs.Entry.{DraftValue, titled}
 use Rattle.atom_values.specs.XmlText.{is_xml_text, IsAtomText, IsTextFault}
 use Rattle.member_rules.specs.declared.ask.Ask.{Ask}
 use Rattle.member_rules.specs.declared.ask.Ask.TheVariants.{Create, Replace, Delete}
-use Rattle.atom_values.specs.Ascii.{lf, space}
 use Rattle.feed_tool.specs.Line.{
   change_by,
   change_of,

@@ -1,27 +1,5 @@
 -- The history that the lines of an input make, and what the command `apply W` answers.
-use Rattle.std.specs.Prelude.{
-  ◌≡◌,
-  ℕ,
-  ◌+◌,
-  ◌≤◌,
-  List,
-  [],
-  ◌∷◌,
-  ◌++◌,
-  pos,
-  length,
-  take,
-  nat_le,
-  if◌then◌else◌,
-  Option,
-  Some,
-  None,
-  Result,
-  Ok,
-  Err,
-  IsOk,
-  codes,
-}
+use Rattle.std.specs.Prelude.{ℕ, ◌+◌, List, [], ◌∷◌, ◌++◌, pos, Option, Some, None, Result, Ok, Err, codes}
 use Rattle.atom_writer.specs.Pieces.{text}
 use Rattle.feed_tool.specs.declared.commands.lines.LinesFault.{LinesFault}
 use Rattle.feed_tool.specs.declared.commands.lines.LinesFault.TheVariants as lines
@@ -36,10 +14,9 @@ use Rattle.member_rules.specs.Head.{HeadValue}
 use Rattle.member_rules.specs.Decide.{decide}
 use Rattle.member_rules.specs.Documents.{subscription}
 use Rattle.feed_tool.specs.Answer.{Answer}
+use Rattle.feed_tool.specs.Applied.{Applied, Step, applied}
 use Rattle.feed_tool.specs.Fault.{fault_answer, rule_fault}
 use Rattle.feed_tool.specs.Line.{line_ask}
-use Rattle.feed_tool.specs.Lines.{lines as lines_of, ended_lines, input_limit}
-use Rattle.feed_tool.specs.Outside.{SourceState}
 
 -- the head that `apply W` uses
 unfoldable pub test_head : ℕ → HeadValue
@@ -75,19 +52,14 @@ abbrev pub ◌>>=◌ : {A B : Type 0} → Result A Fault → (A → Result B Fau
 (Ok x) >>= f = f x
 (Err e) >>= f = Err e
 
--- the history that the lines make, or the first fault
-abbrev pub after_lines : HeadValue → (ℕ → ℕ) → List Op → ℕ → List (List ℕ) → Result (List Op) Fault
-after_lines head moments history before [] = Ok history
-after_lines head moments history before (line ∷ later) =
-    line_operation head moments history before line
-    >>= λ operation. after_lines head moments (history ++ operation ∷ []) (before + 1) later
+-- the history with the operation of a line
+abbrev pub history_step : HeadValue → (ℕ → ℕ) → Step (List Op)
+history_step head moments history before line =
+    line_operation head moments history before line >>= λ operation. Ok (history ++ operation ∷ [])
 
--- the history that an input makes. If the input is over the limit, the lines within the limit come first
-unfoldable pub applied : HeadValue → (ℕ → ℕ) → List ℕ → Result (List Op) Fault
-applied head moments input =
-    if nat_le (length input) input_limit
-    then after_lines head moments [] 0 (lines_of input)
-    else after_lines head moments [] 0 (ended_lines (take input_limit input)) >>= λ _. Err (Refused TooLong)
+-- the history that an input makes
+abbrev pub applied_history : HeadValue → (ℕ → ℕ) → List ℕ → Applied (List Op)
+applied_history head moments input = applied (history_step head moments) [] input
 
 -- the fault that ends the lines, as a fault of the command
 abbrev pub lines_fault : LinesFault → Fault
@@ -96,16 +68,10 @@ lines_fault lines.Input = Input
 lines_fault lines.NoMemory = NoMemory
 
 -- the text of the subscription document, or the fault's line
-abbrev pub answer_of : HeadValue → Result (List Op) Fault → Answer
-answer_of head (Ok history) = record { status = Done; printed = text (subscription head history) }
-answer_of head (Err fault) = fault_answer fault
+abbrev pub answer_by : HeadValue → List Op → Option Fault → Answer
+answer_by head history None = record { status = Done; printed = text (subscription head history) }
+answer_by head history (Some fault) = fault_answer fault
 
 unfoldable pub answer : HeadValue → (ℕ → ℕ) → List ℕ → Answer
-answer head moments input = answer_of head (applied head moments input)
-
--- the bytes that were read before a call failed are within the limit, and no line among them is refused
-pub record IsUnrefused (head : HeadValue) (moments : ℕ → ℕ) (before after : SourceState) : Type 0 where
-  pub read : List ℕ
-  pub from : before.left ≡ read ++ after.left
-  pub within : length read ≤ input_limit
-  pub lines : IsOk (after_lines head moments [] 0 (ended_lines read))
+answer head moments input =
+    let made = applied_history head moments input in answer_by head made.feed made.fault

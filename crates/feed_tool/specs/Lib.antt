@@ -1,10 +1,14 @@
 pub mod Status
 pub mod Outside
 pub mod Answer
-pub mod Words
 pub mod Line
 pub mod Lines
 pub mod Fault
+pub mod StoreFaults
+pub mod Applied
 pub mod Apply
+pub mod Stored
 pub mod Show
 pub mod Run
+pub mod Crash
+pub mod Loaded

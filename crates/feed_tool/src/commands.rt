@@ -1,7 +1,9 @@
 //! The commands, each with its own module, and what they share.
 
 pub mod apply;
+pub mod init;
 mod line;
 mod lines;
 pub mod show;
+pub mod store;
 mod summary;

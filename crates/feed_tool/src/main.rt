@@ -4,10 +4,11 @@
 //! status the program ends with and which bytes it prints. A test calls it as `main` does, with objects in memory:
 //!
 //! ```text
+//! let mut disk = MemoryDisk::new(alloc, journal, sealed, mirror, Many::new(alloc));
 //! let mut clock = SetClock::new(moments);
 //! let mut input = ListSource::new(Bytes::of(alloc, b"add Hello\n")?, Many::new(alloc));
 //! let mut output = ListSink::new(alloc, Many::new(alloc));
-//! let ended = run(alloc, &words, &mut clock, &mut input, &mut output);
+//! let ended = run(alloc, &words, &mut disk, &mut clock, &mut input, &mut output);
 //! assert_eq!(rt; ended.status, 0);
 //! ```
 //!
@@ -32,6 +33,7 @@ use crate::fault::Fault;
 use crate::outside::system::{InputSource, OutputSink, SystemClock};
 use crate::run::{end_with, run};
 use crate::words::given_words;
+use feed_disk::FileDisk;
 use std::io;
 use std::process::ExitCode;
 
@@ -45,15 +47,16 @@ fn main(rt: HostRuntime) -> ExitCode {
         writer: io::writer(&rt),
         faults: 0,
     };
-    let ended = match given_words(&rt) {
-        Ok(words) => run(
+    let ended = match (given_words(&rt), FileDisk::new(rt.alloc(), &rt, ".")) {
+        (Ok(words), Ok(mut disk)) => run(
             rt.alloc(),
             words.as_slice(),
+            &mut disk,
             &mut clock,
             &mut input,
             &mut output,
         ),
-        Err(error) => end_with(&mut output, Fault::from(error)),
+        (Err(error), _) | (_, Err(error)) => end_with(&mut output, Fault::from(error)),
     };
     ExitCode::from(ended.status)
 }

@@ -1,21 +1,31 @@
-ghost use Rattle.std.specs.Prelude.{◌≡◌, ◌≢◌, ◌↔◌, ◌≤◌, ◌++◌, None, Err, map, string_bytes, IfSome, IfOk, IfErr};
+ghost use Rattle.std.specs.Prelude.{◌≡◌, ◌≢◌, ◌⊎◌, ℕ, ◌≤◌, None, Err, map, string_bytes, IfOk, IfErr, IsOk};
 ghost use Rattle.atom_values.specs.Counts.{Rose};
+ghost use Rattle.atom_writer.specs.declared.doc.FeedName.{FeedName};
+ghost use Rattle.feed_disk.specs.Moments.{LeavesAlone};
+ghost use Rattle.feed_disk.specs.declared.area.Area.TheVariants.{Mirror};
 ghost use Rattle.feed_tool.specs.declared.status.Status.TheVariants as status;
 ghost use Rattle.feed_tool.specs.Answer.{Answer, Prints};
-ghost use Rattle.feed_tool.specs.Fault.{fault_answer, IsRefusal};
-ghost use Rattle.feed_tool.specs.Run.{AsksClock, IsAnswer, IsUnrefusedBy, IsStatus, IsAnswered, EndsWith, IsComplete, IsAlone, alone_line};
+ghost use Rattle.feed_tool.specs.Crash.{AddsNothing, AppliesSafely, LeavesStores, MakesStoreAt, OpensToApplied};
+ghost use Rattle.feed_tool.specs.Fault.{fault_answer, HasAnswer, IsRefusal};
+ghost use Rattle.feed_tool.specs.Run.{HasRange, IsDueAnswer, IsGiven, IsSeen, IsUnrefusedBy, IsStatus, IsAnswered};
+ghost use Rattle.feed_tool.specs.Run.{EndsWith, IsComplete, IsAlone, alone_line};
 ghost use Rattle.feed_tool.specs.Status.{code_of};
-ghost use Rattle.feed_tool.specs.Words.{command_of, HasRange};
+ghost use Rattle.tool_words.specs.Words.{IsCommandOf};
+ghost use Rattle.tool_words.specs.declared.command.Command.{Command as CommandValue};
+ghost use Rattle.tool_words.specs.declared.command.Command.TheVariants.{Init, Apply};
 
 use crate::commands::apply::apply;
+use crate::commands::init::init;
 use crate::commands::show::show;
+use crate::commands::store;
 use crate::fault::Fault;
 use crate::outside::{Clock, Sink, Source};
 use crate::print::write_all;
 use crate::status::Status;
-use crate::words::{Command, command_of};
 use atom_values::Failed;
+use feed_disk::Disk;
 use std::alloc::Global;
+use tool_words::{Command, Show, WordsFault, read_words};
 
 /// How the program ends.
 #[derive(Debug, Drop)]
@@ -27,33 +37,43 @@ pub struct Ended {
 /// Runs the command that the words name, and returns the exit status, which docs/FORMATS.md lists with what is
 /// printed.
 ///
-/// `apply W` applies the lines of the input to an empty history, each with one moment of the clock, and prints the
-/// subscription document. `show` reads the input as one document and prints its summary. At any other end the line of
-/// that end is printed. A failure to print that line changes no status.
-pub fn run<C: Clock, I: Source, O: Sink>(
+/// - `init` makes a store on the disk.
+/// - `apply` applies the lines of the input to the store, each with one moment of the clock, and prints the
+///   subscription document. `apply W` applies them to an empty history, and uses no store.
+/// - `show` reads the input as one document and prints its summary. `show feed`, `show archive J` and `show member N`
+///   print a document of the store.
+///
+/// At any other end the line of that end is printed. A failure to print that line changes no status.
+pub fn run<D: Disk, C: Clock, I: Source, O: Sink>(
     alloc: Global,
     words: &[String],
+    disk: &mut D,
     clock: &mut C,
     input: &mut I,
     output: &mut O,
 ) -> Ended
     // The exit statuses, and the words that name no command.
     ensures statuses { IsStatus result.status }
-    ensures usage { (result.status ≡ code_of status.Usage) ↔ (command_of (map string_bytes words.now)
-        ≡ None) }
+    ensures usage { result.status ≡ code_of status.Usage
+        → (command : CommandValue) → ¬ IsCommandOf (map string_bytes words.now) command }
+    ensures foreign { ((command : CommandValue) → ¬ IsCommandOf (map string_bytes words.now) command)
+        → (result.status ≡ code_of status.Usage) ⊎ (result.status ≡ code_of status.NoMemory) }
 
-    // If contracts can see the content of the input, and of the clock where the command asks it: status and output
-    // are those of the command's answer.
-    ensures answered { I.told → IfSome (command_of (map string_bytes words.now)) (λ command.
-        (AsksClock command → C.told) → IsAnswered result.status
-        → EndsWith command (C.coming clock.old) (I.state input.old).left O.told
-        (O.state output.old) (O.state output.new) result.status) }
+    // If contracts can see all that the command's answer depends on: status and output are those of the answer.
+    ensures answered { (command : CommandValue) → IsCommandOf (map string_bytes words.now) command
+        → IsSeen command D.told C.told I.told → IsAnswered result.status
+        → EndsWith command (C.coming clock.old) (I.state input.old).left (D.state disk.old).content O.told
+        (O.state output.old) (O.state output.new) result.status }
 
-    // The other ends print their line, which says nothing of the input.
+    // The other ends print their line, which says nothing of the input and of the store.
     ensures alone { O.told → IsAlone result.status
         → Prints (O.state output.old) (O.state output.new) (alone_line result.status) }
 
     // A fault comes only where the object's count of faults rose, and nothing that was read before it is refused.
+    ensures disk_fault { result.status ≡ code_of status.DiskFault
+        → Rose (D.state disk.old).faults (D.state disk.new).faults }
+    ensures no_hidden_disk_fault { result.status ≢ code_of status.DiskFault
+        → (D.state disk.new).faults ≡ (D.state disk.old).faults }
     ensures input_fault { result.status ≡ code_of status.InputFault
         → Rose (I.state input.old).faults (I.state input.new).faults }
     ensures no_hidden_fault { result.status ≢ code_of status.InputFault
@@ -62,25 +82,48 @@ pub fn run<C: Clock, I: Source, O: Sink>(
         → Rose (O.state output.old).faults (O.state output.new).faults }
     ensures output_whole { result.status ≡ code_of status.Done
         → (O.state output.new).faults ≡ (O.state output.old).faults }
-    ensures first_fault { I.told → IfSome (command_of (map string_bytes words.now)) (λ command.
-        (AsksClock command → C.told) → result.status ≡ code_of status.InputFault
-        → IsUnrefusedBy command (C.coming clock.old) (I.state input.old) (I.state input.new)) }
+    ensures first_fault { (command : CommandValue) → IsCommandOf (map string_bytes words.now) command
+        → IsSeen command D.told C.told I.told → result.status ≡ code_of status.InputFault
+        → IsUnrefusedBy command (C.coming clock.old) (D.state disk.old).content
+        (I.state input.old) (I.state input.new) }
 
-    // With a command's words and no fault, the exit status is the answer's, or memory ran out.
-    ensures complete { I.told → IfSome (command_of (map string_bytes words.now)) (λ command.
-        (AsksClock command → C.told) → (given : Answer)
-        → IsAnswer command (C.coming clock.old) (I.state input.old).left given
-        → IsComplete (I.state input.old) (I.state input.new) (O.state output.old) (O.state output.new)
-        result.status given.status) }
+    // With a command's words and no fault, the exit status is the answer's, or memory ran out. A store that opens has
+    // an answer.
+    ensures complete { (command : CommandValue) → IsCommandOf (map string_bytes words.now) command
+        → IsSeen command D.told C.told I.told → (given : Answer)
+        → IsDueAnswer command (C.coming clock.old) (I.state input.old).left (D.state disk.old).content given
+        → IsComplete (D.state disk.old).faults (D.state disk.new).faults (I.state input.old) (I.state input.new)
+        (O.state output.old) (O.state output.new) result.status given.status }
+
+    // A crash within the command, or after it: the commands that add no operation leave what a crash could leave
+    // before, `init` leaves an unused disk as it is or with the new store, and `apply` leaves the history before, with
+    // some of the lines' operations, and with all of them at its end. No command reaches the mirror's area.
+    ensures safe { (command : CommandValue) → IsCommandOf (map string_bytes words.now) command
+        → AddsNothing command → D.told → LeavesStores (D.state disk.old) (D.state disk.new) }
+    ensures made { (name : FeedName) (window capacity : ℕ)
+        → IsCommandOf (map string_bytes words.now) (Init name window capacity) → D.told
+        → MakesStoreAt (D.state disk.old) (D.state disk.new) name window capacity C.told (C.coming clock.old 0)
+        ((result.status ≡ code_of status.Done) ⊎ (result.status ≡ code_of status.OutputFault)) }
+    ensures applied { IsCommandOf (map string_bytes words.now) (Apply None) → D.told
+        → AppliesSafely (D.state disk.old) (D.state disk.new) (C.coming clock.old) (I.state input.old).left
+        (C.told × I.told) (result.status ≡ code_of status.DiskFault) }
+    ensures opens { IsCommandOf (map string_bytes words.now) (Apply None) → D.told → C.told → I.told
+        → IsAnswered result.status
+        → OpensToApplied (D.state disk.old) (D.state disk.new) (C.coming clock.old) (I.state input.old).left }
+    ensures mirror { LeavesAlone (D.state disk.old) (D.state disk.new) Mirror }
 {
-    let Some(command) = command_of(words) else {
-        // The status doesn't depend on whether its line could be printed.
-        let _ = write_all(output, USAGE);
-        return Ended {
-            status: Status::Usage.code(),
-        };
+    let command = match read_words(alloc, words) {
+        Ok(command) => command,
+        Err(WordsFault::Usage) => {
+            // The status doesn't depend on whether its line could be printed.
+            let _ = write_all(output, USAGE);
+            return Ended {
+                status: Status::Usage.code(),
+            };
+        }
+        Err(WordsFault::NoMemory) => return end_with(output, Fault::NoMemory),
     };
-    match answer(alloc, command, clock, input) {
+    match answer(alloc, command, disk, clock, input) {
         Ok(text) => match write_all(output, text.as_slice()) {
             Ok(()) => Ended {
                 status: Status::Done.code(),
@@ -110,25 +153,53 @@ pub fn end_with<O: Sink>(output: &mut O, fault: Fault) -> Ended
 const USAGE: &[u8] = b"usage: feed_tool init, apply, show, serve, mirror, audit, drill\n";
 
 /// Returns what the command prints at its defined end.
-fn answer<C: Clock, I: Source>(
+fn answer<D: Disk, C: Clock, I: Source>(
     alloc: Global,
     command: Command,
+    disk: &mut D,
     clock: &mut C,
     input: &mut I,
 ) -> Result<Vec<u8>, Fault>
     requires { HasRange command }
-    ensures answer { IfOk result (λ written. I.told → (AsksClock command → C.told)
-        → IsAnswer command (C.coming clock.old) (I.state input.old).left
+    ensures answer { IfOk result (λ written. IsSeen command D.told C.told I.told
+        → IsGiven command (C.coming clock.old) (I.state input.old).left (D.state disk.old).content
         record { status = status.Done; printed = written.items }) }
-    ensures refused { IfErr result (λ fault. IsRefusal fault → I.told → (AsksClock command → C.told)
-        → IsAnswer command (C.coming clock.old) (I.state input.old).left (fault_answer fault)) }
+    ensures refused { IfErr result (λ fault. IsRefusal fault → IsSeen command D.told C.told I.told
+        → IsGiven command (C.coming clock.old) (I.state input.old).left (D.state disk.old).content
+        (fault_answer fault)) }
+    ensures disk { result ≡ Err Fault.Disk → Rose (D.state disk.old).faults (D.state disk.new).faults }
+    ensures disk_faults { result ≢ Err Fault.Disk → (D.state disk.new).faults ≡ (D.state disk.old).faults }
     ensures input { result ≡ Err Fault.Input → Rose (I.state input.old).faults (I.state input.new).faults }
-    ensures unrefused { result ≡ Err Fault.Input → I.told → (AsksClock command → C.told)
-        → IsUnrefusedBy command (C.coming clock.old) (I.state input.old) (I.state input.new) }
+    ensures unrefused { result ≡ Err Fault.Input → IsSeen command D.told C.told I.told
+        → IsUnrefusedBy command (C.coming clock.old) (D.state disk.old).content
+        (I.state input.old) (I.state input.new) }
     ensures faults { result ≢ Err Fault.Input → (I.state input.new).faults ≡ (I.state input.old).faults }
+    ensures safe { AddsNothing command → D.told → LeavesStores (D.state disk.old) (D.state disk.new) }
+    ensures made { (name : FeedName) (window capacity : ℕ) → command ≡ Init name window capacity → D.told
+        → MakesStoreAt (D.state disk.old) (D.state disk.new) name window capacity C.told (C.coming clock.old 0)
+        (IsOk result) }
+    ensures applied { command ≡ Apply None → D.told
+        → AppliesSafely (D.state disk.old) (D.state disk.new) (C.coming clock.old) (I.state input.old).left
+        (C.told × I.told) (result ≡ Err Fault.Disk) }
+    ensures opens { command ≡ Apply None → D.told → C.told → I.told → HasAnswer result
+        → OpensToApplied (D.state disk.old) (D.state disk.new) (C.coming clock.old) (I.state input.old).left }
+    ensures mirror { LeavesAlone (D.state disk.old) (D.state disk.new) Mirror }
 {
     match command {
-        Command::Apply { window } => apply(alloc, window, clock, input),
-        Command::Show => show(alloc, input),
+        Command::Init {
+            name,
+            window,
+            capacity,
+        } => init(alloc, name, window, capacity, disk, clock),
+        Command::Apply { window } => match window {
+            None => store::apply(alloc, disk, clock, input),
+            Some(window) => apply(alloc, window, clock, input),
+        },
+        Command::Show(shown) => match shown {
+            Show::Document => show(alloc, input),
+            Show::Feed => store::show_feed(alloc, disk),
+            Show::Archive(number) => store::show_archive(alloc, number, disk),
+            Show::Member(number) => store::show_member(alloc, number, disk),
+        },
     }
 }

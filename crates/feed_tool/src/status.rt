@@ -8,15 +8,21 @@ pub enum Status {
     Done,
     /// The words name no command: 2.
     Usage,
+    /// A call on the disk failed: 4.
+    DiskFault,
     /// Memory ran out: 5.
     NoMemory,
+    /// The disk has no store that opens, or has one already: 6.
+    BadStore,
     /// A call on the output failed: 8.
     OutputFault,
     /// A call on the input failed: 9.
     InputFault,
     /// The input isn't in the command's grammar, or is over its limit: 10.
     BadInput,
-    /// The rules of the feed refuse a line of the input: 12.
+    /// An area of the store has no room: 11.
+    Full,
+    /// The rules of the feed refuse a line of the input, or the store has no such document: 12.
     Refused,
 }
 
@@ -28,10 +34,13 @@ impl Status {
         match self {
             Status::Done => 0,
             Status::Usage => 2,
+            Status::DiskFault => 4,
             Status::NoMemory => 5,
+            Status::BadStore => 6,
             Status::OutputFault => 8,
             Status::InputFault => 9,
             Status::BadInput => 10,
+            Status::Full => 11,
             Status::Refused => 12,
         }
     }

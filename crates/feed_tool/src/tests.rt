@@ -9,6 +9,7 @@ mod words;
 use crate::outside::memory::{ListSink, ListSource, SetClock};
 use crate::run::run;
 use atom_values::{Bytes, Many};
+use feed_disk::MemoryDisk;
 use std::alloc::Global;
 use std::process::Abort;
 use std::test::Fail;
@@ -77,11 +78,25 @@ fn expect(
     printed: &[u8],
 ) -> Result<(), Fail> {
     let words = words_of(alloc, run_of.words)?;
+    let mut disk = MemoryDisk::new(
+        alloc,
+        Bytes::of(alloc, b"")?,
+        Bytes::of(alloc, b"")?,
+        Bytes::of(alloc, b"")?,
+        Many::new(alloc),
+    );
     let mut clock = clock_of(alloc, run_of.moments)?;
     let bytes = Bytes::of(alloc, run_of.input)?;
     let mut input = ListSource::new(bytes, listed(alloc, run_of.failing_read)?);
     let mut output = ListSink::new(alloc, listed(alloc, run_of.failing_write)?);
-    let ended = run(alloc, words.as_slice(), &mut clock, &mut input, &mut output);
+    let ended = run(
+        alloc,
+        words.as_slice(),
+        &mut disk,
+        &mut clock,
+        &mut input,
+        &mut output,
+    );
     assert_eq!(rt;
         (ended.status, output.bytes()),
         (status, printed),

@@ -1,10 +1,11 @@
-ghost use Rattle.std.specs.Prelude.{◌≡◌, ◌≢◌, ℕ, ◌≤◌, ◌<◌, ◌+◌, ◌∷◌, [], ◌++◌, List, length, Ok, Err, IfOk, IfErr, OnOk};
+ghost use Rattle.std.specs.Prelude.{◌≡◌, ◌≢◌, ℕ, ◌≤◌, ◌<◌, ◌+◌, ◌∷◌, [], ◌++◌, List, length, Some, None, Ok, Err, IfOk, IfErr, OnOk};
 ghost use Rattle.atom_values.specs.Counts.{Rose};
 ghost use Rattle.member_rules.specs.declared.operation.Op.{Op};
 ghost use Rattle.member_rules.specs.History.{IsLawful, MayFollow, history_limit};
 ghost use Rattle.member_rules.specs.Table.{IsTableOf};
 ghost use Rattle.feed_tool.specs.declared.status.Status.TheVariants as status;
-ghost use Rattle.feed_tool.specs.Apply.{applied, asked, answer, test_head, IsUnrefused};
+ghost use Rattle.feed_tool.specs.Applied.{IsUnrefused};
+ghost use Rattle.feed_tool.specs.Apply.{applied_history, asked, answer, history_step, test_head};
 ghost use Rattle.feed_tool.specs.Fault.{fault_answer, IsRefusal};
 ghost use Rattle.feed_tool.specs.Line.{line_ask};
 
@@ -80,13 +81,15 @@ pub fn history_of<C: Clock, I: Source>(
     input: &mut I,
 ) -> Result<Vec<Op>, Fault>
     ensures history { IfOk result (λ history. I.told → C.told
-        → applied head.now (C.coming clock.old) (I.state input.old).left ≡ Ok history.items) }
+        → applied_history head.now (C.coming clock.old) (I.state input.old).left
+        ≡ record { feed = history.items; fault = None }) }
     ensures lawful { IfOk result (λ history. IsLawful head.now history.items) }
     ensures refused { IfErr result (λ fault. IsRefusal fault → I.told → C.told
-        → applied head.now (C.coming clock.old) (I.state input.old).left ≡ Err fault) }
+        → (applied_history head.now (C.coming clock.old) (I.state input.old).left).fault ≡ Some fault) }
     ensures input { result ≡ Err Fault.Input → Rose (I.state input.old).faults (I.state input.new).faults }
     ensures unrefused { result ≡ Err Fault.Input → I.told → C.told
-        → IsUnrefused head.now (C.coming clock.old) (I.state input.old) (I.state input.new) }
+        → IsUnrefused (history_step head.now (C.coming clock.old)) [] (I.state input.old) (I.state input.new) }
+    ensures no_disk { result ≢ Err Fault.Disk }
     ensures faults { result ≢ Err Fault.Input → (I.state input.new).faults ≡ (I.state input.old).faults }
 {
     let mut lines = Lines::new(alloc)?;
@@ -120,6 +123,7 @@ fn operation_of<C: Clock>(
         → IsTableOf members.now head.now.created history
         → asked head.now history number (C.coming clock.old 0) (line_ask line.now) ≡ Err fault) }
     ensures own { result ≢ Err Fault.Input }
+    ensures no_disk { result ≢ Err Fault.Disk }
     ensures follows { IfOk result (λ operation. (history : List Op)
         → IsTableOf members.now head.now.created history
         → MayFollow head.now.created history operation) }
@@ -152,7 +156,9 @@ pub fn apply<C: Clock, I: Source>(
         → answer (test_head window) (C.coming clock.old) (I.state input.old).left ≡ fault_answer fault) }
     ensures input { result ≡ Err Fault.Input → Rose (I.state input.old).faults (I.state input.new).faults }
     ensures unrefused { result ≡ Err Fault.Input → I.told → C.told
-        → IsUnrefused (test_head window) (C.coming clock.old) (I.state input.old) (I.state input.new) }
+        → IsUnrefused (history_step (test_head window) (C.coming clock.old)) [] (I.state input.old)
+        (I.state input.new) }
+    ensures no_disk { result ≢ Err Fault.Disk }
     ensures faults { result ≢ Err Fault.Input → (I.state input.new).faults ≡ (I.state input.old).faults }
 {
     let head = test_head(alloc, window)?;

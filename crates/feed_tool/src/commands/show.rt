@@ -24,6 +24,7 @@ pub fn show<I: Source>(alloc: Global, input: &mut I) -> Result<Vec<u8>, Fault>
     ensures input { result ≡ Err Fault.Input → Rose (I.state input.old).faults (I.state input.new).faults }
     ensures within { result ≡ Err Fault.Input → I.told
         → ReadsWithinLimit (I.state input.old) (I.state input.new) }
+    ensures no_disk { result ≢ Err Fault.Disk }
     ensures faults { result ≢ Err Fault.Input → (I.state input.new).faults ≡ (I.state input.old).faults }
 {
     let bytes = read_to_end(alloc, input)?;

@@ -6,9 +6,8 @@ const FAULT: &[u8] = b"input fault\n";
 const USAGE: &[u8] = b"usage: feed_tool init, apply, show, serve, mirror, audit, drill\n";
 
 /// Words that name no command.
-static NO_COMMANDS: [&[&str]; 17] = [
+static NO_COMMANDS: [&[&str]; 16] = [
     &[],
-    &["apply"],
     &["apply", "4", "4"],
     &["apply", ""],
     &["apply", "0"],

@@ -1,12 +1,118 @@
-use Rattle.std.proofs.Common.{ℕ, List, inl, refl, sym, subst}
+use Rattle.std.proofs.Common.{◌≡◌, ⊎_elim, None, refl, sym, ap, ◌∙◌, arith}
 use Rattle.std.proofs.lemmas.Result.{on_ok_weaker}
-use Rattle.feed_tool.specs.Answer.{Prints}
+use Rattle.tool_words.specs.declared.command.Command.TheVariants.{Init, Apply}
+use Rattle.feed_tool.specs.declared.fault.Fault.TheVariants.{Disk}
 use Rattle.feed_tool.specs.Fault.{fault_answer}
-use Rattle.feed_tool.proofs.EndLemmas.{answered-refusal, no_zero}
-use Rattle.feed_tool.proofs.PrintLemmas.{prints-from, alone-fault}
+use Rattle.feed_tool.specs.Status.{code_of}
+use Rattle.feed_tool.proofs.DiskLemmas.{applies-weaker, makes-none, makes-weaker}
+use Rattle.feed_tool.proofs.EndLemmas.{answered-refusal, no_end, no_output}
+use Rattle.feed_tool.proofs.PrintLemmas.{alone-fault, prints-from}
+use Rattle.feed_tool.proofs.RunLemmas.{ends-done, ends-refused, ends-unsent, read_all}
 use Rattle.feed_tool.proofs.run.run.Goals as goal
 
-pub returns-in_default-clause-alone : goal.returns-in_default-clause-alone
-returns-in_default-clause-alone g c = λ sink alone. rw c.code.ensures
-    (prints-from c.write_all.result _ _ _ (c.write_all.ensures.prefix sink)
-    (on_ok_weaker c.write_all.result (λ whole. whole sink) c.write_all.ensures.whole) c.write_all.ensures.counts)
+pub returns-in-Err-Usage-clause-made : goal.returns-in-Err-Usage-clause-made
+returns-in-Err-Usage-clause-made g c = λ name window capacity of_words told.
+    makes-none (g.D.Disk.state c.args.disk.now) name window capacity g.C.Clock.told
+    (g.C.Clock.coming c.args.clock.now 0) _ (g.met.D.Disk.is_disk c.args.disk.now)
+    (⊎_elim (λ e. omega (arith, e, c.code.ensures)) (λ e. omega (arith, e, c.code.ensures)))
+
+pub returns-in-Err-NoMemory-clause-made : goal.returns-in-Err-NoMemory-clause-made
+returns-in-Err-NoMemory-clause-made g c = λ name window capacity of_words told.
+    makes-none (g.D.Disk.state c.args.disk.now) name window capacity g.C.Clock.told
+    (g.C.Clock.coming c.args.clock.now 0) _ (g.met.D.Disk.is_disk c.args.disk.now)
+    (⊎_elim (λ e. omega (arith, e, c.end_with.ensures.status)) (λ e. omega (arith, e, c.end_with.ensures.status)))
+
+pub returns-in-Ok-write_all-clause-answered : goal.returns-in-Ok-write_all-clause-answered
+returns-in-Ok-write_all-clause-answered g c = read_all _ c.read_words.result c.in-Ok.command _ c.in-Ok.is c.read_words.ensures.only
+    (λ seen answered. rw c.code-in-Ok-write_all.ensures
+    (ends-done c.in-Ok.command _ _ _ _ _ _ c.in-Ok-answer.text.items (c.in-Ok-answer.ensures.answer seen)
+    (λ sink. rw (← c.as_slice.ensures.value) (prints-from c.write_all-in-Ok-answer.result _ _ _
+    (c.write_all-in-Ok-answer.ensures.prefix sink)
+    (on_ok_weaker c.write_all-in-Ok-answer.result (λ whole. whole sink) c.write_all-in-Ok-answer.ensures.whole)
+    c.write_all-in-Ok-answer.ensures.counts))
+    (λ sink. rw (← c.as_slice.ensures.value) (c.in-Ok-write_all.ensures.whole sink))))
+
+pub returns-in-Ok-write_all-clause-safe : goal.returns-in-Ok-write_all-clause-safe
+returns-in-Ok-write_all-clause-safe g c = read_all _ c.read_words.result c.in-Ok.command _ c.in-Ok.is c.read_words.ensures.only
+    c.answer.ensures.safe
+
+pub returns-in-Ok-write_all-clause-made : goal.returns-in-Ok-write_all-clause-made
+returns-in-Ok-write_all-clause-made g c = λ name window capacity of_words told.
+    makes-weaker _ _ name window capacity _ _ _ _ (λ _. refl) (c.in-Ok-answer.ensures.made name window capacity
+    (read_all _ c.read_words.result c.in-Ok.command (λ command. c.in-Ok.command ≡ command) c.in-Ok.is
+    c.read_words.ensures.only refl (Init name window capacity) of_words) told)
+
+pub returns-in-Ok-write_all-clause-applied : goal.returns-in-Ok-write_all-clause-applied
+returns-in-Ok-write_all-clause-applied g c = λ of_words told.
+    applies-weaker _ _ _ _ _ _ _ (λ e. cc) (c.in-Ok-answer.ensures.applied
+    (read_all _ c.read_words.result c.in-Ok.command (λ command. c.in-Ok.command ≡ command) c.in-Ok.is
+    c.read_words.ensures.only refl (Apply None) of_words) told)
+
+pub returns-in-Ok-answer-clause-answered : goal.returns-in-Ok-answer-clause-answered
+returns-in-Ok-answer-clause-answered g c = read_all _ c.read_words.result c.in-Ok.command _ c.in-Ok.is c.read_words.ensures.only
+    (λ seen answered. rw c.code-in-Err-write_all.ensures
+    (ends-unsent c.in-Ok.command _ _ _ _ _ _ c.in-Ok-answer.text.items (c.in-Ok-answer.ensures.answer seen)
+    (λ sink. rw (← c.as_slice.ensures.value) (prints-from c.write_all-in-Ok-answer.result _ _ _
+    (c.write_all-in-Ok-answer.ensures.prefix sink)
+    (on_ok_weaker c.write_all-in-Ok-answer.result (λ whole. whole sink) c.write_all-in-Ok-answer.ensures.whole)
+    c.write_all-in-Ok-answer.ensures.counts))))
+
+pub returns-in-Ok-answer-clause-safe : goal.returns-in-Ok-answer-clause-safe
+returns-in-Ok-answer-clause-safe g c = read_all _ c.read_words.result c.in-Ok.command _ c.in-Ok.is c.read_words.ensures.only
+    c.answer.ensures.safe
+
+pub returns-in-Ok-answer-clause-made : goal.returns-in-Ok-answer-clause-made
+returns-in-Ok-answer-clause-made g c = λ name window capacity of_words told.
+    makes-weaker _ _ name window capacity _ _ _ _ (λ _. refl) (c.in-Ok-answer.ensures.made name window capacity
+    (read_all _ c.read_words.result c.in-Ok.command (λ command. c.in-Ok.command ≡ command) c.in-Ok.is
+    c.read_words.ensures.only refl (Init name window capacity) of_words) told)
+
+pub returns-in-Ok-answer-clause-applied : goal.returns-in-Ok-answer-clause-applied
+returns-in-Ok-answer-clause-applied g c = λ of_words told.
+    applies-weaker _ _ _ _ _ _ _ (λ e. cc) (c.in-Ok-answer.ensures.applied
+    (read_all _ c.read_words.result c.in-Ok.command (λ command. c.in-Ok.command ≡ command) c.in-Ok.is
+    c.read_words.ensures.only refl (Apply None) of_words) told)
+
+pub returns-clause-answered : goal.returns-clause-answered
+returns-clause-answered g c = read_all _ c.read_words.result c.in-Ok.command _ c.in-Ok.is c.read_words.ensures.only
+    (λ seen answered. ends-refused c.in-Ok.command _ _ _ _ _ _ c.in-Err.fault _ c.end_with-in-Err.ensures.status
+    (c.in-Err.ensures.refused (answered-refusal c.in-Err.fault (rw c.end_with-in-Err.ensures.status at answered)) seen)
+    c.end_with-in-Err.ensures.prints)
+
+pub returns-clause-alone : goal.returns-clause-alone
+returns-clause-alone g c = λ sink alone.
+    rw c.end_with-in-Err.ensures.status (rw (alone-fault c.in-Err.fault (rw c.end_with-in-Err.ensures.status at alone))
+    (c.end_with-in-Err.ensures.prints sink))
+
+pub returns-clause-no_hidden_disk_fault : goal.returns-clause-no_hidden_disk_fault
+returns-clause-no_hidden_disk_fault g c = λ other.
+    c.in-Err.ensures.disk_faults (λ e. let same : c.in-Err.fault ≡ Disk = cc in
+    other (c.end_with-in-Err.ensures.status ∙ ap (λ fault. code_of (fault_answer fault).status) same))
+
+pub returns-clause-safe : goal.returns-clause-safe
+returns-clause-safe g c = read_all _ c.read_words.result c.in-Ok.command _ c.in-Ok.is c.read_words.ensures.only
+    c.answer.ensures.safe
+
+pub returns-clause-made : goal.returns-clause-made
+returns-clause-made g c = λ name window capacity of_words told.
+    makes-weaker _ _ name window capacity _ _ _ _
+    (λ done. absurd (⊎_elim (λ e. no_end c.in-Err.fault (sym c.end_with-in-Err.ensures.status ∙ e))
+    (λ e. no_output c.in-Err.fault (sym c.end_with-in-Err.ensures.status ∙ e)) done))
+    (c.in-Err.ensures.made name window capacity
+    (read_all _ c.read_words.result c.in-Ok.command (λ command. c.in-Ok.command ≡ command) c.in-Ok.is
+    c.read_words.ensures.only refl (Init name window capacity) of_words) told)
+
+pub returns-clause-applied : goal.returns-clause-applied
+returns-clause-applied g c = λ of_words told.
+    applies-weaker _ _ _ _ _ _ _ (λ e. let same : c.in-Err.fault ≡ Disk = cc in
+    c.end_with-in-Err.ensures.status ∙ ap (λ fault. code_of (fault_answer fault).status) same)
+    (c.in-Err.ensures.applied
+    (read_all _ c.read_words.result c.in-Ok.command (λ command. c.in-Ok.command ≡ command) c.in-Ok.is
+    c.read_words.ensures.only refl (Apply None) of_words) told)
+
+pub returns-clause-opens : goal.returns-clause-opens
+returns-clause-opens g c = λ of_words disk clock source answered.
+    c.in-Err.ensures.opens
+    (read_all _ c.read_words.result c.in-Ok.command (λ command. c.in-Ok.command ≡ command) c.in-Ok.is
+    c.read_words.ensures.only refl (Apply None) of_words)
+    disk clock source (answered-refusal c.in-Err.fault (rw c.end_with-in-Err.ensures.status at answered))

@@ -2,9 +2,12 @@ use Rattle.std.proofs.Common.{
   ◌≡◌,
   ℕ,
   ◌+◌,
+  ◌++◌,
+  List,
   ◌∷◌,
   [],
   length,
+  Some,
   Ok,
   Err,
   refl,
@@ -22,8 +25,10 @@ use Rattle.std.proofs.lemmas.Bool.{false≢true}
 use Rattle.std.proofs.lemmas.Result.{err_from_is_err_and}
 use Rattle.feed_tool.specs.declared.fault.Fault.{Fault}
 use Rattle.feed_tool.specs.declared.fault.Fault.TheVariants.{Input}
+use Rattle.member_rules.specs.declared.operation.Op.{Op}
 use Rattle.member_rules.specs.Table.{IsTableOf}
-use Rattle.feed_tool.specs.Apply.{applied, lines_fault}
+use Rattle.feed_tool.specs.Applied.{Applied, applied}
+use Rattle.feed_tool.specs.Apply.{history_step, lines_fault}
 use Rattle.feed_tool.proofs.FaultLemmas.{refusal-of_lines, input-of_lines}
 use Rattle.feed_tool.proofs.HistoryLemmas.{IsTableOf-with_room, lawful-none}
 use Rattle.feed_tool.proofs.ProgressLemmas.{
@@ -33,8 +38,8 @@ use Rattle.feed_tool.proofs.ProgressLemmas.{
   Progress-refused,
   Progress-long,
   Progress-amid,
-  line_operation-is,
 }
+use Rattle.feed_tool.proofs.StepLemmas.{history_step-is, history_step-prefix}
 use Rattle.feed_tool.proofs.commands.apply.history_of.Goals as goal
 
 pub returns-in_err-next-clause-refused : goal.returns-in_err-next-clause-refused
@@ -43,10 +48,13 @@ returns-in_err-next-clause-refused g c =
     let moments = g.C.Clock.coming c.args.clock.now in
     let start = g.I.Source.state c.args.input.now in
     rw (p.1, p.2) (λ refusal source clock.
-    refusal-of_lines (λ (fault : Fault). applied c.args.head.now moments start.left ≡ Err fault) c.in_err-next.field-0.0
-    (λ e. Progress-long c.args.head.now moments start.left c.loop-history.lines
-    (g.I.Source.state c.loop-history.input) c.loop-history.history.items
-    (c.loop-history.invariant.progress source clock) (c.in_err-next.ensures.too_long (ap Err e) source))
+    refusal-of_lines
+    (λ (fault : Fault). (applied (history_step c.args.head.now moments) [] start.left).fault ≡ Some fault)
+    c.in_err-next.field-0.0
+    (λ e. ap (λ (a : Applied (List Op)). a.fault)
+    (Progress-long (history_step c.args.head.now moments) [] start.left c.loop-history.lines
+    (g.I.Source.state c.loop-history.input) (length c.loop-history.history.items) c.loop-history.history.items
+    (c.loop-history.invariant.progress source clock) (c.in_err-next.ensures.too_long (ap Err e) source)))
     refusal)
 
 pub returns-in_err-next-clause-unrefused : goal.returns-in_err-next-clause-unrefused
@@ -54,9 +62,9 @@ returns-in_err-next-clause-unrefused g c =
     let p = err_from_is_err_and c.from_residual-in_err-next.result c.from_residual-in_err-next.ensures.1 in
     rw (p.1, p.2) (λ e source clock.
     let same : lines_fault c.in_err-next.field-0.0 ≡ Input = cc in
-    Progress-amid c.args.head.now (g.C.Clock.coming c.args.clock.now)
+    Progress-amid (history_step c.args.head.now (g.C.Clock.coming c.args.clock.now)) []
     (g.I.Source.state c.args.input.now) c.loop-history.lines (g.I.Source.state c.loop-history.input)
-    (g.I.Source.state c.next.new.input) c.loop-history.history.items
+    (g.I.Source.state c.next.new.input) (length c.loop-history.history.items) c.loop-history.history.items
     (c.loop-history.invariant.progress source clock)
     (c.in_err-next.ensures.amid (ap Err (input-of_lines c.in_err-next.field-0.0 same)) source))
 
@@ -68,14 +76,17 @@ returns-in_err-operation-clause-refused g c =
     let held = c.loop-history.invariant in
     let len : vec_len c.loop-history.history ≡ length history = search rules in
     rw (p.1, p.2) (λ refusal source clock.
-    Progress-refused c.args.head.now moments (g.I.Source.state c.args.input.now).left c.loop-history.lines
+    ap (λ (a : Applied (List Op)). a.fault)
+    (Progress-refused (history_step c.args.head.now moments) (history_step-prefix c.args.head.now moments) []
+    (g.I.Source.state c.args.input.now).left c.loop-history.lines
     (g.I.Source.state c.loop-history.input) c.next.new.self
-    (g.I.Source.state c.next.new.input) history c.in_err-operation.field-0.0 (held.progress source clock)
+    (g.I.Source.state c.next.new.input) (length history) history c.in_err-operation.field-0.0
+    (held.progress source clock)
     (c.in_ok-next.ensures.found (ap Ok c.if-branch.true) source)
-    (line_operation-is c.args.head.now moments history c.next.new.self.line _ _ _
+    (history_step-is c.args.head.now moments history (length history) c.next.new.self.line _ _ _
     (Err c.in_err-operation.field-0.0) c.line.ensures (ap (λ (n : ℕ). n + 1) (c.len.ensures ∙ len))
     (held.moments clock 0 ∙ ap moments (zero-add (length history)))
-    (c.in_err-operation.ensures.refused refusal clock history held.table)))
+    (c.in_err-operation.ensures.refused refusal clock history held.table))))
 
 pub commit-requires-clause-follows : goal.commit-requires-clause-follows
 commit-requires-clause-follows g c =
@@ -98,8 +109,8 @@ loop-history-init g c =
     let table : IsTableOf c.new-members.result head.created [] = rw (← c.head.view_is) c.new-members.ensures.table in
     record {
       progress = λ source clock. rw c.new-history.ensures.items
-          (Progress-start head moments start.left c.in_ok-lines.lines start c.in_ok-lines.ensures.0
-          c.in_ok-lines.ensures.1 refl);
+          (Progress-start (history_step head moments) [] start.left c.in_ok-lines.lines start
+          c.in_ok-lines.ensures.0 c.in_ok-lines.ensures.1 refl);
       moments = λ clock k. rw c.new-history.ensures.items (ap moments (sym (add-zero k)));
       knows = λ source ended. absurd (false≢true (rw c.in_ok-lines.ensures.2 at ended));
       table = rw c.new-history.ensures.items table;
@@ -126,12 +137,13 @@ loop-history-preserved g c =
     let pushed = c.in_ok-push.ensures.items in
     let len : vec_len c.loop-history.history ≡ length history = search rules in
     record {
-      progress = λ source clock. rw pushed
-          (Progress-step head moments whole c.loop-history.lines input c.next.new.self rest history operation
+      progress = λ source clock. rw (pushed, length-append history (operation ∷ []))
+          (Progress-step (history_step head moments) (history_step-prefix head moments) [] whole
+          c.loop-history.lines input c.next.new.self rest (length history) history (history ++ operation ∷ [])
           (held.progress source clock)
           (c.in_ok-next.ensures.found (ap Ok c.if-branch.true) source)
-          (line_operation-is head moments history c.next.new.self.line _ _ _ (Ok operation) c.line.ensures
-          (ap (λ (n : ℕ). n + 1) (c.len.ensures ∙ len))
+          (history_step-is head moments history (length history) c.next.new.self.line _ _ _ (Ok operation)
+          c.line.ensures (ap (λ (n : ℕ). n + 1) (c.len.ensures ∙ len))
           (held.moments clock 0 ∙ ap moments (zero-add (length history)))
           (c.in_ok-operation.ensures.operation clock history held.table)));
       moments = λ clock k.
@@ -155,7 +167,7 @@ loop-history-preserved g c =
 
 pub returns-clause-history : goal.returns-clause-history
 returns-clause-history g c = λ source clock.
-    Progress-end c.args.head.now (g.C.Clock.coming c.args.clock.now)
+    Progress-end (history_step c.args.head.now (g.C.Clock.coming c.args.clock.now)) []
     (g.I.Source.state c.args.input.now).left c.loop-history.lines
-    (g.I.Source.state c.loop-history.input) c.loop-history.history.items
+    (g.I.Source.state c.loop-history.input) (length c.loop-history.history.items) c.loop-history.history.items
     (c.loop-history.invariant.progress source clock) (c.in_ok-next.ensures.none (ap Ok c.if-branch.false) source)

@@ -1,6 +1,7 @@
-use Rattle.std.proofs.Common.{◌≡◌, ℕ, ◌+◌, ◌≤◌, length}
+use Rattle.std.proofs.Common.{◌≡◌, ℕ, ◌+◌, ◌≤◌, [], length}
 use Rattle.member_rules.specs.History.{IsLawful}
 use Rattle.member_rules.specs.Table.{IsTableOf}
+use Rattle.feed_tool.specs.Apply.{history_step}
 use Rattle.feed_tool.specs.Lines.{KnowsEnd, allowance, input_limit}
 use Rattle.feed_tool.proofs.ProgressLemmas.{Progress}
 use Rattle.feed_tool.proofs.commands.apply.history_of.Given as goal
@@ -11,7 +12,8 @@ invariant-loop-history g l =
     let input = g.I.Source.state l.input in
     record {
       progress : g.I.Source.told → g.C.Clock.told →
-          Progress l.head (g.C.Clock.coming l.fn.clock) before.left l.lines input l.history.items;
+          Progress (history_step l.head (g.C.Clock.coming l.fn.clock)) [] before.left l.lines input
+          (length l.history.items) l.history.items;
       moments : g.C.Clock.told → (k : ℕ) →
           g.C.Clock.coming l.clock k ≡ g.C.Clock.coming l.fn.clock (k + length l.history.items);
       knows : g.I.Source.told → KnowsEnd l.lines input;
