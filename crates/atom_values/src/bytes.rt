@@ -29,6 +29,13 @@ impl Bytes {
         })
     }
 
+    /// The bytes of a vector, without a copy.
+    pub fn from_vec(bytes: Vec<u8>) -> Bytes
+        ensures { result ≡ bytes.items }
+    {
+        Bytes { bytes }
+    }
+
     /// The bytes.
     pub fn slice(&self) -> &[u8]
         ensures { result.now ≡ self.now }

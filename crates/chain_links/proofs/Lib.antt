@@ -16,3 +16,5 @@ pub mod PathLemmas
 pub mod ReadingLemmas
 -- Base::text: labels and segments are read in one way
 pub mod SplitLemmas
+-- Base::read_target: a target names one address
+pub mod TargetLemmas

@@ -2,7 +2,7 @@ ghost use Rattle.std.specs.Prelude.{◌≡◌, ◌↔◌, ◌≤◌, ◌+◌, �
 ghost use Rattle.chain_links.specs.Base.{BaseParts, IsBase, Spells, default_port, host_text, path_text};
 ghost use Rattle.chain_links.specs.PartOffsets.{HasParts};
 ghost use Rattle.chain_links.specs.Checked.{IsUrlText};
-ghost use Rattle.chain_links.specs.Address.{IsAddress, printed, printed_limit};
+ghost use Rattle.chain_links.specs.Address.{IsAddress, IsTarget, printed, printed_limit};
 ghost use Rattle.chain_links.specs.declared.address.Address.{Address};
 
 use crate::address::{Address, append, append_suffix, read_suffix, suffix_len};
@@ -142,7 +142,8 @@ impl Base {
 
     /// The path (RFC 3986 section 3.3), which begins with the `/` after the host and the port.
     pub fn path(&self) -> &[u8]
-        ensures { (parts : BaseParts) → Spells parts self.now → result.now ≡ path_text parts.segments }
+        ensures path { (parts : BaseParts) → Spells parts self.now → result.now ≡ path_text parts.segments }
+        ensures base { IsBase self.now }
     {
         &self.text[self.parts.path_start..]
     }
@@ -174,6 +175,19 @@ impl Base {
             → printed self.now one ≡ printed self.now other → one ≡ other }
     {
         read_suffix(after(text, &self.text)?)
+    }
+
+    /// Parses the target of a request: the address of a document, whole or from the path on. `None` if the target is
+    /// neither (RFC 9112 section 3.2). Takes no memory.
+    pub fn read_target(&self, target: &[u8]) -> Option<Address>
+        ensures found { IfSome result (λ address. IsAddress address × IsTarget self.now address target.now) }
+        ensures only { (address : Address) → IsAddress address → IsTarget self.now address target.now
+            → result ≡ Some address }
+    {
+        match self.read(target) {
+            Some(address) => Some(address),
+            None => read_suffix(after(target, self.path())?),
+        }
     }
 
     /// The address of a document below this base. `NoMemory` if there is no memory for it.

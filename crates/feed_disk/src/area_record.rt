@@ -127,7 +127,7 @@ impl AreaRecord {
     {
         let changes = &self.changes[..count_until(&self.changes, call)];
         let (bytes, used) = image_by(alloc, self.first.slice(), changes, choice, given)?;
-        Ok((Bytes::of(alloc, &bytes)?, used))
+        Ok((Bytes::from_vec(bytes), used))
     }
 
     /// Records a sync.

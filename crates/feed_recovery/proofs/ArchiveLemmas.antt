@@ -2,6 +2,7 @@
 use Rattle.std.proofs.Common.{◌≡◌, ⊎_elim, ℕ, ◌-◌, ◌≤◌, List, Some, length, sym, ◌∙◌, arith}
 use Rattle.std.specs.Prelude.{slice_get}
 use Rattle.feed_journal.specs.Records.{records}
+use Rattle.feed_recovery.proofs.FaultLemmas.{some_same}
 use Rattle.feed_recovery.specs.Documents.{sealed_count}
 use Rattle.feed_recovery.specs.Opening.{Opens, seal_of}
 use Rattle.feed_recovery.specs.Store.{KeepsStore, StoreValue, seal_count}
@@ -12,9 +13,6 @@ pub sealed-within : (store : StoreValue) → KeepsStore store → (number : ℕ)
     → number ≤ seal_count store
 sealed-within store keeps number within = ⊎_elim (λ sealed. omega (arith, sealed, within))
     (λ full. omega (arith, full, within, (windows-sealed store.head store.history keeps.head).full)) keeps.seals
-
-some_same : {T : Type 0} (x y : T) → Some x ≡ Some y → x ≡ y
-some_same x y same = cc
 
 pub seal-read : (store : StoreValue) → KeepsStore store → (journal sealed : List ℕ) (number : ℕ) (written : List ℕ)
     → Opens journal sealed store.head store.history (seal_count store) → 1 ≤ number → number ≤ sealed_count store

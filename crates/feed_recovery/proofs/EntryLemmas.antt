@@ -7,6 +7,7 @@ use Rattle.atom_values.specs.Entry.{EntryValue, IsEntry}
 use Rattle.atom_writer.specs.Pieced.{text_of}
 use Rattle.atom_writer.proofs.PiecedLemmas.{one_reading}
 use Rattle.atom_writer.specs.Members.{member_text}
+use Rattle.feed_recovery.proofs.FaultLemmas.{some_same}
 use Rattle.feed_recovery.specs.Documents.{IsDocumentOf, IsLiveDocument, Sets}
 use Rattle.feed_recovery.specs.Store.{StoreValue}
 use Rattle.feed_recovery.specs.declared.fault.MemberFault.{MemberFault}
@@ -60,9 +61,6 @@ sets_one payload entry other is_entry is_other (inr a) (inr b) =
     let same : Change entry ≡ Change other =
     one_reading operations operations_compared (Change entry) (Change other) is_entry is_other (sym a ∙ b) in
     cc
-
-some_same : {T : Type 0} (x y : T) → Some x ≡ Some y → x ≡ y
-some_same x y same = cc
 
 -- the journal's payload of an operation's index is its bytes
 payload_of : (payloads : List (List ℕ)) (head : HeadValue) (history : List Op) (version : ℕ) (operation : Op)

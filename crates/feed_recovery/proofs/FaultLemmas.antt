@@ -24,7 +24,7 @@ use Rattle.member_rules.proofs.ServedLemmas.{prefix-lawful}
 first_same : {T : Type 0} (x y : T) (xs ys : List T) → x ∷ xs ≡ y ∷ ys → (x ≡ y) × (xs ≡ ys)
 first_same x y xs ys same = (cc, cc)
 
-some_same : {T : Type 0} (x y : T) → Some x ≡ Some y → x ≡ y
+pub some_same : {T : Type 0} (x y : T) → Some x ≡ Some y → x ≡ y
 some_same x y same = cc
 
 texts_one : (history left : List Op) → All IsOperation history → All IsOperation left

@@ -169,6 +169,34 @@ fn reads_and_prints_addresses(rt: HostRuntime) {
     }
 }
 
+/// Targets of requests, and the addresses that they name below `http://feed.example:8080/a/`.
+static TARGETS: [(&[u8], Option<Address>); 13] = [
+    (b"http://feed.example:8080/a/feed", Some(Address::Feed)),
+    (b"/a/feed", Some(Address::Feed)),
+    (b"/a/archive/7", Some(Address::Archive(7))),
+    (
+        b"/a/member/4294967295",
+        Some(Address::Member(4_294_967_295)),
+    ),
+    (b"/feed", None),
+    (b"a/feed", None),
+    (b"/a/", None),
+    (b"/a/archive/07", None),
+    (b"/a/feed?x", None),
+    (b"//feed.example:8080/a/feed", None),
+    (b"http://feed.example/a/feed", None),
+    (b"*", None),
+    (b"", None),
+];
+
+#[test]
+fn reads_the_targets_of_requests(rt: HostRuntime) {
+    let base = Base::parse(rt.alloc(), b"http://feed.example:8080/a/").expect(&rt, "a base");
+    for (target, address) in TARGETS {
+        assert!(rt; base.read_target(target) == address, "{target:?}");
+    }
+}
+
 /// Texts, and the whole numbers that they are.
 static NUMBERS: [(&[u8], Option<u32>); 9] = [
     (b"1", Some(1)),

@@ -60,4 +60,6 @@ fn bounds_the_categories_of_an_entry(rt: HostRuntime) {
 fn keeps_bytes(rt: HostRuntime) {
     let bytes = Bytes::of(rt.alloc(), b"a\x00\xff").expect(&rt, "bytes");
     assert!(rt; bytes.slice() == b"a\x00\xff".as_slice());
+    let copy = Vec::from_slice(rt.alloc(), bytes.slice()).expect(&rt, "memory");
+    assert!(rt; Bytes::from_vec(copy) == bytes);
 }
