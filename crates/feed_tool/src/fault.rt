@@ -45,7 +45,7 @@ pub enum BadStore {
     AlreadyInit,
     /// The payload of this index, counted from 0, is bad at offset `at`.
     BadRecord { area: Area, index: u32, at: u64 },
-    /// After so many operations there can't be so many seals.
+    /// This number of operations can't have this number of seals.
     SealCount { records: u32, seals: u32 },
     /// The seal of this index, counted from 1, isn't the text of its archive.
     BadSeal { index: u32 },

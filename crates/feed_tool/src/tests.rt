@@ -4,6 +4,7 @@ mod apply;
 mod faults;
 mod outside;
 mod show;
+mod store;
 mod words;
 
 use crate::outside::memory::{ListSink, ListSource, SetClock};

@@ -13,8 +13,8 @@ static NEEDED: [(&str, &str); 4] = [
     ("author", "Editor"),
 ];
 
-/// Words, separated by single spaces, and what they are read as. A `*` stands for the options that `init` needs, and
-/// `*title` and the like for one of them. A `_` stands for a space in a word.
+/// Each row has words, separated by single spaces, and what they are read as. `*` means all options that `init` needs,
+/// `*title` only the title, and so on. `_` means a space within a word.
 static ROWS: [(&str, &str); 66] = [
     ("apply", "apply"),
     ("apply 1", "apply 1"),
@@ -111,7 +111,7 @@ static ROWS: [(&str, &str); 66] = [
     ),
 ];
 
-/// The words that a row stands for.
+/// Returns the words of a row.
 fn spelled(alloc: Global, row: &str) -> Result<Vec<String>, Fail> {
     let mut words = Vec::new(alloc);
     for word in row.split(' ') {
@@ -134,8 +134,8 @@ fn push_needed(alloc: Global, words: &mut Vec<String>, wanted: &str) -> Result<(
     Ok(())
 }
 
-/// What the words are read as. A feed is shown by what its base address has behind `http://feed.example`, by its title
-/// and by its author.
+/// Returns what the words are read as. Of a feed's name it shows the base address without `http://feed.example`, the
+/// title and the author.
 fn reading(rt: &impl Abort, alloc: Global, words: &[String]) -> Result<String, Fail> {
     let command = match read_words(alloc, words) {
         Ok(command) => command,
