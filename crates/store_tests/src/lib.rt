@@ -1,4 +1,4 @@
-//! Tests of the public calls of `feed_disk` and `feed_journal`.
+//! Tests of the public calls of `feed_disk`, `feed_journal` and `feed_recovery`.
 //!
 //! They are in a crate of their own, so that those crates are proved once, without their tests.
 #![tactic(auto)]
@@ -13,3 +13,5 @@ mod files;
 mod images;
 #[cfg(test)]
 mod logs;
+#[cfg(test)]
+mod stores;
