@@ -1,0 +1,16 @@
+-- `read_request`: `heard` and `refused`, for the fields of a head
+pub mod FieldLemmas
+-- `read_request`: `most`
+pub mod ReadLemmas
+-- `read_request`: `heard` and `refused`, for which bytes begin with a head
+pub mod HeadLemmas
+-- `write_reply`: `whole` and `cut`
+pub mod PutLemmas
+-- `write_reply`: `status`, for the number of the status
+pub mod PhraseLemmas
+-- `read_request`: `heard` and `refused`, for the body behind a head
+pub mod BodyLemmas
+-- `read_request`: `heard` and `refused`, from a head and a body to the bytes of the connection
+pub mod RequestLemmas
+-- `requests_have_one_reading`, and `read_request`: `only`
+pub mod ReadingLemmas

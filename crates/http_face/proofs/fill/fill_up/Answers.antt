@@ -1,0 +1,17 @@
+use Rattle.std.proofs.Common.{◌∙◌, arith}
+use Rattle.http_face.proofs.ReadLemmas.{takes_more, takes_both}
+use Rattle.http_face.proofs.fill.fill_up.Goals as goal
+
+pub loop-full-preserved : goal.loop-full-preserved
+loop-full-preserved g c = record {
+  within = omega (arith, c.in_ok-count.ensures.within, c.read_behind.auto.buffer);
+  more = omega (arith, c.loop-full.invariant.more);
+  bytes = λ told. c.loop-full.invariant.bytes told ∙ c.in_ok-count.ensures.bytes told;
+  most = λ told. takes_more _ _ _ _ (omega (arith, c.loop-full.invariant.more))
+      (takes_both _ _ _ _ _ (c.loop-full.invariant.most told) (c.in_ok-count.ensures.most told));
+  reads = record {
+    sent = c.in_ok-count.ensures.reads.sent ∙ c.loop-full.invariant.reads.sent;
+    begun = c.in_ok-count.ensures.reads.begun ∙ c.loop-full.invariant.reads.begun;
+  };
+  faults = c.in_ok-count.ensures.counts.worked ∙ c.loop-full.invariant.faults;
+}

@@ -1,0 +1,34 @@
+use Rattle.std.proofs.Common.{◌≤◌, length, take, arith, length-take}
+use Rattle.http_face.specs.Heard.{head_limit}
+use Rattle.http_face.proofs.ReadLemmas.{takes_more, takes_both}
+use Rattle.http_face.proofs.RequestLemmas.{result_heard, result_refused}
+use Rattle.http_face.proofs.request.read_within.Goals as goal
+
+pub returns-clause-heard : goal.returns-clause-heard
+returns-clause-heard g c =
+    let head = c.in_ok-head.head in
+    let buffer = c.read_head.new.buffer in
+    let short : length (take head.filled buffer) ≤ head_limit =
+    omega (arith, length-take head.filled buffer, c.read_head.auto.buffer, c.requires.room) in
+    let complete = c.in_ok-head.ensures.complete in
+    result_heard (g.C.Conn.state c.args.conn.now).left (take head.filled buffer)
+    (g.C.Conn.state c.read_head.new.conn).left c.read_head.new.headers head.spans complete.0 g.C.Conn.told
+    c.request_of.result c.in_ok-head.ensures.bytes short c.in_ok-head.ensures.within complete.1 c.in_ok-head.ensures.few
+    c.request_of.ensures.verb c.request_of.ensures.target c.request_of.ensures.media c.request_of.ensures.body
+
+pub returns-clause-refused : goal.returns-clause-refused
+returns-clause-refused g c =
+    let head = c.in_ok-head.head in
+    let buffer = c.read_head.new.buffer in
+    let short : length (take head.filled buffer) ≤ head_limit =
+    omega (arith, length-take head.filled buffer, c.read_head.auto.buffer, c.requires.room) in
+    let complete = c.in_ok-head.ensures.complete in
+    result_refused (g.C.Conn.state c.args.conn.now).left (take head.filled buffer)
+    (g.C.Conn.state c.read_head.new.conn).left c.read_head.new.headers head.spans complete.0 g.C.Conn.told
+    c.request_of.result c.in_ok-head.ensures.bytes short c.in_ok-head.ensures.within complete.1 c.in_ok-head.ensures.few
+    c.request_of.ensures.refused
+
+pub returns-clause-most : goal.returns-clause-most
+returns-clause-most g c = λ told.
+    takes_more _ _ _ _ (omega arith)
+    (takes_both _ _ _ _ _ (c.in_ok-head.ensures.most told) (c.request_of.ensures.most told))

@@ -1,0 +1,5 @@
+pub mod Conn
+pub mod Request
+pub mod Heard
+pub mod Put
+pub mod Reply

@@ -1,0 +1,48 @@
+ghost use Rattle.std.specs.Prelude.{◌≡◌, ◌≤◌, ◌<◌, ◌++◌, None, Some, [], length, take, IfOk, OnErr, IsSome};
+ghost use Rattle.atom_values.specs.Counts.{HasCause};
+ghost use Rattle.http_face.specs.Conn.{ConnState, Reads, Writes};
+
+use atom_values::Failed;
+use feed_disk::Disk;
+
+/// A connection with a client. A request is read from it and then a reply is written to it.
+///
+/// A failed call is counted as a fault, and takes no byte.
+pub trait Conn {
+    /// Whether contracts can see the bytes that are left and those that were sent.
+    ghost told: { Type 0 };
+
+    /// The bytes, the count of faults, and whether the reply was begun.
+    ghost state: { Self → ConnState };
+
+    /// Reads bytes into the start of `into` and returns how many. If `into` isn't empty, it returns 0 only at the end
+    /// of the bytes. `Failed` if the call failed.
+    fn read(&mut self, into: &mut [u8]) -> Result<usize, Failed>
+        ensures within { IfOk result (λ count. count ≤ length into.old) }
+        ensures bytes { IfOk result (λ count. told
+            → (state self.old).left ≡ take count into.new ++ (state self.new).left) }
+        ensures end { IfOk result (λ count. told → count ≡ 0 → 0 < length into.old
+            → (state self.old).left ≡ []) }
+        ensures err { OnErr result (told → (state self.new).left ≡ (state self.old).left) }
+        ensures reads { Reads (state self.old) (state self.new) }
+        ensures counts { HasCause (state self.old).faults (state self.new).faults result };
+
+    /// Marks the beginning of the reply: the connection keeps how many device calls the disk has made. So a contract
+    /// can say what was on the disk when a reply began. It takes no memory, doesn't fail, and isn't numbered among the
+    /// calls of a connection in memory.
+    fn begin<D: Disk>(&mut self, disk: &D)
+        requires { (state self.old).begun ≡ None }
+        ensures { state self.new ≡ record (state self.old) { begun = Some (D.state disk.now).clock } };
+
+    /// Sends bytes from the start of `from` and returns how many, at least one unless `from` is empty. `Failed` if the
+    /// call failed. The reply has to be begun.
+    fn write(&mut self, from: &[u8]) -> Result<usize, Failed>
+        requires { IsSome (state self.old).begun }
+        ensures within { IfOk result (λ count. count ≤ length from.now) }
+        ensures some { IfOk result (λ count. 0 < length from.now → 0 < count) }
+        ensures bytes { IfOk result (λ count. told
+            → (state self.new).sent ≡ (state self.old).sent ++ take count from.now) }
+        ensures err { OnErr result (told → (state self.new).sent ≡ (state self.old).sent) }
+        ensures writes { Writes (state self.old) (state self.new) }
+        ensures counts { HasCause (state self.old).faults (state self.new).faults result };
+}

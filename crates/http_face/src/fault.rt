@@ -1,0 +1,90 @@
+use atom_values::{Failed, NoMemory};
+use std::alloc::AllocError;
+use std::error::Error;
+use std::fmt;
+
+/// Why [`crate::read_request`] returned no request.
+#[derive(Clone, Copy, Debug, PartialEq, Eq)]
+pub enum RequestFault {
+    /// A call on the connection failed.
+    ConnFault,
+    /// No request begins with the bytes, or the `Content-Length` of a POST or PUT isn't 1 to 30 digits.
+    BadHead,
+    /// The head has more than 16,384 bytes or more than 64 fields.
+    HeadTooLarge,
+    /// The connection ended within the request, after `read` bytes.
+    EndedEarly { read: u64 },
+    /// A POST or PUT has no `Content-Length`, or it has a `Transfer-Encoding` (RFC 9112 section 6).
+    NoLength,
+    /// A POST or PUT has two or more `Content-Length` fields.
+    TwoLengths,
+    /// The `Content-Length` of a POST or PUT is `length`, which is over 65,536.
+    BodyTooLarge { length: u128 },
+    /// Memory ran out.
+    NoMemory,
+}
+
+impl fmt::Display for RequestFault {
+    fn fmt<W: fmt::Write>(&self, f: &mut fmt::Formatter<W>) -> fmt::Result {
+        match self {
+            RequestFault::ConnFault => write!(f, "connection fault"),
+            RequestFault::BadHead => write!(f, "bad head"),
+            RequestFault::HeadTooLarge => write!(f, "head too large"),
+            RequestFault::EndedEarly { read } => write!(f, "ended early after {read} bytes"),
+            RequestFault::NoLength => write!(f, "no length"),
+            RequestFault::TwoLengths => write!(f, "two lengths"),
+            RequestFault::BodyTooLarge { length } => write!(f, "body too large: {length} bytes"),
+            RequestFault::NoMemory => write!(f, "no memory"),
+        }
+    }
+}
+
+impl Error for RequestFault {}
+
+impl From<Failed> for RequestFault {
+    ghost use Rattle.std.specs.Prelude.{◌≡◌};
+    ghost use Rattle.http_face.specs.declared.fault.RequestFault.TheVariants.{ConnFault};
+
+    ghost from_gives = { λ _ e. e ≡ ConnFault };
+
+    fn from(_error: Failed) -> RequestFault {
+        RequestFault::ConnFault
+    }
+}
+
+impl From<NoMemory> for RequestFault {
+    ghost use Rattle.std.specs.Prelude.{◌≡◌};
+    ghost use Rattle.http_face.specs.declared.fault.RequestFault.TheVariants.{NoMemory};
+
+    ghost from_gives = { λ _ e. e ≡ NoMemory };
+
+    fn from(_error: NoMemory) -> RequestFault {
+        RequestFault::NoMemory
+    }
+}
+
+impl From<AllocError> for RequestFault {
+    ghost use Rattle.std.specs.Prelude.{◌≡◌};
+    ghost use Rattle.http_face.specs.declared.fault.RequestFault.TheVariants.{NoMemory};
+
+    ghost from_gives = { λ _ e. e ≡ NoMemory };
+
+    fn from(_error: AllocError) -> RequestFault {
+        RequestFault::NoMemory
+    }
+}
+
+/// A call on the connection failed. Before that, the connection took the first `sent` bytes of the reply. The count
+/// stays at the greatest `u64`.
+#[derive(Clone, Copy, Debug, PartialEq, Eq)]
+pub struct CutOff {
+    pub sent: u64,
+}
+
+impl fmt::Display for CutOff {
+    fn fmt<W: fmt::Write>(&self, f: &mut fmt::Formatter<W>) -> fmt::Result {
+        write!(f, "cut off after {} bytes", self.sent)
+    }
+}
+
+impl Error for CutOff {}

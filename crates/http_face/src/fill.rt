@@ -1,0 +1,54 @@
+//! Reads into a buffer behind the bytes that it has.
+
+ghost use Rattle.std.specs.Prelude.{◌≡◌, ◌+◌, ◌-◌, ◌≤◌, ◌<◌, ◌++◌, [], length, take, IfOk, OnErr};
+ghost use Rattle.atom_values.specs.Counts.{HasCause};
+ghost use Rattle.http_face.specs.Conn.{Reads, TakesAtMost};
+
+use crate::conn::Conn;
+use atom_values::Failed;
+
+/// Reads once behind the first `filled` bytes of the buffer, and returns how many bytes were read.
+pub(crate) fn read_behind<C: Conn>(
+    conn: &mut C,
+    buffer: &mut [u8],
+    filled: usize,
+) -> Result<usize, Failed>
+    requires { filled < length buffer.old }
+    ensures within { IfOk result (λ count. filled + count ≤ length buffer.old) }
+    ensures bytes { IfOk result (λ count. C.told → take filled buffer.old ++ (C.state conn.old).left
+        ≡ take (filled + count) buffer.new ++ (C.state conn.new).left) }
+    ensures end { IfOk result (λ count. C.told → count ≡ 0 → (C.state conn.old).left ≡ []) }
+    ensures most { IfOk result (λ count. C.told → TakesAtMost count (C.state conn.old) (C.state conn.new)) }
+    ensures err { OnErr result (C.told → (C.state conn.new).left ≡ (C.state conn.old).left) }
+    ensures reads { Reads (C.state conn.old) (C.state conn.new) }
+    ensures counts { HasCause (C.state conn.old).faults (C.state conn.new).faults result }
+{
+    conn.read(&mut buffer[filled..])
+}
+
+/// Reads behind the first `filled` bytes until the buffer is full or the connection ends, and returns how many bytes
+/// the buffer has then.
+pub(crate) fn fill_up<C: Conn>(
+    conn: &mut C,
+    buffer: &mut [u8],
+    filled: usize,
+) -> Result<usize, Failed>
+    requires { filled ≤ length buffer.old }
+    ensures within { IfOk result (λ full. full ≤ length buffer.old) }
+    ensures bytes { IfOk result (λ full. C.told → take filled buffer.old ++ (C.state conn.old).left
+        ≡ take full buffer.new ++ (C.state conn.new).left) }
+    ensures end { IfOk result (λ full. C.told → full < length buffer.old → (C.state conn.new).left ≡ []) }
+    ensures most { C.told → TakesAtMost (length buffer.old - filled) (C.state conn.old) (C.state conn.new) }
+    ensures reads { Reads (C.state conn.old) (C.state conn.new) }
+    ensures counts { HasCause (C.state conn.old).faults (C.state conn.new).faults result }
+{
+    let mut full = filled;
+    while full < buffer.len() {
+        let count = read_behind(conn, buffer, full)?;
+        if count == 0 {
+            return Ok(full);
+        }
+        full += count;
+    }
+    Ok(full)
+}

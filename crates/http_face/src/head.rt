@@ -1,0 +1,94 @@
+//! The head of a request.
+
+ghost use Rattle.std.specs.Prelude.{◌≡◌, ◌≢◌, ◌≤◌, ◌++◌, ℕ, List, length, take, Err, IfOk, IfErr, IfSome, IsNone};
+ghost use Rattle.atom_values.specs.Counts.{Rose};
+ghost use Rattle.httparse.specs.Spans.{IsRequestWithin, IsRequestOf};
+ghost use Rattle.http_face.specs.Conn.{Reads, TakesAtMost};
+ghost use Rattle.http_face.specs.Heard.{head_limit, field_limit, HasNoHead, IsHeadFault};
+
+use crate::conn::Conn;
+use crate::fault::RequestFault;
+use crate::fill::read_behind;
+use httparse::spans::{HeaderSpan, RequestSpans, parse_request};
+use httparse::{Error, Status};
+
+/// The most bytes of a head.
+pub(crate) const MAX_HEAD: usize = 16_384;
+
+/// The most fields of a head.
+const MAX_FIELDS: usize = 64;
+
+/// A head in a buffer.
+#[derive(Clone, Copy, Debug)]
+pub(crate) struct ReadHead {
+    pub(crate) spans: RequestSpans,
+    /// How many bytes were read: those of the head, and some behind it.
+    pub(crate) filled: usize,
+}
+
+/// Reads the head of a request into the buffer.
+pub(crate) fn read_head<C: Conn>(
+    conn: &mut C,
+    buffer: &mut [u8],
+    headers: &mut [HeaderSpan],
+) -> Result<ReadHead, RequestFault>
+    requires room { length buffer.old ≡ head_limit }
+    requires fields { field_limit ≤ length headers.old }
+    ensures filled { IfOk result (λ head. head.filled ≤ length buffer.new) }
+    ensures within { IfOk result (λ head.
+        IsRequestWithin (take head.filled buffer.new) headers.new head.spans) }
+    ensures complete { IfOk result (λ head.
+        IsRequestOf (take head.filled buffer.new) headers.new head.spans) }
+    ensures few { IfOk result (λ head. head.spans.headers ≤ field_limit) }
+    ensures bytes { IfOk result (λ head. C.told → (C.state conn.old).left
+        ≡ take head.filled buffer.new ++ (C.state conn.new).left) }
+    ensures refused { IfErr result (λ fault. fault ≢ RequestFault.ConnFault → C.told
+        → HasNoHead (C.state conn.old).left × IsHeadFault (C.state conn.old).left fault) }
+    ensures most { C.told → TakesAtMost head_limit (C.state conn.old) (C.state conn.new) }
+    ensures reads { Reads (C.state conn.old) (C.state conn.new) }
+    ensures failed { result ≡ Err RequestFault.ConnFault → Rose (C.state conn.old).faults (C.state conn.new).faults }
+    ensures unfailed { result ≢ Err RequestFault.ConnFault
+        → (C.state conn.new).faults ≡ (C.state conn.old).faults }
+{
+    let mut filled = 0;
+    while filled < buffer.len() {
+        let count = read_behind(conn, buffer, filled)?;
+        if count == 0 {
+            return Err(RequestFault::EndedEarly {
+                read: filled as u64,
+            });
+        }
+        filled += count;
+        if let Some(spans) = parse(&buffer[..filled], headers)? {
+            return Ok(ReadHead { spans, filled });
+        }
+    }
+    Err(RequestFault::HeadTooLarge)
+}
+
+/// Parses the head that the bytes begin with. `None`: it isn't there yet.
+fn parse(bytes: &[u8], headers: &mut [HeaderSpan]) -> Result<Option<RequestSpans>, RequestFault>
+    requires short { length bytes.now ≤ head_limit }
+    requires fields { field_limit ≤ length headers.old }
+    ensures within { IfOk result (λ found. IfSome found (IsRequestWithin bytes.now headers.new)) }
+    ensures complete { IfOk result (λ found. IfSome found (IsRequestOf bytes.now headers.new)) }
+    ensures few { IfOk result (λ found. IfSome found (λ spans. spans.headers ≤ field_limit)) }
+    ensures unfinished { IfOk result (λ found. IsNone found → HasNoHead bytes.now) }
+    ensures refused { IfErr result (λ fault. (more : List ℕ)
+        → HasNoHead (bytes.now ++ more) × IsHeadFault (bytes.now ++ more) fault) }
+{
+    match parse_request(bytes, headers) {
+        Ok(Status::Complete(spans)) => {
+            if spans.headers > MAX_FIELDS {
+                Err(RequestFault::HeadTooLarge)
+            } else {
+                Ok(Some(spans))
+            }
+        }
+        Ok(Status::Partial) => Ok(None),
+        Err(error) => match error {
+            Error::TooManyHeaders => Ok(None),
+            _ => Err(RequestFault::BadHead),
+        },
+    }
+}

@@ -1,0 +1,149 @@
+//! A connection in memory, for tests. Contracts can see its content, and listed calls of it fail.
+
+ghost use Rattle.std.specs.Prelude.{◌≡◌, ◌↔◌, ◌≤◌, ◌<◌, ◌++◌, [], None, Some, length, take, drop, IfOk, OnOk, OnErr, IsErr, IsTrue, IsSome};
+ghost use Rattle.atom_values.specs.Counts.{HasCause};
+ghost use Rattle.atom_values.specs.ListedCalls.{after_call, next_call_fails};
+ghost use Rattle.http_face.specs.Conn.{ConnState, Reads, Writes};
+
+use crate::conn::Conn;
+use atom_values::{Bytes, Failed, ListedCalls, Many};
+use feed_disk::Disk;
+use std::alloc::Global;
+
+/// A connection in memory. Its client sends given bytes, it keeps the bytes that are sent to the client, and listed
+/// calls of it fail. A write that finds no memory fails too.
+#[derive(Debug, Drop)]
+pub struct ScriptConn {
+    bytes: Bytes,
+    at: usize,
+    sent: Vec<u8>,
+    calls: ListedCalls,
+    begun: Option<u64>,
+    ghost in_range: { at ≤ length bytes },
+}
+
+impl ScriptConn {
+    /// The connection before its first call, whose client sends `bytes`. Reads and writes are numbered together from 1,
+    /// and those in `failing` fail.
+    pub fn new(alloc: Global, bytes: Bytes, failing: Many<u64, 64>) -> ScriptConn
+        ensures { ⟦<ScriptConn as Conn>⟧.state result
+            ≡ record { left = bytes; sent = []; faults = 0; begun = None } }
+    {
+        ScriptConn {
+            bytes,
+            at: 0,
+            sent: Vec::new(alloc),
+            calls: ListedCalls::new(failing),
+            begun: None,
+        }
+    }
+
+    /// The bytes that were sent to the client.
+    pub fn sent(&self) -> &[u8]
+        ensures { result.now ≡ (⟦<ScriptConn as Conn>⟧.state self.now).sent }
+    {
+        self.sent.as_slice()
+    }
+
+    /// How many device calls the disk had made when the reply was begun. `None` if it wasn't begun.
+    pub fn begun(&self) -> Option<u64>
+        ensures { result ≡ (⟦<ScriptConn as Conn>⟧.state self.now).begun }
+    {
+        self.begun
+    }
+}
+
+impl Conn for ScriptConn {
+    ghost told = { Unit {0} };
+
+    ghost state = { λ s. record {
+      left = drop s.at s.bytes;
+      sent = s.sent.items;
+      faults = s.calls.faults;
+      begun = s.begun;
+    } };
+
+    fn read(&mut self, into: &mut [u8]) -> Result<usize, Failed>
+        // It fails exactly the listed calls.
+        ensures listed { IsErr result ↔ IsTrue (next_call_fails self.old.calls) }
+        ensures calls { self.new.calls ≡ after_call self.old.calls }
+
+        // The clauses of the trait.
+        ensures within { IfOk result (λ count. count ≤ length into.old) }
+        ensures bytes { IfOk result (λ count. Unit {0}
+            → drop self.old.at self.old.bytes ≡ take count into.new ++ drop self.new.at self.new.bytes) }
+        ensures end { IfOk result (λ count. Unit {0}
+            → count ≡ 0 → 0 < length into.old → drop self.old.at self.old.bytes ≡ []) }
+        ensures err { OnErr result (Unit {0}
+            → drop self.new.at self.new.bytes ≡ drop self.old.at self.old.bytes) }
+        ensures reads { Reads
+            (record {
+              left = drop self.old.at self.old.bytes;
+              sent = self.old.sent.items;
+              faults = self.old.calls.faults;
+              begun = self.old.begun;
+            })
+            (record {
+              left = drop self.new.at self.new.bytes;
+              sent = self.new.sent.items;
+              faults = self.new.calls.faults;
+              begun = self.new.begun;
+            }) }
+        ensures counts { HasCause self.old.calls.faults self.new.calls.faults result }
+    {
+        if self.calls.next_fails() {
+            return Err(Failed);
+        }
+        let (_, left) = self.bytes.slice().split_at(self.at);
+        let count = left.len().min(into.len());
+        let (given, _) = left.split_at(count);
+        into[..count].copy_from_slice(given);
+        self.at += count;
+        Ok(count)
+    }
+
+    fn begin<D: Disk>(&mut self, disk: &D) {
+        self.begun = Some(disk.calls());
+    }
+
+    // Out of memory is counted as a failed call, since the trait has no answer for it.
+    fn write(&mut self, from: &[u8]) -> Result<usize, Failed>
+        requires { IsSome self.old.begun }
+
+        // It fails the listed calls, and others only if memory ran out.
+        ensures listed { IsTrue (next_call_fails self.old.calls) → IsErr result }
+        ensures calls { OnOk result (self.new.calls ≡ after_call self.old.calls) }
+
+        // The clauses of the trait.
+        ensures within { IfOk result (λ count. count ≤ length from.now) }
+        ensures some { IfOk result (λ count. 0 < length from.now → 0 < count) }
+        ensures bytes { IfOk result (λ count. Unit {0}
+            → self.new.sent.items ≡ self.old.sent.items ++ take count from.now) }
+        ensures err { OnErr result (Unit {0} → self.new.sent.items ≡ self.old.sent.items) }
+        ensures writes { Writes
+            (record {
+              left = drop self.old.at self.old.bytes;
+              sent = self.old.sent.items;
+              faults = self.old.calls.faults;
+              begun = self.old.begun;
+            })
+            (record {
+              left = drop self.new.at self.new.bytes;
+              sent = self.new.sent.items;
+              faults = self.new.calls.faults;
+              begun = self.new.begun;
+            }) }
+        ensures counts { HasCause self.old.calls.faults self.new.calls.faults result }
+    {
+        if self.calls.next_fails() {
+            return Err(Failed);
+        }
+        match self.sent.extend_from_slice(from) {
+            Ok(()) => Ok(from.len()),
+            Err(_) => {
+                self.calls.count_failure();
+                Err(Failed)
+            }
+        }
+    }
+}

@@ -1,0 +1,161 @@
+//! The bytes of replies.
+
+ghost use Rattle.std.specs.Prelude.{IfOk, IsSome};
+ghost use Rattle.http_face.specs.Reply.{HasPhrase};
+
+use crate::conns::{conn_of, disk_of};
+use atom_values::{Bytes, Copies};
+use http_face::{Allow, Body, Conn, CutOff, Line7, Media, Reply, ScriptConn, write_reply};
+use std::alloc::Global;
+use std::test::Fail;
+
+/// A reply with a fixed line.
+#[derive(Clone, Copy)]
+struct Told {
+    media: Media,
+    location: Option<&'static [u8]>,
+    allow: Option<Allow>,
+    line: Line7,
+}
+
+/// Replies and their bytes.
+static WRITTEN: [(Told, &[u8]); 6] = [
+    (
+        Told {
+            media: Media::Plain,
+            location: None,
+            allow: None,
+            line: Line7::NotFound,
+        },
+        b"HTTP/1.1 404 Not Found\r\nContent-Type: text/plain;charset=utf-8\r\nContent-Length: 10\r\nConnection: close\r\n\r\nnot found\n",
+    ),
+    (
+        Told {
+            media: Media::Entry,
+            location: Some(b"http://a/member/1"),
+            allow: None,
+            line: Line7::Draft,
+        },
+        b"HTTP/1.1 201 Created\r\nContent-Type: application/atom+xml;type=entry\r\nContent-Length: 6\r\nLocation: http://a/member/1\r\nConnection: close\r\n\r\ndraft\n",
+    ),
+    (
+        Told {
+            media: Media::Plain,
+            location: None,
+            allow: Some(Allow::OfFeed),
+            line: Line7::NotAllowed,
+        },
+        b"HTTP/1.1 405 Method Not Allowed\r\nContent-Type: text/plain;charset=utf-8\r\nContent-Length: 12\r\nAllow: GET, POST\r\nConnection: close\r\n\r\nnot allowed\n",
+    ),
+    (
+        Told {
+            media: Media::Plain,
+            location: None,
+            allow: Some(Allow::OfArchive),
+            line: Line7::NotAllowed,
+        },
+        b"HTTP/1.1 405 Method Not Allowed\r\nContent-Type: text/plain;charset=utf-8\r\nContent-Length: 12\r\nAllow: GET\r\nConnection: close\r\n\r\nnot allowed\n",
+    ),
+    (
+        Told {
+            media: Media::Plain,
+            location: None,
+            allow: Some(Allow::OfMember),
+            line: Line7::NotAllowed,
+        },
+        b"HTTP/1.1 405 Method Not Allowed\r\nContent-Type: text/plain;charset=utf-8\r\nContent-Length: 12\r\nAllow: GET, PUT, DELETE\r\nConnection: close\r\n\r\nnot allowed\n",
+    ),
+    (
+        Told {
+            media: Media::Plain,
+            location: None,
+            allow: None,
+            line: Line7::NoMemory,
+        },
+        b"HTTP/1.1 503 Service Unavailable\r\nContent-Type: text/plain;charset=utf-8\r\nContent-Length: 10\r\nConnection: close\r\n\r\nno memory\n",
+    ),
+];
+
+/// Returns the status that the reply has from the server.
+fn status_of(told: &Told) -> u16
+    ensures { HasPhrase result }
+{
+    if told.location.is_some() {
+        return 201;
+    }
+    match told.line {
+        Line7::NotFound => 404,
+        Line7::NotAllowed => 405,
+        Line7::NoMemory => 503,
+        _ => 500,
+    }
+}
+
+fn reply_of(alloc: Global, told: &Told) -> Result<Reply, Fail>
+    ensures { IfOk result (λ reply. HasPhrase reply.status) }
+{
+    let location = match told.location {
+        Some(address) => Some(Bytes::of(alloc, address)?),
+        None => None,
+    };
+    Ok(Reply {
+        status: status_of(told),
+        media: told.media,
+        location,
+        allow: told.allow,
+        body: Body::Fixed(told.line),
+    })
+}
+
+/// Returns a connection whose reply was begun, of which this call fails.
+fn begun(alloc: Global, failing: u64) -> Result<ScriptConn, Fail>
+    ensures { IfOk result (λ conn. IsSome (⟦<ScriptConn as Conn>⟧.state conn).begun) }
+{
+    let mut conn = conn_of(alloc, b"", failing)?;
+    let disk = disk_of(alloc)?;
+    conn.begin(&disk);
+    Ok(conn)
+}
+
+#[test]
+fn writes_a_short_reply_in_one_call(rt: HostRuntime) -> Result<(), Fail> {
+    let alloc = rt.alloc();
+    for (told, bytes) in WRITTEN {
+        let mut conn = begun(alloc, 2)?;
+        let reply = reply_of(alloc, &told)?.copy(alloc)?;
+        let end = write_reply(&mut conn, &reply);
+        assert!(rt; (end, conn.sent(), conn.begun()) == (Ok(()), bytes, Some(0)));
+    }
+    Ok(())
+}
+
+/// The head of a reply with a body of 5,000 bytes.
+const HEAD: &[u8] =
+    b"HTTP/1.1 200 OK\r\nContent-Type: application/atom+xml;type=feed\r\nContent-Length: 5000\r\nConnection: close\r\n\r\n";
+
+/// Calls that fail, the end of that reply, and how many of its bytes are sent. Call 1 writes the head, call 2 the body.
+static CUTS: [(u64, Result<(), CutOff>, usize); 3] = [
+    (1, Err(CutOff { sent: 0 }), 0),
+    (2, Err(CutOff { sent: 106 }), 106),
+    (3, Ok(()), 5_106),
+];
+
+#[test]
+fn counts_the_bytes_of_a_reply_that_is_cut_off(rt: HostRuntime) -> Result<(), Fail> {
+    let alloc = rt.alloc();
+    let mut bytes = Vec::from_slice(alloc, HEAD)?;
+    bytes.resize(5_106, b'a')?;
+    for (failing, end, sent) in CUTS {
+        let mut conn = begun(alloc, failing)?;
+        let reply = Reply {
+            status: 200,
+            media: Media::Feed,
+            location: None,
+            allow: None,
+            body: Body::Made(Bytes::of(alloc, &bytes[106..])?),
+        };
+        assert!(rt; write_reply(&mut conn, &reply) == end);
+        assert!(rt; conn.sent() == &bytes[..sent]);
+    }
+    Ok(())
+}
