@@ -1,0 +1,20 @@
+use Rattle.std.proofs.Common.{◌≡◌, ◌≤◌, [], List}
+use Rattle.entry_reader.specs.Tree.{Content, Event}
+use Rattle.entry_reader.specs.Progress.{Point, IsAt, IsLed, IsReading, depth_of, left_of, pending}
+use Rattle.entry_reader.specs.Parts.{has_draft}
+use Rattle.entry_reader.proofs.ContentLemmas.{ArePart}
+use Rattle.entry_reader.proofs.entry.is_draft.Given as goal
+
+abbrev pub invariant-loop-child : goal.invariant-loop-child
+invariant-loop-child l = record {
+  reading : IsReading l.elements;
+  deep : depth_of l.elements ≡ depth_of l.initial.elements;
+  left : left_of l.elements ≤ left_of l.initial.elements;
+  on : (from : Point) → IsAt l.initial.elements from →
+      (told : List Event) × (b : Content)
+      × IsLed l.initial.elements.length (pending l.initial.elements) from told l.elements
+      × ArePart b [] told × (l.is_draft ≡ has_draft b);
+}
+
+abbrev pub decreases-loop-child : goal.decreases-loop-child
+decreases-loop-child l = left_of l.elements

@@ -1,0 +1,102 @@
+-- Names, white space, line ends and references of XML 1.0, over the bytes of a text. A text is XML text, so each byte
+-- from 128 on is part of a character from U+80 on.
+use Rattle.std.specs.Prelude.{◌≡◌, ◌≢◌, ◌⊎◌, ℕ, List, [], ◌∷◌, ◌++◌, length, Bool, true, false, ◌&&◌, ◌||◌, ◌==◌, not}
+use Rattle.std.specs.Prelude.{IsTrue, codes, chars}
+use Rattle.std.specs.Prelude.{if◌then◌else◌, nat_lt, nat_eq}
+use Rattle.std.specs.List.{list_all, starts_with}
+use Rattle.std.specs.Char.{is_ascii_digit, is_ascii_alphabetic}
+use Rattle.std.specs.Str.Parse.{IsNumeral, digits_value}
+use Rattle.atom_values.specs.Ascii.{tab, lf, cr, space, quote, ampersand, minus, point, colon, less_than, greater_than}
+use Rattle.atom_values.specs.Ascii.{underscore}
+use Rattle.atom_values.specs.XmlText.{IsXmlText, is_xml_char}
+
+-- '
+abbrev pub apostrophe : ℕ
+apostrophe = 39
+
+-- the text begins with these bytes
+abbrev pub begins : List ℕ → List ℕ → Bool
+begins front text = starts_with nat_eq text front
+
+-- the bytes stand nowhere in the text
+abbrev pub lacks : List ℕ → List ℕ → Bool
+lacks bytes [] = true
+lacks bytes (b ∷ bs) = not (begins bytes (b ∷ bs)) && lacks bytes bs
+
+-- white space (XML 1.0, production 3)
+abbrev pub is_space : ℕ → Bool
+is_space b = (b == tab) || (b == lf) || (b == cr) || (b == space)
+
+abbrev pub AreSpaces : List ℕ → Type 0
+AreSpaces text = IsTrue (list_all is_space text)
+
+-- white space of at least one character
+abbrev pub IsGap : List ℕ → Type 0
+IsGap text = AreSpaces text × (text ≢ [])
+
+-- the first byte of a name: a letter, `_`, or part of a character from U+80 on
+abbrev pub begins_name : ℕ → Bool
+begins_name b = is_ascii_alphabetic b || (b == underscore) || not (nat_lt b 128)
+
+-- a later byte of a name
+abbrev pub continues_name : ℕ → Bool
+continues_name b = begins_name b || is_ascii_digit b || (b == minus) || (b == point)
+
+-- a name without a colon (Namespaces in XML, production 4)
+abbrev pub is_name : List ℕ → Bool
+is_name [] = false
+is_name (b ∷ bs) = begins_name b && list_all continues_name bs
+
+abbrev pub IsName : List ℕ → Type 0
+IsName text = IsTrue (is_name text)
+
+-- a qualified name (Namespaces in XML, production 7); the prefix may be empty
+pub record QName : Type 0 where
+  pub prefix : List ℕ
+  pub local : List ℕ
+
+abbrev pub IsQName : QName → Type 0
+IsQName name = ((name.prefix ≡ []) ⊎ IsName name.prefix) × IsName name.local
+
+-- a qualified name as it is written
+abbrev pub written_name : List ℕ → List ℕ → List ℕ
+written_name [] local = local
+written_name (b ∷ bs) local = (b ∷ bs) ++ colon ∷ local
+
+abbrev pub name_text : QName → List ℕ
+name_text name = written_name name.prefix name.local
+
+-- one XML character in UTF-8
+abbrev pub IsCharacter : List ℕ → Type 0
+IsCharacter text = IsXmlText text × (length (chars text) ≡ 1)
+
+-- a text as it is read, where `after` says that CR is before it
+abbrev pub lines_after : Bool → List ℕ → List ℕ
+lines_after after [] = []
+lines_after after (b ∷ bs) =
+    if b == cr then lf ∷ lines_after true bs
+    else (if after && (b == lf) then lines_after false bs else b ∷ lines_after false bs)
+
+-- a text as it is read: each CR LF, and each other CR, as LF (XML 1.0 section 2.11)
+abbrev pub lines : List ℕ → List ℕ
+lines text = lines_after false text
+
+-- a reference by name (XML 1.0 section 4.6)
+abbrev pub IsNamed : ℕ → List ℕ → Type 0
+IsNamed c text =
+    ((c ≡ ampersand) × (text ≡ codes "&amp;")) ⊎ ((c ≡ less_than) × (text ≡ codes "&lt;"))
+    ⊎ ((c ≡ greater_than) × (text ≡ codes "&gt;")) ⊎ ((c ≡ quote) × (text ≡ codes "&quot;"))
+    ⊎ ((c ≡ apostrophe) × (text ≡ codes "&apos;"))
+
+-- a reference by number, between `start` and a semicolon (XML 1.0, production 66); leading zeros may stand
+pub record IsNumbered (base : ℕ) (start : List ℕ) (c : ℕ) (text : List ℕ) : Type 0 where
+  pub digits : List ℕ
+  pub numeral : IsNumeral base digits
+  pub value : c ≡ digits_value base digits
+  pub spelled : text ≡ start ++ digits ++ codes ";"
+
+-- the text is a reference to the character c (XML 1.0, productions 66 and 68)
+abbrev pub IsReference : ℕ → List ℕ → Type 0
+IsReference c text =
+    IsTrue (is_xml_char c)
+    × (IsNamed c text ⊎ IsNumbered 10 (codes "&#") c text ⊎ IsNumbered 16 (codes "&#x") c text)

@@ -1,0 +1,536 @@
+ghost use Rattle.std.specs.Prelude.{◌≡◌, ◌≢◌, ◌⊎◌, ℕ, ◌+◌, ◌<◌, ◌≤◌, List, [], ◌∷◌, ◌++◌, length, reverse, take, drop, false, Ok, Some, None};
+ghost use Rattle.std.specs.Prelude.{IfOk, OnOk, IsSome, IsTrue, option_map};
+ghost use Rattle.atom_values.specs.XmlText.{IsXmlText};
+ghost use Rattle.entry_reader.specs.Characters.{IsName};
+ghost use Rattle.entry_reader.specs.Entry.{app, atom, same_name, trimmed, without_leading};
+ghost use Rattle.entry_reader.specs.Tree.{Element as TreeElement, mark_of};
+ghost use Rattle.entry_reader.specs.Spells.{depth_limit};
+ghost use Rattle.entry_reader.specs.Reading.{IsTagOnly, IsTagTo, IsTokenRead};
+ghost use Rattle.entry_reader.specs.declared.token.Place.{Place as Spot};
+ghost use Rattle.entry_reader.specs.Progress.{Point, IsAt, IsAtText, IsBehindXml, IsReading, IsNext, IsOver, IsUnfinished};
+ghost use Rattle.entry_reader.specs.Progress.{IsBegun, IsEventOf, IsPlaceOf, IsClosed, IsDepthAfter, depth_of, left_of, first_point};
+ghost use Rattle.entry_reader.specs.Progress.{IsAttributeFound, IsElementOf, IsDrained, IsContentRead, IsSkipped, admission, fault_of};
+ghost use Rattle.entry_reader.specs.Progress.{added_inner, added_text, emptiness, inner_depth, later_stage, said_text};
+ghost use Rattle.entry_reader.specs.declared.fault.EntryFault.{EntryFault};
+ghost use Rattle.entry_reader.specs.declared.fault.Why.{Why};
+ghost use Rattle.entry_reader.specs.declared.elements.Event.{Event};
+
+use crate::cursor::{Cursor, Lapse, is_space};
+use crate::declaration::Encoding;
+use crate::fault::{EntryFault, Why};
+use crate::scopes::{Namespace, Scopes, split_name};
+use crate::tag::{Attribute, Tag, TagEnd};
+use crate::token::{Place, Token};
+use crate::value::{push_character, push_lines, value};
+use atom_values::NoMemory;
+use std::alloc::Global;
+
+/// The byte order mark that may stand before the text (Unicode section 23.8).
+const MARK: &[u8] = b"\xEF\xBB\xBF";
+
+/// An element, as its tag states it.
+#[derive(Debug, Drop)]
+pub(crate) struct Element<'a> {
+    /// The offset of the tag's `<` in the input.
+    pub(crate) at: usize,
+    pub(crate) namespace: Namespace,
+    /// The name without its prefix.
+    pub(crate) local: &'a [u8],
+    attributes: Vec<Attribute<'a>>,
+}
+
+impl Element<'_> {
+    /// Whether this is Atom's element of this name.
+    pub(crate) fn is_atom(&self, local: &[u8]) -> bool
+        ensures { (element : TreeElement) → IsElementOf element self.now
+            → result ≡ same_name element.name (atom local.now) }
+    {
+        match self.namespace {
+            Namespace::Atom => self.local == local,
+            Namespace::App | Namespace::Other => false,
+        }
+    }
+
+    /// Whether this is the element of this name of the Atom Publishing Protocol.
+    pub(crate) fn is_app(&self, local: &[u8]) -> bool
+        ensures { (element : TreeElement) → IsElementOf element self.now
+            → result ≡ same_name element.name (app local.now) }
+    {
+        match self.namespace {
+            Namespace::App => self.local == local,
+            Namespace::Atom | Namespace::Other => false,
+        }
+    }
+
+    /// The value of the attribute with this name and no prefix. `None` if the element doesn't have it.
+    pub(crate) fn attribute(&self, alloc: Global, name: &[u8]) -> Result<Option<Vec<u8>>, NoMemory>
+        requires { IsName name.now }
+        ensures { IfOk result
+            (λ found. IsAttributeFound name.now self.now (option_map (λ v. v.items) found)) }
+    {
+        for attribute in &self.attributes {
+            if attribute.name == name {
+                return Ok(Some(value(alloc, attribute.written)?));
+            }
+        }
+        Ok(None)
+    }
+}
+
+/// Characters of an element's content.
+#[derive(Clone, Copy, Debug)]
+pub(crate) enum Said<'a> {
+    /// As they are written, without a reference.
+    Written(&'a [u8]),
+    /// The character of a reference.
+    Reference(char),
+}
+
+/// A part of a document's tree, in document order.
+#[derive(Debug, Drop)]
+pub(crate) enum Event<'a> {
+    Begin(Element<'a>),
+    End,
+    Said(Said<'a>),
+}
+
+/// The text of an element, and the first element in it.
+#[derive(Debug, Drop)]
+pub(crate) struct Content {
+    /// The element's own characters.
+    pub(crate) text: Vec<u8>,
+    /// The offset of the first element in it.
+    pub(crate) inner: Option<usize>,
+}
+
+impl Content {
+    /// The text without the white space at both ends.
+    pub(crate) fn trimmed(&self) -> &[u8]
+        ensures { result.now ≡ trimmed self.now.text.items }
+    {
+        without_trailing(without_leading(self.text.as_slice()))
+    }
+
+    /// Adds an event inside the element. `depth` is the number of the elements that are open in it.
+    fn add(&mut self, event: Event<'_>, depth: usize) -> Result<(), NoMemory>
+        ensures text { OnOk result (self.new.text.items ≡ added_text depth event.entry self.old.text.items) }
+        ensures inner { OnOk result (self.new.inner ≡ added_inner event.entry self.old.inner) }
+    {
+        match event {
+            Event::Begin(element) => {
+                self.inner = self.inner.or(Some(element.at));
+                Ok(())
+            }
+            Event::Said(said) if depth == 0 => push_said(&mut self.text, said),
+            Event::Said(_) | Event::End => Ok(()),
+        }
+    }
+}
+
+/// The text without white space at its beginning.
+fn without_leading(text: &[u8]) -> &[u8]
+    ensures { result.now ≡ without_leading text.now }
+{
+    let mut rest = text;
+    while let Some((byte, tail)) = rest.split_first() {
+        if !is_space(*byte) {
+            return rest;
+        }
+        rest = tail;
+    }
+    rest
+}
+
+/// The text without white space at its end.
+fn without_trailing(text: &[u8]) -> &[u8]
+    ensures { result.now ≡ reverse (without_leading (reverse text.now)) }
+{
+    let mut rest = text;
+    while let Some((byte, front)) = rest.split_last() {
+        if !is_space(*byte) {
+            return rest;
+        }
+        rest = front;
+    }
+    rest
+}
+
+/// The text without the byte order mark.
+fn without_mark(text: &[u8]) -> &[u8]
+    ensures { result.now ≡ drop (length (mark_of text.now)) text.now }
+{
+    match text.strip_prefix(MARK) {
+        Some(rest) => rest,
+        None => text,
+    }
+}
+
+/// The number of elements that are open in an element after an event in it, if `depth` were open before. `None` if
+/// the event ends the element.
+fn depth_after(event: &Event<'_>, depth: usize) -> Option<usize>
+    requires { depth ≤ depth_limit }
+    ensures { result ≡ inner_depth event.now depth }
+{
+    match event {
+        Event::Begin(_) => Some(depth + 1),
+        Event::End => depth.checked_sub(1),
+        Event::Said(_) => Some(depth),
+    }
+}
+
+/// How far a document is read.
+#[derive(Clone, Copy, Debug, PartialEq, Eq)]
+enum Stage {
+    /// Nothing is read.
+    Start,
+    /// The root isn't read.
+    Prolog,
+    /// The root is read or open.
+    Root,
+}
+
+/// Reads the elements of a document, in document order.
+#[derive(Drop)]
+pub(crate) struct Elements<'a> {
+    alloc: Global,
+    /// The greatest depth of an element. The root has depth 1.
+    most: usize,
+    cursor: Cursor<'a>,
+    /// The offset of the text's end in the input. The text ends before the first character that isn't an XML
+    /// character.
+    end: usize,
+    /// The length of the input.
+    length: usize,
+    stage: Stage,
+    /// The names of the open elements as they are written, the innermost last.
+    open: Vec<&'a [u8]>,
+    scopes: Scopes<'a>,
+    /// The last tag was that of an empty element, which is still open.
+    empty: bool,
+}
+
+impl<'a> Elements<'a> {
+    /// A reader of the document `input`, whose elements are at most `most` deep. `xml_length` is the length of the
+    /// input's longest prefix of XML characters.
+    pub(crate) fn new(
+        alloc: Global,
+        most: usize,
+        input: &'a [u8],
+        xml_length: usize,
+    ) -> Elements<'a>
+        requires within { xml_length ≤ length input.now }
+        requires text { IsXmlText (take xml_length input.now) }
+        requires behind { IsBehindXml (drop xml_length input.now) }
+        requires most { most ≡ depth_limit }
+        ensures at { IsAt result (first_point input.now) }
+        ensures told { result.empty ≡ false }
+        ensures total { result.length ≡ length input.now }
+        ensures depth { depth_of result ≡ 0 }
+    {
+        let text = &input[..xml_length];
+        Elements {
+            alloc,
+            most,
+            cursor: Cursor {
+                rest: without_mark(text),
+            },
+            end: xml_length,
+            length: input.len(),
+            stage: Stage::Start,
+            open: Vec::new(alloc),
+            scopes: Scopes::new(alloc),
+            empty: false,
+        }
+    }
+
+    /// The next part of the tree. `None` at the end of a whole document.
+    pub(crate) fn next(&mut self) -> Result<Option<Event<'a>>, EntryFault>
+        requires { IsReading self.old }
+        ensures read { IsNext self.old result self.new }
+        ensures depth { IfOk result (λ event. IsSome event
+            → IsDepthAfter event (depth_of self.old) (depth_of self.new)) }
+        ensures ended { result ≡ Ok None → IsOver self.new × (depth_of self.old ≡ 0) }
+        ensures shorter { IfOk result (λ event. IsSome event → left_of self.new < left_of self.old) }
+    {
+        if self.empty {
+            self.empty = false;
+            return Ok(Some(self.close()));
+        }
+        while !self.is_over() {
+            match self.step()? {
+                Some(event) => return Ok(Some(event)),
+                None => {}
+            }
+        }
+        Ok(None)
+    }
+
+    /// Reads the rest of the document.
+    pub(crate) fn drain(&mut self) -> Result<(), EntryFault>
+        requires { IsReading self.old }
+        ensures read { IsDrained self.old result self.new }
+        ensures over { OnOk result (IsOver self.new) }
+    {
+        while let Some(_event) = self.next()? {}
+        Ok(())
+    }
+
+    /// Reads the rest of the innermost open element, and returns its own text and the first element in it.
+    pub(crate) fn content(&mut self) -> Result<Content, EntryFault>
+        requires reading { IsReading self.old }
+        requires inside { 1 ≤ depth_of self.old }
+        ensures read { IsContentRead self.old result self.new }
+        ensures depth { OnOk result (depth_of self.new + 1 ≡ depth_of self.old) }
+        ensures shorter { OnOk result (left_of self.new < left_of self.old) }
+    {
+        let mut content = Content {
+            text: Vec::new(self.alloc),
+            inner: None,
+        };
+        let mut depth: usize = 0;
+        while let Some(event) = self.next()? {
+            let after = match depth_after(&event, depth) {
+                Some(after) => after,
+                None => return Ok(content),
+            };
+            content.add(event, depth)?;
+            depth = after;
+        }
+        Ok(content)
+    }
+
+    /// Reads over the rest of the innermost open element.
+    pub(crate) fn skip(&mut self) -> Result<(), EntryFault>
+        requires reading { IsReading self.old }
+        requires inside { 1 ≤ depth_of self.old }
+        ensures read { IsSkipped self.old result self.new }
+        ensures depth { OnOk result (depth_of self.new + 1 ≡ depth_of self.old) }
+        ensures shorter { OnOk result (left_of self.new < left_of self.old) }
+    {
+        let mut depth: usize = 0;
+        while let Some(event) = self.next()? {
+            match depth_after(&event, depth) {
+                Some(after) => depth = after,
+                None => return Ok(()),
+            }
+        }
+        Ok(())
+    }
+
+    /// Whether the document is whole and read to its end.
+    fn is_over(&self) -> bool
+        requires { self.now.empty ≡ false }
+        ensures over { IsTrue result → IsOver self.now }
+        ensures inside { IsTrue result → depth_of self.now ≡ 0 }
+        ensures more { result ≡ false → IsUnfinished self.now }
+    {
+        self.stage == Stage::Root
+            && self.open.is_empty()
+            && self.cursor.rest.is_empty()
+            && self.end == self.length
+    }
+
+    /// The place of the next token.
+    fn place(&self) -> Place<'a>
+        requires { self.now.empty ≡ false }
+        ensures { (from : Point) → IsAt self.now from → IsPlaceOf result from.stage }
+    {
+        match self.open.last() {
+            Some(name) => Place::Inside(name),
+            None if self.stage == Stage::Start => Place::Start,
+            None => Place::Outside,
+        }
+    }
+
+    /// Reads a token, and returns its part of the tree if it has one.
+    fn step(&mut self) -> Result<Option<Event<'a>>, EntryFault>
+        requires reading { IsReading self.old }
+        requires told { self.old.empty ≡ false }
+        requires more { IsUnfinished self.old }
+        ensures read { (from : Point) → IsAt self.old from
+            → IsEventOf self.old.length [] from result self.new }
+        ensures total { OnOk result (self.new.length ≡ self.old.length) }
+        ensures depth { IfOk result (λ event. IsDepthAfter event (depth_of self.old) (depth_of self.new)) }
+        ensures shorter { OnOk result (length self.new.cursor.rest.now < length self.old.cursor.rest.now) }
+        ensures silent { result ≡ Ok None → self.new.empty ≡ false }
+    {
+        let start = self.cursor;
+        let at = self.end - start.rest.len();
+        if start.rest.is_empty() {
+            return Err(self.fault(at, start, Lapse::Cut));
+        }
+        let place = self.place();
+        match self.cursor.token(self.alloc, place) {
+            Ok(token) => self.event(at, token),
+            Err(lapse) => Err(self.fault(at, start, lapse)),
+        }
+    }
+
+    /// The fault of a token that begins at offset `at` and can't be read.
+    fn fault(&self, at: usize, start: Cursor<'_>, lapse: Lapse) -> EntryFault
+        ensures { result ≡ fault_of self.now.end self.now.length at start.entry.rest.now lapse }
+    {
+        match lapse {
+            Lapse::NoMemory => EntryFault::NoMemory,
+            Lapse::Cut if self.end == self.length => broken(self.length),
+            _ if start.at(b"<!DOCTYPE") => EntryFault::NotRead {
+                at,
+                why: Why::Doctype,
+            },
+            _ => broken(at),
+        }
+    }
+
+    /// Adds a token at offset `at`, and returns its part of the tree if it has one.
+    fn event(&mut self, at: usize, token: Token<'a>) -> Result<Option<Event<'a>>, EntryFault>
+        requires { self.old.empty ≡ false }
+        ensures read { (place : Spot) (before : List ℕ) (from : Point) → IsAtText self.old before from
+            → IsPlaceOf place from.stage → IsTokenRead place before token.entry self.old.cursor.rest.now
+            → IsXmlText self.old.cursor.rest.now → at ≡ from.at → before ≢ []
+            → IsEventOf self.old.length [] from result self.new }
+        ensures depth { (place : Spot) (before : List ℕ) (from : Point) → IsAtText self.old before from
+            → IsPlaceOf place from.stage → IsTokenRead place before token.entry self.old.cursor.rest.now
+            → IsXmlText self.old.cursor.rest.now
+            → IfOk result (λ event. IsDepthAfter event (depth_of self.old) (depth_of self.new)) }
+        ensures shorter { (place : Spot) (before : List ℕ)
+            → IsTokenRead place before token.entry self.old.cursor.rest.now
+            → OnOk result (length self.old.cursor.rest.now < length before) }
+        ensures total { OnOk result (self.new.length ≡ self.old.length) }
+        ensures cursor { OnOk result (self.new.cursor.rest.now ≡ self.old.cursor.rest.now) }
+        ensures silent { result ≡ Ok None → self.new.empty ≡ false }
+    {
+        match token {
+            Token::Declaration(Encoding::Foreign) => Err(EntryFault::NotRead {
+                at,
+                why: Why::NotUtf8,
+            }),
+            Token::Declaration(Encoding::Utf8) => Ok(self.silent()),
+            Token::Silent => Ok(self.silent()),
+            Token::Characters(run) => Ok(Some(Event::Said(Said::Written(run)))),
+            Token::Section(run) => Ok(Some(Event::Said(Said::Written(run)))),
+            Token::Reference(character) => Ok(Some(Event::Said(Said::Reference(character)))),
+            Token::Tag(tag) => Ok(Some(self.begin(at, tag)?)),
+            Token::EndTag => Ok(Some(self.close())),
+        }
+    }
+
+    /// Notes a token that adds nothing to the tree.
+    fn silent(&mut self) -> Option<Event<'a>>
+        ensures none { result ≡ None }
+        ensures stage { self.new ≡ record self.old { stage = later_stage self.old.stage } }
+    {
+        match self.stage {
+            Stage::Start => self.stage = Stage::Prolog,
+            Stage::Prolog | Stage::Root => {}
+        }
+        None
+    }
+
+    /// Refuses a tag at offset `at` that can't stand there whatever its prefix is. Also refuses a tag that the
+    /// input cuts, unless only `>` is missing.
+    fn admit(&self, at: usize, tag: &Tag<'_>) -> Result<(), EntryFault>
+        ensures { result ≡ admission self.now at tag.now.end }
+    {
+        let is_cut = matches!(tag.end, TagEnd::Cut | TagEnd::CutAtSlash);
+        let is_past_root = self.stage == Stage::Root && self.open.is_empty();
+        if is_past_root || (is_cut && self.end < self.length) {
+            return Err(broken(at));
+        }
+        if self.open.len() >= self.most {
+            return Err(EntryFault::NotRead {
+                at,
+                why: Why::TooDeep,
+            });
+        }
+        if tag.end == TagEnd::Cut {
+            return Err(broken(self.length));
+        }
+        Ok(())
+    }
+
+    /// Opens the element of a tag at offset `at`.
+    fn begin(&mut self, at: usize, tag: Tag<'a>) -> Result<Event<'a>, EntryFault>
+        requires { self.old.empty ≡ false }
+        ensures read { (place : Spot) (before : List ℕ) (from : Point) → IsAtText self.old before from
+            → IsPlaceOf place from.stage → IsTagOnly before
+            → IsTagTo tag.entry.end place before tag.entry self.old.cursor.rest.now
+            → IsXmlText self.old.cursor.rest.now → at ≡ from.at → before ≢ []
+            → IsBegun self.old.length from result self.new }
+        ensures shorter { (place : Spot) (before : List ℕ)
+            → IsTagTo tag.entry.end place before tag.entry self.old.cursor.rest.now
+            → OnOk result (length self.old.cursor.rest.now < length before) }
+        ensures total { OnOk result (self.new.length ≡ self.old.length) }
+        ensures depth { IfOk result
+            (λ event. IsDepthAfter (Some event) (depth_of self.old) (depth_of self.new)) }
+        ensures cursor { OnOk result (self.new.cursor.rest.now ≡ self.old.cursor.rest.now) }
+    {
+        self.admit(at, &tag)?;
+        self.scopes.declare(self.alloc, tag.attributes.as_slice())?;
+        let (prefix, local) = split_name(tag.name);
+        let Some(namespace) = self.scopes.find(prefix) else {
+            return Err(broken(at));
+        };
+        let Some(is_empty) = emptiness(tag.end) else {
+            return Err(broken(self.length));
+        };
+        self.push(tag.name)?;
+        self.stage = Stage::Root;
+        self.empty = is_empty;
+        Ok(Event::Begin(Element {
+            at,
+            namespace,
+            local,
+            attributes: tag.attributes,
+        }))
+    }
+
+    /// Keeps the name of an open element.
+    fn push(&mut self, name: &'a [u8]) -> Result<(), NoMemory>
+        ensures { OnOk result (self.new ≡ record self.old { «open» = self.new.open }
+            × (self.new.open.items ≡ self.old.open.items ++ name.entry ∷ [])) }
+    {
+        self.open.push(name)?;
+        Ok(())
+    }
+
+    /// Closes the innermost open element.
+    fn close(&mut self) -> Event<'a>
+        ensures end { result ≡ Event.End }
+        ensures closed { IsClosed self.old self.new }
+    {
+        self.scopes.leave();
+        let _ = self.open.pop();
+        Event::End
+    }
+}
+
+/// The fault of a token that can't stand at offset `at`, or of an input that ends too early.
+pub(crate) fn broken(at: usize) -> EntryFault
+    ensures { result ≡ EntryFault.NotRead at Why.NotWellFormed }
+{
+    EntryFault::NotRead {
+        at,
+        why: Why::NotWellFormed,
+    }
+}
+
+/// Whether a whole tag is that of an empty element. `None` if the text ends within the tag.
+fn emptiness(end: TagEnd) -> Option<bool>
+    ensures { result ≡ emptiness end }
+{
+    match end {
+        TagEnd::Open => Some(false),
+        TagEnd::Empty => Some(true),
+        TagEnd::Cut | TagEnd::CutAtSlash => None,
+    }
+}
+
+/// Appends characters of content as they are read.
+fn push_said(text: &mut Vec<u8>, said: Said<'_>) -> Result<(), NoMemory>
+    ensures { OnOk result (text.new.items ≡ text.old.items ++ said_text said.entry) }
+{
+    match said {
+        Said::Written(run) => push_lines(text, run),
+        Said::Reference(character) => push_character(text, character),
+    }
+}

@@ -1,0 +1,34 @@
+//! Reads entry documents as clients write them (RFC 4287, RFC 5023).
+//!
+//! Begin with [`read_entry`]: it returns the draft that the bytes spell, or the offset and the reason of the
+//! refusal.
+//!
+//! ```
+//! match read_entry(alloc, body) {
+//!     Ok(draft) => println!(rt; "{:?}", draft.title)?,
+//!     Err(fault) => println!(rt; "{fault}")?,
+//! }
+//! ```
+//!
+//! Any prefixes, quotes, references, CDATA sections, comments and instructions are read. Foreign markup is
+//! skipped. Document types, encodings other than UTF-8, and content that isn't text or HTML are refused.
+//!
+//! Stands on `atom_values`.
+#![tactic(auto)]
+
+mod cursor;
+mod declaration;
+mod elements;
+mod entry;
+mod fault;
+mod person;
+mod reference;
+mod rules;
+mod scopes;
+mod tag;
+mod text;
+mod token;
+mod value;
+
+pub use entry::{MAX_DEPTH, MAX_ENTRY, read_entry};
+pub use fault::{EntryFault, Why};
