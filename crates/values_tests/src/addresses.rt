@@ -1,6 +1,8 @@
 //! Base addresses, the addresses below them, and the order of documents.
 
 use chain_links::{Address, Base, BaseFault, Place, Span, follows, whole_number};
+use std::alloc::Global;
+use std::process::Abort;
 
 /// Texts, and whether they are base addresses.
 static BASES: [(&[u8], bool); 26] = [
@@ -34,7 +36,7 @@ static BASES: [(&[u8], bool); 26] = [
 
 #[test]
 fn takes_the_grammar_alone(rt: HostRuntime) {
-    for (text, is_base) in BASES {
+    for &(text, is_base) in &BASES {
         let base = Base::parse(rt.alloc(), text);
         let want = if is_base {
             Ok(text)
@@ -97,7 +99,7 @@ static PARTS: [Parts; 3] = [
 
 #[test]
 fn tells_the_parts(rt: HostRuntime) {
-    for parts in PARTS {
+    for parts in &PARTS {
         let base = Base::parse(rt.alloc(), parts.text).expect(&rt, "a base");
         assert!(rt; (base.text(), base.host()) == (parts.text, parts.host));
         assert!(rt; (base.port(), base.path()) == (parts.port, parts.path));
@@ -148,24 +150,30 @@ static READ: [(&[u8], Option<Address>); 16] = [
     (b"", None),
 ];
 
+fn compare_address(
+    rt: &impl Abort,
+    alloc: Global,
+    base: &Base,
+    text: &[u8],
+    address: Option<Address>,
+) {
+    let found = base.read(text);
+    assert!(rt; found == address, "{text:?}");
+    if let Some(address) = found {
+        let printed = base.print(alloc, address).expect(rt, "memory");
+        assert!(rt; printed.as_slice() == text);
+        assert!(rt; base.printed_len(address) == text.len());
+        let mut out = vec![in alloc; b'#'].expect(rt, "memory");
+        assert!(rt; base.print_into(&mut out, address) == Ok(()));
+        assert!(rt; out.as_slice().strip_prefix(b"#") == Some(text));
+    }
+}
+
 #[test]
 fn reads_and_prints_addresses(rt: HostRuntime) {
     let base = Base::parse(rt.alloc(), b"http://feed.example/").expect(&rt, "a base");
-    for (text, address) in READ {
-        let found = base.read(text);
-        assert!(rt; found == address, "{text:?}");
-        if let Some(address) = found {
-            assert!(rt;
-                base.print(rt.alloc(), address)
-                    .expect(&rt, "memory")
-                    .as_slice()
-                    == text
-            );
-            assert!(rt; base.printed_len(address) == text.len());
-            let mut out = vec![in rt.alloc(); b'#'].expect(&rt, "memory");
-            assert!(rt; base.print_into(&mut out, address) == Ok(()));
-            assert!(rt; out.as_slice().strip_prefix(b"#") == Some(text));
-        }
+    for &(text, address) in &READ {
+        compare_address(&rt, rt.alloc(), &base, text, address);
     }
 }
 
@@ -192,7 +200,7 @@ static TARGETS: [(&[u8], Option<Address>); 13] = [
 #[test]
 fn reads_the_targets_of_requests(rt: HostRuntime) {
     let base = Base::parse(rt.alloc(), b"http://feed.example:8080/a/").expect(&rt, "a base");
-    for (target, address) in TARGETS {
+    for &(target, address) in &TARGETS {
         assert!(rt; base.read_target(target) == address, "{target:?}");
     }
 }
@@ -212,7 +220,7 @@ static NUMBERS: [(&[u8], Option<u32>); 9] = [
 
 #[test]
 fn reads_whole_numbers(rt: HostRuntime) {
-    for (text, number) in NUMBERS {
+    for &(text, number) in &NUMBERS {
         assert!(rt; whole_number(text) == number, "{text:?}");
     }
 }
@@ -290,7 +298,7 @@ static PAIRS: [Pair; 8] = [
 
 #[test]
 fn tells_what_follows(rt: HostRuntime) {
-    for pair in PAIRS {
+    for pair in &PAIRS {
         let older = Place {
             address: pair.address,
             span: Span {

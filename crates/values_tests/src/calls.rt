@@ -20,7 +20,7 @@ fn fails_by_the_list(rt: HostRuntime) {
     }
     let mut calls = ListedCalls::new(failing);
     assert!(rt; (calls.made(), calls.faults()) == (0, 0));
-    for (fails, made, faults) in CALLS {
+    for &(fails, made, faults) in &CALLS {
         let found = calls.next_fails();
         assert!(rt; (found, calls.made(), calls.faults()) == (fails, made, faults));
     }

@@ -1,6 +1,6 @@
 //! Copies, each compared whole.
 
-use crate::samples::{category, full_draft, full_link, html, person, stamp, text};
+use crate::samples::{category, full_draft, full_link, html, person, same, stamp, text};
 use atom_values::{Bytes, Copies, Draft, Entry, Many};
 use chain_links::Base;
 use deleted_entries::{FeedId, Item, Tombstone};
@@ -53,61 +53,72 @@ fn copies_options_and_lists(rt: HostRuntime) {
 }
 
 fn compare_drafts(rt: &impl Abort, one: &Draft, other: &Draft) {
-    assert!(rt; one.id == other.id);
-    assert!(rt; one.title == other.title);
-    assert!(rt; (one.updated, one.published) == (other.updated, other.published));
-    assert!(rt; one.authors == other.authors);
-    assert!(rt; one.contributors == other.contributors);
-    assert!(rt; one.links == other.links);
-    assert!(rt; one.categories == other.categories);
-    assert!(rt; one.rights == other.rights);
-    assert!(rt; one.summary == other.summary);
-    assert!(rt; one.content == other.content);
+    same(rt, "id", &one.id, &other.id);
+    same(rt, "title", &one.title, &other.title);
+    same(rt, "updated", &one.updated, &other.updated);
+    same(rt, "published", &one.published, &other.published);
+    same(rt, "authors", &one.authors, &other.authors);
+    same(rt, "contributors", &one.contributors, &other.contributors);
+    same(rt, "links", &one.links, &other.links);
+    same(rt, "categories", &one.categories, &other.categories);
+    same(rt, "rights", &one.rights, &other.rights);
+    same(rt, "summary", &one.summary, &other.summary);
+    same(rt, "content", &one.content, &other.content);
 }
 
 fn compare_entries(rt: &impl Abort, one: &Entry, other: &Entry) {
-    assert!(rt; (one.number, one.edited) == (other.number, other.edited));
-    assert!(rt; one.title == other.title);
-    assert!(rt; (one.updated, one.published) == (other.updated, other.published));
-    assert!(rt; one.authors == other.authors);
-    assert!(rt; one.contributors == other.contributors);
-    assert!(rt; one.links == other.links);
-    assert!(rt; one.categories == other.categories);
-    assert!(rt; one.rights == other.rights);
-    assert!(rt; one.summary == other.summary);
-    assert!(rt; one.content == other.content);
+    same(rt, "number", &one.number, &other.number);
+    same(rt, "edited", &one.edited, &other.edited);
+    same(rt, "title", &one.title, &other.title);
+    same(rt, "updated", &one.updated, &other.updated);
+    same(rt, "published", &one.published, &other.published);
+    same(rt, "authors", &one.authors, &other.authors);
+    same(rt, "contributors", &one.contributors, &other.contributors);
+    same(rt, "links", &one.links, &other.links);
+    same(rt, "categories", &one.categories, &other.categories);
+    same(rt, "rights", &one.rights, &other.rights);
+    same(rt, "summary", &one.summary, &other.summary);
+    same(rt, "content", &one.content, &other.content);
 }
 
 fn full_entry(rt: &impl Abort, alloc: Global) -> Entry {
     full_draft(rt, alloc).normal(3, stamp(rt, 5), None)
 }
 
+fn compare_draft(rt: &impl Abort, alloc: Global, draft: &Draft) {
+    compare_drafts(rt, &draft.copy(alloc).expect(rt, "a draft"), draft);
+}
+
+fn compare_entry(rt: &impl Abort, alloc: Global, entry: &Entry) {
+    compare_entries(rt, &entry.copy(alloc).expect(rt, "an entry"), entry);
+}
+
 #[test]
 fn copies_drafts_and_entries(rt: HostRuntime) {
-    let draft = full_draft(&rt, rt.alloc());
-    compare_drafts(&rt, &draft.copy(rt.alloc()).expect(&rt, "a draft"), &draft);
-    let entry = full_entry(&rt, rt.alloc());
-    compare_entries(&rt, &entry.copy(rt.alloc()).expect(&rt, "an entry"), &entry);
+    compare_draft(&rt, rt.alloc(), &full_draft(&rt, rt.alloc()));
+    compare_entry(&rt, rt.alloc(), &full_entry(&rt, rt.alloc()));
+}
+
+fn compare_items(rt: &impl Abort, one: &Item, other: &Item) {
+    match (one, other) {
+        (Item::Kept(one), Item::Kept(other)) => compare_entries(rt, one, other),
+        (Item::Gone(one), Item::Gone(other)) => assert!(rt; one == other),
+        _ => assert!(rt; false, "a copy of the other kind"),
+    }
+}
+
+fn compare_item(rt: &impl Abort, alloc: Global, item: &Item) {
+    compare_items(rt, &item.copy(alloc).expect(rt, "an item"), item);
 }
 
 #[test]
 fn copies_items(rt: HostRuntime) {
-    let item = Item::Kept(full_entry(&rt, rt.alloc()));
-    match (&item, item.copy(rt.alloc()).expect(&rt, "an item")) {
-        (Item::Kept(entry), Item::Kept(copy)) => compare_entries(&rt, &copy, entry),
-        _ => assert!(rt; false, "an entry became a tombstone"),
-    }
+    compare_item(&rt, rt.alloc(), &Item::Kept(full_entry(&rt, rt.alloc())));
     let tombstone = Tombstone {
         number: 7,
         when: stamp(&rt, 6),
     };
-    match Item::Gone(tombstone)
-        .copy(rt.alloc())
-        .expect(&rt, "an item")
-    {
-        Item::Kept(_) => assert!(rt; false, "a tombstone became an entry"),
-        Item::Gone(copy) => assert!(rt; copy == tombstone),
-    }
+    compare_item(&rt, rt.alloc(), &Item::Gone(tombstone));
 }
 
 #[test]

@@ -1,25 +1,32 @@
 //! Entries that are made of drafts.
 
-use crate::samples::{full_draft, full_link, link, stamp, text};
-use atom_values::{Draft, Link, Many, Stamp, Text, TextKind};
+use crate::samples::{full_draft, full_link, link, same, stamp, text};
+use atom_values::{Draft, Entry, Link, Many, Stamp, Text, TextKind};
 use std::alloc::Global;
 use std::process::Abort;
+
+fn compare_titled(rt: &impl Abort, draft: &Draft, title: &Text) {
+    same(rt, "title", &draft.title, title);
+    same(rt, "id", &draft.id, &None);
+    same(rt, "updated", &draft.updated, &None);
+    same(rt, "published", &draft.published, &None);
+    same(rt, "authors", &draft.authors.len(), &0);
+    same(rt, "contributors", &draft.contributors.len(), &0);
+    same(rt, "links", &draft.links.len(), &0);
+    same(rt, "categories", &draft.categories.len(), &0);
+    same(rt, "rights", &draft.rights, &None);
+    same(rt, "summary", &draft.summary, &None);
+    same(rt, "content", &draft.content, &None);
+}
 
 #[test]
 fn makes_a_draft_of_a_title(rt: HostRuntime) {
     let draft = Draft::titled(rt.alloc(), text(&rt, rt.alloc(), b"A"));
-    let plain = Text {
+    let title = Text {
         kind: TextKind::Plain,
         value: text(&rt, rt.alloc(), b"A"),
     };
-    assert!(rt; draft.title == plain);
-    assert!(rt; draft.id == None);
-    assert!(rt; (draft.updated, draft.published) == (None, None));
-    assert!(rt; (draft.authors.len(), draft.contributors.len()) == (0, 0));
-    assert!(rt; (draft.links.len(), draft.categories.len()) == (0, 0));
-    for text in [&draft.rights, &draft.summary, &draft.content] {
-        assert!(rt; *text == None);
-    }
+    compare_titled(&rt, &draft, &title);
 }
 
 /// The draft's `updated`, the stored one, and that of the new entry, which is made at 1,000.
@@ -32,31 +39,57 @@ static UPDATES: [(Option<i64>, Option<i64>, i64); 6] = [
     (Some(1_001), Some(1_000), 1_001),
 ];
 
+/// The entry that is made at `moment` of a draft with this `updated`.
+fn updated_entry(
+    rt: &impl Abort,
+    alloc: Global,
+    asked: Option<i64>,
+    stored: Option<i64>,
+    moment: Stamp,
+) -> Entry {
+    let mut draft = Draft::titled(alloc, text(rt, alloc, b"A"));
+    draft.updated = asked.and_then(Stamp::new);
+    draft.normal(7, moment, stored.and_then(Stamp::new))
+}
+
+fn compare_moments(rt: &impl Abort, entry: &Entry, edited: Stamp, updated: i64) {
+    assert!(rt; (entry.number, entry.edited) == (7, edited));
+    assert!(rt; entry.updated.millis() == updated);
+}
+
 #[test]
 fn updates_not_before_the_stored_entry(rt: HostRuntime) {
-    for (asked, stored, updated) in UPDATES {
-        let moment = stamp(&rt, 1_000);
-        let mut draft = Draft::titled(rt.alloc(), text(&rt, rt.alloc(), b"A"));
-        draft.updated = asked.and_then(Stamp::new);
-        let entry = draft.normal(7, moment, stored.and_then(Stamp::new));
-        assert!(rt; (entry.number, entry.edited) == (7, moment));
-        assert!(rt; entry.updated.millis() == updated);
+    let moment = stamp(&rt, 1_000);
+    for &(asked, stored, updated) in &UPDATES {
+        let entry = updated_entry(&rt, rt.alloc(), asked, stored, moment);
+        compare_moments(&rt, &entry, moment, updated);
     }
+}
+
+fn compare_kept(rt: &impl Abort, entry: &Entry, want: &Draft) {
+    same(rt, "title", &entry.title, &want.title);
+    same(rt, "published", &entry.published, &want.published);
+    same(rt, "authors", &entry.authors, &want.authors);
+    same(rt, "contributors", &entry.contributors, &want.contributors);
+    same(rt, "categories", &entry.categories, &want.categories);
+    same(rt, "rights", &entry.rights, &want.rights);
+    same(rt, "summary", &entry.summary, &want.summary);
+    same(rt, "content", &entry.content, &want.content);
+}
+
+fn compare_link(rt: &impl Abort, entry: &Entry, want: &Link) {
+    assert!(rt; (entry.links.len(), entry.links.get(0)) == (1, Some(want)));
+}
+
+fn compare_with_samples(rt: &impl Abort, alloc: Global, entry: &Entry) {
+    compare_kept(rt, entry, &full_draft(rt, alloc));
+    compare_link(rt, entry, &full_link(rt, alloc));
 }
 
 #[test]
 fn keeps_the_other_fields(rt: HostRuntime) {
-    let want = full_draft(&rt, rt.alloc());
     let entry = full_draft(&rt, rt.alloc()).normal(7, stamp(&rt, 0), None);
-    assert!(rt; entry.title == want.title);
-    assert!(rt; entry.published == want.published);
-    assert!(rt; entry.authors == want.authors);
-    assert!(rt; entry.contributors == want.contributors);
-    assert!(rt; entry.links.as_slice() == [full_link(&rt, rt.alloc())].as_slice());
-    assert!(rt; entry.categories == want.categories);
-    assert!(rt; entry.rights == want.rights);
-    assert!(rt; entry.summary == want.summary);
-    assert!(rt; entry.content == want.content);
+    compare_with_samples(&rt, rt.alloc(), &entry);
 }
 
 fn links(rt: &impl Abort, alloc: Global, relations: &[&[u8]]) -> Many<Link, 32> {
@@ -67,6 +100,18 @@ fn links(rt: &impl Abort, alloc: Global, relations: &[&[u8]]) -> Many<Link, 32> 
     links
 }
 
+/// The entry that is made of a draft with these links.
+fn linked_entry(rt: &impl Abort, alloc: Global, relations: &[&[u8]]) -> Entry {
+    let mut draft = Draft::titled(alloc, text(rt, alloc, b"A"));
+    draft.links = links(rt, alloc, relations);
+    draft.normal(1, stamp(rt, 0), None)
+}
+
+fn compare_content(rt: &impl Abort, entry: &Entry, content: Option<&[u8]>) {
+    let found = entry.content.as_ref().map(|content| content.value.bytes());
+    assert!(rt; found == content);
+}
+
 /// Compares the entry that is made of a draft with `given` links.
 fn compare_links(
     rt: &impl Abort,
@@ -75,12 +120,9 @@ fn compare_links(
     left: &[&[u8]],
     content: Option<&[u8]>,
 ) {
-    let mut draft = Draft::titled(alloc, text(rt, alloc, b"A"));
-    draft.links = links(rt, alloc, given);
-    let entry = draft.normal(1, stamp(rt, 0), None);
-    let found = entry.content.as_ref().map(|content| content.value.bytes());
-    assert!(rt; found == content);
-    assert!(rt; entry.links == links(rt, alloc, left));
+    let entry = linked_entry(rt, alloc, given);
+    compare_content(rt, &entry, content);
+    same(rt, "links", &entry.links, &links(rt, alloc, left));
 }
 
 #[test]

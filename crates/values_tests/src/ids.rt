@@ -23,7 +23,7 @@ static FEEDS: [(&[u8], bool); 11] = [
 
 #[test]
 fn reads_feed_identifiers(rt: HostRuntime) {
-    for (text, taken) in FEEDS {
+    for &(text, taken) in &FEEDS {
         compare_feed(&rt, text, taken);
     }
 }
@@ -49,7 +49,7 @@ static MEMBERS: [(u32, &[u8]); 3] = [
 #[test]
 fn makes_member_identifiers(rt: HostRuntime) {
     let feed = FeedId::parse(FEED).expect(&rt, "a feed identifier");
-    for (number, id) in MEMBERS {
+    for &(number, id) in &MEMBERS {
         assert!(rt; id_of(&feed, number).as_slice() == id);
         assert!(rt; number_of(&feed, id) == Some(number));
     }
@@ -72,15 +72,19 @@ static READ: [(&[u8], Option<u32>); 10] = [
 #[test]
 fn reads_member_identifiers_of_the_feed_alone(rt: HostRuntime) {
     let feed = FeedId::parse(FEED).expect(&rt, "a feed identifier");
-    for (id, number) in READ {
+    for &(id, number) in &READ {
         assert!(rt; number_of(&feed, id) == number, "{id:?}");
     }
+}
+
+fn compare_number(rt: &impl Abort, item: &Item, number: u32) {
+    assert!(rt; item.number() == number);
 }
 
 #[test]
 fn numbers_items(rt: HostRuntime) {
     let when = stamp(&rt, 0);
-    let tombstone = Item::Gone(Tombstone { number: 7, when });
-    let entry = Item::Kept(full_draft(&rt, rt.alloc()).normal(8, when, None));
-    assert!(rt; (tombstone.number(), entry.number()) == (7, 8));
+    compare_number(&rt, &Item::Gone(Tombstone { number: 7, when }), 7);
+    let entry = full_draft(&rt, rt.alloc()).normal(8, when, None);
+    compare_number(&rt, &Item::Kept(entry), 8);
 }

@@ -16,7 +16,7 @@ static PUSHES: [(u32, Result<(), ListFault>); 3] = [
 fn holds_at_most_its_limit(rt: HostRuntime) {
     let mut numbers: Many<u32, 2> = Many::new(rt.alloc());
     assert!(rt; numbers.reserve(1) == Ok(()));
-    for (number, answer) in PUSHES {
+    for &(number, answer) in &PUSHES {
         assert!(rt; numbers.push(number) == answer);
     }
     assert!(rt; numbers.as_slice() == [7, 8].as_slice());

@@ -4,6 +4,11 @@ use atom_values::{AtomText, Category, Draft, Link, Many, Person, Stamp, Text, Te
 use std::alloc::Global;
 use std::process::Abort;
 
+/// Asserts that two fields of this name are equal. An assertion in a function of its own is cheaper to prove.
+pub fn same<T: PartialEq>(rt: &impl Abort, name: &str, one: &T, other: &T) {
+    assert!(rt; one == other, "{name}");
+}
+
 /// A timestamp.
 pub fn stamp(rt: &impl Abort, millis: i64) -> Stamp {
     Stamp::new(millis).expect(rt, "a timestamp")

@@ -19,7 +19,7 @@ static PRINTED: [(i64, &str); 13] = [
 
 #[test]
 fn prints(rt: HostRuntime) {
-    for (millis, text) in PRINTED {
+    for &(millis, text) in &PRINTED {
         // The bytes after the text stay as they were.
         let mut want = [b'#'; 24];
         want[..text.len().min(24)].copy_from_slice(
@@ -56,7 +56,7 @@ static READ: [(&str, i64); 17] = [
 #[test]
 fn reads(rt: HostRuntime) {
     printed_is_read();
-    for (text, millis) in READ {
+    for &(text, millis) in &READ {
         let stamp = Stamp::parse(text.as_bytes()).expect(&rt, text);
         assert!(rt; stamp.millis() == millis, "{text}");
     }
@@ -103,7 +103,7 @@ static REFUSED: [&str; 35] = [
 
 #[test]
 fn refuses(rt: HostRuntime) {
-    for text in REFUSED {
+    for text in &REFUSED {
         assert!(rt; Stamp::parse(text.as_bytes()).is_none(), "{text}");
     }
 }

@@ -20,7 +20,7 @@ static TEXTS: [(&[u8], Option<usize>); 12] = [
 
 #[test]
 fn takes_xml_characters_alone(rt: HostRuntime) {
-    for (bytes, at) in TEXTS {
+    for &(bytes, at) in &TEXTS {
         let text = AtomText::of(rt.alloc(), bytes);
         let want = match at {
             Some(at) => Err(TextFault::NotXmlChar { at }),
@@ -68,7 +68,7 @@ static ESCAPED: [(&[u8], bool, &[u8]); 4] = [
 
 #[test]
 fn escapes(rt: HostRuntime) {
-    for (bytes, quoted, written) in ESCAPED {
+    for &(bytes, quoted, written) in &ESCAPED {
         let text = AtomText::of(rt.alloc(), bytes).expect(&rt, "a text");
         let mut out = vec![in rt.alloc(); b'#'].expect(&rt, "memory");
         assert!(rt; escape_into(&mut out, &text, quoted) == Ok(()));
@@ -104,7 +104,7 @@ static WRITTEN: [(&[u8], bool, Option<&[u8]>); 17] = [
 
 #[test]
 fn reads_back_what_is_escaped(rt: HostRuntime) {
-    for (written, quoted, bytes) in WRITTEN {
+    for &(written, quoted, bytes) in &WRITTEN {
         let text = unescape(rt.alloc(), written, quoted).expect(&rt, "memory");
         assert!(rt;
             text.as_ref().map(|text| text.bytes()) == bytes,
