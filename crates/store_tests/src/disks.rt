@@ -6,30 +6,29 @@
 use atom_values::{Bytes, Many};
 use feed_disk::{Area, Choice, Disk, MemoryDisk};
 use std::alloc::Global;
-use std::test::Fail;
+use std::process::Abort;
 
 /// Returns a disk with this journal and empty other areas, of which these device calls fail. 0 lists no call.
-pub fn disk_of(alloc: Global, journal: &[u8], failing: [u64; 2]) -> Result<MemoryDisk, Fail> {
+pub fn disk_of(rt: &impl Abort, alloc: Global, journal: &[u8], failing: [u64; 2]) -> MemoryDisk {
     let mut calls = Many::new(alloc);
     for call in failing {
-        calls.push(call)?;
+        calls.push(call).expect(rt, "memory");
     }
-    Ok(MemoryDisk::new(
+    MemoryDisk::new(
         alloc,
-        Bytes::of(alloc, journal)?,
-        Bytes::of(alloc, b"")?,
-        Bytes::of(alloc, b"")?,
+        Bytes::of(alloc, journal).expect(rt, "memory"),
+        Bytes::of(alloc, b"").expect(rt, "memory"),
+        Bytes::of(alloc, b"").expect(rt, "memory"),
         calls,
-    ))
+    )
 }
 
 /// Appends the bytes of an area of up to 64 bytes, and `/`.
-pub fn append_area<D: Disk>(all: &mut Vec<u8>, disk: &mut D, area: Area) -> Result<(), Fail> {
+pub fn append_area<D: Disk>(rt: &impl Abort, all: &mut Vec<u8>, disk: &mut D, area: Area) {
     let mut bytes = [0u8; 64];
-    let count = disk.read(area, 0, &mut bytes)?;
-    all.extend_from_slice(&bytes[..count])?;
-    all.push(b'/')?;
-    Ok(())
+    let count = disk.read(area, 0, &mut bytes).expect(rt, "a device call");
+    all.extend_from_slice(&bytes[..count]).expect(rt, "memory");
+    all.push(b'/').expect(rt, "memory");
 }
 
 /// A `Choice` as a table has it.
@@ -44,19 +43,21 @@ pub enum Filling {
 
 /// Returns the disk that a crash within a call leaves.
 pub fn crashed(
+    rt: &impl Abort,
     alloc: Global,
     disk: &MemoryDisk,
     call: u64,
     filling: Filling,
-) -> Result<MemoryDisk, Fail> {
+) -> MemoryDisk {
     let choice = match filling {
         Filling::Old => Choice::Old,
         Filling::New => Choice::New,
         Filling::Fill(byte) => Choice::Fill(byte),
         Filling::Given(size, count) => Choice::Given {
             size,
-            bytes: Bytes::of(alloc, &b"123456"[..count.min(6)])?,
+            bytes: Bytes::of(alloc, &b"123456"[..count.min(6)]).expect(rt, "memory"),
         },
     };
-    Ok(disk.image(call.min(disk.calls()), &choice)?)
+    disk.image(call.min(disk.calls()), &choice)
+        .expect(rt, "memory")
 }

@@ -1,18 +1,21 @@
 //! The sentences of the errors.
 
 use feed_journal::{DiskFault, LogFault};
-use std::test::Fail;
 
 #[test]
-fn an_error_is_one_sentence(rt: HostRuntime) -> Result<(), Fail> {
+fn an_error_is_one_sentence(rt: HostRuntime) {
     let alloc = rt.alloc();
     for (fault, sentence) in [
         (LogFault::DiskFault, "disk fault"),
         (LogFault::Changed { index: 7 }, "changed 7"),
         (LogFault::NoMemory, "no memory"),
     ] {
-        assert!(rt; format!(in alloc; "{fault}")?.as_str() == sentence);
+        assert!(rt; format!(in alloc; "{fault}").expect(&rt, "memory").as_str() == sentence);
     }
-    assert!(rt; format!(in alloc; "{}", DiskFault)?.as_str() == "disk fault");
-    Ok(())
+    assert!(rt;
+        format!(in alloc; "{}", DiskFault)
+            .expect(&rt, "memory")
+            .as_str()
+            == "disk fault"
+    );
 }

@@ -4,9 +4,11 @@
 
 use crate::logs::{append, show_log};
 use feed_disk::{Area, Disk, FileDisk};
-use std::alloc::Global;
-use std::fs::OpenOptions;
+use std::alloc::{AllocGlobal, Global};
+use std::fs::{File, OpenOptions};
 use std::os::unix::fs::symlink;
+use std::process::Abort;
+use std::rt::Files;
 use std::test::Fail;
 use std::{env, fs, process};
 
@@ -24,57 +26,63 @@ fn new_folder(rt: &HostRuntime, test: &str) -> Result<String, Fail> {
 }
 
 /// Returns the path of a name in a folder.
-fn path_in(alloc: Global, folder: &str, name: &str) -> Result<String, Fail> {
-    Ok(format!(in alloc; "{folder}/{name}")?)
+fn path_in(rt: &impl Abort, alloc: Global, folder: &str, name: &str) -> String {
+    format!(in alloc; "{folder}/{name}").expect(rt, "memory")
 }
 
 /// Writes `abcd` to the journal, and syncs it.
-fn write_abcd<D: Disk>(disk: &mut D) -> Result<(), Fail> {
-    disk.write(Area::Journal, 0, b"abcd")?;
-    disk.sync(Area::Journal)?;
-    Ok(())
+fn write_abcd<D: Disk>(rt: &impl Abort, disk: &mut D) {
+    disk.write(Area::Journal, 0, b"abcd")
+        .expect(rt, "a device call");
+    disk.sync(Area::Journal).expect(rt, "a device call");
 }
 
-/// A disk of this system. A read of it may begin past the end, which other disks don't allow.
-type Files<'a> = FileDisk<'a, HostRuntime>;
+/// What the functions below use of the system. They end the test where a call fails, which is cheaper to prove than `?`
+/// where a disk is owned.
+trait System: Abort + AllocGlobal + Files<File = File> {}
 
-/// Appends the bytes that a read of the journal gives, and `/`.
-fn append_read(
+impl<R: Abort + AllocGlobal + Files<File = File>> System for R {}
+
+/// Appends the bytes that a read of the journal gives, and `/`. A read of this disk may begin past the end, which other
+/// disks don't allow.
+fn append_read<R: System>(
+    rt: &R,
     all: &mut Vec<u8>,
-    disk: &mut Files<'_>,
+    disk: &mut FileDisk<'_, R>,
     offset: u64,
     room: usize,
-) -> Result<(), Fail> {
+) {
     let mut bytes = [0u8; 8];
-    let count = disk.read(Area::Journal, offset, &mut bytes[..room.min(8)])?;
-    all.extend_from_slice(&bytes[..count])?;
-    all.push(b'/')?;
-    Ok(())
+    let count = disk
+        .read(Area::Journal, offset, &mut bytes[..room.min(8)])
+        .expect(rt, "a device call");
+    all.extend_from_slice(&bytes[..count]).expect(rt, "memory");
+    all.push(b'/').expect(rt, "memory");
 }
 
 /// Returns what reads of the journal give, each followed by `/`.
-fn reads(alloc: Global, disk: &mut Files<'_>) -> Result<Vec<u8>, Fail> {
+fn reads<R: System>(rt: &R, alloc: Global, disk: &mut FileDisk<'_, R>) -> Vec<u8> {
     let mut all = Vec::new(alloc);
     // The third read goes past the end. The last two begin at the end and past it.
     for (offset, room) in [(0u64, 4usize), (1, 2), (2, 8), (4, 8), (9, 8)] {
-        append_read(&mut all, disk, offset, room)?;
+        append_read(rt, &mut all, disk, offset, room);
     }
-    Ok(all)
+    all
 }
 
 /// Writes to a disk, and returns what another one reads from its files.
-fn written_reads(rt: &HostRuntime, folder: &str) -> Result<Vec<u8>, Fail> {
-    let mut disk = FileDisk::new(rt.alloc(), rt, folder)?;
-    write_abcd(&mut disk)?;
+fn written_reads<R: System>(rt: &R, folder: &str) -> Vec<u8> {
+    let mut disk = FileDisk::new(rt.alloc(), rt, folder).expect(rt, "memory");
+    write_abcd(rt, &mut disk);
     drop(disk);
-    let mut disk = FileDisk::new(rt.alloc(), rt, folder)?;
-    reads(rt.alloc(), &mut disk)
+    let mut disk = FileDisk::new(rt.alloc(), rt, folder).expect(rt, "memory");
+    reads(rt, rt.alloc(), &mut disk)
 }
 
 #[test]
 fn synced_bytes_are_read_by_the_next_disk(rt: HostRuntime) -> Result<(), Fail> {
     let folder = new_folder(&rt, "reads")?;
-    let found = written_reads(&rt, folder.as_str())?;
+    let found = written_reads(&rt, folder.as_str());
     fs::remove_dir_all(&rt, folder.as_str())?;
     assert!(rt; found.as_slice() == b"abcd/bc/cd///".as_slice());
     Ok(())
@@ -93,19 +101,19 @@ fn sizes<D: Disk>(disk: &mut D) -> Sizes {
 }
 
 /// Returns what a second disk finds while a first one has the journal open, and after that.
-fn second_sizes(rt: &HostRuntime, folder: &str) -> Result<(Sizes, Sizes), Fail> {
-    let mut first = FileDisk::new(rt.alloc(), rt, folder)?;
-    let mut second = FileDisk::new(rt.alloc(), rt, folder)?;
-    write_abcd(&mut first)?;
+fn second_sizes<R: System>(rt: &R, folder: &str) -> (Sizes, Sizes) {
+    let mut first = FileDisk::new(rt.alloc(), rt, folder).expect(rt, "memory");
+    let mut second = FileDisk::new(rt.alloc(), rt, folder).expect(rt, "memory");
+    write_abcd(rt, &mut first);
     let during = sizes(&mut second);
     drop(first);
-    Ok((during, sizes(&mut second)))
+    (during, sizes(&mut second))
 }
 
 #[test]
 fn a_file_has_one_disk_at_a_time(rt: HostRuntime) -> Result<(), Fail> {
     let folder = new_folder(&rt, "lock")?;
-    let (during, after) = second_sizes(&rt, folder.as_str())?;
+    let (during, after) = second_sizes(&rt, folder.as_str());
     fs::remove_dir_all(&rt, folder.as_str())?;
     assert!(rt; during == ([None, Some(0), Some(0)], 3));
     assert!(rt; after == ([Some(4), Some(0), Some(0)], 6));
@@ -114,82 +122,90 @@ fn a_file_has_one_disk_at_a_time(rt: HostRuntime) -> Result<(), Fail> {
 
 /// Returns what a disk finds whose journal is a link and whose sealed area is a folder, and whether it made
 /// the file that the link leads to.
-fn irregular_sizes(rt: &HostRuntime, folder: &str) -> Result<(Sizes, bool), Fail> {
+fn irregular_sizes<R: System>(rt: &R, folder: &str) -> (Sizes, bool) {
     let alloc = rt.alloc();
-    symlink(rt, "target", path_in(alloc, folder, "journal")?.as_str())?;
-    fs::create_dir(rt, path_in(alloc, folder, "sealed")?.as_str())?;
-    let mut disk = FileDisk::new(alloc, rt, folder)?;
+    symlink(rt, "target", path_in(rt, alloc, folder, "journal").as_str()).expect(
+        rt,
+        "a system call",
+    );
+    fs::create_dir(rt, path_in(rt, alloc, folder, "sealed").as_str()).expect(rt, "a system call");
+    let mut disk = FileDisk::new(alloc, rt, folder).expect(rt, "memory");
     let found = sizes(&mut disk);
-    let target = path_in(alloc, folder, "target")?;
-    Ok((found, fs::exists(rt, target.as_str())?))
+    let target = path_in(rt, alloc, folder, "target");
+    (
+        found,
+        fs::exists(rt, target.as_str()).expect(rt, "a system call"),
+    )
 }
 
 #[test]
 fn nothing_but_a_regular_file_is_opened(rt: HostRuntime) -> Result<(), Fail> {
     let folder = new_folder(&rt, "regular")?;
-    let found = irregular_sizes(&rt, folder.as_str())?;
+    let found = irregular_sizes(&rt, folder.as_str());
     fs::remove_dir_all(&rt, folder.as_str())?;
     assert!(rt; found == (([None, None, Some(0)], 3), false));
     Ok(())
 }
 
 /// Returns which of the three files are there after a call on the mirror's area.
-fn made_files(rt: &HostRuntime, folder: &str) -> Result<[bool; 3], Fail> {
+fn made_files<R: System>(rt: &R, folder: &str) -> [bool; 3] {
     let alloc = rt.alloc();
-    let mut disk = FileDisk::new(alloc, rt, folder)?;
-    disk.size(Area::Mirror)?;
-    Ok([
-        fs::exists(rt, path_in(alloc, folder, "journal")?.as_str())?,
-        fs::exists(rt, path_in(alloc, folder, "sealed")?.as_str())?,
-        fs::exists(rt, path_in(alloc, folder, "mirror")?.as_str())?,
-    ])
+    let mut disk = FileDisk::new(alloc, rt, folder).expect(rt, "memory");
+    disk.size(Area::Mirror).expect(rt, "a device call");
+    [
+        fs::exists(rt, path_in(rt, alloc, folder, "journal").as_str()).expect(rt, "a system call"),
+        fs::exists(rt, path_in(rt, alloc, folder, "sealed").as_str()).expect(rt, "a system call"),
+        fs::exists(rt, path_in(rt, alloc, folder, "mirror").as_str()).expect(rt, "a system call"),
+    ]
 }
 
 #[test]
 fn a_call_opens_the_file_of_its_area(rt: HostRuntime) -> Result<(), Fail> {
     let folder = new_folder(&rt, "area")?;
-    let made = made_files(&rt, folder.as_str())?;
+    let made = made_files(&rt, folder.as_str());
     fs::remove_dir_all(&rt, folder.as_str())?;
     assert!(rt; made == [false, false, true]);
     Ok(())
 }
 
 /// Appends `ab` and `c` to the journal.
-fn append_two(rt: &HostRuntime, folder: &str) -> Result<(), Fail> {
-    let mut disk = FileDisk::new(rt.alloc(), rt, folder)?;
-    append(rt.alloc(), &mut disk, b"ab")?;
-    append(rt.alloc(), &mut disk, b"c")?;
-    Ok(())
+fn append_two<R: System>(rt: &R, folder: &str) {
+    let mut disk = FileDisk::new(rt.alloc(), rt, folder).expect(rt, "memory");
+    append(rt, rt.alloc(), &mut disk, b"ab");
+    append(rt, rt.alloc(), &mut disk, b"c");
 }
 
 /// Cuts the journal to a size, and returns the payloads that a load finds then.
-fn payloads_after_cut(rt: &HostRuntime, folder: &str, size: u64) -> Result<Vec<u8>, Fail> {
-    let journal = path_in(rt.alloc(), folder, "journal")?;
+fn payloads_after_cut<R: System>(rt: &R, folder: &str, size: u64) -> Vec<u8> {
+    let journal = path_in(rt, rt.alloc(), folder, "journal");
     OpenOptions::new()
         .write(true)
-        .open(rt, journal.as_str())?
-        .set_len(size)?;
-    let mut disk = FileDisk::new(rt.alloc(), rt, folder)?;
-    Ok(show_log(rt.alloc(), &mut disk)?.payloads)
+        .open(rt, journal.as_str())
+        .expect(rt, "a system call")
+        .set_len(size)
+        .expect(rt, "a system call");
+    let mut disk = FileDisk::new(rt.alloc(), rt, folder).expect(rt, "memory");
+    show_log(rt.alloc(), &mut disk).expect(rt, "a log").payloads
 }
 
 /// Returns the payloads after some cuts, each list followed by a space.
-fn payloads_after_cuts(rt: &HostRuntime, folder: &str) -> Result<Vec<u8>, Fail> {
+fn payloads_after_cuts<R: System>(rt: &R, folder: &str) -> Vec<u8> {
     let mut all = Vec::new(rt.alloc());
     // The log has 14 bytes. It is cut within the second frame, after that frame's gate, within the first
     // frame, and to nothing.
     for size in [14u64, 12, 8, 6, 0] {
-        all.extend_from_slice(&payloads_after_cut(rt, folder, size)?)?;
-        all.push(b' ')?;
+        all.extend_from_slice(&payloads_after_cut(rt, folder, size))
+            .expect(rt, "memory");
+        all.push(b' ').expect(rt, "memory");
     }
-    Ok(all)
+    all
 }
 
 #[test]
 fn a_log_is_loaded_from_its_file(rt: HostRuntime) -> Result<(), Fail> {
     let folder = new_folder(&rt, "log")?;
-    append_two(&rt, folder.as_str())?;
-    let payloads = payloads_after_cuts(&rt, folder.as_str())?;
+    append_two(&rt, folder.as_str());
+    let payloads = payloads_after_cuts(&rt, folder.as_str());
     fs::remove_dir_all(&rt, folder.as_str())?;
     assert!(rt; payloads.as_slice() == b"ab/c/ ab/ ab/   ".as_slice());
     Ok(())

@@ -4,59 +4,62 @@ use crate::disks::{Filling, append_area, crashed, disk_of};
 use atom_values::{Bytes, Many};
 use feed_disk::{Area, Disk, MemoryDisk};
 use std::alloc::Global;
-use std::test::Fail;
+use std::process::Abort;
 
 /// Returns a disk that wrote to the journal in call 1 and to the sealed area in call 2, synced the journal in
 /// call 3, and wrote to the mirror in call 4.
-fn written_disk(alloc: Global) -> Result<MemoryDisk, Fail> {
-    let journal = Bytes::of(alloc, b"abcd")?;
-    let sealed = Bytes::of(alloc, b"ef")?;
-    let mirror = Bytes::of(alloc, b"")?;
+fn written_disk(rt: &impl Abort, alloc: Global) -> MemoryDisk {
+    let journal = Bytes::of(alloc, b"abcd").expect(rt, "memory");
+    let sealed = Bytes::of(alloc, b"ef").expect(rt, "memory");
+    let mirror = Bytes::of(alloc, b"").expect(rt, "memory");
     let mut disk = MemoryDisk::new(alloc, journal, sealed, mirror, Many::new(alloc));
-    disk.write(Area::Journal, 2, b"XYZ")?;
-    disk.write(Area::Sealed, 2, b"gh")?;
-    disk.sync(Area::Journal)?;
-    disk.write(Area::Mirror, 0, b"ij")?;
-    Ok(disk)
+    disk.write(Area::Journal, 2, b"XYZ")
+        .expect(rt, "a device call");
+    disk.write(Area::Sealed, 2, b"gh")
+        .expect(rt, "a device call");
+    disk.sync(Area::Journal).expect(rt, "a device call");
+    disk.write(Area::Mirror, 0, b"ij")
+        .expect(rt, "a device call");
+    disk
 }
 
 /// Appends the areas of a disk, each followed by `/`, and a space.
-fn append_areas<D: Disk>(all: &mut Vec<u8>, disk: &mut D) -> Result<(), Fail> {
-    append_area(all, disk, Area::Journal)?;
-    append_area(all, disk, Area::Sealed)?;
-    append_area(all, disk, Area::Mirror)?;
-    all.push(b' ')?;
-    Ok(())
+fn append_areas<D: Disk>(rt: &impl Abort, all: &mut Vec<u8>, disk: &mut D) {
+    append_area(rt, all, disk, Area::Journal);
+    append_area(rt, all, disk, Area::Sealed);
+    append_area(rt, all, disk, Area::Mirror);
+    all.push(b' ').expect(rt, "memory");
 }
 
 /// Appends the areas of the disk that a crash leaves.
 fn append_image(
+    rt: &impl Abort,
     alloc: Global,
     all: &mut Vec<u8>,
     disk: &MemoryDisk,
     call: u64,
     filling: Filling,
-) -> Result<(), Fail> {
-    let mut left = crashed(alloc, disk, call, filling)?;
-    append_areas(all, &mut left)
+) {
+    let mut left = crashed(rt, alloc, disk, call, filling);
+    append_areas(rt, all, &mut left)
 }
 
 /// Returns the areas of the disks that a crash within a call leaves by six choices.
-fn images_of(alloc: Global, disk: &MemoryDisk, call: u64) -> Result<Vec<u8>, Fail> {
+fn images_of(rt: &impl Abort, alloc: Global, disk: &MemoryDisk, call: u64) -> Vec<u8> {
     let mut all = Vec::new(alloc);
-    append_image(alloc, &mut all, disk, call, Filling::Old)?;
-    append_image(alloc, &mut all, disk, call, Filling::New)?;
-    append_image(alloc, &mut all, disk, call, Filling::Fill(b'.'))?;
-    append_image(alloc, &mut all, disk, call, Filling::Given(0, 2))?;
-    append_image(alloc, &mut all, disk, call, Filling::Given(1, 6))?;
-    append_image(alloc, &mut all, disk, call, Filling::Given(9, 4))?;
-    Ok(all)
+    append_image(rt, alloc, &mut all, disk, call, Filling::Old);
+    append_image(rt, alloc, &mut all, disk, call, Filling::New);
+    append_image(rt, alloc, &mut all, disk, call, Filling::Fill(b'.'));
+    append_image(rt, alloc, &mut all, disk, call, Filling::Given(0, 2));
+    append_image(rt, alloc, &mut all, disk, call, Filling::Given(1, 6));
+    append_image(rt, alloc, &mut all, disk, call, Filling::Given(9, 4));
+    all
 }
 
 /// Returns the same for `written_disk`.
-fn images_after(alloc: Global, call: u64) -> Result<Vec<u8>, Fail> {
-    let disk = written_disk(alloc)?;
-    images_of(alloc, &disk, call)
+fn images_after(rt: &impl Abort, alloc: Global, call: u64) -> Vec<u8> {
+    let disk = written_disk(rt, alloc);
+    images_of(rt, alloc, &disk, call)
 }
 
 /// The images that a crash within each call leaves, from call 0 on: one for each choice.
@@ -70,12 +73,11 @@ static IMAGES: [&[u8]; 5] = [
 ];
 
 #[test]
-fn a_crash_leaves_the_choice(rt: HostRuntime) -> Result<(), Fail> {
+fn a_crash_leaves_the_choice(rt: HostRuntime) {
     for (call, images) in IMAGES.iter().enumerate() {
-        let left = images_after(rt.alloc(), call as u64)?;
+        let left = images_after(&rt, rt.alloc(), call as u64);
         assert!(rt; left.as_slice() == *images, "call {call}");
     }
-    Ok(())
 }
 
 /// Returns whether a size and a read of the journal work.
@@ -96,9 +98,9 @@ fn changes<D: Disk>(disk: &mut D) -> [bool; 2] {
 }
 
 /// Returns whether each of these four device calls works.
-fn outcomes(alloc: Global, failing: [u64; 2]) -> Result<([bool; 2], [bool; 2]), Fail> {
-    let mut disk = disk_of(alloc, b"abcd", failing)?;
-    Ok((looks(&mut disk), changes(&mut disk)))
+fn outcomes(rt: &impl Abort, alloc: Global, failing: [u64; 2]) -> ([bool; 2], [bool; 2]) {
+    let mut disk = disk_of(rt, alloc, b"abcd", failing);
+    (looks(&mut disk), changes(&mut disk))
 }
 
 /// Two calls that are listed to fail, and whether each of four calls works.
@@ -113,11 +115,10 @@ static LISTED: [([u64; 2], ([bool; 2], [bool; 2])); 7] = [
 ];
 
 #[test]
-fn exactly_the_listed_calls_fail(rt: HostRuntime) -> Result<(), Fail> {
-    for (failing, works) in LISTED {
-        assert!(rt; outcomes(rt.alloc(), failing)? == works, "{failing:?}");
+fn exactly_the_listed_calls_fail(rt: HostRuntime) {
+    for &(failing, works) in &LISTED {
+        assert!(rt; outcomes(&rt, rt.alloc(), failing) == works, "{failing:?}");
     }
-    Ok(())
 }
 
 /// Makes three device calls on the journal, and ignores their results: a write at its start, a sync and a size.
@@ -129,36 +130,38 @@ fn write_sync_size<D: Disk>(disk: &mut D) {
 
 /// Appends the journal of the disk that a crash leaves.
 fn append_journal(
+    rt: &impl Abort,
     alloc: Global,
     all: &mut Vec<u8>,
     disk: &MemoryDisk,
     call: u64,
     filling: Filling,
-) -> Result<(), Fail> {
-    let mut left = crashed(alloc, disk, call, filling)?;
-    append_area(all, &mut left, Area::Journal)
+) {
+    let mut left = crashed(rt, alloc, disk, call, filling);
+    append_area(rt, all, &mut left, Area::Journal)
 }
 
 /// Appends the journals of the disks that a crash within a call leaves by the old and the new bytes, and the
 /// journal itself.
 fn append_journals(
+    rt: &impl Abort,
     alloc: Global,
     all: &mut Vec<u8>,
     disk: &mut MemoryDisk,
     call: u64,
-) -> Result<(), Fail> {
-    append_journal(alloc, all, disk, call, Filling::Old)?;
-    append_journal(alloc, all, disk, call, Filling::New)?;
-    append_area(all, disk, Area::Journal)
+) {
+    append_journal(rt, alloc, all, disk, call, Filling::Old);
+    append_journal(rt, alloc, all, disk, call, Filling::New);
+    append_area(rt, all, disk, Area::Journal)
 }
 
 /// Returns those journals after the three device calls, of which one fails.
-fn journals_after(alloc: Global, failing: u64, call: u64) -> Result<Vec<u8>, Fail> {
+fn journals_after(rt: &impl Abort, alloc: Global, failing: u64, call: u64) -> Vec<u8> {
     let mut all = Vec::new(alloc);
-    let mut disk = disk_of(alloc, b"abcd", [failing, 0])?;
+    let mut disk = disk_of(rt, alloc, b"abcd", [failing, 0]);
     write_sync_size(&mut disk);
-    append_journals(alloc, &mut all, &mut disk, call)?;
-    Ok(all)
+    append_journals(rt, alloc, &mut all, &mut disk, call);
+    all
 }
 
 /// The call that fails, that of the crash, and the journal for the old bytes, the new ones, and after a sync.
@@ -173,28 +176,27 @@ static JOURNALS: [(u64, u64, &[u8]); 5] = [
 ];
 
 #[test]
-fn a_failed_call_leaves_its_bytes_uncertain(rt: HostRuntime) -> Result<(), Fail> {
-    for (failing, call, journals) in JOURNALS {
-        let left = journals_after(rt.alloc(), failing, call)?;
+fn a_failed_call_leaves_its_bytes_uncertain(rt: HostRuntime) {
+    for &(failing, call, journals) in &JOURNALS {
+        let left = journals_after(&rt, rt.alloc(), failing, call);
         assert!(rt;
             left.as_slice() == journals,
             "failing {failing}, call {call}"
         );
     }
-    Ok(())
 }
 
 /// Returns the size of the journal, and its first three bytes.
-fn front<D: Disk>(disk: &mut D) -> Result<(u64, [u8; 3]), Fail> {
+fn front<D: Disk>(rt: &impl Abort, disk: &mut D) -> (u64, [u8; 3]) {
     let mut bytes = [0u8; 3];
-    disk.read(Area::Journal, 0, &mut bytes)?;
-    Ok((disk.size(Area::Journal)?, bytes))
+    disk.read(Area::Journal, 0, &mut bytes)
+        .expect(rt, "a device call");
+    (disk.size(Area::Journal).expect(rt, "a device call"), bytes)
 }
 
 #[test]
-fn a_write_is_read_back(rt: HostRuntime) -> Result<(), Fail> {
-    let mut disk = written_disk(rt.alloc())?;
-    assert!(rt; front(&mut disk)? == (5, *b"abX"));
+fn a_write_is_read_back(rt: HostRuntime) {
+    let mut disk = written_disk(&rt, rt.alloc());
+    assert!(rt; front(&rt, &mut disk) == (5, *b"abX"));
     assert!(rt; disk.calls() == 6);
-    Ok(())
 }

@@ -6,7 +6,7 @@ use crate::disks::{Filling, append_area, crashed, disk_of};
 use feed_disk::{Area, Disk, MemoryDisk};
 use feed_journal::{Framed, Log, LogFault};
 use std::alloc::Global;
-use std::test::Fail;
+use std::process::Abort;
 
 /// The area of the payloads `ab` and `c`.
 const TWO: [u8; 14] = [1, 0, 0, 0, 2, b'a', b'b', 1, 0, 0, 0, 1, b'c', 0];
@@ -23,21 +23,21 @@ pub enum Reached {
 }
 
 /// Loads the journal and appends a payload to it.
-pub fn append<D: Disk>(alloc: Global, disk: &mut D, payload: &[u8]) -> Result<Reached, Fail>
+pub fn append<D: Disk>(rt: &impl Abort, alloc: Global, disk: &mut D, payload: &[u8]) -> Reached
     requires { length payload.now ≤ 100 }
 {
-    let framed = Framed::of(alloc, payload)?;
+    let framed = Framed::of(alloc, payload).expect(rt, "memory");
     let Ok(mut log) = Log::load(alloc, disk, Area::Journal) else {
-        return Ok(Reached::Nothing);
+        return Reached::Nothing;
     };
-    log.reserve()?;
+    log.reserve().expect(rt, "memory");
     if log.len() > 100 || !log.fits(&framed, CAPACITY) {
-        return Ok(Reached::Nothing);
+        return Reached::Nothing;
     }
     if log.append(disk, &framed).is_err() {
-        return Ok(Reached::Loaded);
+        return Reached::Loaded;
     }
-    Ok(Reached::Appended)
+    Reached::Appended
 }
 
 /// A log as its calls show it.
@@ -67,25 +67,25 @@ pub fn show_log<D: Disk>(alloc: Global, disk: &mut D) -> Result<Shown, LogFault>
 }
 
 /// Returns the payloads of an area, each followed by `/`.
-fn payloads_of(alloc: Global, area: &[u8]) -> Result<Vec<u8>, Fail> {
-    let mut disk = disk_of(alloc, area, [0, 0])?;
-    Ok(show_log(alloc, &mut disk)?.payloads)
+fn payloads_of(rt: &impl Abort, alloc: Global, area: &[u8]) -> Vec<u8> {
+    let mut disk = disk_of(rt, alloc, area, [0, 0]);
+    show_log(alloc, &mut disk).expect(rt, "a log").payloads
 }
 
 #[test]
-fn a_load_finds_the_payloads(rt: HostRuntime) -> Result<(), Fail> {
+fn a_load_finds_the_payloads(rt: HostRuntime) {
     let mut all = Vec::new(rt.alloc());
     for size in 0..=TWO.len() {
-        all.extend_from_slice(&payloads_of(rt.alloc(), &TWO[..size])?)?;
-        all.push(b' ')?;
+        all.extend_from_slice(&payloads_of(&rt, rt.alloc(), &TWO[..size]))
+            .expect(&rt, "memory");
+        all.push(b' ').expect(&rt, "memory");
     }
     // A payload is found once its last byte has a byte after it.
     assert!(rt; all.as_slice() == b"        ab/ ab/ ab/ ab/ ab/ ab/ ab/c/ ".as_slice());
-    Ok(())
 }
 
 #[test]
-fn a_closed_gate_or_a_long_payload_ends_the_list(rt: HostRuntime) -> Result<(), Fail> {
+fn a_closed_gate_or_a_long_payload_ends_the_list(rt: HostRuntime) {
     let mut all = Vec::new(rt.alloc());
     // The two gates become 0 and 2. Then the second length becomes 2, past the area's end, and 67,108,865.
     for (offset, byte) in [(0, 0), (0, 2), (7, 0), (7, 2), (11, 2), (8, 4)] {
@@ -93,90 +93,90 @@ fn a_closed_gate_or_a_long_payload_ends_the_list(rt: HostRuntime) -> Result<(), 
         if let Some(old) = area.get_mut(offset) {
             *old = byte;
         }
-        all.extend_from_slice(&payloads_of(rt.alloc(), &area)?)?;
-        all.push(b' ')?;
+        all.extend_from_slice(&payloads_of(&rt, rt.alloc(), &area))
+            .expect(&rt, "memory");
+        all.push(b' ').expect(&rt, "memory");
     }
     assert!(rt; all.as_slice() == b"  ab/ ab/ ab/ ab/ ".as_slice());
-    Ok(())
 }
 
 #[test]
-fn a_log_counts_its_bytes_and_its_calls(rt: HostRuntime) -> Result<(), Fail> {
-    let mut disk = disk_of(rt.alloc(), &TWO, [0, 0])?;
-    let log = show_log(rt.alloc(), &mut disk)?;
+fn a_log_counts_its_bytes_and_its_calls(rt: HostRuntime) {
+    let mut disk = disk_of(&rt, rt.alloc(), &TWO, [0, 0]);
+    let log = show_log(rt.alloc(), &mut disk).expect(&rt, "a log");
     assert!(rt; (log.size, log.calls) == (14, 6));
-    Ok(())
 }
 
 /// Returns the journal after appends of `ab` and `c`, and `/`.
-fn appended<D: Disk>(alloc: Global, disk: &mut D) -> Result<Vec<u8>, Fail> {
+fn appended<D: Disk>(rt: &impl Abort, alloc: Global, disk: &mut D) -> Vec<u8> {
     let mut bytes = Vec::new(alloc);
-    append(alloc, disk, b"ab")?;
-    append(alloc, disk, b"c")?;
-    append_area(&mut bytes, disk, Area::Journal)?;
-    Ok(bytes)
+    append(rt, alloc, disk, b"ab");
+    append(rt, alloc, disk, b"c");
+    append_area(rt, &mut bytes, disk, Area::Journal);
+    bytes
 }
 
 #[test]
-fn an_append_has_these_bytes(rt: HostRuntime) -> Result<(), Fail> {
-    let mut disk = disk_of(rt.alloc(), b"", [0, 0])?;
-    let bytes = appended(rt.alloc(), &mut disk)?;
+fn an_append_has_these_bytes(rt: HostRuntime) {
+    let mut disk = disk_of(&rt, rt.alloc(), b"", [0, 0]);
+    let bytes = appended(&rt, rt.alloc(), &mut disk);
     assert!(rt; bytes.as_slice() == b"\x01\x00\x00\x00\x02ab\x01\x00\x00\x00\x01c\x00/".as_slice());
-    Ok(())
 }
 
 #[test]
-fn a_payload_has_this_form(rt: HostRuntime) -> Result<(), Fail> {
-    let framed = Framed::of(rt.alloc(), b"de")?;
+fn a_payload_has_this_form(rt: HostRuntime) {
+    let framed = Framed::of(rt.alloc(), b"de").expect(&rt, "memory");
     assert!(rt; (framed.needed(), framed.length()) == (7, 2));
     assert!(rt; framed.tail() == b"\x00\x00\x00\x02de\x00".as_slice());
-    Ok(())
 }
 
 /// Appends the payloads that a load finds, `+`, and those that a load finds after a further append of `c`.
-fn recover<D: Disk>(alloc: Global, all: &mut Vec<u8>, disk: &mut D) -> Result<(), Fail> {
-    all.extend_from_slice(&show_log(alloc, disk)?.payloads)?;
-    append(alloc, disk, b"c")?;
-    all.push(b'+')?;
-    all.extend_from_slice(&show_log(alloc, disk)?.payloads)?;
-    Ok(())
+fn recover<D: Disk>(rt: &impl Abort, alloc: Global, all: &mut Vec<u8>, disk: &mut D) {
+    all.extend_from_slice(&show_log(alloc, disk).expect(rt, "a log").payloads)
+        .expect(rt, "a log");
+    append(rt, alloc, disk, b"c");
+    all.push(b'+').expect(rt, "memory");
+    all.extend_from_slice(&show_log(alloc, disk).expect(rt, "a log").payloads)
+        .expect(rt, "a log");
 }
 
 /// Does so on the disk that a crash leaves.
 fn recover_image(
+    rt: &impl Abort,
     alloc: Global,
     all: &mut Vec<u8>,
     disk: &MemoryDisk,
     call: u64,
     filling: Filling,
-) -> Result<(), Fail> {
-    let mut left = crashed(alloc, disk, call, filling)?;
-    recover(alloc, all, &mut left)
+) {
+    let mut left = crashed(rt, alloc, disk, call, filling);
+    recover(rt, alloc, all, &mut left)
 }
 
 /// Does so for three choices.
 fn recover_images(
+    rt: &impl Abort,
     alloc: Global,
     all: &mut Vec<u8>,
     disk: &mut MemoryDisk,
     call: u64,
-) -> Result<(), Fail> {
-    append(alloc, disk, b"ab")?;
-    recover_image(alloc, all, disk, call, Filling::Old)?;
-    recover_image(alloc, all, disk, call, Filling::New)?;
-    recover_image(alloc, all, disk, call, Filling::Fill(165))
+) {
+    append(rt, alloc, disk, b"ab");
+    recover_image(rt, alloc, all, disk, call, Filling::Old);
+    recover_image(rt, alloc, all, disk, call, Filling::New);
+    recover_image(rt, alloc, all, disk, call, Filling::Fill(165))
 }
 
 /// Returns what a crash within a device call leaves of an append of `ab` to an empty disk.
-fn recovered(alloc: Global, call: u64) -> Result<Vec<u8>, Fail> {
+fn recovered(rt: &impl Abort, alloc: Global, call: u64) -> Vec<u8> {
     let mut all = Vec::new(alloc);
-    let mut disk = disk_of(alloc, b"", [0, 0])?;
-    recover_images(alloc, &mut all, &mut disk, call)?;
-    Ok(all)
+    let mut disk = disk_of(rt, alloc, b"", [0, 0]);
+    recover_images(rt, alloc, &mut all, &mut disk, call);
+    all
 }
 
 #[test]
-fn a_crash_leaves_the_list_before_or_after(rt: HostRuntime) -> Result<(), Fail> {
+fn a_crash_leaves_the_list_before_or_after(rt: HostRuntime) {
     // The load makes the device calls 1 to 4, and the append 5 to 8.
     let cases: [(u64, &[u8]); 4] = [
         (5, b"+c/+c/+c/"),
@@ -186,29 +186,28 @@ fn a_crash_leaves_the_list_before_or_after(rt: HostRuntime) -> Result<(), Fail> 
     ];
     for (call, lists) in cases {
         assert!(rt;
-            recovered(rt.alloc(), call)?.as_slice() == lists,
+            recovered(&rt, rt.alloc(), call).as_slice() == lists,
             "call {call}"
         );
     }
-    Ok(())
 }
 
 /// How far an append of `ab` to an empty disk comes if a device call fails, and the payloads that a load then
 /// finds.
-fn append_failing(alloc: Global, call: u64) -> Result<(Reached, Vec<u8>), Fail> {
-    let mut disk = disk_of(alloc, b"", [call, 0])?;
-    append_and_show(alloc, &mut disk)
+fn append_failing(rt: &impl Abort, alloc: Global, call: u64) -> (Reached, Vec<u8>) {
+    let mut disk = disk_of(rt, alloc, b"", [call, 0]);
+    append_and_show(rt, alloc, &mut disk)
 }
 
-fn append_and_show<D: Disk>(alloc: Global, disk: &mut D) -> Result<(Reached, Vec<u8>), Fail> {
-    let reached = append(alloc, disk, b"ab")?;
-    Ok((reached, show_log(alloc, disk)?.payloads))
+fn append_and_show<D: Disk>(rt: &impl Abort, alloc: Global, disk: &mut D) -> (Reached, Vec<u8>) {
+    let reached = append(rt, alloc, disk, b"ab");
+    (reached, show_log(alloc, disk).expect(rt, "a log").payloads)
 }
 
 #[test]
-fn each_device_call_of_an_append_may_fail(rt: HostRuntime) -> Result<(), Fail> {
+fn each_device_call_of_an_append_may_fail(rt: HostRuntime) {
     for call in 1u64..9 {
-        let (reached, found) = append_failing(rt.alloc(), call)?;
+        let (reached, found) = append_failing(&rt, rt.alloc(), call);
         // Call 7 writes the gate, and call 8 syncs it.
         let wanted = match call {
             1..=4 => (Reached::Nothing, b"".as_slice()),
@@ -217,19 +216,17 @@ fn each_device_call_of_an_append_may_fail(rt: HostRuntime) -> Result<(), Fail> {
         };
         assert!(rt; (reached, found.as_slice()) == wanted, "call {call}");
     }
-    Ok(())
 }
 
 #[test]
-fn a_failed_call_of_a_load_or_a_read_is_a_disk_fault(rt: HostRuntime) -> Result<(), Fail> {
+fn a_failed_call_of_a_load_or_a_read_is_a_disk_fault(rt: HostRuntime) {
     let alloc = rt.alloc();
     // The load makes the device calls 1 to 4, and the reads 5 and 6.
     for call in 1u64..7 {
-        let mut disk = disk_of(alloc, &TWO, [call, 0])?;
+        let mut disk = disk_of(&rt, alloc, &TWO, [call, 0]);
         assert!(rt;
             show_log(alloc, &mut disk).err() == Some(LogFault::DiskFault),
             "call {call}"
         );
     }
-    Ok(())
 }

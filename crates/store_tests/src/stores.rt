@@ -129,7 +129,7 @@ const SHOWN: [Shown; 3] = [
 #[test]
 fn tells_its_counts(rt: HostRuntime) -> Result<(), Fail> {
     let alloc = rt.alloc();
-    let mut disk = disk_of(alloc, b"", [0, 0])?;
+    let mut disk = disk_of(&rt, alloc, b"", [0, 0]);
     let (shown, made) = steps(alloc, &mut disk, &head(&rt, alloc))?;
     assert!(rt; shown == SHOWN);
     assert!(rt; made == [(1, 1, 1), (2, 2, 2)]);
