@@ -14,7 +14,7 @@ use Rattle.atom_values.specs.DateFormula.{offset_length, year_in, month_in, day_
 use Rattle.atom_values.specs.DateFormula.{stamp_at, value_of_parts, value_of, two_digits}
 use Rattle.atom_values.specs.Stamp.{IsStamp, fixed_digits}
 use Rattle.atom_values.specs.DateText.{Offset, utc, ahead, behind, offset_text, IsOffset, Parts, fraction_part, text_of}
-use Rattle.atom_values.specs.DateText.{IsParts, moment_of, States}
+use Rattle.atom_values.specs.DateText.{IsParts, date_time_text, moment_of, States}
 use Rattle.atom_values.proofs.CalendarLemmas.{is_date_parts}
 use Rattle.atom_values.proofs.DateFormLemmas.{two_back, four_back, le_tested}
 use Rattle.atom_values.proofs.DateTextLemmas.{value_of-text_of}
@@ -275,9 +275,45 @@ date_facts year month day y m d e f g h =
 joined : (a x b y c z : List ℕ) → a ≡ x → b ≡ y → c ≡ z → a ++ (b ++ c) ≡ x ++ (y ++ z)
 joined a x b y c z e f g = cc
 
+-- three pieces with their parts
+assembled : (date_time fraction offset : List ℕ) (d : IsDateTime date_time) (f : IsFractionText fraction)
+    (o : IsOffsetText offset) → is_date (year_in date_time) (month_in date_time) (day_in date_time) ≡ true →
+    hour_in date_time ≤ 23 → minute_in date_time ≤ 59 → second_in date_time ≤ 60 →
+    IsDateText (date_time ++ (fraction ++ offset))
+unfolding text_of
+assembled date_time fraction offset d f o date hour minute second =
+    let read = read_back date_time d.year d.month d.day d.hour d.minute d.second d.is d.year_small d.month_small
+    d.day_small d.hour_small d.minute_small d.second_small in
+    let valid = date_facts d.year d.month d.day (year_in date_time) (month_in date_time)
+    (day_in date_time) read.0 read.1 read.2 date in
+    let parts : Parts = record {
+      year = d.year;
+      month = d.month;
+      day = d.day;
+      hour = d.hour;
+      minute = d.minute;
+      second = d.second;
+      fraction = f.digits;
+      offset = o.offset;
+    } in
+    record {
+      parts = parts;
+      are = record {
+        year_in = omega (arith, d.year_small);
+        month_in = (valid.0, valid.1);
+        day_in = (valid.2, valid.3);
+        hour_in = omega (arith, read.3, hour);
+        minute_in = omega (arith, read.4, minute);
+        second_in = omega (arith, read.5, second);
+        digits = f.all;
+        offset_in = o.offset_in;
+      };
+      is = joined date_time (date_time_text parts) fraction (fraction_part f.digits) offset (offset_text o.offset)
+          d.is f.is o.is;
+    }
+
 pieces : (date_time fraction offset : List ℕ) → is_date_time date_time ≡ true → is_fraction fraction ≡ true →
     is_offset offset ≡ true → IsDateText (date_time ++ (fraction ++ offset))
-unfolding text_of
 pieces date_time fraction offset a b c =
     let form = has_form date_time (codes "0000-00-00T00:00:00") in
     let date = is_date (year_in date_time) (month_in date_time) (day_in date_time) in
@@ -286,37 +322,9 @@ pieces date_time fraction offset a b c =
     let fourth = and_both (form && date && nat_le (hour_in date_time) 23) (nat_le (minute_in date_time) 59) fifth.0 in
     let third = and_both (form && date) (nat_le (hour_in date_time) 23) fourth.0 in
     let second = and_both form date third.0 in
-    let d = date_time_parts date_time second.0 in
-    let f = fraction_parts fraction b in
-    let o = offset_parts offset c in
-    let read = read_back date_time d.year d.month d.day d.hour d.minute d.second d.is d.year_small d.month_small
-    d.day_small d.hour_small d.minute_small d.second_small in
-    let valid = date_facts d.year d.month d.day (year_in date_time) (month_in date_time)
-    (day_in date_time) read.0 read.1 read.2 second.1 in
-    record {
-      parts = record {
-        year = d.year;
-        month = d.month;
-        day = d.day;
-        hour = d.hour;
-        minute = d.minute;
-        second =
-            d.second;
-        fraction = f.digits;
-        offset = o.offset;
-      };
-      are = record {
-        year_in = omega (arith, d.year_small);
-        month_in = (valid.0, valid.1);
-        day_in = (valid.2, valid.3);
-        hour_in = omega (arith, read.3, le_tested (hour_in date_time) 23 third.1);
-        minute_in = omega (arith, read.4, le_tested (minute_in date_time) 59 fourth.1);
-        second_in = omega (arith, read.5, le_tested (second_in date_time) 60 fifth.1);
-        digits = f.all;
-        offset_in = o.offset_in;
-      };
-      is = joined date_time _ fraction (fraction_part f.digits) offset (offset_text o.offset) d.is f.is o.is;
-    }
+    assembled date_time fraction offset (date_time_parts date_time second.0) (fraction_parts fraction b)
+    (offset_parts offset c) second.1 (le_tested (hour_in date_time) 23 third.1)
+    (le_tested (minute_in date_time) 59 fourth.1) (le_tested (second_in date_time) 60 fifth.1)
 
 taken : (text : List ℕ) (n : ℕ) → text ≡ take 19 text ++ (take n (drop 19 text) ++ drop n (drop 19 text))
 taken text n = rw (take-append-drop n (drop 19 text)) (sym (take-append-drop 19 text))

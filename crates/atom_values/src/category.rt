@@ -1,4 +1,4 @@
-use crate::copies::Copies;
+use crate::copies::{Copies, copy_three};
 use crate::memory::NoMemory;
 use crate::text::AtomText;
 use std::alloc::Global;
@@ -17,10 +17,11 @@ impl Copies for Category {
     ghost rules = { IsCategory };
 
     fn copy(&self, alloc: Global) -> Result<Category, NoMemory> {
+        let (term, scheme, label) = copy_three(&self.term, &self.scheme, &self.label, alloc)?;
         Ok(Category {
-            term: self.term.copy(alloc)?,
-            scheme: self.scheme.copy(alloc)?,
-            label: self.label.copy(alloc)?,
+            term,
+            scheme,
+            label,
         })
     }
 }

@@ -17,6 +17,55 @@ pub trait Copies {
         ensures rules { OnOk result (rules self.now) };
 }
 
+/// Copies of two values. `NoMemory` if there is no memory for one of them.
+pub(crate) fn copy_both<A: Copies + Drop, B: Copies + Drop>(
+    first: &A,
+    second: &B,
+    alloc: Global,
+) -> Result<(A, B), NoMemory>
+    ensures same { IfOk result (λ both. (A.copied both.0 ≡ A.copied first.now)
+        × (B.copied both.1 ≡ B.copied second.now)) }
+    ensures rules { OnOk result (A.rules first.now × B.rules second.now) }
+{
+    let first = first.copy(alloc)?;
+    let second = second.copy(alloc)?;
+    Ok((first, second))
+}
+
+/// Copies of three values. `NoMemory` if there is no memory for one of them.
+pub(crate) fn copy_three<A: Copies + Drop, B: Copies + Drop, C: Copies + Drop>(
+    first: &A,
+    second: &B,
+    third: &C,
+    alloc: Global,
+) -> Result<(A, B, C), NoMemory>
+    ensures same { IfOk result (λ all. (A.copied all.0 ≡ A.copied first.now)
+        × (B.copied all.1 ≡ B.copied second.now) × (C.copied all.2 ≡ C.copied third.now)) }
+    ensures rules { OnOk result (A.rules first.now × B.rules second.now × C.rules third.now) }
+{
+    let (first, second) = copy_both(first, second, alloc)?;
+    let third = third.copy(alloc)?;
+    Ok((first, second, third))
+}
+
+/// Copies of four values. `NoMemory` if there is no memory for one of them.
+pub(crate) fn copy_four<A: Copies + Drop, B: Copies + Drop, C: Copies + Drop, D: Copies + Drop>(
+    first: &A,
+    second: &B,
+    third: &C,
+    fourth: &D,
+    alloc: Global,
+) -> Result<(A, B, C, D), NoMemory>
+    ensures same { IfOk result (λ all. (A.copied all.0 ≡ A.copied first.now)
+        × (B.copied all.1 ≡ B.copied second.now) × (C.copied all.2 ≡ C.copied third.now)
+        × (D.copied all.3 ≡ D.copied fourth.now)) }
+    ensures rules { OnOk result (A.rules first.now × B.rules second.now × C.rules third.now × D.rules fourth.now) }
+{
+    let (first, second) = copy_both(first, second, alloc)?;
+    let (third, fourth) = copy_both(third, fourth, alloc)?;
+    Ok((first, second, third, fourth))
+}
+
 impl<T: Copies> Copies for Option<T> {
     ghost use Rattle.std.specs.Prelude.{IfSome};
     ghost use Rattle.std.specs.Option.{option_map};

@@ -3,7 +3,7 @@ ghost use Rattle.atom_values.specs.Entry.{shown_content};
 ghost use Rattle.atom_values.specs.Link.{has_alternate, without_edit};
 
 use crate::category::Category;
-use crate::copies::Copies;
+use crate::copies::{Copies, copy_both, copy_four, copy_three};
 use crate::link::Link;
 use crate::many::Many;
 use crate::memory::NoMemory;
@@ -201,18 +201,33 @@ impl Copies for Draft {
     ghost rules = { IsDraft };
 
     fn copy(&self, alloc: Global) -> Result<Draft, NoMemory> {
+        let (updated, published) = copy_both(&self.updated, &self.published, alloc)?;
+        let (id, title) = copy_both(&self.id, &self.title, alloc)?;
+        let (authors, contributors, links, categories) = copy_four(
+            &self.authors,
+            &self.contributors,
+            &self.links,
+            &self.categories,
+            alloc,
+        )?;
+        let (rights, summary, content) = copy_three(
+            &self.rights,
+            &self.summary,
+            &self.content,
+            alloc,
+        )?;
         Ok(Draft {
-            id: self.id.copy(alloc)?,
-            title: self.title.copy(alloc)?,
-            updated: self.updated.copy(alloc)?,
-            published: self.published.copy(alloc)?,
-            authors: self.authors.copy(alloc)?,
-            contributors: self.contributors.copy(alloc)?,
-            links: self.links.copy(alloc)?,
-            categories: self.categories.copy(alloc)?,
-            rights: self.rights.copy(alloc)?,
-            summary: self.summary.copy(alloc)?,
-            content: self.content.copy(alloc)?,
+            id,
+            title,
+            updated,
+            published,
+            authors,
+            contributors,
+            links,
+            categories,
+            rights,
+            summary,
+            content,
         })
     }
 }
@@ -223,19 +238,35 @@ impl Copies for Entry {
     ghost rules = { IsEntry };
 
     fn copy(&self, alloc: Global) -> Result<Entry, NoMemory> {
+        let (number, edited) = copy_both(&self.number, &self.edited, alloc)?;
+        let (updated, published) = copy_both(&self.updated, &self.published, alloc)?;
+        let title = self.title.copy(alloc)?;
+        let (authors, contributors, links, categories) = copy_four(
+            &self.authors,
+            &self.contributors,
+            &self.links,
+            &self.categories,
+            alloc,
+        )?;
+        let (rights, summary, content) = copy_three(
+            &self.rights,
+            &self.summary,
+            &self.content,
+            alloc,
+        )?;
         Ok(Entry {
-            number: self.number.copy(alloc)?,
-            edited: self.edited.copy(alloc)?,
-            title: self.title.copy(alloc)?,
-            updated: self.updated.copy(alloc)?,
-            published: self.published.copy(alloc)?,
-            authors: self.authors.copy(alloc)?,
-            contributors: self.contributors.copy(alloc)?,
-            links: self.links.copy(alloc)?,
-            categories: self.categories.copy(alloc)?,
-            rights: self.rights.copy(alloc)?,
-            summary: self.summary.copy(alloc)?,
-            content: self.content.copy(alloc)?,
+            number,
+            edited,
+            title,
+            updated,
+            published,
+            authors,
+            contributors,
+            links,
+            categories,
+            rights,
+            summary,
+            content,
         })
     }
 }

@@ -1,7 +1,7 @@
 ghost use Rattle.std.specs.Prelude.{◌≡◌};
 ghost use Rattle.atom_values.specs.Link.{has_relation};
 
-use crate::copies::Copies;
+use crate::copies::{Copies, copy_three};
 use crate::memory::NoMemory;
 use crate::text::AtomText;
 use std::alloc::Global;
@@ -33,13 +33,20 @@ impl Copies for Link {
     ghost rules = { IsLink };
 
     fn copy(&self, alloc: Global) -> Result<Link, NoMemory> {
+        let (href, rel, media) = copy_three(&self.href, &self.rel, &self.media, alloc)?;
+        let (hreflang, title, length) = copy_three(
+            &self.hreflang,
+            &self.title,
+            &self.length,
+            alloc,
+        )?;
         Ok(Link {
-            href: self.href.copy(alloc)?,
-            rel: self.rel.copy(alloc)?,
-            media: self.media.copy(alloc)?,
-            hreflang: self.hreflang.copy(alloc)?,
-            title: self.title.copy(alloc)?,
-            length: self.length.copy(alloc)?,
+            href,
+            rel,
+            media,
+            hreflang,
+            title,
+            length,
         })
     }
 }

@@ -75,6 +75,14 @@ impl<T, const MAX: u32> Many<T, MAX> {
         self.items.as_slice()
     }
 
+    /// The items, without a copy.
+    pub fn into_vec(self) -> Vec<T>
+        ensures items { result.items ≡ self.items }
+        ensures within { length self.items ≤ MAX }
+    {
+        self.items
+    }
+
     /// The item at an index from 0, or `None` past the end.
     pub fn get(&self, at: usize) -> Option<&T>
         ensures { option_copied result ≡ slice_get self.now.items at }

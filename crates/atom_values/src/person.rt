@@ -1,4 +1,4 @@
-use crate::copies::Copies;
+use crate::copies::{Copies, copy_three};
 use crate::memory::NoMemory;
 use crate::text::AtomText;
 use std::alloc::Global;
@@ -17,10 +17,7 @@ impl Copies for Person {
     ghost rules = { IsPerson };
 
     fn copy(&self, alloc: Global) -> Result<Person, NoMemory> {
-        Ok(Person {
-            name: self.name.copy(alloc)?,
-            uri: self.uri.copy(alloc)?,
-            email: self.email.copy(alloc)?,
-        })
+        let (name, uri, email) = copy_three(&self.name, &self.uri, &self.email, alloc)?;
+        Ok(Person { name, uri, email })
     }
 }

@@ -31,11 +31,15 @@ impl Copies for FeedName {
     ghost rules = { λ name. IsFeedName name };
 
     fn copy(&self, alloc: Global) -> Result<FeedName, NoMemory> {
+        let id = self.id.copy(alloc)?;
+        let base = self.base.copy(alloc)?;
+        let title = self.title.copy(alloc)?;
+        let author = self.author.copy(alloc)?;
         Ok(FeedName {
-            base: self.base.copy(alloc)?,
-            id: self.id.copy(alloc)?,
-            title: self.title.copy(alloc)?,
-            author: self.author.copy(alloc)?,
+            base,
+            id,
+            title,
+            author,
         })
     }
 }
@@ -180,16 +184,19 @@ impl Copies for Doc {
     ghost rules = { λ doc. IsDoc doc };
 
     fn copy(&self, alloc: Global) -> Result<Doc, NoMemory> {
+        let first = self.span.first.copy(alloc)?;
+        let last = self.span.last.copy(alloc)?;
+        let prev = self.prev.copy(alloc)?;
+        let updated = self.updated.copy(alloc)?;
+        let name = self.name.copy(alloc)?;
+        let items = self.items.copy(alloc)?;
         Ok(Doc {
-            name: self.name.copy(alloc)?,
+            name,
             kind: self.kind,
-            span: Span {
-                first: self.span.first.copy(alloc)?,
-                last: self.span.last.copy(alloc)?,
-            },
-            prev: self.prev.copy(alloc)?,
-            updated: self.updated.copy(alloc)?,
-            items: self.items.copy(alloc)?,
+            span: Span { first, last },
+            prev,
+            updated,
+            items,
         })
     }
 }

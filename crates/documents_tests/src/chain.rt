@@ -12,7 +12,6 @@ use deleted_entries::Item;
 use member_rules::{Head, Op, State, plain_count, plain_state};
 use std::alloc::Global;
 use std::process::Abort;
-use std::test::Fail;
 
 /// What the newest item of a member says: its entry's `updated`, or when it was deleted.
 #[derive(Clone, Copy, Debug, PartialEq, Eq)]
@@ -37,12 +36,14 @@ fn note(newest: &mut [Newest], doc: &Doc) {
 }
 
 /// Walks the chain of the history, and returns what it says of each member.
-fn walked(rt: &impl Abort, alloc: Global, head: &Head, history: &[Op]) -> Result<Vec<Newest>, Fail>
+fn walked(rt: &impl Abort, alloc: Global, head: &Head, history: &[Op]) -> Vec<Newest>
     requires { length history.now ≤ 1_000 }
 {
-    let mut newest = vec![in alloc; Newest::None; plain_count(history) as usize]?;
+    let mut newest = vec![in alloc; Newest::None; plain_count(history) as usize].expect(
+        rt, "memory",
+    );
     let full = full_windows(head, history);
-    let mut newer = subscription(alloc, head, history)?;
+    let mut newer = subscription(alloc, head, history).expect(rt, "memory");
     note(&mut newest, &newer);
     for _ in history {
         let number = newer.prev;
@@ -50,50 +51,51 @@ fn walked(rt: &impl Abort, alloc: Global, head: &Head, history: &[Op]) -> Result
             break;
         }
         assert!(rt; number <= full);
-        let older = archive(alloc, head, history, number)?;
+        let older = archive(alloc, head, history, number).expect(rt, "memory");
         assert!(rt; follows(&older.place(), &newer.place()));
         note(&mut newest, &older);
         newer = older;
     }
     assert!(rt; newer.span.first == 1);
-    Ok(newest)
+    newest
 }
 
 /// What the fold says of each member, by a look at each operation.
-fn folded(alloc: Global, history: &[Op]) -> Result<Vec<Newest>, Fail>
+fn folded(rt: &impl Abort, alloc: Global, history: &[Op]) -> Vec<Newest>
     requires { length history.now ≤ 1_000 }
 {
     let mut states = Vec::new(alloc);
     for before in 0..plain_count(history) {
-        states.push(match plain_state(history, before + 1) {
-            State::Never => Newest::None,
-            State::Live { updated, .. } => Newest::Kept(updated),
-            State::Gone { when } => Newest::Gone(when),
-        })?;
+        states
+            .push(match plain_state(history, before + 1) {
+                State::Never => Newest::None,
+                State::Live { updated, .. } => Newest::Kept(updated),
+                State::Gone { when } => Newest::Gone(when),
+            })
+            .expect(rt, "memory");
     }
-    Ok(states)
+    states
 }
 
 #[test]
-fn the_chain_of_every_prefix_shows_the_fold(rt: HostRuntime) -> Result<(), Fail> {
+fn the_chain_of_every_prefix_shows_the_fold(rt: HostRuntime) {
     let alloc = rt.alloc();
-    let mut feed = empty(alloc)?;
+    let mut feed = empty(&rt, alloc);
     let mut seed = 7;
     for step in 0..120 {
         seed = next(seed);
         let number = ((seed >> 33) % (u64::from(feed.members.count()) + 1)) as u32;
-        let ask = some_ask(alloc, seed, number)?;
-        apply(&rt, &mut feed, ask, step)?;
+        let ask = some_ask(&rt, alloc, seed, number);
+        apply(&rt, &mut feed, ask, step);
         let history = feed.history.as_slice();
         assert!(rt; history.len() <= 1_000);
         for window in [1u8, 2, 3, 7, 100] {
-            let head = head(alloc, window)?;
-            let shown = walked(&rt, alloc, &head, history)?;
+            let head = head(&rt, alloc, window);
+            let shown = walked(&rt, alloc, &head, history);
             assert!(rt;
-                shown.as_slice() == folded(alloc, history)?.as_slice(),
+                shown.as_slice() == folded(&rt, alloc, history).as_slice(),
                 "{window}"
             );
         }
     }
-    Ok(())
 }

@@ -3,7 +3,6 @@ use atom_values::{AtomText, Draft, Stamp};
 use member_rules::{CodecFault, Op, head_bytes, op_bytes, read_head, read_op};
 use std::alloc::{AllocError, Global};
 use std::process::Abort;
-use std::test::Fail;
 
 /// An operation of the kind Add with each field.
 static ADD: &[u8] = b"\x01\
@@ -151,33 +150,33 @@ fn changed(alloc: Global, bytes: &[u8], change: &Change) -> Result<Vec<u8>, Allo
 }
 
 /// The offset at which the bytes are refused as an operation, or `None` if they are read and written back as they were.
-fn operation_refusal(rt: &impl Abort, alloc: Global, bytes: &[u8]) -> Result<Option<usize>, Fail> {
+fn operation_refusal(rt: &impl Abort, alloc: Global, bytes: &[u8]) -> Option<usize> {
     match read_op(alloc, bytes) {
         Ok(operation) => {
-            let written = op_bytes(alloc, &operation)?;
+            let written = op_bytes(alloc, &operation).expect(rt, "memory");
             assert!(rt; written.as_slice() == bytes);
-            Ok(None)
+            None
         }
-        Err(CodecFault::BadField { at }) => Ok(Some(at)),
+        Err(CodecFault::BadField { at }) => Some(at),
         Err(CodecFault::NoMemory) => panic!(rt; "out of memory"),
     }
 }
 
 /// The same of a head.
-fn head_refusal(rt: &impl Abort, alloc: Global, bytes: &[u8]) -> Result<Option<usize>, Fail> {
+fn head_refusal(rt: &impl Abort, alloc: Global, bytes: &[u8]) -> Option<usize> {
     match read_head(alloc, bytes) {
         Ok(head) => {
-            let written = head_bytes(alloc, &head)?;
+            let written = head_bytes(alloc, &head).expect(rt, "memory");
             assert!(rt; written.as_slice() == bytes);
-            Ok(None)
+            None
         }
-        Err(CodecFault::BadField { at }) => Ok(Some(at)),
+        Err(CodecFault::BadField { at }) => Some(at),
         Err(CodecFault::NoMemory) => panic!(rt; "out of memory"),
     }
 }
 
 #[test]
-fn refuses_a_changed_field_of_an_operation(rt: HostRuntime) -> Result<(), Fail> {
+fn refuses_a_changed_field_of_an_operation(rt: HostRuntime) {
     let alloc = rt.alloc();
     let cases: [(&[u8], &[Change]); 3] = [
         (ADD, &ADD_CHANGES),
@@ -185,40 +184,37 @@ fn refuses_a_changed_field_of_an_operation(rt: HostRuntime) -> Result<(), Fail> 
         (REMOVE, &REMOVE_CHANGES),
     ];
     for (bytes, changes) in cases {
-        assert!(rt; operation_refusal(&rt, alloc, bytes)? == None);
+        assert!(rt; operation_refusal(&rt, alloc, bytes) == None);
         for change in changes {
-            let made = changed(alloc, bytes, change)?;
-            let refusal = operation_refusal(&rt, alloc, made.as_slice())?;
+            let made = changed(alloc, bytes, change).expect(&rt, "memory");
+            let refusal = operation_refusal(&rt, alloc, made.as_slice());
             assert!(rt; refusal == change.3, "{} {:?}", change.0, change.2);
         }
     }
-    Ok(())
 }
 
 #[test]
-fn refuses_a_changed_field_of_a_head(rt: HostRuntime) -> Result<(), Fail> {
+fn refuses_a_changed_field_of_a_head(rt: HostRuntime) {
     let alloc = rt.alloc();
-    assert!(rt; head_refusal(&rt, alloc, HEAD)? == None);
+    assert!(rt; head_refusal(&rt, alloc, HEAD) == None);
     for change in &HEAD_CHANGES {
-        let made = changed(alloc, HEAD, change)?;
-        let refusal = head_refusal(&rt, alloc, made.as_slice())?;
+        let made = changed(alloc, HEAD, change).expect(&rt, "memory");
+        let refusal = head_refusal(&rt, alloc, made.as_slice());
         assert!(rt; refusal == change.3, "{} {:?}", change.0, change.2);
     }
-    Ok(())
 }
 
 #[test]
-fn refuses_each_prefix_at_its_last_field(rt: HostRuntime) -> Result<(), Fail> {
+fn refuses_each_prefix_at_its_last_field(rt: HostRuntime) {
     for end in 0..ADD.len() {
         let field = ADD_FIELDS
             .iter()
             .rev()
             .find(|start| **start <= end)
             .copied();
-        let refusal = operation_refusal(&rt, rt.alloc(), &ADD[..end])?;
+        let refusal = operation_refusal(&rt, rt.alloc(), &ADD[..end]);
         assert!(rt; refusal == field, "{end}");
     }
-    Ok(())
 }
 
 /// A title of this many bytes, as the last field before `rest`.
@@ -239,28 +235,26 @@ fn long_title(
 }
 
 #[test]
-fn texts_have_limits(rt: HostRuntime) -> Result<(), Fail> {
+fn texts_have_limits(rt: HostRuntime) {
     let alloc = rt.alloc();
     for (length, refused) in [(65_536, None), (65_537, Some(21))] {
-        let made = long_title(alloc, &CHANGE[..22], length, &CHANGE[27..])?;
-        assert!(rt; operation_refusal(&rt, alloc, made.as_slice())? == refused);
+        let made = long_title(alloc, &CHANGE[..22], length, &CHANGE[27..]).expect(&rt, "memory");
+        assert!(rt; operation_refusal(&rt, alloc, made.as_slice()) == refused);
     }
     for (length, refused) in [(1_024, None), (1_025, Some(41))] {
-        let made = long_title(alloc, &HEAD[..41], length, &HEAD[49..])?;
-        assert!(rt; head_refusal(&rt, alloc, made.as_slice())? == refused);
+        let made = long_title(alloc, &HEAD[..41], length, &HEAD[49..]).expect(&rt, "memory");
+        assert!(rt; head_refusal(&rt, alloc, made.as_slice()) == refused);
     }
-    Ok(())
 }
 
 /// The operation of the bytes of [`CHANGE`] is made by other calls, so it isn't the reader that says what they mean.
 #[test]
-fn writes_an_operation_that_was_made(rt: HostRuntime) -> Result<(), Fail> {
-    let title = AtomText::of(rt.alloc(), b"A")?;
+fn writes_an_operation_that_was_made(rt: HostRuntime) {
+    let title = AtomText::of(rt.alloc(), b"A").expect(&rt, "a text");
     let mut draft = Draft::titled(rt.alloc(), title);
     draft.updated = Stamp::new(1_700_000_001_000);
-    let edited = Stamp::new(1_700_000_000_000).ok_or("no moment")?;
+    let edited = Stamp::new(1_700_000_000_000).expect(&rt, "a moment");
     let operation = Op::Change(draft.normal(1, edited, None));
-    let written = op_bytes(rt.alloc(), &operation)?;
+    let written = op_bytes(rt.alloc(), &operation).expect(&rt, "memory");
     assert!(rt; written.as_slice() == CHANGE);
-    Ok(())
 }

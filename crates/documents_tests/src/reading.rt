@@ -4,7 +4,6 @@ use atom_writer::write_doc;
 use deleted_entries::Item;
 use std::alloc::Global;
 use std::process::Abort;
-use std::test::Fail;
 
 /// The pieces before the links, as each document below begins.
 const HEAD: &str = "<?xml version=\"1.0\" encoding=\"utf-8\"?>\n\
@@ -72,34 +71,27 @@ fn refusal(rt: &impl Abort, alloc: Global, text: &[u8]) -> Option<usize> {
 }
 
 #[test]
-fn reads_what_is_written(rt: HostRuntime) -> Result<(), Fail> {
+fn reads_what_is_written(rt: HostRuntime) {
     for text in [SUBSCRIPTION, ARCHIVE] {
         assert!(rt; text.len() <= MAX_DOCUMENT);
-        let doc = read_doc(rt.alloc(), text.as_bytes())?;
-        let written = write_doc(rt.alloc(), &doc)?;
+        let doc = read_doc(rt.alloc(), text.as_bytes()).expect(&rt, "a document");
+        let written = write_doc(rt.alloc(), &doc).expect(&rt, "memory");
         assert!(rt; written.as_slice() == text.as_bytes());
     }
-    Ok(())
 }
 
 /// A text to be replaced, its replacement, and the beginning of the piece that is then refused, if one is.
 type Change = (&'static str, &'static str, Option<&'static str>);
 
 /// Makes each change where its text is found first, and expects the refusal.
-fn expect_changes(
-    rt: &impl Abort,
-    alloc: Global,
-    text: &str,
-    changes: &[Change],
-) -> Result<(), Fail> {
+fn expect_changes(rt: &impl Abort, alloc: Global, text: &str, changes: &[Change]) {
     for (old, new, refused) in changes {
         assert!(rt; text.find(*old).is_some(), "{old}");
-        let changed = text.replacen(alloc, *old, new, 1)?;
+        let changed = text.replacen(alloc, *old, new, 1).expect(rt, "memory");
         let changed = changed.as_str();
         let expected = refused.and_then(|piece| changed.find(piece));
         assert!(rt; refusal(rt, alloc, changed.as_bytes()) == expected, "{new}");
     }
-    Ok(())
 }
 
 /// Spellings that XML or the standards read alike, and values that break a rule, outside the items.
@@ -255,10 +247,10 @@ static ARCHIVE_CHANGES: [Change; 12] = [
 ];
 
 #[test]
-fn refuses_a_changed_piece(rt: HostRuntime) -> Result<(), Fail> {
-    expect_changes(&rt, rt.alloc(), SUBSCRIPTION, &HEAD_CHANGES)?;
-    expect_changes(&rt, rt.alloc(), SUBSCRIPTION, &ENTRY_CHANGES)?;
-    expect_changes(&rt, rt.alloc(), ARCHIVE, &ARCHIVE_CHANGES)
+fn refuses_a_changed_piece(rt: HostRuntime) {
+    expect_changes(&rt, rt.alloc(), SUBSCRIPTION, &HEAD_CHANGES);
+    expect_changes(&rt, rt.alloc(), SUBSCRIPTION, &ENTRY_CHANGES);
+    expect_changes(&rt, rt.alloc(), ARCHIVE, &ARCHIVE_CHANGES);
 }
 
 /// The pieces between the author and the end of a document, and the beginning of the piece that is refused, if one is.
@@ -314,9 +306,9 @@ static LINES: [(&str, Option<&str>); 12] = [
 ];
 
 #[test]
-fn links_and_spans_fit_the_document(rt: HostRuntime) -> Result<(), Fail> {
+fn links_and_spans_fit_the_document(rt: HostRuntime) {
     for (lines, refused) in &LINES {
-        let text = format!(in rt.alloc(); "{HEAD}{lines}</feed>\n")?;
+        let text = format!(in rt.alloc(); "{HEAD}{lines}</feed>\n").expect(&rt, "memory");
         let text = text.as_str();
         let expected = refused.and_then(|piece| text.find(piece));
         assert!(rt;
@@ -324,7 +316,6 @@ fn links_and_spans_fit_the_document(rt: HostRuntime) -> Result<(), Fail> {
             "{lines}"
         );
     }
-    Ok(())
 }
 
 #[test]
@@ -342,10 +333,9 @@ fn refuses_each_prefix_at_the_piece_that_it_cuts(rt: HostRuntime) {
 }
 
 #[test]
-fn refuses_a_byte_after_the_document(rt: HostRuntime) -> Result<(), Fail> {
-    let text = format!(in rt.alloc(); "{SUBSCRIPTION}\n")?;
+fn refuses_a_byte_after_the_document(rt: HostRuntime) {
+    let text = format!(in rt.alloc(); "{SUBSCRIPTION}\n").expect(&rt, "memory");
     assert!(rt; refusal(&rt, rt.alloc(), text.as_bytes()) == Some(SUBSCRIPTION.len()));
-    Ok(())
 }
 
 /// An item of a list, the part of `SUBSCRIPTION` before which it may be repeated, and how often.
@@ -361,60 +351,60 @@ static REPEATED: [(&str, &str, u32); 4] = [
 ];
 
 #[test]
-fn lists_end_at_their_limits(rt: HostRuntime) -> Result<(), Fail> {
+fn lists_end_at_their_limits(rt: HostRuntime) {
     let at = SUBSCRIPTION.find("<entry>");
     for (part, before, limit) in &REPEATED {
         for (count, expected) in [(*limit, None), (limit.saturating_add(1), at)] {
             let mut parts = String::new(rt.alloc());
             for _ in 0..count {
-                parts.push_str(part)?;
+                parts.push_str(part).expect(&rt, "memory");
             }
-            parts.push_str(before)?;
-            let text = SUBSCRIPTION.replacen(rt.alloc(), *before, parts.as_str(), 1)?;
+            parts.push_str(before).expect(&rt, "memory");
+            let text = SUBSCRIPTION
+                .replacen(rt.alloc(), *before, parts.as_str(), 1)
+                .expect(&rt, "memory");
             assert!(rt;
                 refusal(&rt, rt.alloc(), text.as_bytes()) == expected,
                 "{count} of {part}"
             );
         }
     }
-    Ok(())
 }
 
 #[test]
-fn reads_a_hundred_items(rt: HostRuntime) -> Result<(), Fail> {
+fn reads_a_hundred_items(rt: HostRuntime) {
     let mut text = String::new(rt.alloc());
-    text.push_str(HEAD)?;
+    text.push_str(HEAD).expect(&rt, "memory");
     text.push_str(
         "<link rel=\"self\" href=\"http://feed.example/feed\"/>\n<sp:span first=\"1\" last=\"100\"/>\n",
-    )?;
+    ).expect(&rt, "memory");
     for number in 1..=101u32 {
         let at = text.len();
         let item = format!(in rt.alloc();
             "<at:deleted-entry ref=\"urn:uuid:6d1f0c5a-93be-8c27-8000-{number:012x}\" when=\"1970-01-01T00:00:00Z\"/>\n"
-        )?;
-        text.push_str(item.as_str())?;
-        let whole = format!(in rt.alloc(); "{text}</feed>\n")?;
+        ).expect(&rt, "memory");
+        text.push_str(item.as_str()).expect(&rt, "memory");
+        let whole = format!(in rt.alloc(); "{text}</feed>\n").expect(&rt, "memory");
         let expected = if number == 101 { Some(at) } else { None };
         assert!(rt;
             refusal(&rt, rt.alloc(), whole.as_bytes()) == expected,
             "{number} items"
         );
     }
-    Ok(())
 }
 
 fn bytes(text: &Option<AtomText>) -> Option<&[u8]> {
     text.as_ref().map(|text| text.bytes())
 }
 
-fn expect_lists(rt: &impl Abort, entry: &Entry) -> Result<(), Fail> {
+fn expect_lists(rt: &impl Abort, entry: &Entry) {
     let ([author, last], [contributor], [link, via], [category, only]) = (
         entry.authors.as_slice(),
         entry.contributors.as_slice(),
         entry.links.as_slice(),
         entry.categories.as_slice(),
     ) else {
-        return Err("other lists".into());
+        panic!(rt; "other lists");
     };
     let names = [
         author.name.bytes(),
@@ -478,16 +468,15 @@ fn expect_lists(rt: &impl Abort, entry: &Entry) -> Result<(), Fail> {
         bytes(&only.label),
     ];
     assert!(rt; labels == [Some(b"s\t".as_slice()), Some(b"l\n"), None, None]);
-    Ok(())
 }
 
-fn expect_texts(rt: &impl Abort, entry: &Entry) -> Result<(), Fail> {
+fn expect_texts(rt: &impl Abort, entry: &Entry) {
     let (Some(rights), Some(summary), Some(content)) = (
         &entry.rights,
         &entry.summary,
         &entry.content,
     ) else {
-        return Err("a text is missing".into());
+        panic!(rt; "a text is missing");
     };
     let kinds = [entry.title.kind, rights.kind, summary.kind, content.kind];
     assert!(rt;
@@ -506,15 +495,14 @@ fn expect_texts(rt: &impl Abort, entry: &Entry) -> Result<(), Fail> {
         content.value.bytes(),
     ];
     assert!(rt; values == [b"<b>A & B</b>".as_slice(), b"r", b"s", b"\""]);
-    Ok(())
 }
 
 #[test]
-fn reads_each_part_of_an_entry(rt: HostRuntime) -> Result<(), Fail> {
+fn reads_each_part_of_an_entry(rt: HostRuntime) {
     assert!(rt; ARCHIVE.len() <= MAX_DOCUMENT);
-    let doc = read_doc(rt.alloc(), ARCHIVE.as_bytes())?;
+    let doc = read_doc(rt.alloc(), ARCHIVE.as_bytes()).expect(&rt, "a document");
     let [Item::Gone(tombstone), Item::Kept(entry)] = doc.items.as_slice() else {
-        return Err("other items".into());
+        panic!(rt; "other items");
     };
     let moments = [
         Some(tombstone.when),
@@ -525,12 +513,12 @@ fn reads_each_part_of_an_entry(rt: HostRuntime) -> Result<(), Fail> {
     let millis = [1_700_000_000_003, 0, -1, 1];
     assert!(rt; moments == millis.map(Stamp::new));
     assert!(rt; (tombstone.number, entry.number) == (1, 3));
-    expect_lists(&rt, entry)?;
-    expect_texts(&rt, entry)
+    expect_lists(&rt, entry);
+    expect_texts(&rt, entry);
 }
 
 #[test]
-fn a_refusal_has_a_sentence(rt: HostRuntime) -> Result<(), Fail> {
+fn a_refusal_has_a_sentence(rt: HostRuntime) {
     let cases = [
         (
             ReadFault::NotADocument { at: 7 },
@@ -539,8 +527,7 @@ fn a_refusal_has_a_sentence(rt: HostRuntime) -> Result<(), Fail> {
         (ReadFault::NoMemory, "out of memory"),
     ];
     for (fault, sentence) in cases {
-        let text = format!(in rt.alloc(); "{fault}")?;
+        let text = format!(in rt.alloc(); "{fault}").expect(&rt, "memory");
         assert!(rt; text.as_str() == sentence);
     }
-    Ok(())
 }

@@ -1,5 +1,5 @@
 //! Tests of `archive_sealer`. Expected documents come from RFC 5005 section 4 and RFC 6721.
-ghost use Rattle.std.specs.Prelude.{◌≡◌, ◌+◌, ◌≤◌, length, IfOk};
+ghost use Rattle.std.specs.Prelude.{◌≡◌, ◌+◌, ◌≤◌, length};
 
 use crate::rules::{entry, feed_name, moment};
 use archive_sealer::{archive, full_windows, subscription};
@@ -8,7 +8,7 @@ use atom_writer::Doc;
 use deleted_entries::{Item, Tombstone};
 use member_rules::{Head, Op, Removal};
 use std::alloc::Global;
-use std::test::Fail;
+use std::process::Abort;
 
 /// A history and one of its documents. The operations go round the members: each member is made and then changed, at
 /// the moments 1, 2 and so on. The last operation removes member 1 where `removed` says so.
@@ -23,76 +23,78 @@ struct Case {
     expected: &'static str,
 }
 
-pub(crate) fn head(alloc: Global, window: u8) -> Result<Head, Fail> {
-    if !(1..=100).contains(&window) {
-        Err("no window")?;
-    }
-    Ok(Head {
-        name: feed_name(alloc)?,
+pub(crate) fn head(rt: &impl Abort, alloc: Global, window: u8) -> Head {
+    assert!(rt; (1..=100).contains(&window));
+    Head {
+        name: feed_name(rt, alloc),
         window: u32::from(window),
         capacity: 4_096,
         created: Stamp::new(0).unwrap(),
-    })
+    }
 }
 
-fn history(alloc: Global, case: &Case) -> Result<Vec<Op>, Fail>
-    ensures { IfOk result (λ history. length history.items ≤ 256) }
+fn history(rt: &impl Abort, alloc: Global, case: &Case) -> Vec<Op>
+    ensures { length result.items ≤ 256 }
 {
     let mut operations = Vec::new(alloc);
     for made in 0..case.count {
         let at = i64::from(made) + 1;
         let number = u32::from(made % case.members.max(1)) + 1;
-        let entry = entry(alloc, number, at, at)?;
-        operations.push(if made < case.members {
-            Op::Add(entry)
-        } else {
-            Op::Change(entry)
-        })?;
+        let entry = entry(rt, alloc, number, at, at);
+        operations
+            .push(if made < case.members {
+                Op::Add(entry)
+            } else {
+                Op::Change(entry)
+            })
+            .expect(rt, "memory");
     }
     if case.removed {
-        let moment = moment(i64::from(case.count) + 1)?;
+        let moment = moment(rt, i64::from(case.count) + 1);
         let tombstone = Tombstone {
             number: 1,
             when: moment,
         };
-        operations.push(Op::Remove(Removal { tombstone, moment }))?;
+        operations
+            .push(Op::Remove(Removal { tombstone, moment }))
+            .expect(rt, "memory");
     }
-    Ok(operations)
+    operations
 }
 
-fn document(alloc: Global, case: &Case) -> Result<Doc, Fail> {
-    let head = head(alloc, case.window)?;
-    let history = history(alloc, case)?;
+fn document(rt: &impl Abort, alloc: Global, case: &Case) -> Doc {
+    let head = head(rt, alloc, case.window);
+    let history = history(rt, alloc, case);
     let history = history.as_slice();
     if case.archive == 0 {
-        return Ok(subscription(alloc, &head, history)?);
+        return subscription(alloc, &head, history).expect(rt, "memory");
     }
-    if case.archive > full_windows(&head, history) {
-        Err("that window isn't full")?;
-    }
-    Ok(archive(alloc, &head, history, case.archive)?)
+    assert!(rt; case.archive <= full_windows(&head, history));
+    archive(alloc, &head, history, case.archive).expect(rt, "memory")
 }
 
 /// The document's kind, span, `prev` and `updated`, and its items: the number and the moment of each, with a `-` for a
 /// tombstone.
-fn doc_text(alloc: Global, doc: &Doc) -> Result<String, Fail> {
+fn doc_text(rt: &impl Abort, alloc: Global, doc: &Doc) -> String {
     let (span, updated) = (doc.span, doc.updated.millis());
     let mut text = format!(in alloc;
         "{:?} {}-{} prev {} updated {updated}:",
         doc.kind, span.first, span.last, doc.prev
-    )?;
+    )
+    .expect(rt, "memory");
     for item in doc.items.as_slice() {
         let item = match item {
             Item::Kept(entry) => format!(in alloc; " {}@{}", entry.number, entry.edited.millis()),
             Item::Gone(gone) => format!(in alloc; " -{}@{}", gone.number, gone.when.millis()),
         };
-        text.push_str(item?.as_str())?;
+        text.push_str(item.expect(rt, "memory").as_str())
+            .expect(rt, "memory");
     }
-    Ok(text)
+    text
 }
 
 #[test]
-fn documents_of_histories(rt: HostRuntime) -> Result<(), Fail> {
+fn documents_of_histories(rt: HostRuntime) {
     let added = Case {
         members: 100,
         count: 0,
@@ -148,8 +150,7 @@ fn documents_of_histories(rt: HostRuntime) -> Result<(), Fail> {
         archive_of_four,
         archive_of_one,
     ] {
-        let doc = document(rt.alloc(), &case)?;
-        assert!(rt; doc_text(rt.alloc(), &doc)?.as_str() == case.expected);
+        let doc = document(&rt, rt.alloc(), &case);
+        assert!(rt; doc_text(&rt, rt.alloc(), &doc).as_str() == case.expected);
     }
-    Ok(())
 }

@@ -8,38 +8,39 @@ use chain_links::{Address, Base, Place, Span};
 use deleted_entries::{FeedId, Item, Tombstone};
 use std::alloc::Global;
 use std::process::Abort;
-use std::test::Fail;
 
-fn feed_name(alloc: Global) -> Result<FeedName, Fail> {
-    Ok(FeedName {
-        base: Base::parse(alloc, b"http://feed.example/")?,
-        id: FeedId::parse(b"6d1f0c5a-93be-4c27-8d10-2b7f9e4a5c36").ok_or("no feed identifier")?,
-        title: AtomText::of(alloc, b"F&")?,
-        author: AtomText::of(alloc, b"Editor")?,
-    })
+fn feed_name(rt: &impl Abort, alloc: Global) -> FeedName {
+    FeedName {
+        base: Base::parse(alloc, b"http://feed.example/").expect(rt, "a base"),
+        id: FeedId::parse(b"6d1f0c5a-93be-4c27-8d10-2b7f9e4a5c36").expect(rt, "a feed identifier"),
+        title: AtomText::of(alloc, b"F&").expect(rt, "a text"),
+        author: AtomText::of(alloc, b"Editor").expect(rt, "a text"),
+    }
 }
 
 /// The second subscription document of a chain: member 6 was changed, and member 1 was removed.
-fn made_by_hand(alloc: Global) -> Result<Doc, Fail> {
-    let edited = Stamp::new(1_700_000_000_002).ok_or("no timestamp")?;
-    let title = AtomText::of(alloc, "a&b<c>d\"e\r\u{10FFFF}".as_bytes())?;
+fn made_by_hand(rt: &impl Abort, alloc: Global) -> Doc {
+    let edited = Stamp::new(1_700_000_000_002).expect(rt, "a timestamp");
+    let title = AtomText::of(alloc, "a&b<c>d\"e\r\u{10FFFF}".as_bytes()).expect(rt, "a text");
     let entry = Draft::titled(alloc, title).normal(6, edited, None);
     let mut items = Many::new(alloc);
-    items.push(Item::Kept(entry))?;
-    items.push(Item::Gone(Tombstone {
-        number: 1,
-        when: edited,
-    }))?;
+    items.push(Item::Kept(entry)).expect(rt, "memory");
+    items
+        .push(Item::Gone(Tombstone {
+            number: 1,
+            when: edited,
+        }))
+        .expect(rt, "memory");
     let span = Span { first: 9, last: 10 };
     let doc = Doc::new(
-        feed_name(alloc)?,
+        feed_name(rt, alloc),
         Kind::Subscription,
         span,
         2,
         edited,
         items,
     );
-    Ok(doc.ok_or("no document")?)
+    doc.expect(rt, "a document")
 }
 
 const MADE_BY_HAND: &str = "<?xml version=\"1.0\" encoding=\"utf-8\"?>\n\
@@ -60,43 +61,52 @@ xmlns:sp=\"urn:archived-feed:span:1\">\n\
 <at:deleted-entry ref=\"urn:uuid:6d1f0c5a-93be-8c27-8000-000000000001\" when=\"2023-11-14T22:13:20.002Z\"/>\n\
 </feed>\n";
 
-fn expect_text(rt: &impl Abort, alloc: Global, doc: &Doc, text: &str) -> Result<(), Fail> {
-    let written = write_doc(alloc, doc)?;
+fn expect_text(rt: &impl Abort, alloc: Global, doc: &Doc, text: &str) {
+    let written = write_doc(alloc, doc).expect(rt, "memory");
     assert!(rt; written.as_slice() == text.as_bytes());
     assert!(rt; doc_len(doc) == text.len() as u64);
-    Ok(())
 }
 
 #[test]
-fn writes_documents_and_their_copies(rt: HostRuntime) -> Result<(), Fail> {
-    let doc = made_by_hand(rt.alloc())?;
-    expect_text(&rt, rt.alloc(), &doc, MADE_BY_HAND)?;
-    expect_text(&rt, rt.alloc(), &doc.copy(rt.alloc())?, MADE_BY_HAND)?;
+fn writes_documents_and_their_copies(rt: HostRuntime) {
+    let doc = made_by_hand(&rt, rt.alloc());
+    expect_text(&rt, rt.alloc(), &doc, MADE_BY_HAND);
+    expect_text(
+        &rt,
+        rt.alloc(),
+        &doc.copy(rt.alloc()).expect(&rt, "memory"),
+        MADE_BY_HAND,
+    );
     for text in [SUBSCRIPTION, ARCHIVE] {
         assert!(rt; text.len() <= MAX_DOCUMENT);
-        let doc = read_doc(rt.alloc(), text.as_bytes())?;
-        expect_text(&rt, rt.alloc(), &doc.copy(rt.alloc())?, text)?;
+        let doc = read_doc(rt.alloc(), text.as_bytes()).expect(&rt, "a document");
+        expect_text(
+            &rt,
+            rt.alloc(),
+            &doc.copy(rt.alloc()).expect(&rt, "memory"),
+            text,
+        );
     }
-    Ok(())
 }
 
 #[test]
-fn a_document_has_a_place(rt: HostRuntime) -> Result<(), Fail> {
+fn a_document_has_a_place(rt: HostRuntime) {
     let expected = Place {
         address: Address::Feed,
         span: Span { first: 9, last: 10 },
         prev: 2,
     };
-    assert!(rt; made_by_hand(rt.alloc())?.place() == expected);
+    assert!(rt; made_by_hand(&rt, rt.alloc()).place() == expected);
     assert!(rt; ARCHIVE.len() <= MAX_DOCUMENT);
-    let archive = read_doc(rt.alloc(), ARCHIVE.as_bytes())?.place();
+    let archive = read_doc(rt.alloc(), ARCHIVE.as_bytes())
+        .expect(&rt, "a document")
+        .place();
     let expected = Place {
         address: Address::Archive(2),
         span: Span { first: 5, last: 8 },
         prev: 1,
     };
     assert!(rt; archive == expected);
-    Ok(())
 }
 
 /// The member documents of the last entry of each document.
@@ -129,23 +139,22 @@ title=\"a&amp;b&lt;c&gt;d&quot;e&#13;\u{10FFFF}\" length=\"12\"/><link rel=\"via
 ];
 
 #[test]
-fn writes_member_documents(rt: HostRuntime) -> Result<(), Fail> {
+fn writes_member_documents(rt: HostRuntime) {
     for (text, member) in &MEMBERS {
         assert!(rt; text.len() <= MAX_DOCUMENT);
-        let doc = read_doc(rt.alloc(), text.as_bytes())?;
+        let doc = read_doc(rt.alloc(), text.as_bytes()).expect(&rt, "a document");
         let Some(Item::Kept(entry)) = doc.items.as_slice().last() else {
-            return Err("no entry".into());
+            panic!(rt; "no entry");
         };
-        let written = write_member(rt.alloc(), &doc.name, entry)?;
+        let written = write_member(rt.alloc(), &doc.name, entry).expect(&rt, "memory");
         assert!(rt; written.as_slice() == member.as_bytes());
         // The piece of the entry is the line before the end of the document.
         let piece = text
             .lines()
             .find(|line| line.starts_with("<entry>"))
-            .ok_or("no piece")?;
+            .expect(&rt, "a piece");
         assert!(rt; entry_len(&doc.name, entry) == piece.len() as u64 + 1);
     }
-    Ok(())
 }
 
 /// Kind, first, last, `prev`, the numbers of the items, and whether `Doc::new` takes the parts.
@@ -185,24 +194,32 @@ static RULES: [(Kind, u32, u32, u32, &[u8], bool); 32] = [
 ];
 
 #[test]
-fn documents_keep_their_rules(rt: HostRuntime) -> Result<(), Fail> {
-    let name = feed_name(rt.alloc())?;
-    let when = Stamp::new(0).ok_or("no timestamp")?;
+fn documents_keep_their_rules(rt: HostRuntime) {
+    let name = feed_name(&rt, rt.alloc());
+    let when = Stamp::new(0).expect(&rt, "a timestamp");
     for (kind, first, last, prev, numbers, kept) in &RULES {
         let mut items = Many::new(rt.alloc());
         for number in *numbers {
             let number = u32::from(*number);
             assert!(rt; number >= 1);
-            items.push(Item::Gone(Tombstone { number, when }))?;
+            items
+                .push(Item::Gone(Tombstone { number, when }))
+                .expect(&rt, "memory");
         }
         let span = Span {
             first: *first,
             last: *last,
         };
-        let doc = Doc::new(name.copy(rt.alloc())?, *kind, span, *prev, when, items);
+        let doc = Doc::new(
+            name.copy(rt.alloc()).expect(&rt, "memory"),
+            *kind,
+            span,
+            *prev,
+            when,
+            items,
+        );
         assert!(rt; doc.is_some() == *kept, "{kind:?}, {span:?} after {prev}");
     }
-    Ok(())
 }
 
 #[test]

@@ -2,6 +2,8 @@
 use Rattle.std.proofs.Common.{◌≡◌, inl, inr, ℕ, zero, suc, ◌+◌, ◌≤◌, ℤ, int_lt, nat_lt, nat_le, Bool, true, false, ◌&&◌}
 use Rattle.std.proofs.Common.{cond, if◌then◌else◌, Option, Some, None, Result, Ok, Err, IsOkAnd, List, length, refl}
 use Rattle.std.proofs.Common.{sym, ap, ap₂, ◌∙◌, arith, le-leb, Less, Equal, Greater}
+use Rattle.std.specs.Prelude.{IfOk}
+use Rattle.std.specs.Result.{result_and}
 use Rattle.std.specs.Ordering.{is_lt, int_cmp, ord_max}
 use Rattle.std.proofs.lemmas.Bool.{cases_lt}
 use Rattle.std.proofs.lemmas.Int.{ints}
@@ -17,7 +19,8 @@ use Rattle.member_rules.specs.declared.state.State.TheVariants.{Never, Live, Gon
 use Rattle.member_rules.specs.Fold.{fold_of, made, last_moment, last_naming, state_by, state_of}
 use Rattle.member_rules.specs.History.{AreFollowing, entry_limit, later_of}
 use Rattle.member_rules.specs.Decide.{◌>>=◌, live_or_gone, live_entry, unless_other, greatest_moment, later_moment}
-use Rattle.member_rules.specs.Decide.{next_moment, unless_large, decide}
+use Rattle.member_rules.specs.Decide.{moments, next_moment, unless_large, decide}
+use Rattle.member_rules.specs.Operation.{KeepsEntry}
 use Rattle.member_rules.proofs.StateLemmas.{AreMembers-of}
 
 -- the entry by a member's state
@@ -118,6 +121,24 @@ unfolding unless_large
 unless_large-by name operation entry r e = rw e
     (by_test (nat_lt entry_limit (length (entry_piece name entry))) (length (entry_piece name entry)) (operation entry))
 
+after_refusal : (r : Result (Unit {0}) RuleFault) (operation : Op)
+    → result_and r (Ok operation) ≡ (r >>= λ _. Ok operation)
+after_refusal (Ok u) operation = refl
+after_refusal (Err e) operation = refl
+
+-- the operation where the entry is not too large
+pub unless_large-and : (name : FeedName) (operation : EntryValue → Op) (entry : EntryValue)
+    (r : Result (Unit {0}) RuleFault)
+    → r ≡ (let size = length (entry_piece name entry) in if nat_lt entry_limit size then Err (TooLarge size) else Ok
+    tt) → result_and r (Ok (operation entry)) ≡ unless_large name operation entry
+unless_large-and name operation entry r e =
+    after_refusal r (operation entry) ∙ sym (unless_large-by name operation entry r e)
+
+pub keeps_entry : (r : Result (Unit {0}) RuleFault) (operation : Op) → KeepsEntry operation
+    → IfOk (result_and r (Ok operation)) KeepsEntry
+keeps_entry (Ok u) operation keeps = keeps
+keeps_entry (Err e) operation keeps = tt
+
 -- what decides a draft that makes a member
 pub decide-create : (name : FeedName) (created : ℤ) (history : List Op) (draft : DraftValue) (now : ℕ)
     (moment : Result ℤ RuleFault) → moment ≡ next_moment created history now
@@ -135,6 +156,42 @@ pub decide-replace : (name : FeedName) (created : ℤ) (history : List Op) (numb
     (normal draft number m (Some stored.updated)))
 unfolding decide
 decide-replace name created history number draft now live other moment l o m = rw (l, o, m) refl
+
+abbrev pub both_of : Result EntryValue RuleFault → Result (Unit {0}) RuleFault → Result ℤ RuleFault
+    → Result (ℤ × ℤ) RuleFault
+both_of live other moment = live >>= λ stored. other >>= λ _. moment >>= λ m. Ok (stored.updated, m)
+
+in_turn : (live : Result EntryValue RuleFault) (other : Result (Unit {0}) RuleFault)
+    (moment : Result ℤ RuleFault) (f : ℤ → ℤ → Result Op RuleFault)
+    → (live >>= λ stored. other >>= λ _. moment >>= λ m. f stored.updated m)
+    ≡ (both_of live other moment >>= λ both. f both.0 both.1)
+in_turn (Err e) other moment f = refl
+in_turn (Ok stored) (Err e) moment f = refl
+in_turn (Ok stored) (Ok u) (Err e) f = refl
+in_turn (Ok stored) (Ok u) (Ok m) f = refl
+
+-- the same by the moments
+pub decide-moments : (name : FeedName) (created : ℤ) (history : List Op) (number : ℕ) (draft : DraftValue) (now : ℕ)
+    (r : Result (ℤ × ℤ) RuleFault) → r ≡ moments name created history number draft.id now
+    → decide name created history (Replace number draft) now
+    ≡ (r >>= λ both. unless_large name Change (normal draft number both.1 (Some both.0)))
+unfolding moments
+decide-moments name created history number draft now r e =
+    decide-replace name created history number draft now (live_entry history number)
+    (unless_other name number draft.id) (next_moment created history now) refl refl refl
+    ∙ in_turn (live_entry history number) (unless_other name number draft.id) (next_moment created history now)
+    (λ stored m. unless_large name Change (normal draft number m (Some stored)))
+    ∙ ap (λ (r : Result (ℤ × ℤ) RuleFault). r >>= λ both. unless_large name Change
+    (normal draft number both.1 (Some both.0))) (sym e)
+
+-- the moments by their parts
+pub moments-by : (name : FeedName) (created : ℤ) (history : List Op) (number : ℕ) (id : Option (List ℕ)) (now : ℕ)
+    (live : Result EntryValue RuleFault) (other : Result (Unit {0}) RuleFault) (moment : Result ℤ RuleFault)
+    → live ≡ live_entry history number → other ≡ unless_other name number id → moment ≡ next_moment created history now
+    → moments name created history number id now
+    ≡ both_of live other moment
+unfolding moments
+moments-by name created history number id now live other moment l o m = rw (l, o, m) refl
 
 pub decide-delete : (name : FeedName) (created : ℤ) (history : List Op) (number now : ℕ)
     (live : Result EntryValue RuleFault) (moment : Result ℤ RuleFault)

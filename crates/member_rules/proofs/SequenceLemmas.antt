@@ -1,6 +1,8 @@
 -- Lists of fields are compared and read one part after another.
 use Rattle.std.proofs.Common.{◌≡◌, ◌≢◌, ℕ, List, [], ◌∷◌, ◌++◌, refl, sym, ap, subst, ◌∙◌, append-nil, append_assoc, length, nat_eq, true, false, true≢false, eqb-true, arith}
-use Rattle.std.specs.Prelude.{Result, Ok, Err}
+use Rattle.std.specs.Prelude.{Bool, Option, Result, Ok, Err}
+use Rattle.std.specs.Bool.{then_some}
+use Rattle.std.specs.Option.{ok_or}
 use Rattle.std.specs.Result.{IsErrAnd}
 use Rattle.atom_writer.specs.Pieced.{Pieced, IsRefused, text_of}
 use Rattle.atom_writer.specs.Pieces.{joined}
@@ -265,7 +267,7 @@ stops_refused p input rest s = record {
 }
 
 -- some bytes are left behind a whole value
-pub left_refused : {A : Type 0} (p : Pieced A) → AreCompared p → (input rest : List ℕ) (v : A)
+left_refused : {A : Type 0} (p : Pieced A) → AreCompared p → (input rest : List ℕ) (v : A)
     → BeginsWith p.Is (text_of p) input v rest → rest ≢ [] → IsRefused p [] input rest
 left_refused p compared input rest v found some = record {
   more = p.pieces v;
@@ -291,13 +293,24 @@ not_whole p input after NoMemory (Err x) s same =
     subst P (sym same) tt
 
 -- nothing is left
-pub whole_read : {A : Type 0} (p : Pieced A) (input rest : List ℕ) (v : A) → BeginsWith p.Is (text_of p) input v rest
+whole_read : {A : Type 0} (p : Pieced A) (input rest : List ℕ) (v : A) → BeginsWith p.Is (text_of p) input v rest
     → nat_eq (length rest) 0 ≡ true → p.Is v × (input ≡ text_of p v)
 whole_read p input [] v found none = (found.lawful, found.split ∙ append-nil (joined (p.pieces v)))
 whole_read p input (x ∷ rest) v found none = absurd (omega (arith, eqb-true (length (x ∷ rest)) 0 none))
 
-pub some_left : (rest : List ℕ) → nat_eq (length rest) 0 ≡ false → rest ≢ []
+some_left : (rest : List ℕ) → nat_eq (length rest) 0 ≡ false → rest ≢ []
 some_left rest some none = true≢false (sym (ap (λ (z : List ℕ). nat_eq (length z) 0) none) ∙ some)
+
+-- the bytes are all read, or some are left
+pub ended : {A : Type 0} (p : Pieced A) → AreCompared p → (input rest : List ℕ) (v : A) (whole : Bool) (o : Option A)
+    (r : Result A FieldFault) → BeginsWith p.Is (text_of p) input v rest → whole ≡ nat_eq (length rest) 0
+    → o ≡ then_some whole v → r ≡ ok_or o Mismatch → ReadsWhole p input r rest
+ended p compared input rest v true o r found none some is =
+    subst (λ s. ReadsWhole p input s rest) (sym (is ∙ ap (λ s. ok_or s Mismatch) some))
+    (whole_read p input rest v found (sym none))
+ended p compared input rest v false o r found more some is =
+    subst (λ s. ReadsWhole p input s rest) (sym (is ∙ ap (λ s. ok_or s Mismatch) some))
+    (left_refused p compared input rest v found (some_left rest (sym more)))
 
 -- the refusal of all the bytes
 pub whole_refused : {A : Type 0} (p : Pieced A) (input after : List ℕ) (e : FieldFault) → e ≡ Mismatch

@@ -56,6 +56,14 @@ next_moment created history now =
     let moment = later_moment last now in
     if int_lt greatest_moment moment then Err (ClockSpent last now) else Ok moment
 
+-- the `updated` of a live member's entry, and the moment of what replaces it by a draft with this identifier
+unfoldable pub moments : FeedName → ℤ → List Op → ℕ → Option (List ℕ) → ℕ → Result (ℤ × ℤ) RuleFault
+moments name created history number id now =
+    live_entry history number
+    >>= λ stored. unless_other name number id
+    >>= λ _. next_moment created history now
+    >>= λ moment. Ok (stored.updated, moment)
+
 -- the operation that sets this entry, unless its piece of a document is too long
 unfoldable pub unless_large : FeedName → (EntryValue → Op) → EntryValue → Result Op RuleFault
 unless_large name operation entry =

@@ -60,8 +60,7 @@ fn create(members: &Members, name: &FeedName, draft: Draft, now: u64) -> Result<
 {
     let moment = next_moment(members.last_moment(), now)?;
     let entry = draft.normal(members.count() + 1, moment, None);
-    refuse_large(name, &entry)?;
-    Ok(Op::Add(entry))
+    refuse_large(name, &entry).and(Ok(Op::Add(entry)))
 }
 
 /// The operation that replaces the member's entry.
@@ -76,12 +75,28 @@ fn replace(
         → result ≡ decision.decide name.now created history (Ask.Replace number draft) now }
     ensures entry { IfOk result KeepsEntry }
 {
-    let stored = live_updated(members, number)?;
-    refuse_other(name, number, draft.id.take())?;
-    let moment = next_moment(members.last_moment(), now)?;
+    let (stored, moment) = moments(members, name, number, draft.id.take(), now)?;
     let entry = draft.normal(number, moment, Some(stored));
-    refuse_large(name, &entry)?;
-    Ok(Op::Change(entry))
+    refuse_large(name, &entry).and(Ok(Op::Change(entry)))
+}
+
+/// The `updated` of the member's entry, and the moment of the operation that replaces it by a draft with this
+/// identifier.
+fn moments(
+    members: &Members,
+    name: &FeedName,
+    number: u32,
+    id: Option<AtomText>,
+    now: u64,
+) -> Result<(Stamp, Stamp), RuleFault>
+    ensures moments { (created : ℤ) (history : List Op) → IsTableOf members.now created history
+        → result ≡ decision.moments name.now created history number id now }
+    ensures counted { OnOk result (1 ≤ number) }
+{
+    let stored = live_updated(members, number)?;
+    refuse_other(name, number, id)?;
+    let moment = next_moment(members.last_moment(), now)?;
+    Ok((stored, moment))
 }
 
 /// The operation that removes the member.

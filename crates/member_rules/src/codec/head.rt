@@ -43,10 +43,11 @@ pub(crate) fn read_whole(alloc: Global, unread: &mut Unread) -> Result<Head, Fie
     ensures { ReadsWhole heads unread.old.rest.now result unread.new.rest.now }
 {
     let head = read_format(alloc, unread)?;
-    if !unread.rest.is_empty() {
-        return Err(FieldFault::Mismatch);
-    }
-    Ok(head)
+    unread
+        .rest
+        .is_empty()
+        .then_some(head)
+        .ok_or(FieldFault::Mismatch)
 }
 
 /// Reads the fields of a head, by the format that its first byte names.

@@ -67,10 +67,11 @@ pub(crate) fn read_whole(alloc: Global, unread: &mut Unread) -> Result<Op, Field
     ensures { ReadsWhole operations unread.old.rest.now result unread.new.rest.now }
 {
     let operation = read_operation(alloc, unread)?;
-    if !unread.rest.is_empty() {
-        return Err(FieldFault::Mismatch);
-    }
-    Ok(operation)
+    unread
+        .rest
+        .is_empty()
+        .then_some(operation)
+        .ok_or(FieldFault::Mismatch)
 }
 
 /// Reads the fields of an operation, by the kind that its first byte names.
