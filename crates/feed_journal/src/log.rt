@@ -114,7 +114,8 @@ impl Log {
     /// Returns the number of device calls that this log has made since its load began, failed ones included.
     /// It stays at the greatest u64.
     pub fn calls(&self) -> u64
-        ensures { result ≡ self.now.calls }
+        ensures calls { result ≡ self.now.calls }
+        ensures rules { IsLog self.now }
     {
         self.calls
     }

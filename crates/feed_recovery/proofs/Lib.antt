@@ -26,3 +26,7 @@ pub mod SealListLemmas
 pub mod SettleLemmas
 -- `Store::append_seal` and `Store::append_operation`: `stands`
 pub mod StoreLemmas
+-- the crates above: the sizes of a store's logs
+pub mod SizeLemmas
+-- the crates above: what a crash leaves of a store that gains operations
+pub mod PastLemmas

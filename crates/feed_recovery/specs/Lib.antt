@@ -7,3 +7,4 @@ pub mod Store
 pub mod Prepare
 pub mod Commit
 pub mod Documents
+pub mod Stored

@@ -32,6 +32,12 @@ pub record OpensPast (head : HeadValue) (operations : List Op) (least : ℕ) (jo
 abbrev pub Settled : DiskState → HeadValue → List Op → ℕ → Type 0
 Settled disk head operations least = NowBoth disk (OpensPast head operations least)
 
+-- if nothing is added, a crash leaves of a store what it could leave before
+abbrev pub LeavesStores : DiskState → DiskState → Type 0
+LeavesStores before after =
+    (head : HeadValue) (operations : List Op) (least : ℕ) → Settled before head operations least
+    → AlwaysLeavesBoth before after (OpensPast head operations least)
+
 -- both areas are whole as they are read
 pub record AreWhole (disk : DiskState) : Type 0 where
   pub journal : IsWhole (disk.content Journal)

@@ -1,4 +1,5 @@
 ghost use Rattle.std.specs.Prelude.{◌≡◌, ◌↔◌, false, length, IsTrue};
+ghost use Rattle.feed_journal.specs.Log.{IsLog};
 ghost use Rattle.feed_recovery.specs.Documents.{sealed_count};
 ghost use Rattle.feed_recovery.specs.Prepare.{IsMissing};
 ghost use Rattle.feed_recovery.specs.Store.{call_count, is_spent};
@@ -70,7 +71,9 @@ impl Store {
     /// Returns how many device calls the store's two logs have made since the load began, failed ones
     /// included. It stays at the greatest u64.
     pub fn calls(&self) -> u64
-        ensures { result ≡ call_count self.now }
+        ensures calls { result ≡ call_count self.now }
+        // The sizes of the two logs are those of their payloads.
+        ensures logs { IsLog self.now.journal × IsLog self.now.seals }
     {
         self.journal.calls().saturating_add(self.seals.calls())
     }

@@ -16,6 +16,7 @@ use Rattle.feed_recovery.specs.declared.fault.LoadFault.{LoadFault}
 use Rattle.feed_recovery.specs.declared.fault.LoadFault.TheVariants as load
 use Rattle.feed_recovery.specs.declared.fault.MemberFault.{MemberFault}
 use Rattle.feed_recovery.specs.declared.fault.MemberFault.TheVariants as member
+use Rattle.feed_recovery.specs.Stored.{OpensTo, Stored, stored_of}
 use Rattle.feed_tool.specs.declared.fault.Fault.{Fault}
 use Rattle.feed_tool.specs.declared.fault.Fault.TheVariants.{Input, Refused}
 use Rattle.feed_tool.specs.declared.fault.Refusal.TheVariants.{NotSealed}
@@ -24,9 +25,8 @@ use Rattle.feed_tool.specs.Answer.{Answer}
 use Rattle.feed_tool.specs.Applied.{Applied}
 use Rattle.feed_tool.specs.Apply.{answer_by}
 use Rattle.feed_tool.specs.Fault.{fault_answer, IsRefusal}
-use Rattle.feed_tool.specs.Loaded.{stored_of}
 use Rattle.feed_tool.specs.StoreFaults.{archive_fault, load_fault, member_fault}
-use Rattle.feed_tool.specs.Stored.{IsAnswerOn, OpensTo, Stored, applied_store, apply_answer, archive_answer, member_answer}
+use Rattle.feed_tool.specs.Stored.{IsAnswerOn, applied_store, apply_answer, archive_answer, member_answer}
 use Rattle.member_rules.specs.Documents.{subscription}
 use Rattle.member_rules.specs.Head.{HeadValue}
 use Rattle.member_rules.specs.declared.operation.Op.{Op}

@@ -3,7 +3,7 @@ use Rattle.std.proofs.Common.{ℕ, List, inl, inr, ⊎_elim, refl}
 use Rattle.feed_disk.specs.Disk.{DiskState, IsDisk}
 use Rattle.feed_recovery.specs.Settled.{IsUnused}
 use Rattle.atom_writer.specs.declared.doc.FeedName.{FeedName}
-use Rattle.feed_tool.proofs.MomentsLemmas.{both_stay}
+use Rattle.feed_recovery.proofs.PastLemmas.{both_stay}
 use Rattle.feed_tool.specs.Crash.{AppliesSafely, LeavesApplied, MakesStoreAt}
 
 -- no store is made, and no command that made one is done

@@ -81,3 +81,8 @@ no_end fault = fault_code (λ n. n ≡ 0 → ⊥) (λ e. omega (arith, e)) (λ e
 pub no_output : (fault : Fault) → code_of (fault_answer fault).status ≡ 8 → ⊥
 no_output fault = fault_code (λ n. n ≡ 8 → ⊥) (λ e. omega (arith, e)) (λ e. omega (arith, e)) (λ e. omega (arith, e))
     (λ e. omega (arith, e)) (λ e. omega (arith, e)) (λ e. omega (arith, e)) (λ e. omega (arith, e)) fault
+
+-- nor one of the door
+pub no_door : (fault : Fault) → code_of (fault_answer fault).status ≡ 7 → ⊥
+no_door fault = fault_code (λ n. n ≡ 7 → ⊥) (λ e. omega (arith, e)) (λ e. omega (arith, e)) (λ e. omega (arith, e))
+    (λ e. omega (arith, e)) (λ e. omega (arith, e)) (λ e. omega (arith, e)) (λ e. omega (arith, e)) fault

@@ -28,6 +28,8 @@ pub mod ProgressLemmas
 pub mod RoomLemmas
 -- `run`
 pub mod RunLemmas
+-- `serve`: what is printed, and how the program ends
+pub mod ServeLemmas
 -- `show`, clause `shown`
 pub mod ShowLemmas
 -- the loops over the lines of an input

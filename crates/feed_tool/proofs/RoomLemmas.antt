@@ -14,13 +14,14 @@ use Rattle.feed_recovery.specs.Prepare.{Fits, IsDueSeal, IsFull, IsFullArea, IsM
 use Rattle.feed_recovery.specs.Store.{StoreValue, seal_count}
 use Rattle.feed_recovery.specs.declared.fault.PrepareFault.{PrepareFault}
 use Rattle.feed_recovery.specs.declared.fault.PrepareFault.TheVariants as prepare
+use Rattle.feed_recovery.specs.Stored.{Stored, seals_of, stored_of}
 use Rattle.feed_tool.specs.declared.fault.Fault.TheVariants.{Full}
 use Rattle.feed_tool.specs.Apply.{asked, refused_line, ◌>>=◌}
 use Rattle.feed_tool.specs.Fault.{IsRefusal}
 use Rattle.feed_tool.specs.Line.{line_ask}
-use Rattle.feed_tool.specs.Loaded.{line_made, stored_of}
+use Rattle.feed_tool.specs.Loaded.{line_made}
 use Rattle.feed_tool.specs.StoreFaults.{prepare_fault}
-use Rattle.feed_tool.specs.Stored.{Stored, missing_seal, operation_fault, room_fault, seal_fault, seals_of, stored_operation, with_operation}
+use Rattle.feed_tool.specs.Stored.{missing_seal, operation_fault, room_fault, seal_fault, stored_operation, with_operation}
 use Rattle.member_rules.specs.Coding.{operations}
 use Rattle.member_rules.specs.Head.{HeadValue}
 use Rattle.member_rules.specs.Windows.{windows_of}

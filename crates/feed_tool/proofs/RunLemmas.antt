@@ -1,18 +1,21 @@
 -- How a run ends, by how its command ended.
-use Rattle.std.proofs.Common.{◌≡◌, ◌⊎◌, inl, inr, ⊎_elim, ℕ, List, ◌++◌, Result, Ok, Err, refl, sym, ◌∙◌, subst, arith}
+use Rattle.std.proofs.Common.{◌≡◌, ◌⊎◌, inl, inr, ⊎_elim, ℕ, List, ◌++◌, Result, Ok, Err, IfOk, refl, sym, ◌∙◌, ap, subst, arith}
 use Rattle.feed_disk.specs.declared.area.Area.{Area}
 use Rattle.tool_words.specs.Words.{IsCommandOf}
 use Rattle.tool_words.specs.declared.command.Command.{Command}
 use Rattle.tool_words.specs.declared.fault.WordsFault.{WordsFault}
-use Rattle.tool_words.specs.declared.fault.WordsFault.TheVariants.{NoMemory}
+use Rattle.tool_words.specs.declared.command.Command.TheVariants.{Serve}
+use Rattle.tool_words.specs.declared.fault.WordsFault.TheVariants.{NoMemory, Usage}
 use Rattle.feed_tool.specs.declared.fault.Fault.{Fault}
 use Rattle.feed_tool.specs.declared.status.Status.TheVariants.{Done}
+use Rattle.feed_tool.specs.declared.status.Status.TheVariants as ends
 use Rattle.feed_tool.specs.Answer.{Prints}
 use Rattle.feed_tool.specs.Fault.{fault_answer}
 use Rattle.feed_tool.specs.Outside.{SinkState}
-use Rattle.feed_tool.specs.Run.{EndsWith, IsGiven}
+use Rattle.feed_tool.specs.Run.{EndsWith, IsGiven, IsStatus}
 use Rattle.feed_tool.specs.Status.{code_of}
 use Rattle.feed_tool.proofs.EndLemmas.{no_end}
+use Rattle.feed_tool.proofs.ServeLemmas.{IsServeCode}
 
 -- what holds of the command that was read holds of each command of the words
 pub read_all : (words : List (List ℕ)) (result : Result Command WordsFault) (read : Command)
@@ -63,3 +66,47 @@ module _ (command : Command) (moments : ℕ → ℕ) (input : List ℕ) (content
     prints = prints;
     whole = λ seen done. absurd (no_end fault (sym e ∙ done));
   }
+
+-- words that were refused for this fault
+pub usage : {result : Result Command WordsFault} {fault : WordsFault} → result ≡ Err fault → fault ≡ Usage
+    → result ≡ Err Usage
+usage is same =
+    let refused : WordsFault → Result Command WordsFault = λ fault. Err fault in
+    is ∙ ap refused same
+
+-- words that were refused are those of no command
+pub no_command : (words : List (List ℕ)) (result : Result Command WordsFault) → result ≡ Err Usage
+    → ((command : Command) → IsCommandOf words command → (result ≡ Ok command) ⊎ (result ≡ Err NoMemory))
+    → (command : Command) → IsCommandOf words command → ⊥
+no_command words result is only command of_words = ⊎_elim
+    (λ (e : result ≡ Ok command). let other : ◌≡◌ {A = Result Command WordsFault} (Err Usage) (Ok command) = sym is ∙ e in cc)
+    (λ (e : result ≡ Err NoMemory). let other : ◌≡◌ {A = Result Command WordsFault} (Err Usage) (Err NoMemory) = sym is ∙ e in cc)
+    (only command of_words)
+
+-- the words that were read as `serve` are those of this command
+pub read_serve : (words : List (List ℕ)) (result : Result Command WordsFault) (read : Command) (listen : List ℕ)
+    (requests : ℕ) → result ≡ Ok read → read ≡ Serve listen requests → IfOk result (IsCommandOf words)
+    → IsCommandOf words (Serve listen requests)
+read_serve words result read listen requests is serves found =
+    subst (IsCommandOf words) serves (rw is at found)
+
+-- and of no other number of requests
+pub same_requests : (P : ℕ → Type 0) (words : List (List ℕ)) (result : Result Command WordsFault) (read : Command)
+    (listen : List ℕ) (requests : ℕ) → result ≡ Ok read → read ≡ Serve listen requests
+    → ((command : Command) → IsCommandOf words command → (result ≡ Ok command) ⊎ (result ≡ Err NoMemory))
+    → P requests → (other : List ℕ) (number : ℕ) → IsCommandOf words (Serve other number) → P number
+same_requests P words result read listen requests is serves only holds other number of_words =
+    let same : read ≡ Serve other number =
+    read_all words result read (λ command. read ≡ command) is only refl (Serve other number) of_words in
+    let numbers : Serve listen requests ≡ Serve other number = sym serves ∙ same in
+    let equal : requests ≡ number = cc in
+    subst P equal holds
+
+-- a session's status is one of the program's
+pub serve-status : (n : ℕ) → IsServeCode n → IsStatus n
+serve-status n (inl e) = (ends.Done, e)
+serve-status n (inr (inl e)) = (ends.DiskFault, e)
+serve-status n (inr (inr (inl e))) = (ends.NoMemory, e)
+serve-status n (inr (inr (inr (inl e)))) = (ends.BadStore, e)
+serve-status n (inr (inr (inr (inr (inl e))))) = (ends.DoorFault, e)
+serve-status n (inr (inr (inr (inr (inr e))))) = (ends.OutputFault, e)

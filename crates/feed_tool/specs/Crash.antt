@@ -5,16 +5,18 @@ use Rattle.feed_disk.specs.Disk.{DiskState}
 use Rattle.feed_disk.specs.Moments.{LeavesOnlyBoth}
 use Rattle.feed_disk.specs.declared.area.Area.TheVariants.{Journal, Sealed}
 use Rattle.feed_recovery.specs.Settled.{AlwaysLeavesBoth, IsInit, NowBoth, OpensPast, Settled, Unused}
+use Rattle.feed_recovery.specs.Stored.{OpensTo, Stored}
 use Rattle.feed_tool.specs.Applied.{IsMadeBy}
-use Rattle.feed_tool.specs.Stored.{Stored, OpensTo, applied_store, stored_step}
+use Rattle.feed_tool.specs.Stored.{applied_store, stored_step}
 use Rattle.member_rules.specs.Head.{HeadValue}
 use Rattle.member_rules.specs.declared.operation.Op.{Op}
 use Rattle.tool_words.specs.declared.command.Command.{Command}
-use Rattle.tool_words.specs.declared.command.Command.TheVariants.{Apply}
+use Rattle.tool_words.specs.declared.command.Command.TheVariants.{Apply, Serve}
 
--- whether the command adds no operation to a store: all but `apply` without a window
+-- whether the command adds no operation to a store: all but `serve`, and `apply` without a window
 abbrev pub AddsNothing : Command → Type 0
 AddsNothing (Apply None) = ⊥
+AddsNothing (Serve listen requests) = ⊥
 AddsNothing _ = Unit {0}
 
 -- the greatest stamp: 9999-12-31T23:59:59.999Z
@@ -63,12 +65,6 @@ pub record LeavesApplied (before after : DiskState) (moments : ℕ → ℕ) (inp
       × (loaded < c → OpensPast head history (length opened.history) journal sealed))
   pub now : NowBoth after (OpensPast head history (length opened.history))
   pub whole : ¬ failed → (history ≡ made.history) × Settled after head history (length history)
-
--- if nothing is added, a crash leaves of a store what it could leave before
-abbrev pub LeavesStores : DiskState → DiskState → Type 0
-LeavesStores before after =
-    (head : HeadValue) (operations : List Op) (least : ℕ) → Settled before head operations least
-    → AlwaysLeavesBoth before after (OpensPast head operations least)
 
 -- `apply` on a store, whatever it ends with; if the store isn't loaded, a crash leaves what it could leave before
 abbrev pub AppliesSafely : DiskState → DiskState → (ℕ → ℕ) → List ℕ → Type 0 → Type 0 → Type 0

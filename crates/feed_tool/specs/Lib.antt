@@ -12,3 +12,4 @@ pub mod Show
 pub mod Run
 pub mod Crash
 pub mod Loaded
+pub mod Serve

@@ -2,18 +2,15 @@
 use Rattle.std.specs.Prelude.{◌≡◌, ℕ, List, length, Result}
 use Rattle.feed_disk.specs.Disk.{DiskState}
 use Rattle.feed_recovery.specs.Settled.{AlwaysLeavesBoth, OpensPast, Settled}
-use Rattle.feed_recovery.specs.Store.{StoreValue, seal_count}
+use Rattle.feed_recovery.specs.Store.{StoreValue}
+use Rattle.feed_recovery.specs.Stored.{Stored, stored_of}
 use Rattle.feed_tool.specs.declared.fault.Fault.{Fault}
 use Rattle.feed_tool.specs.Applied.{IsMadeBy}
 use Rattle.feed_tool.specs.Apply.{asked, ◌>>=◌}
 use Rattle.feed_tool.specs.Crash.{IsWithOneMore}
 use Rattle.feed_tool.specs.Line.{line_ask}
-use Rattle.feed_tool.specs.Stored.{Stored, stored_operation, stored_step}
+use Rattle.feed_tool.specs.Stored.{stored_operation, stored_step}
 use Rattle.member_rules.specs.declared.operation.Op.{Op}
-
--- what the areas of a loaded store open to
-abbrev pub stored_of : StoreValue → Stored
-stored_of store = record { head = store.head; history = store.history; seals = seal_count store }
 
 -- what the line of this number makes of a loaded store, with the clock at `now`
 abbrev pub line_made : StoreValue → ℕ → ℕ → List ℕ → Result Stored Fault

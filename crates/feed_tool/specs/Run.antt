@@ -2,6 +2,7 @@
 use Rattle.std.specs.Prelude.{◌≡◌, ◌⊎◌, ℕ, ◌≤◌, List, ◌++◌, length, ◌==◌, if◌then◌else◌, Some, None, []}
 use Rattle.atom_values.specs.Counts.{Rose}
 use Rattle.feed_disk.specs.declared.area.Area.{Area}
+use Rattle.feed_recovery.specs.Stored.{OpensTo, Stored}
 use Rattle.feed_tool.specs.declared.fault.Fault.TheVariants.{NoMemory, Input, Disk}
 use Rattle.feed_tool.specs.declared.status.Status.{Status}
 use Rattle.feed_tool.specs.declared.status.Status.TheVariants as ends
@@ -12,10 +13,11 @@ use Rattle.feed_tool.specs.Apply.{answer, history_step, test_head}
 use Rattle.feed_tool.specs.Fault.{fault_answer}
 use Rattle.feed_tool.specs.Show.{IsShown, ReadsWithinLimit}
 use Rattle.feed_tool.specs.Status.{code_of}
-use Rattle.feed_tool.specs.Stored.{Stored, OpensTo, IsBadStore, IsInitAnswer, apply_answer, archive_answer, feed_answer, member_answer, stored_step}
+use Rattle.feed_tool.specs.Stored.{IsBadStore, IsInitAnswer, apply_answer, archive_answer, feed_answer, member_answer, stored_step}
 use Rattle.member_rules.specs.Head.{window_limit, capacity_floor, capacity_limit, title_limit}
+use Rattle.tool_words.specs.Words.{IsCommandOf, request_limit}
 use Rattle.tool_words.specs.declared.command.Command.{Command}
-use Rattle.tool_words.specs.declared.command.Command.TheVariants.{Init, Apply, Show}
+use Rattle.tool_words.specs.declared.command.Command.TheVariants.{Init, Apply, Serve, Show}
 use Rattle.tool_words.specs.declared.command.Show.TheVariants.{Document, Feed, Archive, Member}
 
 -- the ranges of a command's values
@@ -24,6 +26,7 @@ HasRange (Init name window capacity) =
     ((1 ≤ window) × (window ≤ window_limit)) × ((capacity_floor ≤ capacity) × (capacity ≤ capacity_limit))
     × (length name.title ≤ title_limit) × (length name.author ≤ title_limit)
 HasRange (Apply (Some window)) = (1 ≤ window) × (window ≤ window_limit)
+HasRange (Serve listen requests) = (1 ≤ requests) × (requests ≤ request_limit)
 HasRange _ = Unit {0}
 
 -- What each command depends on
@@ -45,8 +48,18 @@ UsesDisk (Apply (Some window)) = ⊥
 UsesDisk (Show Document) = ⊥
 UsesDisk _ = Unit {0}
 
+-- whether the command has an answer that disk, clock and input determine: each but `serve`, which depends on the door
+abbrev pub IsAnswering : Command → Type 0
+IsAnswering (Serve listen requests) = ⊥
+IsAnswering _ = Unit {0}
+
+-- the words are those of another command than `serve`, or of none
+abbrev pub ServesNot : List (List ℕ) → Type 0
+ServesNot words = (listen : List ℕ) (requests : ℕ) → ¬ IsCommandOf words (Serve listen requests)
+
 -- contracts can see all that the command's answer depends on
 pub record IsSeen (command : Command) (disk_told clock_told input_told : Type 0) : Type 0 where
+  pub answering : IsAnswering command
   pub disk : UsesDisk command → disk_told
   pub clock : AsksClock command → clock_told
   pub input : ReadsInput command → input_told
@@ -71,6 +84,7 @@ abbrev pub IsAnswer : Command → (ℕ → ℕ) → List ℕ → (Area → List 
 IsAnswer (Init name window capacity) moments input content given = IsInitAnswer content given
 IsAnswer (Apply (Some window)) moments input content given = answer (test_head window) moments input ≡ given
 IsAnswer (Show Document) moments input content given = IsShown input given
+IsAnswer (Serve listen requests) moments input content given = ⊥
 IsAnswer command moments input content given =
     IsOfStore command moments input content given ⊎ IsBadStore content given
 
@@ -80,6 +94,7 @@ abbrev pub IsDueAnswer : Command → (ℕ → ℕ) → List ℕ → (Area → Li
 IsDueAnswer (Init name window capacity) moments input content given = IsInitAnswer content given
 IsDueAnswer (Apply (Some window)) moments input content given = answer (test_head window) moments input ≡ given
 IsDueAnswer (Show Document) moments input content given = IsShown input given
+IsDueAnswer (Serve listen requests) moments input content given = ⊥
 IsDueAnswer command moments input content given = IsOfStore command moments input content given
 
 -- the command's answer, which is the due one if there is one

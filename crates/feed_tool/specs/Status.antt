@@ -1,8 +1,8 @@
 -- The exit statuses.
 use Rattle.std.specs.Prelude.{ℕ}
 use Rattle.feed_tool.specs.declared.status.Status.{Status}
-use Rattle.feed_tool.specs.declared.status.Status.TheVariants.{Done, Usage, DiskFault, NoMemory, BadStore, OutputFault}
-use Rattle.feed_tool.specs.declared.status.Status.TheVariants.{InputFault, BadInput, Full, Refused}
+use Rattle.feed_tool.specs.declared.status.Status.TheVariants.{Done, Usage, DiskFault, NoMemory, BadStore, DoorFault}
+use Rattle.feed_tool.specs.declared.status.Status.TheVariants.{OutputFault, InputFault, BadInput, Full, Refused}
 
 -- the exit status of each way to end
 abbrev pub code_of : Status → ℕ
@@ -11,6 +11,7 @@ code_of Usage = 2
 code_of DiskFault = 4
 code_of NoMemory = 5
 code_of BadStore = 6
+code_of DoorFault = 7
 code_of OutputFault = 8
 code_of InputFault = 9
 code_of BadInput = 10

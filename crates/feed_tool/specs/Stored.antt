@@ -9,7 +9,8 @@ use Rattle.feed_disk.specs.declared.area.Area.TheVariants.{Journal, Sealed}
 use Rattle.feed_journal.specs.Limits.{header_length}
 use Rattle.feed_journal.specs.Records.{records, size_of}
 use Rattle.feed_recovery.specs.Faults.{IsLoadFault}
-use Rattle.feed_recovery.specs.Opening.{Opens, journal_of, seal_of}
+use Rattle.feed_recovery.specs.Opening.{journal_of, seal_of}
+use Rattle.feed_recovery.specs.Stored.{OpensTo, Stored, seals_of}
 use Rattle.feed_recovery.specs.declared.fault.LoadFault.{LoadFault}
 use Rattle.feed_tool.specs.declared.fault.BadStore.TheVariants.{AlreadyInit}
 use Rattle.feed_tool.specs.declared.fault.Fault.{Fault}
@@ -29,21 +30,6 @@ use Rattle.member_rules.specs.Windows.{windows_of}
 use Rattle.member_rules.specs.declared.operation.Op.{Op}
 use Rattle.member_rules.specs.declared.state.State.{State}
 use Rattle.member_rules.specs.declared.state.State.TheVariants.{Never, Live, Gone}
-
--- what the areas of a store open to: the head, the history and the number of seals
-pub record Stored : Type 0 where
-  pub head : HeadValue
-  pub history : List Op
-  pub seals : ℕ
-
--- the content of a disk opens to this
-abbrev pub OpensTo : (Area → List ℕ) → Stored → Type 0
-OpensTo content stored = Opens (content Journal) (content Sealed) stored.head stored.history stored.seals
-
--- the first seals of a history, in order
-abbrev pub seals_of : HeadValue → List Op → ℕ → List (List ℕ)
-seals_of head history zero = []
-seals_of head history (suc number) = seals_of head history number ++ seal_of head history (suc number) ∷ []
 
 -- the seal that comes before the next operation: that of a full window that has none
 abbrev pub missing_seal : Stored → Option (List ℕ)

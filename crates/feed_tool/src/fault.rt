@@ -242,7 +242,7 @@ fn append(line: &mut FaultLine, text: &str)
     let _ = line.try_push_str(text);
 }
 
-fn line_of(text: &str) -> FaultLine
+pub(crate) fn line_of(text: &str) -> FaultLine
     requires { length text.now ≤ MAX_LINE }
     ensures { result.bytes ≡ text.now }
 {
@@ -292,6 +292,16 @@ fn line_of_full(area: Area, size: u64, needed: u64, capacity: u64) -> FaultLine
     append_number(&mut line, size);
     append_number(&mut line, needed);
     append_number(&mut line, capacity);
+    append(&mut line, "\n");
+    line
+}
+
+/// A line of two numbers.
+pub(crate) fn line_of_numbers(first: u64, second: u64) -> FaultLine
+    ensures { result.bytes ≡ decimal first ++ spaced second ++ codes "\n" }
+{
+    let mut line = numbered("", first, "");
+    append_number(&mut line, second);
     append(&mut line, "\n");
     line
 }

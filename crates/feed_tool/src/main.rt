@@ -6,16 +6,18 @@
 //! ```text
 //! let mut disk = MemoryDisk::new(alloc, journal, sealed, mirror, Many::new(alloc));
 //! let mut clock = SetClock::new(moments);
+//! let mut door = ScriptDoor::new(alloc, Many::new(alloc), Many::new(alloc))?;
 //! let mut input = ListSource::new(Bytes::of(alloc, b"add Hello\n")?, Many::new(alloc));
 //! let mut output = ListSink::new(alloc, Many::new(alloc));
-//! let ended = run(alloc, &words, &mut disk, &mut clock, &mut input, &mut output);
+//! let ended = run(alloc, &words, &mut disk, &mut clock, &mut door, &mut input, &mut output);
 //! assert_eq!(rt; ended.status, 0);
 //! ```
 //!
 //! The commands are in `commands`. The objects outside the program are traits in `outside`: those of the system are
 //! thin adapters, and those in memory are for tests.
 //!
-//! Stands on `archive_sealer` and `atom_grammar` for the documents, and on the crates below them.
+//! Stands on `document_server` for the server, on `archive_sealer` and `atom_grammar` for the documents, and on the
+//! crates below them.
 #![tactic(auto)]
 
 mod commands;
@@ -31,6 +33,7 @@ mod words;
 
 use crate::fault::Fault;
 use crate::outside::system::{InputSource, OutputSink, SystemClock};
+use crate::outside::tcp::TcpDoor;
 use crate::run::{end_with, run};
 use crate::words::given_words;
 use feed_disk::FileDisk;
@@ -39,6 +42,7 @@ use std::process::ExitCode;
 
 fn main(rt: HostRuntime) -> ExitCode {
     let mut clock = SystemClock { runtime: &rt };
+    let mut door = TcpDoor::new(&rt);
     let mut input = InputSource {
         reader: rt.reader(),
         faults: 0,
@@ -53,10 +57,13 @@ fn main(rt: HostRuntime) -> ExitCode {
             words.as_slice(),
             &mut disk,
             &mut clock,
+            &mut door,
             &mut input,
             &mut output,
         ),
-        (Err(error), _) | (_, Err(error)) => end_with(&mut output, Fault::from(error)),
+        (Err(error), _) | (_, Err(error)) => {
+            end_with(rt.alloc(), &mut output, Fault::from(error))
+        }
     };
     ExitCode::from(ended.status)
 }

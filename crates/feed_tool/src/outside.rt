@@ -1,4 +1,4 @@
-//! The objects outside the program: a clock, an input and an output, as traits.
+//! The input and the output of the program, as traits.
 
 ghost use Rattle.std.specs.Prelude.{◌≡◌, ℕ, ◌+◌, ◌≤◌, ◌<◌, ◌++◌, [], length, take, drop, IfOk, OnErr};
 ghost use Rattle.atom_values.specs.Counts.{HasCause};
@@ -6,22 +6,9 @@ ghost use Rattle.feed_tool.specs.Outside.{SourceState, SinkState};
 
 pub mod memory;
 pub mod system;
+pub mod tcp;
 
 use atom_values::Failed;
-
-/// A clock, in milliseconds since 1970-01-01T00:00:00Z. It may go back, and never fails.
-pub trait Clock {
-    /// Whether contracts can see the moments of the clock.
-    ghost told: { Type 0 };
-
-    /// The moments that the coming calls return, in order.
-    ghost coming: { Self → ℕ → ℕ };
-
-    /// Returns the moment.
-    fn now(&mut self) -> u64
-        ensures moment { told → result ≡ coming self.old 0 }
-        ensures later { told → (k : ℕ) → coming self.new k ≡ coming self.old (k + 1) };
-}
 
 /// An input that is read once, from its beginning.
 pub trait Source {

@@ -1,28 +1,33 @@
-ghost use Rattle.std.specs.Prelude.{◌≡◌, ◌≢◌, ◌⊎◌, ℕ, ◌≤◌, None, Err, map, string_bytes, IfOk, IfErr, IsOk};
+ghost use Rattle.std.specs.Prelude.{◌≡◌, ◌≢◌, ◌⊎◌, ℕ, ◌≤◌, List, [], None, Err, map, string_bytes, IfOk, IfErr, IsOk};
 ghost use Rattle.atom_values.specs.Counts.{Rose};
 ghost use Rattle.atom_writer.specs.declared.doc.FeedName.{FeedName};
 ghost use Rattle.feed_disk.specs.Moments.{LeavesAlone};
 ghost use Rattle.feed_disk.specs.declared.area.Area.TheVariants.{Mirror};
 ghost use Rattle.feed_tool.specs.declared.status.Status.TheVariants as status;
 ghost use Rattle.feed_tool.specs.Answer.{Answer, Prints};
-ghost use Rattle.feed_tool.specs.Crash.{AddsNothing, AppliesSafely, LeavesStores, MakesStoreAt, OpensToApplied};
+ghost use Rattle.feed_recovery.specs.Settled.{LeavesStores};
+ghost use Rattle.feed_recovery.specs.Stored.{OpensTo, Stored};
+ghost use Rattle.feed_tool.specs.Crash.{AddsNothing, AppliesSafely, MakesStoreAt, OpensToApplied};
 ghost use Rattle.feed_tool.specs.Fault.{fault_answer, HasAnswer, IsRefusal};
 ghost use Rattle.feed_tool.specs.Run.{HasRange, IsDueAnswer, IsGiven, IsSeen, IsUnrefusedBy, IsStatus, IsAnswered};
-ghost use Rattle.feed_tool.specs.Run.{EndsWith, IsComplete, IsAlone, alone_line};
+ghost use Rattle.feed_tool.specs.Run.{EndsWith, IsAnswering, IsComplete, IsAlone, ServesNot, alone_line};
+ghost use Rattle.feed_tool.specs.Serve.{EndsServing, IsServedWhole};
 ghost use Rattle.feed_tool.specs.Status.{code_of};
 ghost use Rattle.tool_words.specs.Words.{IsCommandOf};
 ghost use Rattle.tool_words.specs.declared.command.Command.{Command as CommandValue};
-ghost use Rattle.tool_words.specs.declared.command.Command.TheVariants.{Init, Apply};
+ghost use Rattle.tool_words.specs.declared.command.Command.TheVariants.{Init, Apply, Serve};
 
 use crate::commands::apply::apply;
 use crate::commands::init::init;
+use crate::commands::serve::serve;
 use crate::commands::show::show;
 use crate::commands::store;
 use crate::fault::Fault;
-use crate::outside::{Clock, Sink, Source};
+use crate::outside::{Sink, Source};
 use crate::print::write_all;
 use crate::status::Status;
-use atom_values::Failed;
+use atom_values::{Failed, Many};
+use document_server::{Clock, Door, Line};
 use feed_disk::Disk;
 use std::alloc::Global;
 use tool_words::{Command, Show, WordsFault, read_words};
@@ -32,6 +37,8 @@ use tool_words::{Command, Show, WordsFault, read_words};
 pub struct Ended {
     /// The exit status: the code of a `Status`.
     pub status: u8,
+    /// The connections that `serve` served, in order. Empty for each other command.
+    pub lines: Many<Line, 1_000_000>,
 }
 
 /// Runs the command that the words name, and returns the exit status, which docs/FORMATS.md lists with what is
@@ -42,13 +49,15 @@ pub struct Ended {
 ///   subscription document. `apply W` applies them to an empty history, and uses no store.
 /// - `show` reads the input as one document and prints its summary. `show feed`, `show archive J` and `show member N`
 ///   print a document of the store.
+/// - `serve` serves the feed of the store at an address, one connection after the other, and then prints a line for each.
 ///
 /// At any other end the line of that end is printed. A failure to print that line changes no status.
-pub fn run<D: Disk, C: Clock, I: Source, O: Sink>(
+pub fn run<D: Disk, C: Clock, L: Door, I: Source, O: Sink>(
     alloc: Global,
     words: &[String],
     disk: &mut D,
     clock: &mut C,
+    door: &mut L,
     input: &mut I,
     output: &mut O,
 ) -> Ended
@@ -66,7 +75,7 @@ pub fn run<D: Disk, C: Clock, I: Source, O: Sink>(
         (O.state output.old) (O.state output.new) result.status }
 
     // The other ends print their line, which says nothing of the input and of the store.
-    ensures alone { O.told → IsAlone result.status
+    ensures alone { O.told → ServesNot (map string_bytes words.now) → IsAlone result.status
         → Prints (O.state output.old) (O.state output.new) (alone_line result.status) }
 
     // A fault comes only where the object's count of faults rose, and nothing that was read before it is refused.
@@ -111,48 +120,74 @@ pub fn run<D: Disk, C: Clock, I: Source, O: Sink>(
         → IsAnswered result.status
         → OpensToApplied (D.state disk.old) (D.state disk.new) (C.coming clock.old) (I.state input.old).left }
     ensures mirror { LeavesAlone (D.state disk.old) (D.state disk.new) Mirror }
+
+    // `serve`: the session over the connections that the door gave, its lines, and what a crash leaves. No other command
+    // uses the door.
+    ensures serves { (listen : List ℕ) (requests : ℕ)
+        → IsCommandOf (map string_bytes words.now) (Serve listen requests)
+        → EndsServing requests (D.state disk.old) (D.state disk.new) (C.coming clock.old)
+        (L.state door.old) (L.state door.new) D.told C.told L.told O.told (O.state output.old) (O.state output.new)
+        result.lines.items result.status }
+    ensures serves_whole { (listen : List ℕ) (requests : ℕ)
+        → IsCommandOf (map string_bytes words.now) (Serve listen requests) → D.told
+        → (stored : Stored) → OpensTo (D.state disk.old).content stored
+        → IsServedWhole (D.state disk.old) (D.state disk.new) (L.state door.old) (L.state door.new)
+        (O.state output.old) (O.state output.new) result.status }
+    ensures no_lines { ServesNot (map string_bytes words.now) → result.lines.items ≡ [] }
+    ensures no_door { ServesNot (map string_bytes words.now) → door.new ≡ door.old }
+    ensures door_fault { result.status ≡ code_of status.DoorFault
+        → Rose (L.state door.old).faults (L.state door.new).faults }
+    ensures no_hidden_door_fault { result.status ≢ code_of status.DoorFault
+        → (L.state door.new).faults ≡ (L.state door.old).faults }
 {
     let command = match read_words(alloc, words) {
         Ok(command) => command,
         Err(WordsFault::Usage) => {
             // The status doesn't depend on whether its line could be printed.
             let _ = write_all(output, USAGE);
-            return Ended {
-                status: Status::Usage.code(),
-            };
+            return end_as(alloc, Status::Usage);
         }
-        Err(WordsFault::NoMemory) => return end_with(output, Fault::NoMemory),
+        Err(WordsFault::NoMemory) => return end_with(alloc, output, Fault::NoMemory),
     };
+    if let Command::Serve { listen, requests } = &command {
+        return serve(alloc, listen.slice(), *requests, disk, clock, door, output);
+    }
     match answer(alloc, command, disk, clock, input) {
         Ok(text) => match write_all(output, text.as_slice()) {
-            Ok(()) => Ended {
-                status: Status::Done.code(),
-            },
-            Err(Failed) => Ended {
-                status: Status::OutputFault.code(),
-            },
+            Ok(()) => end_as(alloc, Status::Done),
+            Err(Failed) => end_as(alloc, Status::OutputFault),
         },
-        Err(fault) => end_with(output, fault),
+        Err(fault) => end_with(alloc, output, fault),
+    }
+}
+
+/// The end of a command that served nothing.
+fn end_as(alloc: Global, status: Status) -> Ended
+    ensures status { result.status ≡ code_of status }
+    ensures lines { result.lines.items ≡ [] }
+{
+    Ended {
+        status: status.code(),
+        lines: Many::new(alloc),
     }
 }
 
 /// Prints the line of a fault, in one call of the output unless the output takes only a part of it.
-pub fn end_with<O: Sink>(output: &mut O, fault: Fault) -> Ended
+pub fn end_with<O: Sink>(alloc: Global, output: &mut O, fault: Fault) -> Ended
+    ensures lines { result.lines.items ≡ [] }
     ensures status { result.status ≡ code_of (fault_answer fault).status }
     ensures prints { O.told → Prints (O.state output.old) (O.state output.new) (fault_answer fault).printed }
     ensures faults { (O.state output.old).faults ≤ (O.state output.new).faults }
 {
     // The status tells of the first fault, so it doesn't depend on whether its line could be printed.
     let _ = write_all(output, fault.line().as_str().as_bytes());
-    Ended {
-        status: fault.status().code(),
-    }
+    end_as(alloc, fault.status())
 }
 
 /// The line for words that name no command. Its names are those of the finished program.
 const USAGE: &[u8] = b"usage: feed_tool init, apply, show, serve, mirror, audit, drill\n";
 
-/// Returns what the command prints at its defined end.
+/// Returns what the command prints at its defined end. `serve` has no such answer, since it depends on the door.
 fn answer<D: Disk, C: Clock, I: Source>(
     alloc: Global,
     command: Command,
@@ -160,7 +195,8 @@ fn answer<D: Disk, C: Clock, I: Source>(
     clock: &mut C,
     input: &mut I,
 ) -> Result<Vec<u8>, Fault>
-    requires { HasRange command }
+    requires range { HasRange command }
+    requires prints { IsAnswering command }
     ensures answer { IfOk result (λ written. IsSeen command D.told C.told I.told
         → IsGiven command (C.coming clock.old) (I.state input.old).left (D.state disk.old).content
         record { status = status.Done; printed = written.items }) }
@@ -201,5 +237,6 @@ fn answer<D: Disk, C: Clock, I: Source>(
             Show::Archive(number) => store::show_archive(alloc, number, disk),
             Show::Member(number) => store::show_member(alloc, number, disk),
         },
+        Command::Serve { .. } => unreachable!(),
     }
 }

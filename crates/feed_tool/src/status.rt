@@ -14,6 +14,8 @@ pub enum Status {
     NoMemory,
     /// The disk has no store that opens, or has one already: 6.
     BadStore,
+    /// A call on the door failed: 7.
+    DoorFault,
     /// A call on the output failed: 8.
     OutputFault,
     /// A call on the input failed: 9.
@@ -37,6 +39,7 @@ impl Status {
             Status::DiskFault => 4,
             Status::NoMemory => 5,
             Status::BadStore => 6,
+            Status::DoorFault => 7,
             Status::OutputFault => 8,
             Status::InputFault => 9,
             Status::BadInput => 10,

@@ -1,4 +1,5 @@
 //! Words, and the commands that they are read as.
+use atom_writer::FeedName;
 use std::alloc::Global;
 use std::process::Abort;
 use std::str;
@@ -15,7 +16,7 @@ static NEEDED: [(&str, &str); 4] = [
 
 /// Each row has words, separated by single spaces, and what they are read as. `*` means all options that `init` needs,
 /// `*title` only the title, and so on. `_` means a space within a word.
-static ROWS: [(&str, &str); 66] = [
+static ROWS: [(&str, &str); 122] = [
     ("apply", "apply"),
     ("apply 1", "apply 1"),
     ("apply 100", "apply 100"),
@@ -109,6 +110,90 @@ static ROWS: [(&str, &str); 66] = [
         "init *base *title *author --uuid 6d1f0c5a-93be-8c27-8d10-2b7f9e4a5c36",
         "usage",
     ),
+    (
+        "serve --listen 127.0.0.1:80 --requests 5",
+        "serve 127.0.0.1:80 5",
+    ),
+    (
+        "serve --requests 5 --listen 127.0.0.1:80",
+        "serve 127.0.0.1:80 5",
+    ),
+    (
+        "serve --listen=127.0.0.1:80 --requests=5",
+        "serve 127.0.0.1:80 5",
+    ),
+    (
+        "serve --requests=5 --listen=127.0.0.1:80",
+        "serve 127.0.0.1:80 5",
+    ),
+    ("serve --requests 5 --listen=a=b=", "serve a=b= 5"),
+    ("serve --requests=5 --listen =", "serve = 5"),
+    ("serve --requests=5 --listen ä_b", "serve ä b 5"),
+    ("serve --listen a --requests 1", "serve a 1"),
+    (
+        "serve --listen a --requests 00000000000000000000007",
+        "serve a 7",
+    ),
+    ("serve --listen a --requests 1000000", "serve a 1000000"),
+    ("serve --listen a --requests=001000000", "serve a 1000000"),
+    ("serve --listen a --requests 1000001", "usage"),
+    ("serve --listen a --requests 18446744073709551617", "usage"),
+    ("serve --listen a --requests 0", "usage"),
+    ("serve --listen a --requests 000", "usage"),
+    ("serve --listen a --requests +5", "usage"),
+    ("serve --listen a --requests 5_", "usage"),
+    ("serve --listen a --requests five", "usage"),
+    ("serve --listen a --requests -5", "usage"),
+    ("serve --listen a --requests=-5", "usage"),
+    ("serve --listen a --requests=", "usage"),
+    ("serve --listen a --requests ", "usage"),
+    ("serve --listen a --requests", "usage"),
+    ("serve", "usage"),
+    ("serve --listen a", "usage"),
+    ("serve --requests 5", "usage"),
+    ("serve --requests 5 --listen", "usage"),
+    ("serve --requests 5 --listen=", "usage"),
+    ("serve --requests 5 --listen ", "usage"),
+    ("serve --requests 5 --listen -a", "usage"),
+    ("serve --requests 5 --listen=-a", "usage"),
+    ("serve --listen --requests 5", "usage"),
+    ("serve --listen --requests=5", "usage"),
+    ("serve --listen a --requests 5 --listen a", "usage"),
+    ("serve --listen a --requests 5 --listen=b", "usage"),
+    ("serve --requests=5 --listen a --requests 5", "usage"),
+    ("serve --listen a --requests 5 --port 80", "usage"),
+    ("serve --listen a --requests 5 --=80", "usage"),
+    ("serve --listen a --requests 5 --window 4", "usage"),
+    ("serve --listen a --requests 5 *title", "usage"),
+    ("serve *", "usage"),
+    ("init * --listen a", "usage"),
+    ("init * --requests=5", "usage"),
+    ("init --listen a --requests 5", "usage"),
+    ("serve --Listen a --requests 5", "usage"),
+    ("serve -listen a --requests 5", "usage"),
+    ("serve listen a requests 5", "usage"),
+    ("serve a 5", "usage"),
+    ("serve a --listen a --requests 5", "usage"),
+    ("serve --listen a b --requests 5", "usage"),
+    ("serve --listen a --requests 5 6", "usage"),
+    ("serve --listen a --requests 5 --", "usage"),
+    ("serve --listen a --requests 5 ", "usage"),
+    ("Serve --listen a --requests 5", "usage"),
+    ("apply --listen a --requests 5", "usage"),
+    ("--listen a --requests 5", "usage"),
+];
+
+/// Each row has words as above, a letter, how often it stands in place of each `%`, and whether the words are read.
+static LENGTHS: [(&str, &str, usize, bool); 9] = [
+    ("init *base *uuid --title % --author=%", "x", 1_024, true),
+    ("init *base *uuid --title % *author", "x", 1_025, false),
+    ("init *base *uuid --author=% *title", "x", 1_025, false),
+    ("serve --listen % --requests 5", "x", 255, true),
+    ("serve --listen=% --requests 5", "x", 255, true),
+    ("serve --listen % --requests 5", "x", 256, false),
+    ("serve --listen=% --requests 5", "x", 256, false),
+    ("serve --listen % --requests 5", "é", 127, true),
+    ("serve --listen % --requests 5", "é", 128, false),
 ];
 
 /// Returns the words of a row.
@@ -134,8 +219,7 @@ fn push_needed(alloc: Global, words: &mut Vec<String>, wanted: &str) -> Result<(
     Ok(())
 }
 
-/// Returns what the words are read as. Of a feed's name it shows the base address without `http://feed.example`, the
-/// title and the author.
+/// Returns what the words are read as.
 fn reading(rt: &impl Abort, alloc: Global, words: &[String]) -> Result<String, Fail> {
     let command = match read_words(alloc, words) {
         Ok(command) => command,
@@ -151,40 +235,56 @@ fn reading(rt: &impl Abort, alloc: Global, words: &[String]) -> Result<String, F
         Command::Show(Show::Feed) => String::from_str(alloc, "show feed")?,
         Command::Show(Show::Archive(number)) => format!(in alloc; "show archive {number}")?,
         Command::Show(Show::Member(number)) => format!(in alloc; "show member {number}")?,
+        Command::Serve { listen, requests } => {
+            let listen = str::from_utf8(listen.slice())?;
+            format!(in alloc; "serve {listen} {requests}")?
+        }
         Command::Init {
             name,
             window,
             capacity,
         } => {
-            assert_eq!(rt; name.id.print().as_slice(), NEEDED[1].1.as_bytes());
-            let base = str::from_utf8(name.base.text())?;
-            let base = base
-                .strip_prefix("http://feed.example")
-                .ok_or("another base address")?;
-            let title = str::from_utf8(name.title.bytes())?;
-            let author = str::from_utf8(name.author.bytes())?;
-            format!(in alloc; "init {base} {title} {author} {window} {capacity}")?
+            let name = named(rt, alloc, &name)?;
+            format!(in alloc; "init {name} {window} {capacity}")?
         }
     })
 }
 
-/// Whether words are read where both the title and the author have this many bytes.
-fn is_read(rt: &impl Abort, alloc: Global, length: usize) -> Result<bool, Fail> {
-    let mut words = spelled(alloc, "init *base *uuid --title")?;
+/// Returns the base address of the name without `http://feed.example`, its title and its author.
+fn named(rt: &impl Abort, alloc: Global, name: &FeedName) -> Result<String, Fail> {
+    assert_eq!(rt; name.id.print().as_slice(), NEEDED[1].1.as_bytes());
+    let base = str::from_utf8(name.base.text())?;
+    let base = base
+        .strip_prefix("http://feed.example")
+        .ok_or("another base address")?;
+    let title = str::from_utf8(name.title.bytes())?;
+    let author = str::from_utf8(name.author.bytes())?;
+    Ok(format!(in alloc; "{base} {title} {author}")?)
+}
+
+/// Whether the words of the row are read, with this many times `letter` in place of each `%`.
+fn is_read(
+    rt: &impl Abort,
+    alloc: Global,
+    row: &str,
+    letter: &str,
+    times: usize,
+) -> Result<bool, Fail> {
     let mut text = String::new(alloc);
-    for _ in 0..length {
-        text.push('x')?;
+    for _ in 0..times {
+        text.push_str(letter)?;
     }
-    words.push(text.clone()?)?;
-    words.push(format!(in alloc; "--author={text}")?)?;
+    let row = row.replace(alloc, '%', text.as_str())?;
+    let words = spelled(alloc, row.as_str())?;
     Ok(reading(rt, alloc, words.as_slice())?.as_str() != "usage")
 }
 
 #[test]
-fn titles_have_a_limit(rt: HostRuntime) -> Result<(), Fail> {
-    let alloc = rt.alloc();
-    assert!(rt; is_read(&rt, alloc, 1_024)?);
-    assert!(rt; !is_read(&rt, alloc, 1_025)?);
+fn values_have_limits(rt: HostRuntime) -> Result<(), Fail> {
+    for (row, letter, times, wanted) in LENGTHS.iter() {
+        let read = is_read(&rt, rt.alloc(), row, letter, *times)?;
+        assert!(rt; read == *wanted, "{row} {letter} {times}");
+    }
     Ok(())
 }
 

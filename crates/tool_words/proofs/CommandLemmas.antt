@@ -4,9 +4,9 @@ use Rattle.std.proofs.Common.{codes, bytes_eq, false, refl, sym, ◌∙◌, subs
 use Rattle.std.proofs.lemmas.Bool.{true≢false}
 use Rattle.std.proofs.lemmas.Slice.Eq.{bytes_eq-Decides}
 use Rattle.atom_writer.specs.declared.doc.FeedName.{FeedName}
-use Rattle.tool_words.specs.Words.{IsApply, IsCommandOf, IsInit}
+use Rattle.tool_words.specs.Words.{IsApply, IsCommandOf, IsInit, IsServe}
 use Rattle.tool_words.specs.declared.command.Command.{Command}
-use Rattle.tool_words.specs.declared.command.Command.TheVariants.{Init, Apply, Show}
+use Rattle.tool_words.specs.declared.command.Command.TheVariants.{Init, Apply, Show, Serve}
 use Rattle.tool_words.specs.declared.fault.WordsFault.{WordsFault}
 use Rattle.tool_words.specs.declared.fault.WordsFault.TheVariants.{NoMemory}
 
@@ -26,6 +26,21 @@ module _ (words rest : List (List ℕ)) (r : Result Command WordsFault) where
       absurd (other_first (codes "init") (codes "apply") rest behind refl (sym spelt ∙ e))
   init_only spelt only (Show shown) (behind, e, i) =
       absurd (other_first (codes "init") (codes "show") rest behind refl (sym spelt ∙ e))
+  init_only spelt only (Serve listen requests) (behind, e, i) =
+      absurd (other_first (codes "init") (codes "serve") rest behind refl (sym spelt ∙ e))
+
+  pub serve_only : words ≡ codes "serve" ∷ rest →
+      ((listen : List ℕ) (requests : ℕ) → IsServe rest listen requests →
+      (r ≡ Ok (Serve listen requests)) ⊎ (r ≡ Err NoMemory)) → (command : Command) → IsCommandOf words command →
+      (r ≡ Ok command) ⊎ (r ≡ Err NoMemory)
+  serve_only spelt only (Serve listen requests) (behind, e, i) =
+      let same : behind ≡ rest = cc in only listen requests (subst (λ b. IsServe b listen requests) same i)
+  serve_only spelt only (Init name window capacity) (behind, e, i) =
+      absurd (other_first (codes "serve") (codes "init") rest behind refl (sym spelt ∙ e))
+  serve_only spelt only (Apply window) (behind, e, i) =
+      absurd (other_first (codes "serve") (codes "apply") rest behind refl (sym spelt ∙ e))
+  serve_only spelt only (Show shown) (behind, e, i) =
+      absurd (other_first (codes "serve") (codes "show") rest behind refl (sym spelt ∙ e))
 
 pub apply_found : (words rest : List (List ℕ)) (r : Result Command WordsFault) → words ≡ codes "apply" ∷ rest →
     IfOk r (λ command. (window : Option ℕ) × (command ≡ Apply window) × IsApply rest window) →

@@ -3,7 +3,7 @@ use Rattle.std.proofs.Common.{◌≡◌, ◌⊎◌, ℕ, List, Result, Ok, Err, 
 use Rattle.atom_writer.specs.declared.doc.FeedName.{FeedName}
 use Rattle.tool_words.specs.Options.{Given, value_of}
 use Rattle.tool_words.specs.Reading.{AreRead, apart}
-use Rattle.tool_words.specs.Words.{IsFeedIdText, IsNameText, IsNamed, IsNumberOr, IsInit, window_limit, default_window}
+use Rattle.tool_words.specs.Words.{IsFeedIdText, IsNameText, IsNamed, IsNumberOr, IsInit, init_options, window_limit, default_window}
 use Rattle.tool_words.specs.Words.{capacity_floor, capacity_limit, default_capacity}
 use Rattle.tool_words.specs.declared.command.Command.{Command}
 use Rattle.tool_words.specs.declared.command.Command.TheVariants.{Init}
@@ -44,7 +44,7 @@ init_gives words given name window capacity i same =
     (record { named = i.is_named; window_is = i.is_window; capacity_is = i.is_capacity })
 
 pub gives_init : (words : List (List ℕ)) (given : List Given) (name : FeedName) (window capacity : ℕ) →
-    AreRead words given → Give given name window capacity → IsInit words name window capacity
+    AreRead init_options words given → Give given name window capacity → IsInit words name window capacity
 gives_init words given name window capacity (options, are, same) g =
     let k = give_same given options name window capacity
     (λ key. ap (value_of key) (sym same) ∙ value_of-apart key options) g in

@@ -2,4 +2,5 @@ pub mod CommandLemmas
 pub mod FaultLemmas
 pub mod InitLemmas
 pub mod OptionLemmas
+pub mod ServeLemmas
 pub mod WordLemmas

@@ -11,24 +11,23 @@ use Rattle.std.proofs.lemmas.List.Sums.{AllPass-from_list_all}
 use Rattle.std.proofs.lemmas.Slice.Eq.{bytes_eq-Decides}
 use Rattle.std.proofs.lemmas.Bool.{cases_Bool, false_from_ne_true, true≢false}
 use Rattle.tool_words.specs.Options.{Given, AreDistinct, AreOptions, spelled, is_value, value_of}
-use Rattle.tool_words.specs.Reading.{BeginsWith, MayFollow, apart}
-use Rattle.tool_words.specs.Words.{init_options}
+use Rattle.tool_words.specs.Reading.{BeginsWith, MayFollow, apart, are_names}
 
 abbrev name_of : Given → List ℕ
 name_of given = given.name
 
-abbrev IsKnown : Given → Type 0
-IsKnown given = Any (λ name. name ≡ given.name) init_options
+abbrev IsKnown : List (List ℕ) → Given → Type 0
+IsKnown names given = Any (λ name. name ≡ given.name) names
 
 abbrev HasValue : Given → Type 0
 HasValue given = IsTrue (is_value given.value)
 
 -- the words begin with options, which are given; the rest comes after them
-pub record AreBegun (words : List (List ℕ)) (given : List Given) (rest : List (List ℕ)) : Type 0 where
+pub record AreBegun (names words : List (List ℕ)) (given : List Given) (rest : List (List ℕ)) : Type 0 where
   pub options : List Given
   pub spelt : words ≡ flat_map spelled options ++ rest
   pub same : map apart options ≡ given
-  pub known : All IsKnown options
+  pub known : All (IsKnown names) options
   pub values : All HasValue options
   pub distinct : AreDistinct (map name_of options)
 
@@ -39,13 +38,13 @@ pub record IsLeft (given : List Given) (rest : List (List ℕ)) (all : List Give
   pub same : map apart all ≡ given ++ map apart left
 
 -- the next of all the options
-pub record IsNext (given : List Given) (rest : List (List ℕ)) (all : List Given) : Type 0 where
+pub record IsNext (names : List (List ℕ)) (given : List Given) (rest : List (List ℕ)) (all : List Given) : Type 0 where
   pub option : Given
   pub left : List Given
   pub spelt : rest ≡ spelled option ++ flat_map spelled left
   pub same : map apart all ≡ given ++ apart option ∷ map apart left
   pub free : All (λ c. c ≢ 61) option.name
-  pub may : MayFollow given (apart option)
+  pub may : MayFollow names given (apart option)
 
 middle : {X : Type 0} (P : X → Type 0) (xs : List X) (y : X) (ys : List X) → All P (xs ++ y ∷ ys) → P y
 middle P [] y ys h = All-head P y ys h
@@ -59,11 +58,12 @@ map_apart f e (x ∷ xs) = cc (e x, map_apart f e xs)
 not_equal : (c : ℕ) → not (c == 61) ≡ true → c ≢ 61
 not_equal c h e = let k = rw e at h in cc
 
--- names of options of `init` have no `=`
-known_free : (name : List ℕ) → Any (λ known. known ≡ name) init_options → All (λ c. c ≢ 61) name
-known_free name (k, known, inside, at, same) =
-    let at_place : list_all (λ c. not (c == 61)) (get_or init_options k known) ≡ true =
-    AllPass-from_list_all (list_all (λ c. not (c == 61))) init_options refl k known inside in
+-- known names have no `=`
+known_free : (names : List (List ℕ)) (name : List ℕ) → IsTrue (are_names names) →
+    Any (λ known. known ≡ name) names → All (λ c. c ≢ 61) name
+known_free names name free (k, known, inside, at, same) =
+    let at_place : list_all (λ c. not (c == 61)) (get_or names k known) ≡ true =
+    AllPass-from_list_all (list_all (λ c. not (c == 61))) names free k known inside in
     let all : list_all (λ c. not (c == 61)) name ≡ true = rw (at, same) at at_place in
     λ i d within.
     not_equal (get_or name i d) (AllPass-from_list_all (λ c. not (c == 61)) name all i d within)
@@ -103,10 +103,10 @@ value_of-apart name [] = refl
 value_of-apart name (x ∷ xs) = rw (value_of-apart name xs)
 
 -- the options so far
-pub begun_more : (words : List (List ℕ)) (given : List Given) (rest : List (List ℕ)) (next : Given)
-    (left : List (List ℕ)) → AreBegun words given rest → BeginsWith rest next left → next ≡ apart next →
-    MayFollow given next → AreBegun words (given ++ next ∷ []) left
-begun_more words given rest next left h begins flat may =
+pub begun_more : (names words : List (List ℕ)) (given : List Given) (rest : List (List ℕ)) (next : Given)
+    (left : List (List ℕ)) → AreBegun names words given rest → BeginsWith rest next left → next ≡ apart next →
+    MayFollow names given next → AreBegun names words (given ++ next ∷ []) left
+begun_more names words given rest next left h begins flat may =
     let option : Given = record { name = next.name; value = next.value; joined = begins.0 } in
     let before = flat_map spelled h.options in
     record {
@@ -116,33 +116,33 @@ begun_more words given rest next left h begins flat may =
           ∙ sym (flat_map-append spelled h.options (option ∷ [])));
       same = map-append apart h.options (option ∷ []) ∙ ap (λ g. g ++ apart next ∷ []) h.same
           ∙ ap (λ g. given ++ g ∷ []) (sym flat);
-      known = All-push IsKnown h.options option h.known may.known;
+      known = All-push (IsKnown names) h.options option h.known may.known;
       values = All-push HasValue h.options option h.values may.value;
       distinct = distinct_push h.options option h.distinct
           (sym (value_of-apart next.name h.options) ∙ ap (value_of next.name) h.same ∙ may.fresh);
     }
 
 -- the options that are left
-pub left_next : (words : List (List ℕ)) (given : List Given) (rest : List (List ℕ)) (all left : List Given) →
-    AreOptions init_options words all → rest ≡ flat_map spelled left → map apart all ≡ given ++ map apart left →
-    rest ≢ [] → IsNext given rest all
-left_next words given rest all [] h spelt same some = absurd (some spelt)
-left_next words given rest all (option ∷ more) h spelt same some =
-    let known : IsKnown option = middle IsKnown given (apart option) (map apart more)
-    (subst (All IsKnown) same (All-map IsKnown apart all h.known)) in
-    let names : map name_of all ≡ map name_of (given ++ apart option ∷ map apart more) =
+pub left_next : (names words : List (List ℕ)) (given : List Given) (rest : List (List ℕ)) (all left : List Given) →
+    IsTrue (are_names names) → AreOptions names words all → rest ≡ flat_map spelled left → map apart all ≡ given ++ map apart left →
+    rest ≢ [] → IsNext names given rest all
+left_next names words given rest all [] free h spelt same some = absurd (some spelt)
+left_next names words given rest all (option ∷ more) free h spelt same some =
+    let known : IsKnown names option = middle (IsKnown names) given (apart option) (map apart more)
+    (subst (All (IsKnown names)) same (All-map (IsKnown names) apart all h.known)) in
+    let same_names : map name_of all ≡ map name_of (given ++ apart option ∷ map apart more) =
     sym (map_apart name_of (λ _. refl) all) ∙ ap (map name_of) same in
     record {
       option = option;
       left = more;
       spelt = spelt;
       same = same;
-      free = known_free option.name known;
+      free = known_free names option.name free known;
       may = record {
         value = middle HasValue given (apart option) (map apart more)
             (subst (All HasValue) same (All-map HasValue apart all h.values));
         known = known;
-        fresh = fresh_of_distinct given (apart option) (map apart more) (subst AreDistinct names h.distinct);
+        fresh = fresh_of_distinct given (apart option) (map apart more) (subst AreDistinct same_names h.distinct);
       };
     }
 
@@ -159,14 +159,14 @@ none_of [] e = refl
 none_of (option ∷ more) e = absurd (word_of_each option.joined _ _ _ (flat_map spelled more) e)
 
 -- where the first option is the only one that the words begin with, it is the next one
-pub left_more : (words : List (List ℕ)) (given : List Given) (rest : List (List ℕ)) (all : List Given) (next : Given)
-    (left : List (List ℕ)) → AreOptions init_options words all → IsLeft given rest all → BeginsWith rest next left →
+pub left_more : (names words : List (List ℕ)) (given : List Given) (rest : List (List ℕ)) (all : List Given) (next : Given)
+    (left : List (List ℕ)) → IsTrue (are_names names) → AreOptions names words all → IsLeft given rest all → BeginsWith rest next left →
     ((option : Given) (behind : List (List ℕ)) → All (λ c. c ≢ 61) option.name → rest ≡ spelled option ++ behind →
-    (next ≡ apart option) × (left ≡ behind)) → MayFollow given next × IsLeft (given ++ next ∷ []) left all
-left_more words given rest all next left h l begins only =
-    let n = left_next words given rest all l.left h l.spelt l.same (begins_some rest next left begins) in
+    (next ≡ apart option) × (left ≡ behind)) → MayFollow names given next × IsLeft (given ++ next ∷ []) left all
+left_more names words given rest all next left free h l begins only =
+    let n = left_next names words given rest all l.left free h l.spelt l.same (begins_some rest next left begins) in
     let (same, behind) = only n.option (flat_map spelled n.left) n.free n.spelt in (
-      subst (MayFollow given) (sym same) n.may,
+      subst (MayFollow names given) (sym same) n.may,
       record {
         left = n.left;
         spelt = behind;

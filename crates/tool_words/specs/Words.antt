@@ -9,7 +9,7 @@ use Rattle.deleted_entries.specs.FeedId.{version, member_version}
 use Rattle.tool_words.specs.Numbers.{IsNumber}
 use Rattle.tool_words.specs.Options.{Given, AreOptions, value_of}
 use Rattle.tool_words.specs.declared.command.Command.{Command}
-use Rattle.tool_words.specs.declared.command.Command.TheVariants.{Init, Apply, Show}
+use Rattle.tool_words.specs.declared.command.Command.TheVariants.{Init, Apply, Show, Serve}
 use Rattle.tool_words.specs.declared.command.Show.{Show as Shown}
 use Rattle.tool_words.specs.declared.command.Show.TheVariants.{Document, Feed, Archive, Member}
 
@@ -34,9 +34,20 @@ default_capacity = 1_073_741_824
 abbrev pub name_limit : ℕ
 name_limit = 1_024
 
+-- how many bytes an address to listen at may have
+abbrev pub listen_limit : ℕ
+listen_limit = 255
+
+-- how many requests may be asked for
+abbrev pub request_limit : ℕ
+request_limit = 1_000_000
+
 abbrev pub init_options : List (List ℕ)
 init_options =
     codes "base" ∷ codes "uuid" ∷ codes "title" ∷ codes "author" ∷ codes "window" ∷ codes "capacity" ∷ []
+
+abbrev pub serve_options : List (List ℕ)
+serve_options = codes "listen" ∷ codes "requests" ∷ []
 
 -- the value is this number in the range, or is left out and the number is the default
 abbrev pub IsNumberOr : ℕ → ℕ → ℕ → Option (List ℕ) → ℕ → Type 0
@@ -91,6 +102,25 @@ IsShow words Feed = words ≡ codes "feed" ∷ []
 IsShow words (Archive number) = IsNumbered (codes "archive") words number
 IsShow words (Member number) = IsNumbered (codes "member") words number
 
+-- the value is an address to listen at
+pub record IsListen (value : Option (List ℕ)) (listen : List ℕ) : Type 0 where
+  pub there : value ≡ Some listen
+  pub some : 1 ≤ length listen
+  pub short : length listen ≤ listen_limit
+
+-- the value is a number of requests
+pub record IsRequests (value : Option (List ℕ)) (requests : ℕ) : Type 0 where
+  pub word : List ℕ
+  pub there : value ≡ Some word
+  pub is_number : IsNumber 1 request_limit word requests
+
+-- the words after `serve`
+pub record IsServe (words : List (List ℕ)) (listen : List ℕ) (requests : ℕ) : Type 0 where
+  pub options : List Given
+  pub are_options : AreOptions serve_options words options
+  pub is_listen : IsListen (value_of (codes "listen") options) listen
+  pub is_requests : IsRequests (value_of (codes "requests") options) requests
+
 abbrev pub IsCommandOf : List (List ℕ) → Command → Type 0
 IsCommandOf words (Init name window capacity) =
     (rest : List (List ℕ)) × (words ≡ codes "init" ∷ rest) × IsInit rest name window capacity
@@ -98,3 +128,5 @@ IsCommandOf words (Apply window) =
     (rest : List (List ℕ)) × (words ≡ codes "apply" ∷ rest) × IsApply rest window
 IsCommandOf words (Show shown) =
     (rest : List (List ℕ)) × (words ≡ codes "show" ∷ rest) × IsShow rest shown
+IsCommandOf words (Serve listen requests) =
+    (rest : List (List ℕ)) × (words ≡ codes "serve" ∷ rest) × IsServe rest listen requests

@@ -1,4 +1,8 @@
+use atom_values::Bytes;
 use atom_writer::FeedName;
+
+/// The most operations of a window.
+pub(crate) const WINDOW_LIMIT: u64 = 100;
 
 /// A command, with its values.
 #[derive(Debug, Drop)]
@@ -16,6 +20,12 @@ pub enum Command {
     },
     /// `show`: prints what is shown.
     Show(Show),
+    /// `serve`: serves the store over HTTP. `listen` is the address to listen at, which has from 1 to 255 bytes.
+    /// `requests` is from 1 to 1,000,000.
+    Serve {
+        listen: Bytes,
+        requests: u32,
+    },
 }
 
 /// What `show` prints.

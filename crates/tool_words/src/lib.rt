@@ -7,6 +7,7 @@
 //!     Ok(Command::Apply { window }) => ..,
 //!     Ok(Command::Show(shown)) => ..,
 //!     Ok(Command::Init { name, window, capacity }) => ..,
+//!     Ok(Command::Serve { listen, requests }) => ..,
 //!     Err(WordsFault::Usage) => println!(rt; "usage: ..")?,
 //!     Err(WordsFault::NoMemory) => ..,
 //! }
@@ -20,8 +21,10 @@
 
 mod command;
 mod fault;
+mod init;
 mod number;
 mod options;
+mod serve;
 mod words;
 
 pub use command::{Command, Show};

@@ -1,9 +1,9 @@
-ghost use Rattle.std.specs.Prelude.{◌≡◌, ◌≢◌, ◌↔◌, ℕ, List, ◌∷◌, ◌++◌, Option, None, Some, All, Any, IsTrue, IfOk, IfSome, IsSomeAnd, MatchOption, codes, map, string_bytes};
+ghost use Rattle.std.specs.Prelude.{◌≡◌, ◌≢◌, ◌↔◌, ℕ, List, ◌∷◌, ◌++◌, Option, None, Some, All, Any, IsTrue, IfOk, OnErr, IfSome, IsSomeAnd, MatchOption, codes, map, string_bytes};
 ghost use Rattle.std.specs.Option.{option_copied};
 ghost use Rattle.tool_words.specs.Options.{Given as GivenOption, AreOptions, spelled, is_value, value_of};
-ghost use Rattle.tool_words.specs.Reading.{AreRead, BeginsWith, MayFollow, apart, option_of};
-ghost use Rattle.tool_words.specs.Words.{init_options};
+ghost use Rattle.tool_words.specs.Reading.{AreRead, BeginsWith, MayFollow, apart, are_names, names_of, option_of};
 
+use crate::fault::WordsFault;
 use std::alloc::{AllocError, Global};
 
 /// An option with its value, as the words give it.
@@ -13,19 +13,24 @@ pub(crate) struct Given<'a> {
     pub(crate) value: &'a str,
 }
 
-/// Reads words as options of `init`. `None` if they aren't.
+/// Reads words as options of these names, in any order, each at most once. `None` if they aren't.
 pub(crate) fn read_options<'a>(
     alloc: Global,
+    names: &[&str],
     words: &'a [String],
 ) -> Result<Option<Vec<Given<'a>>>, AllocError>
-    ensures found { IfOk result (λ r. IfSome r (λ v. AreRead (map string_bytes words.now) (map option_of v.items))) }
-    ensures only { (options : List GivenOption) → AreOptions init_options (map string_bytes words.now) options
+    // A word is cut at its first `=`.
+    requires { IsTrue (are_names (names_of names.now)) }
+    ensures found { IfOk result (λ r. IfSome r (λ v.
+        AreRead (names_of names.now) (map string_bytes words.now) (map option_of v.items))) }
+    ensures only { (options : List GivenOption)
+        → AreOptions (names_of names.now) (map string_bytes words.now) options
         → IfOk result (λ r. IsSomeAnd r (λ v. map option_of v.items ≡ map apart options)) }
 {
     let mut options = Vec::new(alloc);
     let mut rest = words;
     while let Some((given, left)) = first_option(rest) {
-        if !may_follow(options.as_slice(), given) {
+        if !may_follow(names, options.as_slice(), given) {
             return Ok(None);
         }
         options.push(given)?;
@@ -76,11 +81,11 @@ fn name_of(word: &str) -> Option<(&str, Option<&str>)>
     }
 }
 
-/// Whether the option has a value and a known name that none of the other options has.
-fn may_follow(options: &[Given<'_>], given: Given<'_>) -> bool
-    ensures { IsTrue result ↔ MayFollow (map option_of options.now) (option_of given.entry) }
+/// Whether the option has a value and one of the names that none of the other options has.
+fn may_follow(names: &[&str], options: &[Given<'_>], given: Given<'_>) -> bool
+    ensures { IsTrue result ↔ MayFollow (names_of names.now) (map option_of options.now) (option_of given.entry) }
 {
-    is_value(given.value) && is_known(given.name) && value_of(options, given.name).is_none()
+    is_value(given.value) && is_known(names, given.name) && value_of(options, given.name).is_none()
 }
 
 /// Whether the word may be a value: it isn't empty and doesn't begin with `-`.
@@ -90,14 +95,11 @@ fn is_value(word: &str) -> bool
     !word.is_empty() && !word.starts_with('-')
 }
 
-/// Whether it is the name of an option of `init`.
-fn is_known(name: &str) -> bool
-    ensures { IsTrue result ↔ Any (λ known. known ≡ name.now) init_options }
+/// Whether it is one of the names.
+fn is_known(names: &[&str], name: &str) -> bool
+    ensures { IsTrue result ↔ Any (λ known. known ≡ name.now) (names_of names.now) }
 {
-    matches!(
-        name,
-        "base" | "uuid" | "title" | "author" | "window" | "capacity"
-    )
+    names.contains(&name)
 }
 
 /// The value of the option of this name.
@@ -110,4 +112,12 @@ pub(crate) fn value_of<'a>(options: &[Given<'a>], name: &str) -> Option<&'a str>
         }
     }
     None
+}
+
+/// The value of an option that has to be there.
+pub(crate) fn required<'a>(options: &[Given<'a>], name: &str) -> Result<&'a str, WordsFault>
+    ensures found { IfOk result (λ text. value_of name.now (map option_of options.now) ≡ Some text.now) }
+    ensures missing { OnErr result (value_of name.now (map option_of options.now) ≡ None) }
+{
+    value_of(options, name).ok_or(WordsFault::Usage)
 }

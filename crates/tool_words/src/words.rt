@@ -1,38 +1,14 @@
-ghost use Rattle.std.specs.Prelude.{◌≡◌, ◌⊎◌, ℕ, List, Option, Some, None, codes, map, string_bytes, Ok, Err, IfOk, IfSome, OnErr};
-ghost use Rattle.atom_writer.specs.declared.doc.FeedName.{FeedName as NameValue};
-ghost use Rattle.chain_links.specs.Base.{IsBase};
-ghost use Rattle.chain_links.specs.Checked.{IsUrlText};
-ghost use Rattle.tool_words.specs.Options.{value_of};
-ghost use Rattle.tool_words.specs.Reading.{option_of};
-ghost use Rattle.tool_words.specs.Words.{IsApply, IsCommandOf, IsFeedIdText, IsInit, IsNamed, IsNameText, IsNumberOr, IsShow, window_limit, default_window, capacity_floor, capacity_limit, default_capacity};
+ghost use Rattle.std.specs.Prelude.{◌≡◌, ◌⊎◌, ℕ, Option, Some, map, string_bytes, Ok, Err, IfOk, IfSome};
+ghost use Rattle.tool_words.specs.Words.{IsApply, IsCommandOf, IsShow};
 ghost use Rattle.tool_words.specs.declared.command.Command.{Command as CommandValue};
 ghost use Rattle.tool_words.specs.declared.command.Show.{Show as ShowValue};
 
-use crate::command::{Command, Show};
+use crate::command::{Command, Show, WINDOW_LIMIT};
 use crate::fault::WordsFault;
+use crate::init::init;
 use crate::number::number;
-use crate::options::{Given, read_options, value_of};
-use atom_values::{AtomText, TextFault};
-use atom_writer::FeedName;
-use chain_links::{Base, BaseFault};
-use deleted_entries::FeedId;
+use crate::serve::serve;
 use std::alloc::Global;
-
-/// The most operations of a window.
-const WINDOW_LIMIT: u64 = 100;
-
-/// How many operations a window has where the words don't say.
-const DEFAULT_WINDOW: u32 = 10;
-
-/// How many bytes an area may be limited to, at least and at most, and where the words don't say.
-const CAPACITY_FLOOR: u64 = 4_096;
-
-const CAPACITY_LIMIT: u64 = 68_719_476_736;
-
-const DEFAULT_CAPACITY: u64 = 1_073_741_824;
-
-/// How many bytes a feed's title and its author may have.
-const NAME_LIMIT: usize = 1_024;
 
 /// The greatest number of an archive or a member.
 const NUMBER_LIMIT: u64 = 4_294_967_295;
@@ -54,77 +30,8 @@ pub fn read_words(alloc: Global, words: &[String]) -> Result<Command, WordsFault
         "init" => init(alloc, rest),
         "apply" => apply(rest),
         "show" => Ok(Command::Show(shown(rest).ok_or(WordsFault::Usage)?)),
+        "serve" => serve(alloc, rest),
         _ => Err(WordsFault::Usage),
-    }
-}
-
-/// Reads the words after `init`.
-fn init(alloc: Global, words: &[String]) -> Result<Command, WordsFault>
-    ensures found { IfOk result (λ command. (name : NameValue) × (window capacity : ℕ)
-        × (command ≡ Command.Init name window capacity) × IsInit (map string_bytes words.now) name window capacity) }
-    ensures only { (name : NameValue) (window capacity : ℕ) → IsInit (map string_bytes words.now) name window capacity
-        → (result ≡ Ok (Command.Init name window capacity)) ⊎ (result ≡ Err WordsFault.NoMemory) }
-{
-    let Some(options) = read_options(alloc, words)? else {
-        return Err(WordsFault::Usage);
-    };
-    let options = options.as_slice();
-    let name = feed_name(alloc, options)?;
-    let window = window(options)?;
-    let capacity = capacity(options)?;
-    Ok(Command::Init {
-        name,
-        window,
-        capacity,
-    })
-}
-
-/// The name that the options give the feed.
-fn feed_name(alloc: Global, options: &[Given<'_>]) -> Result<FeedName, WordsFault>
-    ensures found { IfOk result (IsNamed (map option_of options.now)) }
-    ensures only { (name : NameValue) → IsNamed (map option_of options.now) name
-        → (result ≡ Ok name) ⊎ (result ≡ Err WordsFault.NoMemory) }
-{
-    let base = base(alloc, required(options, "base")?)?;
-    let id = feed_id(required(options, "uuid")?)?;
-    let title = name_text(alloc, required(options, "title")?)?;
-    let author = name_text(alloc, required(options, "author")?)?;
-    Ok(FeedName {
-        base,
-        id,
-        title,
-        author,
-    })
-}
-
-/// The window that the options give, or the default.
-fn window(options: &[Given<'_>]) -> Result<u32, WordsFault>
-    ensures found { IfOk result (IsNumberOr default_window 1 window_limit
-        (value_of (codes "window") (map option_of options.now))) }
-    ensures only { (n : ℕ) → IsNumberOr default_window 1 window_limit
-        (value_of (codes "window") (map option_of options.now)) n → result ≡ Ok n }
-{
-    match value_of(options, "window") {
-        None => Ok(DEFAULT_WINDOW),
-        Some(word) => {
-            let window = number(word.as_bytes(), 1, WINDOW_LIMIT).ok_or(WordsFault::Usage)?;
-            Ok(window as u32)
-        }
-    }
-}
-
-/// The capacity that the options give, or the default.
-fn capacity(options: &[Given<'_>]) -> Result<u64, WordsFault>
-    ensures found { IfOk result (IsNumberOr default_capacity capacity_floor capacity_limit
-        (value_of (codes "capacity") (map option_of options.now))) }
-    ensures only { (n : ℕ) → IsNumberOr default_capacity capacity_floor capacity_limit
-        (value_of (codes "capacity") (map option_of options.now)) n → result ≡ Ok n }
-{
-    match value_of(options, "capacity") {
-        None => Ok(DEFAULT_CAPACITY),
-        Some(word) => number(word.as_bytes(), CAPACITY_FLOOR, CAPACITY_LIMIT).ok_or(
-            WordsFault::Usage,
-        ),
     }
 }
 
@@ -164,53 +71,5 @@ fn shown(words: &[String]) -> Option<Show>
             }
         }
         _ => None,
-    }
-}
-
-/// The value of an option that has to be there.
-fn required<'a>(options: &[Given<'a>], name: &str) -> Result<&'a str, WordsFault>
-    ensures found { IfOk result (λ text. value_of name.now (map option_of options.now) ≡ Some text.now) }
-    ensures missing { OnErr result (value_of name.now (map option_of options.now) ≡ None) }
-{
-    value_of(options, name).ok_or(WordsFault::Usage)
-}
-
-/// The base address that a value is, if the parser of the URL Standard reads and prints the same text.
-fn base(alloc: Global, text: &str) -> Result<Base, WordsFault>
-    ensures found { IfOk result (λ base. (base ≡ text.now) × IsBase text.now × IsUrlText text.now) }
-    ensures refused { result ≡ Err WordsFault.Usage → IsBase text.now → ¬ IsUrlText text.now }
-{
-    let base = match Base::parse(alloc, text.as_bytes()) {
-        Ok(base) => base,
-        Err(BaseFault::BadBase) => return Err(WordsFault::Usage),
-        Err(BaseFault::NoMemory) => return Err(WordsFault::NoMemory),
-    };
-    if base.checked(alloc)? {
-        Ok(base)
-    } else {
-        Err(WordsFault::Usage)
-    }
-}
-
-/// The identifier that a value is.
-fn feed_id(text: &str) -> Result<FeedId, WordsFault>
-    ensures found { IfOk result (λ id. IsFeedIdText (Some text.now) id) }
-    ensures only { (id : List ℕ) → IsFeedIdText (Some text.now) id → result ≡ Ok id }
-{
-    FeedId::parse(text.as_bytes()).ok_or(WordsFault::Usage)
-}
-
-/// The title or the author that a value is.
-fn name_text(alloc: Global, text: &str) -> Result<AtomText, WordsFault>
-    ensures found { IfOk result (IsNameText (Some text.now)) }
-    ensures refused { result ≡ Err WordsFault.Usage → (title : List ℕ) → ¬ IsNameText (Some text.now) title }
-{
-    if text.len() > NAME_LIMIT {
-        return Err(WordsFault::Usage);
-    }
-    match AtomText::of(alloc, text.as_bytes()) {
-        Ok(text) => Ok(text),
-        Err(TextFault::NoMemory) => Err(WordsFault::NoMemory),
-        Err(_) => Err(WordsFault::Usage),
     }
 }

@@ -1,13 +1,23 @@
-//! Tests of the public calls of `http_face`.
+//! Tests of the public calls of `http_face` and `document_server`.
 //!
 //! They are in a crate of their own, so that the crate is proved once, without its tests.
 #![tactic(auto)]
 
 #[cfg(test)]
+mod answer_faults;
+#[cfg(test)]
+mod answers;
+#[cfg(test)]
 mod conns;
 #[cfg(test)]
 mod replies;
 #[cfg(test)]
+mod reply_after_commit;
+#[cfg(test)]
 mod requests;
 #[cfg(test)]
 mod sentences;
+#[cfg(test)]
+mod sessions;
+#[cfg(test)]
+mod stores;

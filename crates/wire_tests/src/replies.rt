@@ -7,6 +7,7 @@ use crate::conns::{conn_of, disk_of};
 use atom_values::{Bytes, Copies};
 use http_face::{Allow, Body, Conn, CutOff, Line7, Media, Reply, ScriptConn, write_reply};
 use std::alloc::Global;
+use std::process::Abort;
 use std::test::Fail;
 
 /// A reply with a fixed line.
@@ -108,20 +109,20 @@ fn reply_of(alloc: Global, told: &Told) -> Result<Reply, Fail>
 }
 
 /// Returns a connection whose reply was begun, of which this call fails.
-fn begun(alloc: Global, failing: u64) -> Result<ScriptConn, Fail>
-    ensures { IfOk result (λ conn. IsSome (⟦<ScriptConn as Conn>⟧.state conn).begun) }
+fn begun(rt: &impl Abort, alloc: Global, failing: u64) -> ScriptConn
+    ensures { IsSome (⟦<ScriptConn as Conn>⟧.state result).begun }
 {
-    let mut conn = conn_of(alloc, b"", failing)?;
-    let disk = disk_of(alloc)?;
+    let mut conn = conn_of(rt, alloc, b"", failing);
+    let disk = disk_of(rt, alloc, 0);
     conn.begin(&disk);
-    Ok(conn)
+    conn
 }
 
 #[test]
 fn writes_a_short_reply_in_one_call(rt: HostRuntime) -> Result<(), Fail> {
     let alloc = rt.alloc();
     for (told, bytes) in WRITTEN {
-        let mut conn = begun(alloc, 2)?;
+        let mut conn = begun(&rt, alloc, 2);
         let reply = reply_of(alloc, &told)?.copy(alloc)?;
         let end = write_reply(&mut conn, &reply);
         assert!(rt; (end, conn.sent(), conn.begun()) == (Ok(()), bytes, Some(0)));
@@ -146,7 +147,7 @@ fn counts_the_bytes_of_a_reply_that_is_cut_off(rt: HostRuntime) -> Result<(), Fa
     let mut bytes = Vec::from_slice(alloc, HEAD)?;
     bytes.resize(5_106, b'a')?;
     for (failing, end, sent) in CUTS {
-        let mut conn = begun(alloc, failing)?;
+        let mut conn = begun(&rt, alloc, failing);
         let reply = Reply {
             status: 200,
             media: Media::Feed,

@@ -4,6 +4,7 @@ use crate::conns::conn_of;
 use atom_values::Copies;
 use http_face::{Request, RequestFault, Verb, read_request};
 use std::alloc::Global;
+use std::process::Abort;
 use std::test::Fail;
 
 /// The fields of a request.
@@ -25,9 +26,14 @@ fn fields_of(request: &Request) -> Fields<'_> {
 }
 
 /// Reads a request from a connection of these bytes, of which this call fails. 0 lists no call.
-fn read(alloc: Global, bytes: &[u8], failing: u64) -> Result<Result<Request, RequestFault>, Fail> {
-    let mut conn = conn_of(alloc, bytes, failing)?;
-    Ok(read_request(alloc, &mut conn))
+fn read(
+    rt: &impl Abort,
+    alloc: Global,
+    bytes: &[u8],
+    failing: u64,
+) -> Result<Request, RequestFault> {
+    let mut conn = conn_of(rt, alloc, bytes, failing);
+    read_request(alloc, &mut conn)
 }
 
 /// Bytes, and the fields of the request that they begin with.
@@ -91,7 +97,7 @@ static REQUESTS: [(&[u8], Fields<'static>); 6] = [
 #[test]
 fn reads_requests(rt: HostRuntime) -> Result<(), Fail> {
     for (bytes, want) in REQUESTS {
-        let request = read(rt.alloc(), bytes, 0)??;
+        let request = read(&rt, rt.alloc(), bytes, 0)?;
         let copy = request.copy(rt.alloc())?;
         assert!(rt; fields_of(&copy) == want);
     }
@@ -143,7 +149,7 @@ static FAULTS: [(&[u8], RequestFault); 12] = [
 #[test]
 fn reports_faults(rt: HostRuntime) -> Result<(), Fail> {
     for (bytes, fault) in FAULTS {
-        assert!(rt; read(rt.alloc(), bytes, 0)?.err() == Some(fault));
+        assert!(rt; read(&rt, rt.alloc(), bytes, 0).err() == Some(fault));
     }
     Ok(())
 }
@@ -176,7 +182,7 @@ fn limits_the_fields(rt: HostRuntime) -> Result<(), Fail> {
     let alloc = rt.alloc();
     for (count, fault) in FIELD_COUNTS {
         let head = repeated(alloc, b"GET / HTTP/1.1\r\n", count, b"a:b\r\n", b"\r\n")?;
-        assert!(rt; read(alloc, &head, 0)?.err() == fault);
+        assert!(rt; read(&rt, alloc, &head, 0).err() == fault);
     }
     Ok(())
 }
@@ -192,7 +198,7 @@ fn limits_the_head(rt: HostRuntime) -> Result<(), Fail> {
     let alloc = rt.alloc();
     for (count, fault) in HEAD_LENGTHS {
         let head = repeated(alloc, b"GET ", count, b"/", b" HTTP/1.1\r\n\r\n")?;
-        assert!(rt; read(alloc, &head, 0)?.err() == fault);
+        assert!(rt; read(&rt, alloc, &head, 0).err() == fault);
     }
     Ok(())
 }
@@ -201,7 +207,7 @@ fn limits_the_head(rt: HostRuntime) -> Result<(), Fail> {
 fn reads_a_body_of_the_limit(rt: HostRuntime) -> Result<(), Fail> {
     let alloc = rt.alloc();
     let head = b"PUT / HTTP/1.1\r\nContent-Length: 65536\r\n\r\n";
-    let request = read(alloc, &repeated(alloc, head, 65_536, b"a", b"b")?, 0)??;
+    let request = read(&rt, alloc, &repeated(alloc, head, 65_536, b"a", b"b")?, 0)?;
     let body = vec![in alloc; b'a'; 65_536]?;
     assert!(rt; request.body.slice() == body.as_slice());
     Ok(())
@@ -212,7 +218,7 @@ const WHOLE: &[u8] = b"POST / HTTP/1.1\r\nContent-Length: 4\r\n\r\nabcd";
 #[test]
 fn counts_the_bytes_of_an_early_end(rt: HostRuntime) -> Result<(), Fail> {
     for end in 0..WHOLE.len() {
-        let read_bytes = read(rt.alloc(), &WHOLE[..end], 0)?.err();
+        let read_bytes = read(&rt, rt.alloc(), &WHOLE[..end], 0).err();
         assert!(rt; read_bytes == Some(RequestFault::EndedEarly { read: end as u64 }));
     }
     Ok(())
@@ -228,7 +234,7 @@ static FAILING: [(u64, RequestFault); 3] = [
 #[test]
 fn reports_a_failed_call(rt: HostRuntime) -> Result<(), Fail> {
     for (failing, fault) in FAILING {
-        assert!(rt; read(rt.alloc(), &WHOLE[..20], failing)?.err() == Some(fault));
+        assert!(rt; read(&rt, rt.alloc(), &WHOLE[..20], failing).err() == Some(fault));
     }
     Ok(())
 }

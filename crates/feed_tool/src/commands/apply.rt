@@ -12,12 +12,13 @@ ghost use Rattle.feed_tool.specs.Line.{line_ask};
 use crate::commands::line::line_ask;
 use crate::commands::lines::{Lines, LinesFault};
 use crate::fault::{Fault, Refusal};
-use crate::outside::{Clock, Source};
+use crate::outside::Source;
 use archive_sealer::subscription;
 use atom_values::{AtomText, NoMemory, Stamp};
 use atom_writer::{FeedName, write_doc};
 use chain_links::Base;
 use deleted_entries::FeedId;
+use document_server::Clock;
 use member_rules::{Head, Members, Op, decide};
 use std::alloc::Global;
 

@@ -3,14 +3,15 @@ ghost use Rattle.atom_values.specs.Counts.{Rose};
 ghost use Rattle.feed_disk.specs.Moments.{LeavesAlone};
 ghost use Rattle.feed_disk.specs.declared.area.Area.TheVariants.{Mirror};
 ghost use Rattle.feed_tool.specs.declared.status.Status.TheVariants as status;
-ghost use Rattle.feed_tool.specs.Crash.{LeavesStores, MakesStoreAt};
+ghost use Rattle.feed_recovery.specs.Settled.{LeavesStores};
+ghost use Rattle.feed_tool.specs.Crash.{MakesStoreAt};
 ghost use Rattle.feed_tool.specs.Fault.{fault_answer, IsRefusal};
 ghost use Rattle.feed_tool.specs.Stored.{IsInitAnswer};
 
 use crate::fault::Fault;
-use crate::outside::Clock;
 use atom_values::Stamp;
 use atom_writer::FeedName;
+use document_server::Clock;
 use feed_disk::Disk;
 use feed_recovery::Store;
 use member_rules::Head;

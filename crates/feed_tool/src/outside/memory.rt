@@ -1,4 +1,4 @@
-//! A clock, an input and an output in memory, for tests. Contracts can see their content, and listed calls of them
+//! An input and an output in memory, for tests. Contracts can see their content, and listed calls of them
 //! fail.
 
 ghost use Rattle.std.specs.Prelude.{◌≡◌, ◌↔◌, ◌+◌, ◌-◌, ◌<◌, ◌≤◌, ◌++◌, [], length, take, drop, min, slice_index, IfOk, OnOk, OnErr, IsErr, IsTrue};
@@ -6,42 +6,9 @@ ghost use Rattle.atom_values.specs.Counts.{HasCause};
 ghost use Rattle.atom_values.specs.ListedCalls.{after_call, next_call_fails};
 ghost use Rattle.feed_tool.specs.Outside.{SourceState, SinkState};
 
-use crate::outside::{Clock, Sink, Source};
+use crate::outside::{Sink, Source};
 use atom_values::{Bytes, Failed, ListedCalls, Many};
 use std::alloc::Global;
-
-/// A clock that returns the given moments, and then the last one again and again.
-#[derive(Debug, Drop)]
-pub struct SetClock {
-    moments: Many<u64, 1_000_000>,
-    given: usize,
-    ghost in_range: { given < length moments.items },
-}
-
-impl SetClock {
-    /// A clock of at least one moment.
-    pub fn new(moments: Many<u64, 1_000_000>) -> SetClock
-        requires { 0 < length moments.items }
-        ensures { ⟦<SetClock as Clock>⟧.coming result
-            ≡ λ k. slice_index moments.items (min (0 + k) (length moments.items - 1)) }
-    {
-        SetClock { moments, given: 0 }
-    }
-}
-
-impl Clock for SetClock {
-    ghost told = { Unit {0} };
-
-    ghost coming = { λ c k. slice_index c.moments.items (min (c.given + k) (length c.moments.items - 1)) };
-
-    fn now(&mut self) -> u64 {
-        let moment = self.moments.as_slice()[self.given];
-        if self.given + 1 < self.moments.len() {
-            self.given += 1;
-        }
-        moment
-    }
-}
 
 /// An input of given bytes, whose listed calls fail.
 #[derive(Debug, Drop)]

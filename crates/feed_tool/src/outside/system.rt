@@ -3,8 +3,9 @@
 
 ghost use Rattle.std.specs.Prelude.{[]};
 
-use crate::outside::{Clock, Sink, Source};
+use crate::outside::{Sink, Source};
 use atom_values::Failed;
+use document_server::Clock;
 use std::io::{ErrorKind, Read, Write};
 use std::rt;
 use std::time::{SystemTime, UNIX_EPOCH};

@@ -1,5 +1,4 @@
 use super::{APPLY, Expected, NOW, Run, Shown, expect, expect_document};
-use std::test::Fail;
 
 /// The last moment that a stamp has: 9999-12-31T23:59:59.999Z.
 const LAST: u64 = 253_402_300_799_999;
@@ -55,8 +54,8 @@ static DOCUMENTS: [(&[u8], &str, u32, &[Shown]); 4] = [
 ];
 
 #[test]
-fn prints_the_document_of_the_lines(rt: HostRuntime) -> Result<(), Fail> {
-    for (input, updated, last, items) in DOCUMENTS {
+fn prints_the_document_of_the_lines(rt: HostRuntime) {
+    for &(input, updated, last, items) in &DOCUMENTS {
         let document = Expected {
             updated,
             prev: 0,
@@ -64,9 +63,8 @@ fn prints_the_document_of_the_lines(rt: HostRuntime) -> Result<(), Fail> {
             last,
             items,
         };
-        expect_document(&rt, rt.alloc(), Run { input, ..APPLY }, &document)?;
+        expect_document(&rt, rt.alloc(), Run { input, ..APPLY }, &document);
     }
-    Ok(())
 }
 
 /// Words, and the newest archive, the first operation and the number of items of the document.
@@ -81,7 +79,7 @@ static WINDOWS: [(&[&str], u32, u32, usize); 7] = [
 ];
 
 #[test]
-fn cuts_the_history_into_windows(rt: HostRuntime) -> Result<(), Fail> {
+fn cuts_the_history_into_windows(rt: HostRuntime) {
     let fifth = "2023-11-14T22:13:20.004Z";
     let all: [Shown; 5] = [
         entry(5, "e", fifth),
@@ -90,7 +88,7 @@ fn cuts_the_history_into_windows(rt: HostRuntime) -> Result<(), Fail> {
         entry(2, "b", "2023-11-14T22:13:20.001Z"),
         entry(1, "a", DAY),
     ];
-    for (words, prev, first, count) in WINDOWS {
+    for &(words, prev, first, count) in &WINDOWS {
         let (items, _) = all.split_at(count.min(5));
         let run_of = Run {
             words,
@@ -104,9 +102,8 @@ fn cuts_the_history_into_windows(rt: HostRuntime) -> Result<(), Fail> {
             last: 5,
             items,
         };
-        expect_document(&rt, rt.alloc(), run_of, &document)?;
+        expect_document(&rt, rt.alloc(), run_of, &document);
     }
-    Ok(())
 }
 
 /// Inputs whose operations name a member again, and the `updated`, the last operation and the items of their documents.
@@ -156,8 +153,8 @@ static LAST_OPERATIONS: [(&[u8], &str, u32, &[Shown]); 3] = [
 ];
 
 #[test]
-fn shows_the_last_operation_of_each_member(rt: HostRuntime) -> Result<(), Fail> {
-    for (input, updated, last, items) in LAST_OPERATIONS {
+fn shows_the_last_operation_of_each_member(rt: HostRuntime) {
+    for &(input, updated, last, items) in &LAST_OPERATIONS {
         let document = Expected {
             updated,
             prev: 0,
@@ -165,9 +162,8 @@ fn shows_the_last_operation_of_each_member(rt: HostRuntime) -> Result<(), Fail> 
             last,
             items,
         };
-        expect_document(&rt, rt.alloc(), Run { input, ..APPLY }, &document)?;
+        expect_document(&rt, rt.alloc(), Run { input, ..APPLY }, &document);
     }
-    Ok(())
 }
 
 /// Second moments of the clock, and the timestamps of the second operation.
@@ -179,8 +175,8 @@ static RISING: [(u64, &str); 4] = [
 ];
 
 #[test]
-fn moments_rise(rt: HostRuntime) -> Result<(), Fail> {
-    for (later, second) in RISING {
+fn moments_rise(rt: HostRuntime) {
+    for &(later, second) in &RISING {
         let run_of = Run {
             moments: (NOW, later),
             input: b"add a\nadd b\n",
@@ -194,9 +190,8 @@ fn moments_rise(rt: HostRuntime) -> Result<(), Fail> {
             last: 2,
             items: &items,
         };
-        expect_document(&rt, rt.alloc(), run_of, &document)?;
+        expect_document(&rt, rt.alloc(), run_of, &document);
     }
-    Ok(())
 }
 
 /// Moments of the clock, inputs, and the status and the line that refuse them.
@@ -208,16 +203,15 @@ static LATE: [((u64, u64), &[u8], u8, &[u8]); 4] = [
 ];
 
 #[test]
-fn refuses_a_moment_after_the_last(rt: HostRuntime) -> Result<(), Fail> {
-    for (moments, input, status, line) in LATE {
+fn refuses_a_moment_after_the_last(rt: HostRuntime) {
+    for &(moments, input, status, line) in &LATE {
         let run_of = Run {
             moments,
             input,
             ..APPLY
         };
-        expect(&rt, rt.alloc(), run_of, status, line)?;
+        expect(&rt, rt.alloc(), run_of, status, line);
     }
-    Ok(())
 }
 
 /// Inputs, and the status and the line that refuse them.
@@ -272,11 +266,10 @@ static REFUSED: [(&[u8], u8, &[u8]); 31] = [
 ];
 
 #[test]
-fn names_the_line_that_it_refuses(rt: HostRuntime) -> Result<(), Fail> {
-    for (input, status, line) in REFUSED {
-        expect(&rt, rt.alloc(), Run { input, ..APPLY }, status, line)?;
+fn names_the_line_that_it_refuses(rt: HostRuntime) {
+    for &(input, status, line) in &REFUSED {
+        expect(&rt, rt.alloc(), Run { input, ..APPLY }, status, line);
     }
-    Ok(())
 }
 
 /// The end of a run whose line is good, but names a member that was never made.
@@ -297,35 +290,36 @@ static TITLES: [(&[u8], usize, &[u8], (u8, &[u8])); 7] = [
 ];
 
 #[test]
-fn bounds_titles_by_their_bytes(rt: HostRuntime) -> Result<(), Fail> {
+fn bounds_titles_by_their_bytes(rt: HostRuntime) {
     let alloc = rt.alloc();
-    for (character, count, rest, (status, printed)) in TITLES {
-        let mut line = Vec::from_slice(alloc, b"change 4294967295 ")?;
+    for &(character, count, rest, (status, printed)) in &TITLES {
+        let mut line = Vec::from_slice(alloc, b"change 4294967295 ").expect(&rt, "memory");
         for _ in 0..count {
-            line.extend_from_slice(character)?;
+            line.extend_from_slice(character).expect(&rt, "memory");
         }
-        line.extend_from_slice(rest)?;
+        line.extend_from_slice(rest).expect(&rt, "memory");
         let run_of = Run {
             input: line.as_slice(),
             ..APPLY
         };
-        expect(&rt, alloc, run_of, status, printed)?;
+        expect(&rt, alloc, run_of, status, printed);
     }
-    Ok(())
 }
 
 #[test]
-fn reads_lines_that_a_buffer_cuts_at_every_byte(rt: HostRuntime) -> Result<(), Fail> {
+fn reads_lines_that_a_buffer_cuts_at_every_byte(rt: HostRuntime) {
     let alloc = rt.alloc();
     // The ends of seven buffers of 65,536 bytes meet a line of 7 bytes at each of its bytes.
     let mut input = Vec::new(alloc);
     for _ in 0..65_537 {
-        input.extend_from_slice(b"add ab\n")?;
+        input.extend_from_slice(b"add ab\n").expect(&rt, "memory");
     }
-    input.extend_from_slice(b"remove 65537\nremove 65539")?;
+    input
+        .extend_from_slice(b"remove 65537\nremove 65539")
+        .expect(&rt, "memory");
     let run_of = Run {
         input: input.as_slice(),
         ..APPLY
     };
-    expect(&rt, alloc, run_of, 12, b"line 65539 not found 65539\n")
+    expect(&rt, alloc, run_of, 12, b"line 65539 not found 65539\n");
 }

@@ -1,5 +1,4 @@
 use super::{APPLY, Run, SHOW, expect};
-use std::test::Fail;
 
 const FAULT: &[u8] = b"input fault\n";
 
@@ -26,11 +25,10 @@ static NO_COMMANDS: [&[&str]; 16] = [
 ];
 
 #[test]
-fn refuses_words_that_name_no_command(rt: HostRuntime) -> Result<(), Fail> {
-    for words in NO_COMMANDS {
-        expect(&rt, rt.alloc(), Run { words, ..APPLY }, 2, USAGE)?;
+fn refuses_words_that_name_no_command(rt: HostRuntime) {
+    for words in &NO_COMMANDS {
+        expect(&rt, rt.alloc(), Run { words, ..APPLY }, 2, USAGE);
     }
-    Ok(())
 }
 
 /// Commands, inputs, the failing calls of input and output, and how the run ends.
@@ -48,15 +46,14 @@ static FAILING: [(Run, &[u8], (u64, u64), u8, &[u8]); 10] = [
 ];
 
 #[test]
-fn reports_each_failing_call(rt: HostRuntime) -> Result<(), Fail> {
-    for (command, input, (failing_read, failing_write), status, printed) in FAILING {
+fn reports_each_failing_call(rt: HostRuntime) {
+    for &(command, input, (failing_read, failing_write), status, printed) in &FAILING {
         let run_of = Run {
             input,
             failing_read,
             failing_write,
             ..command
         };
-        expect(&rt, rt.alloc(), run_of, status, printed)?;
+        expect(&rt, rt.alloc(), run_of, status, printed);
     }
-    Ok(())
 }

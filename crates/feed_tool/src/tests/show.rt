@@ -1,7 +1,7 @@
 use super::{Expected, OPENING, Run, SHOW, Shown, expect, text_of};
 use atom_grammar::MAX_DOCUMENT;
 use std::alloc::Global;
-use std::test::Fail;
+use std::process::Abort;
 
 const DAY: &str = "2023-11-14T22:13:20Z";
 
@@ -15,7 +15,7 @@ const ARCHIVE_SUMMARY: &[u8] =
     b"archive 2\nfeed 6d1f0c5a-93be-4c27-8d10-2b7f9e4a5c36\nspan 5 8\nprev 1\nupdated 2023-11-14T22:13:20Z\ngone 1 2023-11-14T22:13:20.003Z\nentry 3 1970-01-01T00:00:00Z a&amp;b&lt;c&gt;d&quot;e&#13;&#9;&#10;\xF4\x8F\xBF\xBF\n";
 
 /// A subscription document of one entry.
-fn subscription(alloc: Global) -> Result<Vec<u8>, Fail> {
+fn subscription(rt: &impl Abort, alloc: Global) -> Vec<u8> {
     let items: [Shown; 1] = [Shown::Entry {
         number: 1,
         title: "Hello",
@@ -28,35 +28,42 @@ fn subscription(alloc: Global) -> Result<Vec<u8>, Fail> {
         last: 5,
         items: &items,
     };
-    text_of(alloc, &document)
+    text_of(rt, alloc, &document)
 }
 
 #[test]
-fn prints_the_summary(rt: HostRuntime) -> Result<(), Fail> {
+fn prints_the_summary(rt: HostRuntime) {
     let alloc = rt.alloc();
-    let subscription = subscription(alloc)?;
-    let archive = format!(in alloc; "{OPENING}{ARCHIVE}")?;
+    let subscription = subscription(&rt, alloc);
+    let archive = format!(in alloc; "{OPENING}{ARCHIVE}").expect(&rt, "memory");
     let cases: [(&[u8], &[u8]); 2] = [
         (subscription.as_slice(), SUMMARY),
         (archive.as_bytes(), ARCHIVE_SUMMARY),
     ];
     for (input, summary) in cases {
-        expect(&rt, alloc, Run { input, ..SHOW }, 0, summary)?;
+        expect(&rt, alloc, Run { input, ..SHOW }, 0, summary);
     }
-    Ok(())
 }
 
 #[test]
-fn names_the_offset_that_it_refuses(rt: HostRuntime) -> Result<(), Fail> {
+fn names_the_offset_that_it_refuses(rt: HostRuntime) {
     let alloc = rt.alloc();
-    let whole = subscription(alloc)?;
+    let whole = subscription(&rt, alloc);
     let end = whole.len();
-    let mut longer = Vec::from_slice(alloc, whole.as_slice())?;
-    longer.extend_from_slice(vec![in alloc; b'x'; 200_000]?.as_slice())?;
-    let mut quoted = Vec::from_slice(alloc, OPENING.as_bytes())?;
-    quoted.extend_from_slice(
-        b"<updated>2023-11-14T22:13:20Z</updated>\n<author><name>Editor</name></author>\n<link rel='self' href='http://feed.example/feed'/>\n",
-    )?;
+    let mut longer = Vec::from_slice(alloc, whole.as_slice()).expect(&rt, "memory");
+    longer
+        .extend_from_slice(
+            vec![in alloc; b'x'; 200_000]
+                .expect(&rt, "memory")
+                .as_slice(),
+        )
+        .expect(&rt, "memory");
+    let mut quoted = Vec::from_slice(alloc, OPENING.as_bytes()).expect(&rt, "memory");
+    quoted
+        .extend_from_slice(
+            b"<updated>2023-11-14T22:13:20Z</updated>\n<author><name>Editor</name></author>\n<link rel='self' href='http://feed.example/feed'/>\n",
+        )
+        .expect(&rt, "memory");
     let (cut, _) = whole.as_slice().split_at(end.saturating_sub(1));
     // The last line has 8 bytes with its LF, and the two lines between the opening and the link have 77.
     let cases: [(&[u8], usize); 4] = [
@@ -66,23 +73,21 @@ fn names_the_offset_that_it_refuses(rt: HostRuntime) -> Result<(), Fail> {
         (quoted.as_slice(), OPENING.len() + 77),
     ];
     for (input, offset) in cases {
-        let line = format!(in alloc; "bad document {offset}\n")?;
-        expect(&rt, alloc, Run { input, ..SHOW }, 10, line.as_bytes())?;
+        let line = format!(in alloc; "bad document {offset}\n").expect(&rt, "memory");
+        expect(&rt, alloc, Run { input, ..SHOW }, 10, line.as_bytes());
     }
-    Ok(())
 }
 
 #[test]
-fn bounds_its_input(rt: HostRuntime) -> Result<(), Fail> {
+fn bounds_its_input(rt: HostRuntime) {
     let alloc = rt.alloc();
-    let longest = vec![in alloc; b'x'; MAX_DOCUMENT]?;
-    let longer = vec![in alloc; b'x'; MAX_DOCUMENT + 1]?;
+    let longest = vec![in alloc; b'x'; MAX_DOCUMENT].expect(&rt, "memory");
+    let longer = vec![in alloc; b'x'; MAX_DOCUMENT + 1].expect(&rt, "memory");
     let cases: [(&[u8], &[u8]); 2] = [
         (longest.as_slice(), b"bad document 0\n"),
         (longer.as_slice(), b"input too long\n"),
     ];
     for (input, line) in cases {
-        expect(&rt, alloc, Run { input, ..SHOW }, 10, line)?;
+        expect(&rt, alloc, Run { input, ..SHOW }, 10, line);
     }
-    Ok(())
 }

@@ -5,6 +5,7 @@ use crate::outside::memory::{ListSink, ListSource};
 use crate::run::run;
 use crate::tests::{NOW, OPENING, clock_of, words_of};
 use atom_values::{Bytes, Many};
+use document_server::ScriptDoor;
 use feed_disk::{Area, Choice, Disk, MemoryDisk};
 use std::alloc::Global;
 use std::process::Abort;
@@ -24,7 +25,7 @@ const INIT: [&str; 9] = [
 ];
 
 /// Returns an empty disk, of which these device calls fail.
-fn disk_of(alloc: Global, failing: Many<u64, 64>) -> Result<MemoryDisk, Fail> {
+pub fn disk_of(alloc: Global, failing: Many<u64, 64>) -> Result<MemoryDisk, Fail> {
     Ok(MemoryDisk::new(
         alloc,
         Bytes::of(alloc, b"")?,
@@ -45,11 +46,13 @@ fn ran<D: Disk>(
     let mut clock = clock_of(alloc, (NOW, NOW))?;
     let mut source = ListSource::new(Bytes::of(alloc, input)?, Many::new(alloc));
     let mut sink = ListSink::new(alloc, Many::new(alloc));
+    let mut door = ScriptDoor::new(alloc, Many::new(alloc), Many::new(alloc))?;
     let ended = run(
         alloc,
         words.as_slice(),
         disk,
         &mut clock,
+        &mut door,
         &mut source,
         &mut sink,
     );
@@ -57,7 +60,7 @@ fn ran<D: Disk>(
 }
 
 /// Makes a store, with these words behind those of every store here.
-fn init<D: Disk>(
+pub fn init<D: Disk>(
     alloc: Global,
     disk: &mut D,
     options: &[&'static str],
@@ -257,9 +260,13 @@ fn spoil<D: Disk>(disk: &mut D, at: u64) -> Result<(), Fail> {
     Ok(())
 }
 
+/// The words of `serve`.
+const SERVE: &[&str] = &["serve", "--listen", "here", "--requests", "1"];
+
 /// Words, and how they end on a store whose second operation has a bad first byte.
-static SPOILT: [(&[&str], u8, &str); 4] = [
+static SPOILT: [(&[&str], u8, &str); 5] = [
     (APPLY, 6, "bad store journal 2 0\n"),
+    (SERVE, 6, "bad store journal 2 0\n"),
     (&["show", "feed"], 6, "bad store journal 2 0\n"),
     (&["show", "member", "1"], 6, "bad store journal 2 0\n"),
     (&INIT, 6, "already init\n"),
@@ -269,8 +276,10 @@ static SPOILT: [(&[&str], u8, &str); 4] = [
 fn a_bad_store_is_refused(rt: HostRuntime) -> Result<(), Fail> {
     let alloc = rt.alloc();
     let mut disk = disk_of(alloc, Many::new(alloc))?;
-    let (status, printed) = ran(alloc, &mut disk, APPLY, b"")?;
-    assert!(rt; status == 6 && printed.as_slice() == b"not init\n".as_slice());
+    for words in [APPLY, SERVE] {
+        let (status, printed) = ran(alloc, &mut disk, words, b"")?;
+        assert!(rt; status == 6 && printed.as_slice() == b"not init\n".as_slice());
+    }
     init(alloc, &mut disk, &[])?;
     ran(alloc, &mut disk, APPLY, b"add a\nadd b\n")?;
     // The head's frame has 84 bytes and that of the first operation 45. Then come a gate and a length.

@@ -6,7 +6,6 @@ use crate::tests::words_of;
 use crate::words::given_words;
 use std::env::FillError;
 use std::rt::Env;
-use std::test::Fail;
 
 /// Words in memory, the program's own path first.
 #[derive(Drop)]
@@ -45,11 +44,10 @@ static CASES: [(&[&[u8]], &[&str]); 5] = [
 ];
 
 #[test]
-fn takes_words_of_utf8_alone(rt: HostRuntime) -> Result<(), Fail> {
+fn takes_words_of_utf8_alone(rt: HostRuntime) {
     let alloc = rt.alloc();
-    for (given, wanted) in CASES {
-        let words = given_words(&(ListedWords { words: given }, alloc))?;
-        assert_eq!(rt; words, words_of(alloc, wanted)?);
+    for &(given, wanted) in &CASES {
+        let words = given_words(&(ListedWords { words: given }, alloc)).expect(&rt, "memory");
+        assert_eq!(rt; words, words_of(alloc, wanted).expect(&rt, "memory"));
     }
-    Ok(())
 }

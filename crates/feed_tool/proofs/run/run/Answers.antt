@@ -1,20 +1,22 @@
-use Rattle.std.proofs.Common.{◌≡◌, ⊎_elim, None, refl, sym, ap, ◌∙◌, arith}
+use Rattle.std.proofs.Common.{◌≡◌, ⊎_elim, None, refl, sym, subst, ap, ◌∙◌, arith}
 use Rattle.std.proofs.lemmas.Result.{on_ok_weaker}
-use Rattle.tool_words.specs.declared.command.Command.TheVariants.{Init, Apply}
+use Rattle.tool_words.specs.declared.command.Command.TheVariants.{Init, Apply, Serve}
 use Rattle.feed_tool.specs.declared.fault.Fault.TheVariants.{Disk}
+use Rattle.feed_tool.specs.Crash.{AddsNothing}
 use Rattle.feed_tool.specs.Fault.{fault_answer}
 use Rattle.feed_tool.specs.Status.{code_of}
 use Rattle.feed_tool.proofs.DiskLemmas.{applies-weaker, makes-none, makes-weaker}
-use Rattle.feed_tool.proofs.EndLemmas.{answered-refusal, no_end, no_output}
+use Rattle.feed_tool.proofs.EndLemmas.{answered-refusal, no_door, no_end, no_output}
 use Rattle.feed_tool.proofs.PrintLemmas.{alone-fault, prints-from}
-use Rattle.feed_tool.proofs.RunLemmas.{ends-done, ends-refused, ends-unsent, read_all}
+use Rattle.feed_tool.proofs.RunLemmas.{ends-done, ends-refused, ends-unsent, no_command, read_all, read_serve, same_requests}
+use Rattle.feed_tool.proofs.RunLemmas.{serve-status, usage}
 use Rattle.feed_tool.proofs.run.run.Goals as goal
 
 pub returns-in-Err-Usage-clause-made : goal.returns-in-Err-Usage-clause-made
 returns-in-Err-Usage-clause-made g c = λ name window capacity of_words told.
     makes-none (g.D.Disk.state c.args.disk.now) name window capacity g.C.Clock.told
     (g.C.Clock.coming c.args.clock.now 0) _ (g.met.D.Disk.is_disk c.args.disk.now)
-    (⊎_elim (λ e. omega (arith, e, c.code.ensures)) (λ e. omega (arith, e, c.code.ensures)))
+    (⊎_elim (λ e. omega (arith, e, c.end_as.ensures.status)) (λ e. omega (arith, e, c.end_as.ensures.status)))
 
 pub returns-in-Err-NoMemory-clause-made : goal.returns-in-Err-NoMemory-clause-made
 returns-in-Err-NoMemory-clause-made g c = λ name window capacity of_words told.
@@ -24,7 +26,7 @@ returns-in-Err-NoMemory-clause-made g c = λ name window capacity of_words told.
 
 pub returns-in-Ok-write_all-clause-answered : goal.returns-in-Ok-write_all-clause-answered
 returns-in-Ok-write_all-clause-answered g c = read_all _ c.read_words.result c.in-Ok.command _ c.in-Ok.is c.read_words.ensures.only
-    (λ seen answered. rw c.code-in-Ok-write_all.ensures
+    (λ seen answered. rw c.end_as-in-Ok-write_all.ensures.status
     (ends-done c.in-Ok.command _ _ _ _ _ _ c.in-Ok-answer.text.items (c.in-Ok-answer.ensures.answer seen)
     (λ sink. rw (← c.as_slice.ensures.value) (prints-from c.write_all-in-Ok-answer.result _ _ _
     (c.write_all-in-Ok-answer.ensures.prefix sink)
@@ -50,7 +52,7 @@ returns-in-Ok-write_all-clause-applied g c = λ of_words told.
 
 pub returns-in-Ok-answer-clause-answered : goal.returns-in-Ok-answer-clause-answered
 returns-in-Ok-answer-clause-answered g c = read_all _ c.read_words.result c.in-Ok.command _ c.in-Ok.is c.read_words.ensures.only
-    (λ seen answered. rw c.code-in-Err-write_all.ensures
+    (λ seen answered. rw c.end_as-in-Err-write_all.ensures.status
     (ends-unsent c.in-Ok.command _ _ _ _ _ _ c.in-Ok-answer.text.items (c.in-Ok-answer.ensures.answer seen)
     (λ sink. rw (← c.as_slice.ensures.value) (prints-from c.write_all-in-Ok-answer.result _ _ _
     (c.write_all-in-Ok-answer.ensures.prefix sink)
@@ -80,7 +82,7 @@ returns-clause-answered g c = read_all _ c.read_words.result c.in-Ok.command _ c
     c.end_with-in-Err.ensures.prints)
 
 pub returns-clause-alone : goal.returns-clause-alone
-returns-clause-alone g c = λ sink alone.
+returns-clause-alone g c = λ sink others alone.
     rw c.end_with-in-Err.ensures.status (rw (alone-fault c.in-Err.fault (rw c.end_with-in-Err.ensures.status at alone))
     (c.end_with-in-Err.ensures.prints sink))
 
@@ -116,3 +118,44 @@ returns-clause-opens g c = λ of_words disk clock source answered.
     (read_all _ c.read_words.result c.in-Ok.command (λ command. c.in-Ok.command ≡ command) c.in-Ok.is
     c.read_words.ensures.only refl (Apply None) of_words)
     disk clock source (answered-refusal c.in-Err.fault (rw c.end_with-in-Err.ensures.status at answered))
+
+pub returns-in-Err-Usage-clause-serves : goal.returns-in-Err-Usage-clause-serves
+returns-in-Err-Usage-clause-serves g c = λ listen requests of_words.
+    absurd (no_command _ c.read_words.result (usage c.in-Err-Usage.is c.in-Err-Usage.field-0-is)
+    c.read_words.ensures.only (Serve listen requests) of_words)
+
+pub returns-in-Err-Usage-clause-serves_whole : goal.returns-in-Err-Usage-clause-serves_whole
+returns-in-Err-Usage-clause-serves_whole g c = λ listen requests of_words.
+    absurd (no_command _ c.read_words.result (usage c.in-Err-Usage.is c.in-Err-Usage.field-0-is)
+    c.read_words.ensures.only (Serve listen requests) of_words)
+
+pub returns-in-Serve-clause-statuses : goal.returns-in-Serve-clause-statuses
+returns-in-Serve-clause-statuses g c = serve-status c.serve.result.status c.serve.ensures.statuses
+
+pub returns-in-Serve-clause-alone : goal.returns-in-Serve-clause-alone
+returns-in-Serve-clause-alone g c = λ sink others.
+    absurd (others _ _ (read_serve _ c.read_words.result c.in-Ok.command _ _ c.in-Ok.is c.in-Serve.is
+    c.read_words.ensures.found))
+
+pub returns-in-Serve-clause-safe : goal.returns-in-Serve-clause-safe
+returns-in-Serve-clause-safe g c = read_all _ c.read_words.result c.in-Ok.command _ c.in-Ok.is
+    c.read_words.ensures.only (λ adds. absurd (subst AddsNothing c.in-Serve.is adds))
+
+pub returns-in-Serve-clause-serves : goal.returns-in-Serve-clause-serves
+returns-in-Serve-clause-serves g c =
+    same_requests _ _ c.read_words.result c.in-Ok.command _ _ c.in-Ok.is c.in-Serve.is c.read_words.ensures.only
+    c.serve.ensures.serves
+
+pub returns-in-Serve-clause-no_lines : goal.returns-in-Serve-clause-no_lines
+returns-in-Serve-clause-no_lines g c = λ others.
+    absurd (others _ _ (read_serve _ c.read_words.result c.in-Ok.command _ _ c.in-Ok.is c.in-Serve.is
+    c.read_words.ensures.found))
+
+pub returns-in-Serve-clause-no_door : goal.returns-in-Serve-clause-no_door
+returns-in-Serve-clause-no_door g c = λ others.
+    absurd (others _ _ (read_serve _ c.read_words.result c.in-Ok.command _ _ c.in-Ok.is c.in-Serve.is
+    c.read_words.ensures.found))
+
+pub returns-clause-door_fault : goal.returns-clause-door_fault
+returns-clause-door_fault g c = λ is.
+    absurd (no_door c.in-Err.fault (sym c.end_with-in-Err.ensures.status ∙ is))

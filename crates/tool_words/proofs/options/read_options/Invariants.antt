@@ -1,18 +1,18 @@
 use Rattle.std.proofs.Common.{List, Global, map, length, string_bytes}
 use Rattle.tool_words.specs.Options.{Given, AreOptions}
-use Rattle.tool_words.specs.Reading.{option_of}
-use Rattle.tool_words.specs.Words.{init_options}
+use Rattle.tool_words.specs.Reading.{names_of, option_of}
 use Rattle.tool_words.proofs.OptionLemmas.{AreBegun, IsLeft}
 use Rattle.tool_words.proofs.options.read_options.Given as goal
 
 abbrev pub invariant-loop-given : goal.invariant-loop-given
 invariant-loop-given l =
+    let names = names_of l.names in
     let words = map (string_bytes {Z = Global}) l.words in
     let given = map option_of l.options.items in
     let rest = map (string_bytes {Z = Global}) l.rest in
     record {
-      begun : AreBegun words given rest;
-      only : (all : List Given) → AreOptions init_options words all → IsLeft given rest all;
+      begun : AreBegun names words given rest;
+      only : (all : List Given) → AreOptions names words all → IsLeft given rest all;
     }
 
 abbrev pub decreases-loop-given : goal.decreases-loop-given

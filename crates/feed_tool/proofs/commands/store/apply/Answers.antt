@@ -1,9 +1,9 @@
 use Rattle.std.proofs.Common.{◌≡◌, Err, ap, ◌∙◌}
 use Rattle.std.specs.Prelude.{Some, None}
 use Rattle.std.proofs.lemmas.Result.{err_from_is_err_and}
+use Rattle.feed_recovery.specs.Stored.{stored_of}
 use Rattle.feed_tool.specs.declared.fault.Fault.TheVariants.{Disk, Input}
 use Rattle.feed_tool.specs.declared.status.Status.TheVariants.{Done}
-use Rattle.feed_tool.specs.Loaded.{stored_of}
 use Rattle.feed_tool.specs.Stored.{apply_answer}
 use Rattle.feed_tool.proofs.AnswerOnLemmas.{answer-bad, answer-on, apply-made, apply-refused, load-no-input, not-refusal, opens-applied}
 use Rattle.feed_tool.proofs.MomentsLemmas.{applies-safely}

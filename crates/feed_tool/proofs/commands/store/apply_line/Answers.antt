@@ -1,6 +1,6 @@
 use Rattle.std.proofs.Common.{sym, ◌∙◌}
 use Rattle.feed_tool.proofs.RoomLemmas.{line-refused, line-made}
-use Rattle.feed_tool.proofs.StoreLemmas.{journal-size, seals-size}
+use Rattle.feed_recovery.proofs.SizeLemmas.{journal-size, seals-size}
 use Rattle.feed_tool.proofs.commands.store.apply_line.Goals as goal
 
 pub returns-in-Err-clause-refused : goal.returns-in-Err-clause-refused

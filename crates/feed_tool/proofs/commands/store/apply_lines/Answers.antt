@@ -5,13 +5,15 @@ use Rattle.std.proofs.lemmas.Result.{err_from_is_err_and}
 use Rattle.feed_disk.specs.declared.area.Area.TheVariants.{Mirror}
 use Rattle.feed_disk.proofs.MomentLemmas.{alone_begins, alone_joins}
 use Rattle.feed_recovery.specs.Settled.{AlwaysLeavesBoth, OpensPast, Settled}
+use Rattle.feed_recovery.specs.Stored.{Stored, stored_of}
 use Rattle.feed_tool.specs.declared.fault.Fault.{Fault}
 use Rattle.feed_tool.specs.declared.fault.Fault.TheVariants.{Input, Disk}
 use Rattle.feed_tool.specs.Apply.{lines_fault}
-use Rattle.feed_tool.specs.Loaded.{LeavesLines, stored_of}
-use Rattle.feed_tool.specs.Stored.{Stored, applied_store, stored_step}
+use Rattle.feed_tool.specs.Loaded.{LeavesLines}
+use Rattle.feed_tool.specs.Stored.{applied_store, stored_step}
 use Rattle.feed_tool.proofs.FaultLemmas.{input-of_lines, refusal-of_lines}
-use Rattle.feed_tool.proofs.MomentsLemmas.{both_stay, leaves-more, lines-fail, lines-leave}
+use Rattle.feed_recovery.proofs.PastLemmas.{both_stay, leaves-more}
+use Rattle.feed_tool.proofs.MomentsLemmas.{lines-fail, lines-leave}
 use Rattle.feed_tool.proofs.ProgressLemmas.{Progress, Progress-amid, Progress-end, Progress-long, Progress-made, Progress-refused, Progress-start, Progress-step}
 use Rattle.feed_tool.proofs.StepLemmas.{stored_step-prefix}
 use Rattle.feed_tool.proofs.StoreLemmas.{disk-or-not, line-is, no-disk}

@@ -3,8 +3,8 @@ use Rattle.feed_disk.specs.Moments.{LeavesAlone}
 use Rattle.feed_disk.specs.declared.area.Area.TheVariants.{Mirror}
 use Rattle.feed_recovery.specs.Settled.{AlwaysLeavesBoth, IsAtRest, OpensPast, Settled}
 use Rattle.feed_recovery.specs.Store.{StandsFor, is_spent}
+use Rattle.feed_recovery.specs.Stored.{stored_of}
 use Rattle.feed_tool.specs.Lines.{KnowsEnd, allowance}
-use Rattle.feed_tool.specs.Loaded.{stored_of}
 use Rattle.feed_tool.specs.Stored.{stored_step}
 use Rattle.feed_tool.proofs.ProgressLemmas.{Progress}
 use Rattle.feed_tool.proofs.commands.store.apply_lines.Given as goal

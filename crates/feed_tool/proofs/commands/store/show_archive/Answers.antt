@@ -4,11 +4,12 @@ use Rattle.feed_disk.specs.declared.area.Area.TheVariants.{Journal, Sealed, Mirr
 use Rattle.feed_disk.proofs.MomentLemmas.{alone_joins}
 use Rattle.feed_recovery.specs.Settled.{OpensPast}
 use Rattle.feed_recovery.specs.declared.fault.ArchiveFault.TheVariants.{DiskFault}
-use Rattle.feed_tool.specs.Loaded.{stored_of}
+use Rattle.feed_recovery.specs.Stored.{stored_of}
 use Rattle.feed_tool.specs.StoreFaults.{archive_fault}
 use Rattle.feed_tool.specs.Stored.{archive_answer}
 use Rattle.feed_tool.proofs.AnswerOnLemmas.{answer-bad, answer-on, archive-refused, archive-sealed}
-use Rattle.feed_tool.proofs.MomentsLemmas.{both_alone, both_joins}
+use Rattle.feed_recovery.proofs.BothLemmas.{both_joins}
+use Rattle.feed_recovery.proofs.PastLemmas.{both_alone}
 use Rattle.feed_tool.proofs.StoreLemmas.{opens-same}
 use Rattle.feed_tool.proofs.commands.store.show_archive.Goals as goal
 

@@ -1,7 +1,7 @@
 use Rattle.std.proofs.Common.{ap}
 use Rattle.std.proofs.lemmas.Result.{err_from_is_err_and}
+use Rattle.feed_recovery.specs.Stored.{stored_of}
 use Rattle.feed_tool.specs.declared.status.Status.TheVariants.{Done}
-use Rattle.feed_tool.specs.Loaded.{stored_of}
 use Rattle.feed_tool.specs.Stored.{feed_answer}
 use Rattle.feed_tool.proofs.AnswerOnLemmas.{answer-bad, answer-on}
 use Rattle.feed_tool.proofs.StoreLemmas.{opens-same}

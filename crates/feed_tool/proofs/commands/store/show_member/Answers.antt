@@ -3,11 +3,12 @@ use Rattle.std.proofs.lemmas.Result.{err_from_is_err_and}
 use Rattle.feed_disk.specs.declared.area.Area.TheVariants.{Journal, Sealed}
 use Rattle.feed_recovery.specs.Settled.{OpensPast}
 use Rattle.feed_recovery.specs.declared.fault.MemberFault.TheVariants.{DiskFault}
-use Rattle.feed_tool.specs.Loaded.{stored_of}
+use Rattle.feed_recovery.specs.Stored.{stored_of}
 use Rattle.feed_tool.specs.StoreFaults.{member_fault}
 use Rattle.feed_tool.specs.Stored.{member_answer}
 use Rattle.feed_tool.proofs.AnswerOnLemmas.{answer-bad, answer-on, member-live, member-refused}
-use Rattle.feed_tool.proofs.MomentsLemmas.{both_alone, both_joins}
+use Rattle.feed_recovery.proofs.BothLemmas.{both_joins}
+use Rattle.feed_recovery.proofs.PastLemmas.{both_alone}
 use Rattle.feed_tool.proofs.StoreLemmas.{opens-same}
 use Rattle.feed_tool.proofs.commands.store.show_member.Goals as goal
 

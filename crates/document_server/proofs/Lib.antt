@@ -1,0 +1,30 @@
+-- `is_entry_media`: white space
+pub mod MediaLemmas
+-- `answer`: `leaves` and `settled`
+pub mod LeaveLemmas
+-- `answer` and its parts: the rows of the table of replies
+pub mod RowLemmas
+-- `create`, `replace`, `delete` and `change`: an operation that is prepared and committed
+pub mod ChangeLemmas
+-- the parts of `answer`: `steps`
+pub mod StepLemmas
+-- the law of documents in replies
+pub mod ServedLemmas
+-- the law of the one outcome
+pub mod OutcomeLemmas
+-- `serve`: a connection that is served
+pub mod LinkLemmas
+-- `serve`: the order of the lines, and the device calls that they count
+pub mod OrderLemmas
+-- `serve`: what a crash amid the session leaves
+pub mod OpensLemmas
+-- `serve`: the documents that were sent
+pub mod DocumentLemmas
+-- `serve`: the exchanges
+pub mod SessionLemmas
+-- `serve`: the connections that were served so far, and one more
+pub mod ServingLemmas
+-- `serve`: the operation of a request behind which the disk failed
+pub mod PendingLemmas
+-- `serve`: the load before the connections
+pub mod LoadLemmas

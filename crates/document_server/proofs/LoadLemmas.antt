@@ -1,0 +1,185 @@
+-- A store is loaded, and then connections are served on it.
+use Rattle.std.proofs.Common.{◌≡◌, ◌⊎◌, inl, inr, sym, ap, ◌∙◌, subst, ℕ, ◌+◌, ◌-◌, ◌^◌, ◌<◌, ◌≤◌, List, []}
+use Rattle.std.proofs.Common.{◌∷◌, ◌++◌, map, length, All, arith, Result, Ok, Err, IfErr}
+use Rattle.std.proofs.lemmas.List.Elements.{All-weaker}
+use Rattle.atom_values.specs.Counts.{counter_limit}
+use Rattle.document_server.specs.Door.{DoorState, SameLinks}
+use Rattle.document_server.specs.Serving.{AreInOrder, CountsFrom, HasSession, LeavesServed, LeavesServing, OpensAt}
+use Rattle.document_server.specs.Serving.{OpensBehind, Serves, ServesFrom, end_of}
+use Rattle.document_server.specs.declared.line.Line.{Line}
+use Rattle.document_server.specs.declared.session.End.{End}
+use Rattle.document_server.specs.declared.session.End.TheVariants.{DiskFault, DoorFault, Load, NoMemory as OutOfMemory}
+use Rattle.document_server.proofs.OrderLemmas.{raised-on}
+use Rattle.document_server.proofs.ServingLemmas.{going-begins, going-ends}
+use Rattle.feed_disk.specs.Disk.{DiskState, IsDisk}
+use Rattle.feed_disk.specs.declared.area.Area.{Area}
+use Rattle.feed_disk.specs.declared.area.Area.TheVariants.{Journal, Sealed}
+use Rattle.feed_disk.proofs.MomentLemmas.{leaves_join, leaves_over}
+use Rattle.feed_journal.specs.Log.{MakesCalls}
+use Rattle.feed_journal.specs.Records.{records}
+use Rattle.feed_recovery.specs.Opening.{AreSeals, IsJournal, OpensInOneWay}
+use Rattle.feed_recovery.specs.Settled.{AlwaysLeavesBoth, AreWhole, IsAtRest, OpensPast, Settled}
+use Rattle.feed_recovery.specs.Store.{StandsFor, StoreValue, call_count}
+use Rattle.feed_recovery.specs.Stored.{OpensTo, Stored, stored_of}
+use Rattle.feed_recovery.specs.declared.fault.LoadFault.{LoadFault}
+use Rattle.feed_recovery.proofs.PastLemmas.{settled-head, settled-whole}
+use Rattle.member_rules.specs.Head.{HeadValue}
+use Rattle.member_rules.specs.declared.operation.Op.{Op}
+
+-- the payloads decide what a content opens to
+opens-same : (content other : Area → List ℕ) (stored : Stored)
+    → ((a : Area) → records (other a) ≡ records (content a)) → OpensTo other stored → OpensTo content stored
+opens-same content other stored same o = record {
+  is_journal = subst (λ (ps : List (List ℕ)). IsJournal ps stored.head stored.history) (same Journal) o.is_journal;
+  are_seals = subst (AreSeals stored.head stored.history) (same Sealed) o.are_seals;
+  number = ap length (sym (same Sealed)) ∙ o.number;
+  count = o.count;
+}
+
+-- lines in order are in order from fewer calls
+order-fewer : (version calls fewer : ℕ) (lines : List Line) → fewer ≤ calls → AreInOrder version calls lines
+    → AreInOrder version fewer lines
+order-fewer version calls fewer [] below order = tt
+order-fewer version calls fewer (line ∷ lines) below (follows, order) = (
+  record {
+    no_fewer = follows.no_fewer;
+    one_more = follows.one_more;
+    later = omega (arith, follows.later, below);
+    grown = λ more. omega (arith, follows.grown more, below);
+  },
+  order,
+)
+
+session-listened : (start : ℕ) (after : DiskState) (moments : ℕ → ℕ) (door listened rest : DoorState) (opened : Stored)
+    (history : List Op) (unbroken broken : List Line) (failed : Type 0) → SameLinks door listened
+    → HasSession start after moments listened rest opened history unbroken broken failed
+    → HasSession start after moments door rest opened history unbroken broken failed
+session-listened start after moments door listened rest opened history unbroken broken failed same session = record {
+  served = session.served;
+  last = session.last;
+  lines = session.lines;
+  last_line = session.last_line;
+  first = session.first;
+  first_is = session.first_is;
+  session = session.session;
+  given = sym same.left ∙ session.given;
+  back = session.back ∙ ap (λ b. b ++ map (λ e. e.back) (session.served ++ session.last)) same.back;
+  marked = session.marked;
+  documents = session.documents;
+}
+
+-- what a crash leaves from the load on
+leaves-served : (s m t : DiskState) (head : HeadValue) (operations : List Op) (least : ℕ) (opened : Stored)
+    (history : List Op) (lines unbroken : List Line) (failed : Type 0) → opened.head ≡ head
+    → (t.clock < counter_limit → All (λ (line : Line). m.clock ≤ s.clock + line.calls) lines)
+    → AlwaysLeavesBoth s m (OpensPast head operations least)
+    → LeavesServing s.clock m t opened.head (length opened.history) history lines unbroken failed
+    → LeavesServed s t head operations least opened history lines unbroken failed
+leaves-served s m t head operations least opened history lines unbroken failed same before first second = record {
+  same = same;
+  loaded = m.clock;
+  before_lines = before;
+  each = record {
+    first = leaves_join s m t Journal (λ _ _. Unit {0}) first.moments.first second.each.first;
+    second = leaves_join s m t Sealed (λ _ _. Unit {0}) first.moments.second second.each.second;
+    each = λ below c i j inside may may'. (
+      (λ within.
+          let short : m.clock < 2 ^ 64 - 1 = omega (arith, below, second.each.first.later) in
+          first.moments.each short c i j inside
+          (leaves_over m t Journal (λ _ _. Unit {0}) second.each.first short c i within may)
+          (leaves_over m t Sealed (λ _ _. Unit {0}) second.each.second short c j within may')),
+      (λ later.
+          subst (λ (h : HeadValue). OpensAt s.clock c h history (length opened.history) lines unbroken i j) same
+          (second.each.each below c i j later may may')),
+    );
+  };
+  now = λ i j may may'.
+      subst (λ (h : HeadValue). OpensBehind h history (length opened.history) lines i j) same
+      (second.now i j may may');
+  whole = λ works. subst (λ (h : HeadValue). Settled t h history (length history)) same (second.whole works);
+}
+
+-- a store that was loaded
+pub record IsLoaded (told : Type 0) (s m : DiskState) (store : StoreValue) : Type 0 where
+  pub disk : IsDisk told s
+  pub tells : told
+  pub one : OpensInOneWay
+  pub same : (a : Area) → records (m.content a) ≡ records (s.content a)
+  pub stands : StandsFor m store
+  pub moments : (head : HeadValue) (operations : List Op) (least : ℕ) → Settled s head operations least
+      → AlwaysLeavesBoth s m (OpensPast head operations least)
+  pub rests : AreWhole s → IsAtRest m
+  pub number : ℕ
+  pub calls : MakesCalls s m 0 (call_count store) number
+
+-- and then connections were served
+pub serves-loaded : {told : Type 0} (s m t : DiskState) (moments : ℕ → ℕ) (door listened rest : DoorState)
+    (seen : Type 0) (store : StoreValue) (lines : List Line) (failed : Type 0) → IsLoaded told s m store
+    → (seen → SameLinks door listened) → m.clock ≤ t.clock
+    → (CountsFrom s.clock m t store → ServesFrom s.clock m t moments listened rest seen store lines failed)
+    → Serves s t moments door rest seen lines failed
+serves-loaded s m t moments door listened rest seen store lines failed loaded same later serves =
+    let opens = opens-same s.content m.content (stored_of store) loaded.same loaded.stands.opens in
+    let served = serves (λ below.
+    raised-on s.clock m.clock s.clock 0 (call_count store) loaded.number loaded.calls.clock loaded.calls.calls
+    (omega (arith, below, later)) (omega arith)) in
+    record {
+      opened = stored_of store;
+      opens = opens;
+      history = served.history;
+      unbroken = served.unbroken;
+      broken = served.broken;
+      lines_are = served.lines_are;
+      all_unbroken = served.all_unbroken;
+      one_broken = served.one_broken;
+      ordered = λ below.
+          order-fewer (length store.history) (call_count store) 0 lines (omega arith) (served.ordered below);
+      within = λ below.
+          All-weaker (λ (line : Line). (m.clock ≤ s.clock + line.calls) × (s.clock + line.calls ≤ t.clock))
+          (λ (line : Line). s.clock + line.calls ≤ t.clock) (λ line within. within.1) lines (served.within below);
+      crash = λ head operations least settled.
+          leaves-served s m t head operations least (stored_of store) served.history lines served.unbroken failed
+          (settled-head s head operations least loaded.disk loaded.tells loaded.one settled (stored_of store) opens)
+          (λ below.
+          All-weaker (λ (line : Line). (m.clock ≤ s.clock + line.calls) × (s.clock + line.calls ≤ t.clock))
+          (λ (line : Line). m.clock ≤ s.clock + line.calls) (λ line within. within.0) lines (served.within below))
+          (loaded.moments head operations least settled)
+          (served.crash (loaded.rests (settled-whole s head operations least loaded.disk loaded.tells settled)));
+      session = λ see.
+          session-listened s.clock t moments door listened rest (stored_of store) served.history served.unbroken
+          served.broken failed (same see) (served.session see);
+    }
+
+-- no connection was served
+pub serves-none : {told : Type 0} (s m : DiskState) (moments : ℕ → ℕ) (door listened : DoorState) (seen : Type 0)
+    (store : StoreValue) (lines : List Line) (failed : Type 0) → IsLoaded told s m store → IsDisk told m
+    → (seen → SameLinks door listened) → (IsAtRest m → Settled m store.head store.history (length store.history))
+    → lines ≡ [] → (failed → ⊥) → Serves s m moments door listened seen lines failed
+serves-none s m moments door listened seen store lines failed loaded disk same settled none works =
+    subst (λ (ls : List Line). Serves s m moments door listened seen ls failed) (sym none)
+    (serves-loaded s m m moments door listened listened seen store [] failed loaded same (omega arith) (λ counts.
+    going-ends s.clock m m moments moments listened listened seen store store [] failed
+    (going-begins s.clock m moments listened seen store disk) counts loaded.stands settled works))
+
+-- How it ended
+
+pub no-load : (result : Result (Unit {0}) End) (fault : LoadFault)
+    → IfErr result (λ end. (end ≡ DiskFault) ⊎ (end ≡ DoorFault)) → result ≡ Err (Load fault) → ⊥
+no-load (Ok done) fault own is = cc
+no-load (Err end) fault (inl own) is = cc
+no-load (Err end) fault (inr own) is = cc
+
+pub no-memory : (result : Result (Unit {0}) End)
+    → IfErr result (λ end. (end ≡ DiskFault) ⊎ (end ≡ DoorFault)) → result ≡ Err OutOfMemory → ⊥
+no-memory (Ok done) own is = cc
+no-memory (Err end) (inl own) is = cc
+no-memory (Err end) (inr own) is = cc
+
+pub end-load : (result : Result (Unit {0}) End) (fault : LoadFault) → end_of result ≡ Load fault
+    → result ≡ Err (Load fault)
+end-load (Ok done) fault is = absurd (cc)
+end-load (Err end) fault is = ap Err is
+
+pub end-memory : (result : Result (Unit {0}) End) → end_of result ≡ OutOfMemory → result ≡ Err OutOfMemory
+end-memory (Ok done) is = absurd (cc)
+end-memory (Err end) is = ap Err is

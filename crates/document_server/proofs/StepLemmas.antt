@@ -1,0 +1,129 @@
+-- What a part of the answer makes of the store and of the disk.
+use Rattle.std.proofs.Common.{◌≡◌, inl, refl, sym, ap, ◌∙◌, ℕ, ◌≤◌, ◌||◌, Bool, true, false, arith}
+use Rattle.std.specs.Prelude.{None}
+use Rattle.std.proofs.lemmas.List.{append-nil}
+use Rattle.feed_disk.specs.Disk.{DiskState}
+use Rattle.feed_disk.specs.Moments.{LeavesAlone}
+use Rattle.feed_disk.specs.declared.area.Area.{Area}
+use Rattle.feed_disk.specs.declared.area.Area.TheVariants.{Journal, Sealed, Mirror}
+use Rattle.feed_disk.proofs.MomentLemmas.{alone_begins}
+use Rattle.feed_journal.specs.Log.{MakesSome}
+use Rattle.feed_recovery.specs.Store.{StandsFor, StoreValue, call_count, is_spent, seal_count}
+use Rattle.feed_recovery.proofs.LoadedLemmas.{begins_still}
+use Rattle.atom_values.specs.Counts.{Rose}
+use Rattle.document_server.specs.Answer.{Gains, IsReplied, OnlyReads, Steps}
+use Rattle.document_server.specs.Reply.{Outcome, unchanged}
+use Rattle.http_face.specs.declared.reply.Reply.{Reply}
+
+-- the store gains nothing
+pub gains-none : (old new : StoreValue) → new.history ≡ old.history → seal_count new ≡ seal_count old
+    → Gains old new None
+gains-none old new same seals = record { history = same ∙ sym (append-nil old.history); seals = seals }
+
+-- nothing is done
+pub steps-none : (told : Type 0) (s : DiskState) (store : StoreValue) (failed : Type 0) → ¬ failed
+    → is_spent store ≡ false → (told → StandsFor s store) → Steps told s s store store failed
+steps-none told s store failed worked unspent stands = record {
+  head = refl;
+  later = omega arith;
+  rose = λ fails. absurd (worked fails);
+  spent = λ fails. absurd (worked fails);
+  stays = λ fails. refl;
+  unfailed = λ _. refl;
+  unspent = λ _. unspent;
+  stands = λ _. stands;
+  rests = λ _ _ rests. rests;
+  mirror = alone_begins s Mirror;
+  calls = inl (refl, refl);
+}
+
+pub reads-none : (s : DiskState) (store : StoreValue) → OnlyReads s s store store
+reads-none s store = record { areas = alone_begins s; history = refl }
+
+-- no area is written, and all device calls worked
+pub steps-read : (told : Type 0) (s t : DiskState) (old new : StoreValue) (failed : Type 0) → ¬ failed
+    → new.head ≡ old.head → is_spent new ≡ false → (told → StandsFor t new) → ((a : Area) → LeavesAlone s t a)
+    → t.faults ≡ s.faults → MakesSome s t (call_count old) (call_count new) → Steps told s t old new failed
+steps-read told s t old new failed worked head unspent stands areas unfailed calls = record {
+  head = head;
+  later = omega (arith, unfailed);
+  rose = λ fails. absurd (worked fails);
+  spent = λ fails. absurd (worked fails);
+  stays = λ fails. absurd (worked fails);
+  unfailed = λ _. unfailed;
+  unspent = λ _. unspent;
+  stands = λ _. stands;
+  rests = λ _ _ rests. record {
+    journal = begins_still s t Journal (areas Journal) rests.journal;
+    sealed = begins_still s t Sealed (areas Sealed) rests.sealed;
+  };
+  mirror = areas Mirror;
+  calls = calls;
+}
+
+-- a device call failed
+pub steps-failed : (told : Type 0) (s t : DiskState) (old new : StoreValue) (failed : Type 0) → failed
+    → new.head ≡ old.head → new.history ≡ old.history → is_spent new ≡ true → LeavesAlone s t Mirror
+    → s.faults ≤ t.faults → Rose s.faults t.faults → MakesSome s t (call_count old) (call_count new)
+    → Steps told s t old new failed
+steps-failed told s t old new failed fails head history spent mirror later rose calls = record {
+  head = head;
+  later = later;
+  rose = λ _. rose;
+  spent = λ _. spent;
+  stays = λ _. history;
+  unfailed = λ works. absurd (works fails);
+  unspent = λ works. absurd (works fails);
+  stands = λ works. absurd (works fails);
+  rests = λ works. absurd (works fails);
+  mirror = mirror;
+  calls = calls;
+}
+
+pub or-true : (b : Bool) → (b || true) ≡ true
+or-true true = refl
+or-true false = refl
+
+pub replied-unchanged : (outcomes : Outcome → Type 0) (old new : StoreValue) (reply : Reply)
+    → outcomes (unchanged reply) → Gains old new None → IsReplied outcomes old new reply
+replied-unchanged outcomes old new reply is gains =
+    record { given = unchanged reply; is_one = is; reply_is = refl; gains = gains }
+
+pub replied-none : (outcomes : Outcome → Type 0) (store : StoreValue) (reply : Reply) → outcomes (unchanged reply)
+    → IsReplied outcomes store store reply
+replied-none outcomes store reply is =
+    replied-unchanged outcomes store store reply is (gains-none store store refl refl)
+
+module _ (told : Type 0) (s t : DiskState) (old new : StoreValue) (failed : Type 0) (calls : ℕ)
+    (unspent : is_spent old ≡ false) (areas : (a : Area) → LeavesAlone s t a)
+    (made : MakesSome s t (call_count old) (call_count new)) where
+  -- a seal is read
+  pub steps-archive : new ≡ record old { seals = record old.seals { calls = calls } } → ¬ failed
+      → (told → StandsFor t new) → t.faults ≡ s.faults → Steps told s t old new failed
+  steps-archive same worked stands unfailed = steps-read told s t old new failed worked
+      (ap (λ (o : StoreValue). o.head) same) (ap is_spent same ∙ unspent) stands areas unfailed made
+
+  pub steps-archive-failed : new ≡ record old { seals = record old.seals { calls = calls; spent = true } } → failed
+      → s.faults ≤ t.faults → Rose s.faults t.faults → Steps told s t old new failed
+  steps-archive-failed same fails later rose = steps-failed told s t old new failed fails
+      (ap (λ (o : StoreValue). o.head) same) (ap (λ (o : StoreValue). o.history) same)
+      (ap is_spent same ∙ or-true old.journal.spent) (areas Mirror) later rose made
+
+  -- an operation is read
+  pub steps-member : new ≡ record old { journal = record old.journal { calls = calls } } → ¬ failed
+      → (told → StandsFor t new) → t.faults ≡ s.faults → Steps told s t old new failed
+  steps-member same worked stands unfailed = steps-read told s t old new failed worked
+      (ap (λ (o : StoreValue). o.head) same) (ap is_spent same ∙ unspent) stands areas unfailed made
+
+  pub steps-member-failed : new ≡ record old { journal = record old.journal { calls = calls; spent = true } } → failed
+      → s.faults ≤ t.faults → Rose s.faults t.faults → Steps told s t old new failed
+  steps-member-failed same fails later rose = steps-failed told s t old new failed fails
+      (ap (λ (o : StoreValue). o.head) same) (ap (λ (o : StoreValue). o.history) same)
+      (ap is_spent same) (areas Mirror) later rose made
+
+module _ (old new : StoreValue) (calls : ℕ) where
+  pub gains-archive : new ≡ record old { seals = record old.seals { calls = calls } } → Gains old new None
+  gains-archive same = gains-none old new (ap (λ (o : StoreValue). o.history) same) (ap seal_count same)
+
+  pub gains-member : new ≡ record old { journal = record old.journal { calls = calls } } → Gains old new None
+  gains-member same = gains-none old new (ap (λ (o : StoreValue). o.history) same) (ap seal_count same)

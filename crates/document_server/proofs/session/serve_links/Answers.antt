@@ -1,0 +1,311 @@
+use Rattle.std.proofs.Common.{◌≡◌, ◌∙◌, inl, inr, refl, sym, ap, subst, ◌+◌, ◌<◌, List, [], ◌∷◌, ◌++◌, length, Err}
+use Rattle.std.proofs.Common.{arith}
+use Rattle.std.proofs.Common.{length-append}
+use Rattle.document_server.specs.Serving.{ServesFrom}
+use Rattle.document_server.specs.declared.line.Line.{Line}
+use Rattle.document_server.specs.declared.session.End.{End}
+use Rattle.document_server.specs.declared.session.End.TheVariants.{DiskFault}
+use Rattle.document_server.proofs.PendingLemmas.{pending-lawful}
+use Rattle.document_server.proofs.ServingLemmas.{Going, Linked, going-begins, going-breaks, going-ends, going-more}
+use Rattle.document_server.proofs.ServingLemmas.{going-still}
+use Rattle.document_server.proofs.SessionLemmas.{passes-door}
+use Rattle.std.proofs.lemmas.Result.{err_from_is_err_and}
+use Rattle.feed_disk.specs.declared.area.Area.TheVariants.{Mirror}
+use Rattle.feed_disk.proofs.MomentLemmas.{alone_begins, alone_joins}
+use Rattle.member_rules.specs.Head.{HeadValue}
+use Rattle.member_rules.specs.History.{IsLawful}
+use Rattle.document_server.proofs.session.serve_links.Goals as goal
+
+pub loop-count-init : goal.loop-count-init
+loop-count-init g c =
+    let disk = g.D.Disk.state c.args.disk.now in
+    let moments = g.C.Clock.coming c.args.clock.now in
+    let door = g.L.Door.state c.args.door.now in
+    record {
+      unspent = c.requires.unspent;
+      stands = c.requires.stands;
+      count = ap length c.requires.empty;
+      room = omega (arith, c.requires.room);
+      going = λ told start.
+          subst (λ (lines : List Line). Going start disk disk moments moments door door (g.C.Clock.told × g.L.Door.told)
+          c.args.store.now c.args.store.now lines) (sym c.requires.empty)
+          (going-begins start disk moments door (g.C.Clock.told × g.L.Door.told) c.args.store.now
+          (g.met.D.Disk.is_disk c.args.disk.now));
+      out = λ told. refl;
+      faults = refl;
+      disk_faults = refl;
+      mirror = alone_begins disk Mirror;
+      rests = λ told rests. rests;
+      settled = λ told rests. c.requires.settled told rests;
+    }
+
+pub returns-in_err-link-clause-serves : goal.returns-in_err-link-clause-serves
+returns-in_err-link-clause-serves g c = λ told start counts.
+    let p = err_from_is_err_and c.from_residual.result c.from_residual.ensures.1 in
+    let held = c.loop-count.invariant in
+    let before = g.D.Disk.state c.args.disk.now in
+    let disk = g.D.Disk.state c.loop-count.disk in
+    let moments = g.C.Clock.coming c.args.clock.now in
+    let coming = g.C.Clock.coming c.loop-count.clock in
+    let first = g.L.Door.state c.args.door.now in
+    let door = g.L.Door.state c.loop-count.door in
+    let seen : Type 0 = g.C.Clock.told × g.L.Door.told in
+    let opened = c.args.store.now in
+    let store = c.loop-count.store in
+    let lines = c.loop-count.lines.items in
+    let last = g.L.Door.state c.next.new.self in
+    going-ends start before disk moments coming first last seen opened store lines _
+    (going-still start before disk moments coming first door last seen opened store lines (held.going told start)
+    (λ see. c.in_err-link.ensures.err see.1)) counts (held.stands told) (held.settled told)
+    (rw (p.1, p.2) (λ is. cc))
+
+pub returns-in_default-clause-serves : goal.returns-in_default-clause-serves
+returns-in_default-clause-serves g c = λ told start counts.
+    let held = c.loop-count.invariant in
+    let before = g.D.Disk.state c.args.disk.now in
+    let disk = g.D.Disk.state c.loop-count.disk in
+    let moments = g.C.Clock.coming c.args.clock.now in
+    let coming = g.C.Clock.coming c.loop-count.clock in
+    let first = g.L.Door.state c.args.door.now in
+    let door = g.L.Door.state c.loop-count.door in
+    let seen : Type 0 = g.C.Clock.told × g.L.Door.told in
+    let opened = c.args.store.now in
+    let store = c.loop-count.store in
+    let lines = c.loop-count.lines.items in
+    let last = g.L.Door.state c.next.new.self in
+    going-ends start before disk moments coming first last seen opened store lines _
+    (going-still start before disk moments coming first door last seen opened store lines (held.going told start)
+    (λ see. (rw c.in_default.is at (c.in_ok-link.ensures.given see.1)).1)) counts (held.stands told) (held.settled told)
+    (λ is. cc)
+
+pub returns-clause-serves : goal.returns-clause-serves
+returns-clause-serves g c = λ told start counts.
+    let held = c.loop-count.invariant in
+    let before = g.D.Disk.state c.args.disk.now in
+    let disk = g.D.Disk.state c.loop-count.disk in
+    let moments = g.C.Clock.coming c.args.clock.now in
+    let coming = g.C.Clock.coming c.loop-count.clock in
+    let first = g.L.Door.state c.args.door.now in
+    let door = g.L.Door.state c.loop-count.door in
+    let seen : Type 0 = g.C.Clock.told × g.L.Door.told in
+    let opened = c.args.store.now in
+    let store = c.loop-count.store in
+    let lines = c.loop-count.lines.items in
+    going-ends start before disk moments coming first door seen opened store lines _ (held.going told start) counts
+    (held.stands told) (held.settled told) (λ is. cc)
+
+pub returns-then-is_spent-clause-serves : goal.returns-then-is_spent-clause-serves
+returns-then-is_spent-clause-serves g c = λ told start counts.
+    let held = c.loop-count.invariant in
+    let opened = c.args.store.now in
+    let store = c.loop-count.store in
+    let after = c.serve_link-line.new.store in
+    let line = c.serve_link-line.result in
+    let before = g.D.Disk.state c.args.disk.now in
+    let disk = g.D.Disk.state c.loop-count.disk in
+    let left = g.D.Disk.state c.serve_link-line.new.disk in
+    let moments = g.C.Clock.coming c.args.clock.now in
+    let coming = g.C.Clock.coming c.loop-count.clock in
+    let later = g.C.Clock.coming c.serve_link-line.new.clock in
+    let given = g.L.Link.Conn.state c.in-Some.link in
+    let served = g.L.Link.Conn.state c.serve_link-line.new.link in
+    let first = g.L.Door.state c.args.door.now in
+    let door = g.L.Door.state c.loop-count.door in
+    let amid = g.L.Door.state c.next.new.self in
+    let last = g.L.Door.state c.back.new.self in
+    let seen : Type 0 = g.C.Clock.told × g.L.Door.told in
+    let seen_link : Type 0 = g.C.Clock.told × g.L.Link.Conn.told in
+    let lines = c.loop-count.lines.items in
+    let said = c.serve_link-line.ensures in
+    let passes = λ (tells : g.L.Door.told).
+    passes-door door amid last given served (rw c.in-Some.is at (c.in_ok-link.ensures.given tells))
+    (c.back.ensures.back tells) in
+    let spent = sym c.is_spent.ensures ∙ c.if-is_spent.true in
+    let failed : Type 0 = ◌≡◌ {A = End} DiskFault DiskFault in
+    let linked : Linked disk left coming later given served seen_link store after line = record {
+      serves = said.serves told;
+      head = said.head;
+      version = said.version;
+      calls = said.calls;
+      later = said.mirror.leaves.later;
+      makes = said.makes;
+      grows = said.grows;
+      begun = said.begun;
+      unbegun = said.unbegun;
+    } in
+    let stands = held.stands told in
+    let going = held.going told start in
+    subst (λ (ls : List Line). ServesFrom start before left moments first last seen opened ls failed)
+    (sym c.in-Ok.ensures.ok)
+    (going-breaks start before disk left moments coming later given served first door seen seen_link opened store after
+    lines line going linked c.served_stays_served.ensures c.prefixes_are_lawful.ensures c.shown_are_served.ensures
+    stands.opens.is_journal.is_head stands.opens.is_journal.lawful last (λ see. (see.0, g.met.L.Door.tells see.1))
+    (λ see. passes see.1) failed refl spent (said.stays spent)
+    (λ see.
+    subst (λ (h : HeadValue). IsLawful h (store.history ++ linked.serves.operations)) going.head
+    (pending-lawful disk store (coming 0) _ (store.history ++ linked.serves.operations) c.calls.ensures.logs.0 stands
+    (linked.serves.broken_off (see.0, g.met.L.Door.tells see.1) spent)))
+    counts (g.met.D.Disk.is_disk c.serve_link-line.new.disk) (held.rests told))
+
+pub loop-count-preserved : goal.loop-count-preserved
+loop-count-preserved g c =
+    let held = c.loop-count.invariant in
+    let opened = c.args.store.now in
+    let store = c.loop-count.store in
+    let after = c.serve_link-line.new.store in
+    let line = c.serve_link-line.result in
+    let before = g.D.Disk.state c.args.disk.now in
+    let disk = g.D.Disk.state c.loop-count.disk in
+    let left = g.D.Disk.state c.serve_link-line.new.disk in
+    let moments = g.C.Clock.coming c.args.clock.now in
+    let coming = g.C.Clock.coming c.loop-count.clock in
+    let later = g.C.Clock.coming c.serve_link-line.new.clock in
+    let given = g.L.Link.Conn.state c.in-Some.link in
+    let served = g.L.Link.Conn.state c.serve_link-line.new.link in
+    let first = g.L.Door.state c.args.door.now in
+    let door = g.L.Door.state c.loop-count.door in
+    let amid = g.L.Door.state c.next.new.self in
+    let last = g.L.Door.state c.back.new.self in
+    let seen : Type 0 = g.C.Clock.told × g.L.Door.told in
+    let seen_link : Type 0 = g.C.Clock.told × g.L.Link.Conn.told in
+    let lines = c.loop-count.lines.items in
+    let said = c.serve_link-line.ensures in
+    let passes = λ (tells : g.L.Door.told).
+    passes-door door amid last given served (rw c.in-Some.is at (c.in_ok-link.ensures.given tells))
+    (c.back.ensures.back tells) in
+    let unspent = sym c.is_spent.ensures ∙ c.if-is_spent.false in
+    let pushed = c.in-Ok.ensures.ok in
+    record {
+      unspent = unspent;
+      stands = said.stands unspent;
+      count = omega (arith, ap length pushed, length-append lines (line ∷ []), held.count);
+      room = omega (arith, c.in-Ok.ensures.used, held.room);
+      going = λ told start.
+          let linked : Linked disk left coming later given served seen_link store after line = record {
+            serves = said.serves told;
+            head = said.head;
+            version = said.version;
+            calls = said.calls;
+            later = said.mirror.leaves.later;
+            makes = said.makes;
+            grows = said.grows;
+            begun = said.begun;
+            unbegun = said.unbegun;
+          } in
+          let stands = held.stands told in
+          let stands_new = said.stands unspent told in
+          subst (λ (ls : List Line). Going start before left moments later first last seen opened after ls)
+          (sym pushed)
+          (going-more start before disk left moments coming later given served first door seen seen_link opened store
+          after lines line (held.going told start) linked c.served_stays_served.ensures
+          c.prefixes_are_lawful.ensures c.shown_are_served.ensures stands.opens.is_journal.is_head
+          stands.opens.is_journal.lawful last (λ see. (see.0, g.met.L.Door.tells see.1)) (λ see. passes see.1) unspent
+          stands_new.opens.is_journal.lawful (g.met.D.Disk.is_disk c.serve_link-line.new.disk) (held.rests told));
+      out = λ told. (passes told).out ∙ held.out told;
+      faults = c.back.ensures.faults ∙ c.in_ok-link.ensures.counts.worked ∙ held.faults;
+      disk_faults = said.unfailed unspent ∙ held.disk_faults;
+      mirror = alone_joins before disk left Mirror held.mirror said.mirror;
+      rests = λ told rests. said.rests unspent told (held.rests told rests);
+      settled = λ told rests. said.settled unspent told (held.rests told rests);
+    }
+
+pub unreachable-requires : goal.unreachable-requires
+unreachable-requires g c =
+    let held = c.loop-count.invariant in
+    let more : c.loop-count._count < c.args.requests = c.loop-count-test.true in
+    elim c.in-Err.ensures.refusals [
+      | inl is ↦ omega (arith, c.in-Err.ensures.full.0 (ap Err is), held.count, more, c.requires.few)
+      | inr is ↦ omega (arith, c.in-Err.ensures.spare (ap Err is), held.room, more)
+    ]
+
+pub returns-clause-done : goal.returns-clause-done
+returns-clause-done g c = inl (omega arith)
+
+pub returns-in_err-link-clause-most : goal.returns-in_err-link-clause-most
+returns-in_err-link-clause-most g c = omega (arith, c.loop-count.invariant.count)
+
+pub returns-in_err-link-clause-returned : goal.returns-in_err-link-clause-returned
+returns-in_err-link-clause-returned g c = λ told. (c.in_err-link.ensures.err told).out ∙ c.loop-count.invariant.out told
+
+pub returns-in_err-link-clause-mirror : goal.returns-in_err-link-clause-mirror
+returns-in_err-link-clause-mirror g c = c.loop-count.invariant.mirror
+
+pub returns-in_err-link-clause-no_hidden_disk_fault : goal.returns-in_err-link-clause-no_hidden_disk_fault
+returns-in_err-link-clause-no_hidden_disk_fault g c = λ other. c.loop-count.invariant.disk_faults
+
+pub returns-in_err-link-clause-door_fault : goal.returns-in_err-link-clause-door_fault
+returns-in_err-link-clause-door_fault g c = λ fault.
+    omega (arith, c.in_err-link.ensures.counts.failed, c.loop-count.invariant.faults)
+
+pub returns-in_default-clause-most : goal.returns-in_default-clause-most
+returns-in_default-clause-most g c = omega (arith, c.loop-count.invariant.count)
+
+pub returns-in_default-clause-returned : goal.returns-in_default-clause-returned
+returns-in_default-clause-returned g c = λ told.
+    (rw c.in_default.is at (c.in_ok-link.ensures.given told)).1.out ∙ c.loop-count.invariant.out told
+
+pub returns-in_default-clause-mirror : goal.returns-in_default-clause-mirror
+returns-in_default-clause-mirror g c = c.loop-count.invariant.mirror
+
+pub returns-in_default-clause-no_hidden_disk_fault : goal.returns-in_default-clause-no_hidden_disk_fault
+returns-in_default-clause-no_hidden_disk_fault g c = λ other. c.loop-count.invariant.disk_faults
+
+pub returns-in_default-clause-no_hidden_door_fault : goal.returns-in_default-clause-no_hidden_door_fault
+returns-in_default-clause-no_hidden_door_fault g c = λ other.
+    c.in_ok-link.ensures.counts.worked ∙ c.loop-count.invariant.faults
+
+pub serve_link-line-requires-clause-unspent : goal.serve_link-line-requires-clause-unspent
+serve_link-line-requires-clause-unspent g c = c.loop-count.invariant.unspent
+
+pub serve_link-line-requires-clause-stands : goal.serve_link-line-requires-clause-stands
+serve_link-line-requires-clause-stands g c = c.loop-count.invariant.stands
+
+pub returns-then-is_spent-clause-most : goal.returns-then-is_spent-clause-most
+returns-then-is_spent-clause-most g c =
+    omega (
+      arith,
+      ap length c.in-Ok.ensures.ok,
+      length-append c.loop-count.lines.items (c.serve_link-line.result ∷ []),
+      c.loop-count.invariant.count,
+    )
+
+pub returns-then-is_spent-clause-returned : goal.returns-then-is_spent-clause-returned
+returns-then-is_spent-clause-returned g c = λ told.
+    let passes =
+    passes-door (g.L.Door.state c.loop-count.door) (g.L.Door.state c.next.new.self) (g.L.Door.state c.back.new.self)
+    (g.L.Link.Conn.state c.in-Some.link) (g.L.Link.Conn.state c.serve_link-line.new.link)
+    (rw c.in-Some.is at (c.in_ok-link.ensures.given told)) (c.back.ensures.back told) in
+    passes.out ∙ c.loop-count.invariant.out told
+
+pub returns-then-is_spent-clause-mirror : goal.returns-then-is_spent-clause-mirror
+returns-then-is_spent-clause-mirror g c =
+    alone_joins (g.D.Disk.state c.args.disk.now) (g.D.Disk.state c.loop-count.disk)
+    (g.D.Disk.state c.serve_link-line.new.disk) Mirror
+    c.loop-count.invariant.mirror c.serve_link-line.ensures.mirror
+
+pub returns-then-is_spent-clause-disk_fault : goal.returns-then-is_spent-clause-disk_fault
+returns-then-is_spent-clause-disk_fault g c = λ same.
+    omega (
+      arith,
+      c.serve_link-line.ensures.failed (sym c.is_spent.ensures ∙ c.if-is_spent.true),
+      c.loop-count.invariant.disk_faults,
+    )
+
+pub returns-then-is_spent-clause-no_hidden_door_fault : goal.returns-then-is_spent-clause-no_hidden_door_fault
+returns-then-is_spent-clause-no_hidden_door_fault g c = λ other.
+    c.back.ensures.faults ∙ c.in_ok-link.ensures.counts.worked ∙ c.loop-count.invariant.faults
+
+pub returns-clause-most : goal.returns-clause-most
+returns-clause-most g c = omega (arith, c.loop-count.invariant.count)
+
+pub returns-clause-returned : goal.returns-clause-returned
+returns-clause-returned g c = c.loop-count.invariant.out
+
+pub returns-clause-mirror : goal.returns-clause-mirror
+returns-clause-mirror g c = c.loop-count.invariant.mirror
+
+pub returns-clause-no_hidden_disk_fault : goal.returns-clause-no_hidden_disk_fault
+returns-clause-no_hidden_disk_fault g c = λ other. c.loop-count.invariant.disk_faults
+
+pub returns-clause-no_hidden_door_fault : goal.returns-clause-no_hidden_door_fault
+returns-clause-no_hidden_door_fault g c = λ other. c.loop-count.invariant.faults

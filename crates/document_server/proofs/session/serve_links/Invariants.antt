@@ -1,0 +1,30 @@
+use Rattle.std.proofs.Common.{◌≡◌, ℕ, ◌+◌, ◌≤◌, false, length}
+use Rattle.document_server.proofs.ServingLemmas.{Going}
+use Rattle.feed_disk.specs.Moments.{LeavesAlone}
+use Rattle.feed_disk.specs.declared.area.Area.TheVariants.{Mirror}
+use Rattle.feed_recovery.specs.Settled.{IsAtRest, Settled}
+use Rattle.feed_recovery.specs.Store.{StandsFor, is_spent}
+use Rattle.document_server.proofs.session.serve_links.Given as goal
+
+abbrev pub invariant-loop-count : goal.invariant-loop-count
+invariant-loop-count g l =
+    let before = g.D.Disk.state l.fn.disk in
+    let disk = g.D.Disk.state l.disk in
+    let door = g.L.Door.state l.door in
+    let first = g.L.Door.state l.fn.door in
+    record {
+      unspent : is_spent l.store ≡ false;
+      stands : g.D.Disk.told → StandsFor disk l.store;
+      count : length l.lines.items ≡ l._count;
+      room : l.requests ≤ l.lines.spare + l._count;
+      going : g.D.Disk.told → (start : ℕ) →
+          Going start before disk (g.C.Clock.coming l.fn.clock) (g.C.Clock.coming l.clock) first door
+          (g.C.Clock.told × g.L.Door.told) l.fn.store l.store l.lines.items;
+      out : g.L.Door.told → door.out ≡ first.out;
+      faults : door.faults ≡ first.faults;
+      disk_faults : disk.faults ≡ before.faults;
+      mirror : LeavesAlone before disk Mirror;
+      rests : g.D.Disk.told → IsAtRest before → IsAtRest disk;
+      settled : g.D.Disk.told → IsAtRest before →
+          Settled disk l.store.head l.store.history (length l.store.history);
+    }

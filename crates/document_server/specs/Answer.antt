@@ -1,0 +1,162 @@
+-- What an answered request makes of a store and of its disk.
+use Rattle.std.specs.Prelude.{◌≡◌, ◌⊎◌, ℕ, ◌+◌, ◌≤◌, List, [], ◌∷◌, ◌++◌, length, Option, Some, None, Result, Ok, Err}
+use Rattle.std.specs.Prelude.{true, false}
+use Rattle.atom_values.specs.Counts.{Rose}
+use Rattle.atom_values.specs.Entry.{DraftValue, IsDraft}
+use Rattle.entry_reader.specs.Refusal.{IsRefusedAt}
+use Rattle.entry_reader.specs.Spells.{Spells}
+use Rattle.entry_reader.specs.declared.fault.Why.{Why}
+use Rattle.feed_disk.specs.Disk.{DiskState}
+use Rattle.feed_disk.specs.Moments.{LeavesAlone}
+use Rattle.feed_disk.specs.declared.area.Area.{Area}
+use Rattle.feed_disk.specs.declared.area.Area.TheVariants.{Mirror}
+use Rattle.feed_journal.specs.Log.{MakesCalls, MakesSome}
+use Rattle.feed_recovery.specs.Prepare.{IsMissing}
+use Rattle.feed_recovery.specs.Settled.{AlwaysLeavesBoth, IsAtRest, OpensPast}
+use Rattle.feed_recovery.specs.Store.{StandsFor, StoreValue, call_count, is_spent, seal_count}
+use Rattle.http_face.specs.Reply.{HasPhrase}
+use Rattle.http_face.specs.Request.{RequestValue}
+use Rattle.http_face.specs.declared.reply.Line7.TheVariants as line
+use Rattle.http_face.specs.declared.reply.Reply.{Reply}
+use Rattle.document_server.specs.Reply.{Outcome, disk_fault, entry_refusal, gone, is_entry_media, line_reply, no_memory}
+use Rattle.document_server.specs.Reply.{not_found}
+use Rattle.document_server.specs.declared.stop.Stop.{Stop}
+use Rattle.document_server.specs.declared.stop.Stop.TheVariants.{Disk, Changed, NoMemory}
+use Rattle.member_rules.specs.declared.operation.Op.{Op}
+use Rattle.member_rules.specs.declared.state.State.{State}
+use Rattle.member_rules.specs.declared.state.State.TheVariants as member
+
+-- What becomes of the store
+
+abbrev pub added : Option Op → List Op
+added None = []
+added (Some operation) = operation ∷ []
+
+-- the number of seals after the operation: it makes the seal that was due and missing, and no other
+abbrev pub IsSealedBy : StoreValue → Option Op → ℕ → Type 0
+IsSealedBy old None seals = seals ≡ seal_count old
+IsSealedBy old (Some operation) seals =
+    (IsMissing old → seals ≡ seal_count old + 1) × ((¬ IsMissing old) → seals ≡ seal_count old)
+
+-- the store gains the operation, if there is one
+pub record Gains (old new : StoreValue) (adds : Option Op) : Type 0 where
+  pub history : new.history ≡ old.history ++ added adds
+  pub seals : IsSealedBy old adds (seal_count new)
+
+-- the reply is that of an outcome, of those that are given, and the store gains its operation
+pub record IsReplied (outcomes : Outcome → Type 0) (old new : StoreValue) (reply : Reply) : Type 0 where
+  pub given : Outcome
+  pub is_one : outcomes given
+  pub reply_is : reply ≡ given.reply
+  pub gains : Gains old new given.adds
+
+-- The reply is an outcome's and the store gains its operation, or memory ran out and the store gains nothing, or the
+-- disk failed.
+abbrev pub IsAnswer : (Outcome → Type 0) → StoreValue → StoreValue → Reply → Type 0 → Type 0
+IsAnswer outcomes old new reply failed =
+    IsReplied outcomes old new reply
+    ⊎ ((reply ≡ no_memory) × Gains old new None)
+    ⊎ ((reply ≡ disk_fault) × failed × (new.history ≡ old.history) × (is_spent new ≡ true))
+
+-- a reply that acknowledges a change, if its request isn't a GET
+abbrev pub IsDone : Reply → Type 0
+IsDone reply = (reply.status ≡ 200) ⊎ (reply.status ≡ 201)
+
+-- the history gains an operation, which takes at least four device calls
+pub record Grows (before after : DiskState) (old new : StoreValue) : Type 0 where
+  pub operation : Op
+  pub history : new.history ≡ old.history ++ operation ∷ []
+  pub number : ℕ
+  pub some : 4 ≤ number
+  pub calls : MakesCalls before after (call_count old) (call_count new) number
+
+-- What a crash leaves
+
+-- the operations that a request adds to the history if its commit works: none, or that of an outcome
+abbrev pub MayAdd : (Outcome → Type 0) → List Op → Type 0
+MayAdd outcomes operations = (operations ≡ []) ⊎ ((given : Outcome) × outcomes given × (operations ≡ added given.adds))
+
+-- At each moment of the answer and after it, a crash leaves the history before or with the operation that was accepted,
+-- if the disk was at rest before.
+pub record LeavesAnswered (outcomes : Outcome → Type 0) (before after : DiskState) (old new : StoreValue)
+    (failed : Type 0) : Type 0 where
+  pub operations : List Op
+  pub may : MayAdd outcomes operations
+  pub leaves : IsAtRest before
+      → AlwaysLeavesBoth before after (OpensPast old.head (old.history ++ operations) (length old.history))
+  pub gained : ¬ failed → new.history ≡ old.history ++ operations
+
+-- The parts of an answer
+
+-- what a part of the answer comes to
+abbrev pub ComesTo : (Outcome → Type 0) → StoreValue → StoreValue → Result Reply Stop → Type 0
+ComesTo outcomes old new (Ok reply) = IsReplied outcomes old new reply
+ComesTo outcomes old new (Err Disk) = Unit {0}
+ComesTo outcomes old new (Err Changed) = ⊥
+ComesTo outcomes old new (Err NoMemory) = Gains old new None
+
+-- what a part of the answer makes of the store and of the disk; it fails where a device call failed
+pub record Steps (told : Type 0) (before after : DiskState) (old new : StoreValue) (failed : Type 0) : Type 0 where
+  pub head : new.head ≡ old.head
+  pub later : before.faults ≤ after.faults
+  pub rose : failed → Rose before.faults after.faults
+  pub spent : failed → is_spent new ≡ true
+  pub stays : failed → new.history ≡ old.history
+  pub unfailed : ¬ failed → after.faults ≡ before.faults
+  pub unspent : ¬ failed → is_spent new ≡ false
+  pub stands : ¬ failed → told → StandsFor after new
+  pub rests : ¬ failed → told → IsAtRest before → IsAtRest after
+  pub mirror : LeavesAlone before after Mirror
+  pub calls : MakesSome before after (call_count old) (call_count new)
+
+-- no area is written
+pub record OnlyReads (before after : DiskState) (old new : StoreValue) : Type 0 where
+  pub areas : (a : Area) → LeavesAlone before after a
+  pub history : new.history ≡ old.history
+
+-- an operation of an outcome is committed, or its commit fails
+pub record Commits (told : Type 0) (outcomes : Outcome → Type 0) (before after : DiskState) (old new : StoreValue)
+    (failed : Type 0) : Type 0 where
+  pub operation : Op
+  pub given : Outcome
+  pub is_one : outcomes given
+  pub adds : given.adds ≡ Some operation
+  pub leaves : told → IsAtRest before
+      → AlwaysLeavesBoth before after (OpensPast old.head (old.history ++ operation ∷ []) (length old.history))
+  pub gained : ¬ failed → new.history ≡ old.history ++ operation ∷ []
+
+abbrev pub ReadsOrCommits : Type 0 → (Outcome → Type 0) → DiskState → DiskState → StoreValue → StoreValue → Type 0
+    → Type 0
+ReadsOrCommits told outcomes before after old new failed =
+    OnlyReads before after old new ⊎ Commits told outcomes before after old new failed
+
+-- a change is acknowledged
+abbrev pub Acknowledges : Result Reply Stop → Type 0
+Acknowledges (Ok reply) = IsDone reply
+Acknowledges (Err stop) = ⊥
+
+-- a reply that no failed device call and no lack of memory makes
+pub record IsOwn (reply : Reply) : Type 0 where
+  pub phrase : HasPhrase reply.status
+  pub memory : reply.status ≡ 503 → reply ≡ no_memory
+  pub undisk : ¬ (reply ≡ disk_fault)
+
+-- such a reply that acknowledges no change
+pub record IsRefusal (reply : Reply) : Type 0 where
+  pub own : IsOwn reply
+  pub undone : ¬ IsDone reply
+
+-- the body of a request is read as a draft, or refused by a reply
+abbrev pub IsReadAs : RequestValue → Result DraftValue Reply → Type 0
+IsReadAs request (Ok draft) =
+    (is_entry_media request.media ≡ true) × IsDraft draft × Spells request.body draft
+IsReadAs request (Err reply) =
+    ((is_entry_media request.media ≡ false) × (reply ≡ line_reply 415 line.NotEntryType))
+    ⊎ ((is_entry_media request.media ≡ true)
+    × ((at : ℕ) × (reason : Why) × IsRefusedAt request.body at reason × (reply ≡ entry_refusal at reason)))
+
+-- the reply to a request of a member that isn't live
+abbrev pub absent_reply : State → Option Reply
+absent_reply member.Never = Some not_found
+absent_reply (member.Gone when) = Some gone
+absent_reply (member.Live updated version) = None

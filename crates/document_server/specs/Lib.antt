@@ -1,0 +1,6 @@
+pub mod Reply
+pub mod Answer
+pub mod Laws
+pub mod Door
+pub mod Session
+pub mod Serving

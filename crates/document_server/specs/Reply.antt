@@ -1,0 +1,272 @@
+-- The reply to a request on a store, and the operation that the store gains, row by row (RFC 5023, RFC 9110).
+use Rattle.std.specs.Prelude.{◌≡◌, ◌≢◌, ◌⊎◌, ℕ, List, ◌++◌, Option, Some, None, Ok, Err, Bool, true, false, not, ◌||◌}
+use Rattle.std.specs.Prelude.{◌==◌}
+use Rattle.std.specs.Prelude.{codes, decimal, drop, reverse, take_while}
+use Rattle.std.specs.List.{prefix_len}
+use Rattle.std.specs.Str.{str_eq_ignore_ascii_case}
+use Rattle.atom_values.specs.Ascii.{tab, lf, cr, space}
+use Rattle.atom_values.specs.Entry.{DraftValue, EntryValue, IsDraft}
+use Rattle.chain_links.specs.Address.{IsAddress, IsTarget, printed}
+use Rattle.chain_links.specs.declared.address.Address.{Address}
+use Rattle.chain_links.specs.declared.address.Address.TheVariants.{Feed, Archive, Member}
+use Rattle.atom_writer.specs.Members.{member_text}
+use Rattle.atom_writer.specs.Pieced.{text_of}
+use Rattle.atom_writer.specs.Pieces.{text}
+use Rattle.atom_writer.specs.declared.doc.FeedName.{FeedName}
+use Rattle.entry_reader.specs.Refusal.{IsRefusedAt}
+use Rattle.entry_reader.specs.Spells.{Spells}
+use Rattle.entry_reader.specs.declared.fault.Why.{Why}
+use Rattle.entry_reader.specs.declared.fault.Why.TheVariants as why
+use Rattle.feed_disk.specs.declared.area.Area.{Area}
+use Rattle.feed_disk.specs.declared.area.Area.TheVariants.{Journal, Sealed, Mirror}
+use Rattle.feed_recovery.specs.Documents.{IsSealed}
+use Rattle.feed_recovery.specs.Opening.{seal_of}
+use Rattle.feed_recovery.specs.Prepare.{Fits, IsDueSeal, IsFullArea, SealFits, decision_of}
+use Rattle.feed_recovery.specs.Store.{StoreValue}
+use Rattle.feed_recovery.specs.declared.fault.PrepareFault.{PrepareFault}
+use Rattle.feed_recovery.specs.declared.fault.PrepareFault.TheVariants as prepare
+use Rattle.http_face.specs.Request.{RequestValue}
+use Rattle.http_face.specs.declared.request.Verb.{Verb}
+use Rattle.http_face.specs.declared.request.Verb.TheVariants.{Get, Post, Put, Delete, Other}
+use Rattle.http_face.specs.declared.reply.Allow.{Allow}
+use Rattle.http_face.specs.declared.reply.Allow.TheVariants.{OfFeed, OfArchive, OfMember}
+use Rattle.http_face.specs.declared.reply.Body.TheVariants.{Made, Fixed}
+use Rattle.http_face.specs.declared.reply.Line7.{Line7}
+use Rattle.http_face.specs.declared.reply.Line7.TheVariants as line
+use Rattle.http_face.specs.declared.reply.Media.{Media}
+use Rattle.http_face.specs.declared.reply.Media.TheVariants as media
+use Rattle.http_face.specs.declared.reply.Reply.{Reply}
+use Rattle.member_rules.specs.Coding.{operations}
+use Rattle.member_rules.specs.Documents as documents
+use Rattle.member_rules.specs.Fold.{fold_of, state_of}
+use Rattle.member_rules.specs.declared.ask.Ask.{Ask}
+use Rattle.member_rules.specs.declared.ask.Ask.TheVariants as ask
+use Rattle.member_rules.specs.declared.fault.RuleFault.{RuleFault}
+use Rattle.member_rules.specs.declared.fault.RuleFault.TheVariants as rule
+use Rattle.member_rules.specs.declared.operation.Op.{Op}
+use Rattle.member_rules.specs.declared.operation.Op.TheVariants.{Add, Change, Remove}
+use Rattle.member_rules.specs.declared.state.State.{State}
+use Rattle.member_rules.specs.declared.state.State.TheVariants as member
+
+-- Replies
+
+abbrev pub line_reply : ℕ → Line7 → Reply
+line_reply status line =
+    record { status = status; media = media.Plain; location = None; allow = None; body = Fixed line }
+
+abbrev pub made_reply : ℕ → List ℕ → Reply
+made_reply status line =
+    record { status = status; media = media.Plain; location = None; allow = None; body = Made line }
+
+abbrev pub document_reply : Media → List ℕ → Reply
+document_reply kind document =
+    record { status = 200; media = kind; location = None; allow = None; body = Made document }
+
+abbrev pub not_allowed : Allow → Reply
+not_allowed allow =
+    record { status = 405; media = media.Plain; location = None; allow = Some allow; body = Fixed line.NotAllowed }
+
+abbrev pub not_found : Reply
+not_found = line_reply 404 line.NotFound
+
+abbrev pub gone : Reply
+gone = line_reply 410 line.Gone
+
+-- the replies that have another cause than the request and the store
+abbrev pub no_memory : Reply
+no_memory = line_reply 503 line.NoMemory
+
+abbrev pub disk_fault : Reply
+disk_fault = line_reply 500 line.Disk
+
+abbrev pub disk_changed : Reply
+disk_changed = line_reply 500 line.Changed
+
+-- an ask that the rules of the feed refuse
+abbrev pub rule_reply : RuleFault → Reply
+rule_reply (rule.NotFound number) = not_found
+rule_reply (rule.Deleted number when) = gone
+rule_reply (rule.OtherId number given) = line_reply 409 line.OtherId
+rule_reply (rule.ClockSpent last now) = line_reply 500 line.Clock
+rule_reply (rule.TooLarge length) = line_reply 413 line.EntryTooLarge
+rule_reply rule.NoMemory = no_memory
+
+abbrev pub area_word : Area → List ℕ
+area_word Journal = codes "journal"
+area_word Sealed = codes "sealed"
+area_word Mirror = codes "mirror"
+
+abbrev pub spaced : ℕ → List ℕ
+spaced number = codes " " ++ decimal number
+
+-- an operation for which an area has no room
+abbrev pub full_reply : Area → ℕ → ℕ → ℕ → Reply
+full_reply area size needed capacity =
+    made_reply 507 (codes "full " ++ area_word area ++ spaced size ++ spaced needed ++ spaced capacity ++ codes "\n")
+
+-- the reply to an ask that isn't prepared; out of memory has none here
+abbrev pub IsRefusedBy : PrepareFault → Reply → Type 0
+IsRefusedBy (prepare.Rule fault) reply = reply ≡ rule_reply fault
+IsRefusedBy (prepare.Full area size needed capacity) reply = reply ≡ full_reply area size needed capacity
+IsRefusedBy prepare.NoMemory reply = ⊥
+
+abbrev pub why_word : Why → List ℕ
+why_word why.NotUtf8 = codes "NotUtf8"
+why_word why.Doctype = codes "Doctype"
+why_word why.NotWellFormed = codes "NotWellFormed"
+why_word why.TooDeep = codes "TooDeep"
+why_word why.NotAnEntry = codes "NotAnEntry"
+why_word why.Xhtml = codes "Xhtml"
+why_word why.OutOfLine = codes "OutOfLine"
+why_word why.Draft = codes "Draft"
+why_word why.Missing = codes "Missing"
+why_word why.Twice = codes "Twice"
+why_word why.BadDate = codes "BadDate"
+why_word why.TooMany = codes "TooMany"
+
+-- a body that isn't read as an entry; a draft is refused by a status of its own (RFC 5023 section 13.1.1)
+abbrev pub entry_refusal : ℕ → Why → Reply
+entry_refusal at why.Draft = line_reply 403 line.Draft
+entry_refusal at why = made_reply 400 (codes "entry" ++ spaced at ++ codes " " ++ why_word why ++ codes "\n")
+
+-- a change that is made: the member document, and the address of a new member (RFC 5023 sections 9.2 to 9.4)
+abbrev pub done_reply : FeedName → Op → Reply
+done_reply name (Add entry) = record {
+  status = 201;
+  media = media.Entry;
+  location = Some (printed name.base (Member entry.number));
+  allow = None;
+  body = Made (member_text name entry);
+}
+done_reply name (Change entry) = document_reply media.Entry (member_text name entry)
+done_reply name (Remove removal) = line_reply 200 line.Deleted
+
+-- What a request becomes
+
+-- the reply, and the operation that the history gains, if it gains one
+pub record Outcome : Type 0 where
+  pub reply : Reply
+  pub adds : Option Op
+
+-- the store stays as it is
+abbrev pub unchanged : Reply → Outcome
+unchanged reply = record { reply = reply; adds = None }
+
+-- the change is made
+abbrev pub done : FeedName → Op → Outcome
+done name operation = record { reply = done_reply name operation; adds = Some operation }
+
+-- the operation fits into the journal, and the seal that is due and missing into the sealed area
+pub record HasRoomFor (store : StoreValue) (operation : Op) : Type 0 where
+  pub seal : (seal : Option (List ℕ)) → IsDueSeal store seal → SealFits store seal
+  pub journal : Fits store.journal (text_of operations operation) store.head.capacity
+
+-- an operation that the rules accept is made, or an area is full
+abbrev pub IsAccepted : StoreValue → Op → Outcome → Type 0
+IsAccepted store operation given =
+    ((area : Area) × (size : ℕ) × (needed : ℕ) × (capacity : ℕ)
+    × IsFullArea store operation area size needed capacity
+    × (given ≡ unchanged (full_reply area size needed capacity)))
+    ⊎ (HasRoomFor store operation × (given ≡ done store.head.name operation))
+
+-- the rules of the feed refuse an ask, or accept it as an operation
+abbrev pub IsAsked : StoreValue → Ask → ℕ → Outcome → Type 0
+IsAsked store ask now given =
+    ((fault : RuleFault) × (decision_of store ask now ≡ Err fault) × (given ≡ unchanged (rule_reply fault)))
+    ⊎ ((operation : Op) × (decision_of store ask now ≡ Ok operation) × IsAccepted store operation given)
+
+-- the byte before the first parameter of a media type
+abbrev pub semicolon : ℕ
+semicolon = 59
+
+-- the white space that may be around a media type
+abbrev pub is_space : ℕ → Bool
+is_space b = (b == tab) || (b == lf) || (b == cr) || (b == space)
+
+-- the text without white space at its beginning
+abbrev pub without_leading : List ℕ → List ℕ
+without_leading text = drop (prefix_len is_space text) text
+
+-- the text without white space at both ends
+abbrev pub trimmed : List ℕ → List ℕ
+trimmed text = reverse (without_leading (reverse (without_leading text)))
+
+-- A media type without its parameters is that of Atom. Case and white space around it don't count (RFC 9110 section
+-- 8.3.1).
+abbrev pub is_atom_type : List ℕ → Bool
+is_atom_type value =
+    str_eq_ignore_ascii_case (trimmed (take_while (λ b. not (b == semicolon)) value)) (codes "application/atom+xml")
+
+-- a body without a media type is taken as an entry
+abbrev pub is_entry_media : Option (List ℕ) → Bool
+is_entry_media None = true
+is_entry_media (Some value) = is_atom_type value
+
+-- the body is read as a draft, which is asked for, or refused
+abbrev pub IsRead : StoreValue → List ℕ → (DraftValue → Ask) → ℕ → Outcome → Type 0
+IsRead store body asked now given =
+    ((at : ℕ) × (reason : Why) × IsRefusedAt body at reason × (given ≡ unchanged (entry_refusal at reason)))
+    ⊎ ((draft : DraftValue) × IsDraft draft × Spells body draft × IsAsked store (asked draft) now given)
+
+-- a request with an entry in its body
+abbrev pub IsSent : StoreValue → RequestValue → (DraftValue → Ask) → ℕ → Outcome → Type 0
+IsSent store request asked now given =
+    ((is_entry_media request.media ≡ false) × (given ≡ unchanged (line_reply 415 line.NotEntryType)))
+    ⊎ ((is_entry_media request.media ≡ true) × IsRead store request.body asked now given)
+
+-- a request of a member, by its state
+abbrev pub IsOfState : State → (Outcome → Type 0) → Outcome → Type 0
+IsOfState member.Never live given = given ≡ unchanged not_found
+IsOfState (member.Gone when) live given = given ≡ unchanged gone
+IsOfState (member.Live updated version) live given = live given
+
+-- the subscription document
+abbrev pub IsFeedShown : StoreValue → Outcome → Type 0
+IsFeedShown store given =
+    given ≡ unchanged (document_reply media.Feed (text (documents.subscription store.head store.history)))
+
+abbrev pub IsOfFeed : StoreValue → RequestValue → ℕ → Verb → Outcome → Type 0
+IsOfFeed store request now Get given = IsFeedShown store given
+IsOfFeed store request now Post given = IsSent store request (λ draft. ask.Create draft) now given
+IsOfFeed store request now _ given = given ≡ unchanged (not_allowed OfFeed)
+
+abbrev pub IsOfArchive : StoreValue → ℕ → Verb → Outcome → Type 0
+IsOfArchive store number Get given =
+    (IsSealed store number × (given ≡ unchanged (document_reply media.Feed (seal_of store.head store.history number))))
+    ⊎ ((¬ IsSealed store number) × (given ≡ unchanged not_found))
+IsOfArchive store number _ given = given ≡ unchanged (not_allowed OfArchive)
+
+-- the member document of the entry that a live member has
+abbrev pub IsMemberShown : StoreValue → ℕ → Outcome → Type 0
+IsMemberShown store number given =
+    (entry : EntryValue) × ((fold_of store.history).live number ≡ Some entry)
+    × (given ≡ unchanged (document_reply media.Entry (member_text store.head.name entry)))
+
+abbrev pub IsOfMember : StoreValue → RequestValue → ℕ → ℕ → Verb → Outcome → Type 0
+IsOfMember store request now number Get given =
+    IsOfState (state_of store.history number) (IsMemberShown store number) given
+IsOfMember store request now number Put given =
+    IsOfState (state_of store.history number)
+    (IsSent store request (λ draft. ask.Replace number draft) now) given
+IsOfMember store request now number Delete given =
+    IsOfState (state_of store.history number) (IsAsked store (ask.Delete number) now) given
+IsOfMember store request now number _ given = given ≡ unchanged (not_allowed OfMember)
+
+abbrev pub IsAtAddress : StoreValue → RequestValue → ℕ → Address → Outcome → Type 0
+IsAtAddress store request now Feed given = IsOfFeed store request now request.verb given
+IsAtAddress store request now (Archive number) given = IsOfArchive store number request.verb given
+IsAtAddress store request now (Member number) given = IsOfMember store request now number request.verb given
+
+-- the target is no address of the feed, or a document's
+abbrev pub IsOfTarget : StoreValue → RequestValue → ℕ → Outcome → Type 0
+IsOfTarget store request now given =
+    (((address : Address) → IsAddress address → ¬ IsTarget store.head.name.base address request.target)
+    × (given ≡ unchanged not_found))
+    ⊎ ((address : Address) × IsAddress address × IsTarget store.head.name.base address request.target
+    × IsAtAddress store request now address given)
+
+-- what a request on a store becomes at a moment of the clock, memory and disk permitting
+abbrev pub IsOutcome : StoreValue → RequestValue → ℕ → Outcome → Type 0
+IsOutcome store request now given =
+    ((request.verb ≡ Other) × (given ≡ unchanged (line_reply 501 line.NotImplemented)))
+    ⊎ ((request.verb ≢ Other) × IsOfTarget store request now given)

@@ -1,0 +1,166 @@
+-- A session: connections that are served one after the other on one store.
+use Rattle.std.specs.Prelude.{◌≡◌, ◌≢◌, ◌⊎◌, ℕ, ◌+◌, ◌≤◌, List, [], ◌∷◌, ◌++◌, length, take, Option, Some, None}
+use Rattle.std.specs.Prelude.{true, false}
+use Rattle.atom_values.specs.Counts.{Rose}
+use Rattle.chain_links.specs.Address.{IsTarget, printed}
+use Rattle.chain_links.specs.declared.address.Address.{Address}
+use Rattle.document_server.specs.Answer.{Gains, MayAdd}
+use Rattle.document_server.specs.Reply.{IsOutcome, Outcome, disk_fault, line_reply, no_memory}
+use Rattle.document_server.specs.declared.line.Line.{Line}
+use Rattle.feed_disk.specs.declared.area.Area.{Area}
+use Rattle.feed_recovery.specs.Store.{StoreValue}
+use Rattle.feed_recovery.specs.Stored.{IsSized, OpensTo, stored_of}
+use Rattle.http_face.specs.Conn.{ConnState}
+use Rattle.http_face.specs.Heard.{IsHeard, IsMisheard}
+use Rattle.http_face.specs.Reply.{body_text, reply_bytes}
+use Rattle.http_face.specs.Request.{IsRequest, RequestValue}
+use Rattle.http_face.specs.declared.fault.RequestFault.{RequestFault}
+use Rattle.http_face.specs.declared.fault.RequestFault.TheVariants as fault
+use Rattle.http_face.specs.declared.reply.Line7.TheVariants as line
+use Rattle.http_face.specs.declared.reply.Media.TheVariants as media
+use Rattle.http_face.specs.declared.reply.Reply.{Reply}
+use Rattle.member_rules.specs.Head.{HeadValue}
+use Rattle.member_rules.specs.Served.{Served}
+use Rattle.member_rules.specs.declared.operation.Op.{Op}
+
+-- The reply to bytes that are no request (RFC 9110 section 15.5, RFC 6585 section 5). A failed connection gets none.
+abbrev pub fault_reply : RequestFault → Option Reply
+fault_reply fault.ConnFault = None
+fault_reply fault.BadHead = Some (line_reply 400 line.BadHead)
+fault_reply fault.HeadTooLarge = Some (line_reply 431 line.HeadTooLarge)
+fault_reply (fault.EndedEarly read) = Some (line_reply 400 line.EndedEarly)
+fault_reply fault.NoLength = Some (line_reply 411 line.NoLength)
+fault_reply fault.TwoLengths = Some (line_reply 400 line.TwoLengths)
+fault_reply (fault.BodyTooLarge length) = Some (line_reply 413 line.BodyTooLarge)
+fault_reply fault.NoMemory = Some no_memory
+
+-- a connection that was served: as the door gave it, as it was given back, the reply that was begun on it, if one was,
+-- and its line
+pub record Exchange : Type 0 where
+  pub given : ConnState
+  pub back : ConnState
+  pub reply : Option Reply
+  pub line : Line
+
+-- what a connection makes of the rest: the operation that the history gains, if it gains one, and the number of moments
+-- that were taken of the clock
+pub record Turn : Type 0 where
+  pub adds : Option Op
+  pub moments : ℕ
+
+-- no request was read
+abbrev pub unheard : Turn
+unheard = record { adds = None; moments = 0 }
+
+-- the connection failed before its request was read
+pub record IsLost (exchange : Exchange) (turn : Turn) : Type 0 where
+  pub cause : Rose exchange.given.faults exchange.back.faults
+  pub reply : exchange.reply ≡ None
+  pub is : turn ≡ unheard
+
+-- the bytes of the connection are no request
+pub record IsRefused (exchange : Exchange) (turn : Turn) : Type 0 where
+  pub fault : RequestFault
+  pub misheard : IsMisheard exchange.given.left fault
+  pub reply : exchange.reply ≡ fault_reply fault
+  pub is : turn ≡ unheard
+
+-- the bytes begin with a request, which has an outcome on the store at this moment of the clock
+pub record IsAnswered (store : StoreValue) (now : ℕ) (exchange : Exchange) (turn : Turn) : Type 0 where
+  pub request : RequestValue
+  pub rules : IsRequest request
+  pub heard : IsHeard exchange.given.left request
+  pub outcome : Outcome
+  pub is_outcome : IsOutcome store request now outcome
+  pub reply : exchange.reply ≡ Some outcome.reply
+  pub is : turn ≡ record { adds = outcome.adds; moments = 1 }
+
+-- memory ran out, while the request was read or behind it
+pub record IsForgotten (exchange : Exchange) (turn : Turn) : Type 0 where
+  pub reply : exchange.reply ≡ Some no_memory
+  pub is : (turn ≡ unheard)
+      ⊎ ((request : RequestValue) × IsHeard exchange.given.left request × (turn ≡ record { adds = None; moments = 1 }))
+
+-- what a connection comes to
+abbrev pub IsTurn : StoreValue → ℕ → Exchange → Turn → Type 0
+IsTurn store now exchange turn =
+    IsLost exchange turn ⊎ IsRefused exchange turn ⊎ IsAnswered store now exchange turn ⊎ IsForgotten exchange turn
+
+abbrev pub status_of : Option Reply → ℕ
+status_of None = 0
+status_of (Some reply) = reply.status
+
+abbrev pub bytes_of : Option Reply → List ℕ
+bytes_of None = []
+bytes_of (Some reply) = reply_bytes reply
+
+-- The line has the status of the reply. The bytes of the reply were sent, or a front of them if a call of the connection
+-- failed.
+pub record IsSent (exchange : Exchange) : Type 0 where
+  pub status : exchange.line.status ≡ status_of exchange.reply
+  pub front : List ℕ
+  pub rest : List ℕ
+  pub split : bytes_of exchange.reply ≡ front ++ rest
+  pub sent : exchange.back.sent ≡ exchange.given.sent ++ front
+  pub whole : exchange.line.whole ≡ true → rest ≡ []
+  pub cut : exchange.line.whole ≡ false → Rose exchange.given.faults exchange.back.faults
+
+-- a connection is served on a store, which becomes the next
+pub record IsServed (store : StoreValue) (now : ℕ) (exchange : Exchange) (turn : Turn) (next : StoreValue)
+    : Type 0 where
+  pub sized : IsSized store
+  pub is_turn : IsTurn store now exchange turn
+  pub head : next.head ≡ store.head
+  pub gains : Gains store next turn.adds
+  pub sent : IsSent exchange
+  pub version : exchange.line.version ≡ length next.history
+
+-- Connections are served one after the other from a store on, each at the next moment of the clock if its request was
+-- read. Behind them the last store and the coming moments satisfy `ends`.
+abbrev pub IsSession : (StoreValue → (ℕ → ℕ) → Type 0) → StoreValue → (ℕ → ℕ) → List Exchange → Type 0
+IsSession ends store moments [] = ends store moments
+IsSession ends store moments (exchange ∷ later) =
+    (turn : Turn) × (next : StoreValue) × IsServed store (moments 0) exchange turn next
+    × IsSession ends next (λ k. moments (turn.moments + k)) later
+
+-- The disk failed behind the request of a connection, which ends the session. The history has the operations of the
+-- store, and the one that the request may have added.
+pub record IsBrokenOff (store : StoreValue) (now : ℕ) (exchange : Exchange) (history : List Op) : Type 0 where
+  pub sized : IsSized store
+  pub request : RequestValue
+  pub rules : IsRequest request
+  pub heard : IsHeard exchange.given.left request
+  pub pending : List Op
+  pub may : MayAdd (IsOutcome store request now) pending
+  pub history_is : history ≡ store.history ++ pending
+  pub reply : exchange.reply ≡ Some disk_fault
+  pub sent : IsSent exchange
+  pub version : exchange.line.version ≡ length store.history
+
+-- how a session ends: all connections were served, and the content opens to the last store, or one was broken off
+abbrev pub Ends : Type 0 → (Area → List ℕ) → List Exchange → List Op → StoreValue → (ℕ → ℕ) → Type 0
+Ends failed content [] history last moments =
+    (history ≡ last.history) × (¬ failed → OpensTo content (stored_of last))
+Ends failed content (exchange ∷ []) history last moments =
+    failed × IsBrokenOff last (moments 0) exchange history
+Ends failed content (exchange ∷ other ∷ more) history last moments = ⊥
+
+-- If a reply was begun, it was begun when the disk had made the line's device calls, counted from `start`.
+pub record IsMarked (start : ℕ) (exchange : Exchange) : Type 0 where
+  pub begun : exchange.line.status ≢ 0 → exchange.back.begun ≡ Some (start + exchange.line.calls)
+  pub unbegun : exchange.line.status ≡ 0 → exchange.back.begun ≡ None
+
+-- the feed document of a reply is what the feed serves at the address that the request names
+pub record IsServedDocument (head : HeadValue) (history : List Op) (exchange : Exchange) (reply : Reply) : Type 0 where
+  pub request : RequestValue
+  pub heard : IsHeard exchange.given.left request
+  pub address : Address
+  pub named : IsTarget head.name.base address request.target
+  pub served : Served head history (printed head.name.base address) (body_text reply.body)
+
+-- A feed document in a reply is served by the history of its line, and by each that has more of the operations.
+abbrev pub SendsServed : HeadValue → List Op → Exchange → Type 0
+SendsServed head history exchange =
+    (reply : Reply) → exchange.reply ≡ Some reply → reply.media ≡ media.Feed
+    → (version : ℕ) → exchange.line.version ≤ version → version ≤ length history
+    → IsServedDocument head (take version history) exchange reply

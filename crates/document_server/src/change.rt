@@ -1,0 +1,185 @@
+ghost use Rattle.std.specs.Prelude.{◌≡◌, false, Err, IfErr, IfOk, IfSome};
+ghost use Rattle.document_server.specs.Answer.{Acknowledges, ComesTo, Grows, IsOwn, IsReadAs, IsRefusal};
+ghost use Rattle.document_server.specs.Answer.{ReadsOrCommits, Steps, absent_reply};
+ghost use Rattle.document_server.specs.Reply.{IsAsked, IsOfState, IsSent, done};
+ghost use Rattle.feed_recovery.specs.Prepare.{HasRoom, MayCommit};
+ghost use Rattle.feed_recovery.specs.Store.{StandsFor, is_spent};
+ghost use Rattle.member_rules.specs.Fold.{state_of};
+ghost use Rattle.member_rules.specs.declared.ask.Ask.TheVariants.{Create, Replace, Delete};
+
+use crate::media::is_entry_media;
+use crate::replies::{line, made_change, refused, refused_entry};
+use crate::stop::Stop;
+use atom_values::{Draft, NoMemory};
+use entry_reader::{EntryFault, read_entry};
+use feed_disk::Disk;
+use feed_recovery::{Ready, Store};
+use http_face::{Line7, Reply, Request};
+use member_rules::{Ask, State, windows_seal_in_turn};
+use std::alloc::Global;
+
+/// What a part of a request is: a value, or the reply that refuses it.
+type Read<T> = Result<T, Reply>;
+
+/// The draft in the body of a request, or the reply that refuses the body.
+fn draft_of(alloc: Global, request: &Request) -> Result<Read<Draft>, NoMemory>
+    ensures read { IfOk result (IsReadAs request.now) }
+    ensures refusal { IfOk result (λ read. IfErr read IsRefusal) }
+{
+    if !is_entry_media(&request.media) {
+        return Ok(Err(line(415, Line7::NotEntryType)));
+    }
+    match read_entry(alloc, request.body.slice()) {
+        Ok(draft) => Ok(Ok(draft)),
+        Err(EntryFault::NotRead { at, why }) => Ok(Err(refused_entry(alloc, at, why)?)),
+        Err(EntryFault::NoMemory) => Err(NoMemory),
+    }
+}
+
+/// The reply to a request of a member that isn't live.
+fn absent(state: State) -> Option<Reply>
+    ensures reply { result ≡ absent_reply state }
+    ensures refusal { IfSome result IsRefusal }
+{
+    match state {
+        State::Never => Some(line(404, Line7::NotFound)),
+        State::Gone { .. } => Some(line(410, Line7::Gone)),
+        State::Live { .. } => None,
+    }
+}
+
+/// Makes a member (RFC 5023 section 9.2).
+pub(crate) fn create<D: Disk>(
+    alloc: Global,
+    store: &mut Store,
+    disk: &mut D,
+    request: &Request,
+    now: u64,
+) -> Result<Reply, Stop>
+    requires unspent { is_spent store.old ≡ false }
+    requires stands { D.told → StandsFor (D.state disk.old) store.old }
+    ensures answered { D.told → ComesTo
+        (IsSent store.old request.now (λ draft. Create draft) now) store.old store.new result }
+    ensures own { IfOk result IsOwn }
+    ensures steps { Steps D.told (D.state disk.old) (D.state disk.new) store.old store.new (result ≡ Err Stop.Disk) }
+    ensures leaves { ReadsOrCommits D.told
+        (IsSent store.old request.now (λ draft. Create draft) now)
+        (D.state disk.old) (D.state disk.new) store.old store.new (result ≡ Err Stop.Disk) }
+    ensures grows { Acknowledges result → Grows (D.state disk.old) (D.state disk.new) store.old store.new }
+    ensures same { ¬ Acknowledges result → store.new.history ≡ store.old.history }
+{
+    match draft_of(alloc, request)? {
+        Ok(draft) => change(alloc, store, disk, Ask::Create(draft), now),
+        Err(reply) => Ok(reply),
+    }
+}
+
+/// Replaces the entry of a member (RFC 5023 section 9.3).
+pub(crate) fn replace<D: Disk>(
+    alloc: Global,
+    store: &mut Store,
+    disk: &mut D,
+    number: u32,
+    request: &Request,
+    now: u64,
+) -> Result<Reply, Stop>
+    requires unspent { is_spent store.old ≡ false }
+    requires stands { D.told → StandsFor (D.state disk.old) store.old }
+    ensures answered { D.told → ComesTo
+        (IsOfState (state_of store.old.history number)
+        (IsSent store.old request.now (λ draft. Replace number draft) now)) store.old store.new result }
+    ensures own { IfOk result IsOwn }
+    ensures steps { Steps D.told (D.state disk.old) (D.state disk.new) store.old store.new (result ≡ Err Stop.Disk) }
+    ensures leaves { ReadsOrCommits D.told
+        (IsOfState (state_of store.old.history number)
+        (IsSent store.old request.now (λ draft. Replace number draft) now))
+        (D.state disk.old) (D.state disk.new) store.old store.new (result ≡ Err Stop.Disk) }
+    ensures grows { Acknowledges result → Grows (D.state disk.old) (D.state disk.new) store.old store.new }
+    ensures same { ¬ Acknowledges result → store.new.history ≡ store.old.history }
+{
+    if let Some(reply) = absent(store.state(number)) {
+        return Ok(reply);
+    }
+    match draft_of(alloc, request)? {
+        Ok(draft) => change(alloc, store, disk, Ask::Replace { number, draft }, now),
+        Err(reply) => Ok(reply),
+    }
+}
+
+/// Deletes a member (RFC 5023 section 9.4).
+pub(crate) fn delete<D: Disk>(
+    alloc: Global,
+    store: &mut Store,
+    disk: &mut D,
+    number: u32,
+    now: u64,
+) -> Result<Reply, Stop>
+    requires unspent { is_spent store.old ≡ false }
+    requires stands { D.told → StandsFor (D.state disk.old) store.old }
+    ensures answered { D.told → ComesTo
+        (IsOfState (state_of store.old.history number) (IsAsked store.old (Delete number) now))
+        store.old store.new result }
+    ensures own { IfOk result IsOwn }
+    ensures steps { Steps D.told (D.state disk.old) (D.state disk.new) store.old store.new (result ≡ Err Stop.Disk) }
+    ensures leaves { ReadsOrCommits D.told
+        (IsOfState (state_of store.old.history number) (IsAsked store.old (Delete number) now))
+        (D.state disk.old) (D.state disk.new) store.old store.new (result ≡ Err Stop.Disk) }
+    ensures grows { Acknowledges result → Grows (D.state disk.old) (D.state disk.new) store.old store.new }
+    ensures same { ¬ Acknowledges result → store.new.history ≡ store.old.history }
+{
+    match absent(store.state(number)) {
+        Some(reply) => Ok(reply),
+        None => change(alloc, store, disk, Ask::Delete { number }, now),
+    }
+}
+
+/// Decides what the ask becomes, and commits it if it is accepted.
+fn change<D: Disk>(
+    alloc: Global,
+    store: &mut Store,
+    disk: &mut D,
+    ask: Ask,
+    now: u64,
+) -> Result<Reply, Stop>
+    requires unspent { is_spent store.old ≡ false }
+    requires stands { D.told → StandsFor (D.state disk.old) store.old }
+    ensures answered { D.told → ComesTo (IsAsked store.old ask now) store.old store.new result }
+    ensures own { IfOk result IsOwn }
+    ensures steps { Steps D.told (D.state disk.old) (D.state disk.new) store.old store.new (result ≡ Err Stop.Disk) }
+    ensures leaves { ReadsOrCommits D.told (IsAsked store.old ask now)
+        (D.state disk.old) (D.state disk.new) store.old store.new (result ≡ Err Stop.Disk) }
+    ensures grows { Acknowledges result → Grows (D.state disk.old) (D.state disk.new) store.old store.new }
+    ensures same { ¬ Acknowledges result → store.new.history ≡ store.old.history }
+{
+    match store.prepare(ask, now) {
+        Ok(ready) => commit(alloc, store, disk, ready),
+        Err(fault) => Ok(refused(alloc, fault)?),
+    }
+}
+
+/// Commits an operation. The memory of the reply is taken before, so a change that is committed is acknowledged.
+fn commit<D: Disk>(
+    alloc: Global,
+    store: &mut Store,
+    disk: &mut D,
+    ready: Ready,
+) -> Result<Reply, Stop>
+    requires unspent { is_spent store.old ≡ false }
+    requires prepared { MayCommit store.old ready }
+    requires room { HasRoom store.old }
+    requires stands { D.told → StandsFor (D.state disk.old) store.old }
+    ensures answered { D.told → ComesTo (λ given. given ≡ done store.old.head.name ready.operation)
+        store.old store.new result }
+    ensures own { IfOk result IsOwn }
+    ensures steps { Steps D.told (D.state disk.old) (D.state disk.new) store.old store.new (result ≡ Err Stop.Disk) }
+    ensures leaves { ReadsOrCommits D.told (λ given. given ≡ done store.old.head.name ready.operation)
+        (D.state disk.old) (D.state disk.new) store.old store.new (result ≡ Err Stop.Disk) }
+    ensures grows { Acknowledges result → Grows (D.state disk.old) (D.state disk.new) store.old store.new }
+    ensures same { ¬ Acknowledges result → store.new.history ≡ store.old.history }
+{
+    // A law, which does nothing.
+    windows_seal_in_turn();
+    let reply = made_change(alloc, &store.head().name, ready.op())?;
+    store.commit(disk, ready)?;
+    Ok(reply)
+}

@@ -1,0 +1,193 @@
+ghost use Rattle.std.specs.Prelude.{◌≡◌, ◌≢◌, ◌⊎◌, ◌≤◌, false, true, length, Err, IfOk};
+ghost use Rattle.atom_values.specs.Counts.{Rose};
+ghost use Rattle.document_server.specs.Answer.{Acknowledges, ComesTo, Grows, IsAnswer, IsDone, IsOwn, LeavesAnswered};
+ghost use Rattle.document_server.specs.Answer.{OnlyReads, ReadsOrCommits, Steps};
+ghost use Rattle.document_server.specs.Reply.{IsOfArchive, IsOfFeed, IsOfMember, IsOutcome, disk_fault, no_memory};
+ghost use Rattle.feed_disk.specs.Moments.{LeavesAlone};
+ghost use Rattle.feed_disk.specs.declared.area.Area.TheVariants.{Mirror};
+ghost use Rattle.feed_journal.specs.Log.{MakesSome};
+ghost use Rattle.feed_recovery.specs.Settled.{IsAtRest, Settled};
+ghost use Rattle.feed_recovery.specs.Store.{StandsFor, call_count, is_spent};
+ghost use Rattle.http_face.specs.Reply.{HasPhrase};
+ghost use Rattle.http_face.specs.declared.request.Verb.TheVariants.{Get};
+
+use crate::change::{create, delete, replace};
+use crate::document::{show_archive, show_feed, show_member};
+use crate::replies::{line, refused_method};
+use crate::stop::Stop;
+use chain_links::Address;
+use feed_disk::Disk;
+use feed_journal::begun_images_are_whole;
+use feed_recovery::Store;
+use http_face::{Allow, Line7, Reply, Request, Verb};
+use std::alloc::Global;
+
+/// Answers a request on a store, with the clock at `now` milliseconds since 1970. docs/FORMATS.md has the table of
+/// replies; the first row that fits gives the reply.
+///
+/// - 201 or 200 to POST, PUT or DELETE: the change is committed, and no crash loses it.
+/// - 500 `disk`: the disk's count of faults rose, and the store is spent.
+/// - 500 `changed`: the disk gave something else than what the store has on it. Never on a disk whose content contracts
+///   see.
+/// - 503 `no memory`: memory ran out before a commit, and the store is as it was.
+///
+/// Cost: a GET of the feed makes no device call, and one of an archive or a member makes one. A change makes four, and
+/// four more where it seals an archive.
+pub fn answer<D: Disk>(
+    alloc: Global,
+    store: &mut Store,
+    disk: &mut D,
+    request: &Request,
+    now: u64,
+) -> Reply
+    requires unspent { is_spent store.old ≡ false }
+    requires stands { D.told → StandsFor (D.state disk.old) store.old }
+    // The reply is that of the table, and the store gains the operation that the reply acknowledges and its seal; or
+    // memory ran out, or the disk failed.
+    ensures answered { D.told → IsAnswer (IsOutcome store.old request.now now) store.old store.new result
+        (Rose (D.state disk.old).faults (D.state disk.new).faults) }
+    ensures memory { result.status ≡ 503 → result ≡ no_memory }
+    // The status line of the reply has a phrase.
+    ensures status { HasPhrase result.status }
+
+    ensures head { store.new.head ≡ store.old.head }
+    ensures failed { result ≡ disk_fault → Rose (D.state disk.old).faults (D.state disk.new).faults }
+    ensures unfailed { result ≢ disk_fault → (D.state disk.new).faults ≡ (D.state disk.old).faults }
+    ensures later { (D.state disk.old).faults ≤ (D.state disk.new).faults }
+    ensures spent { result ≡ disk_fault → is_spent store.new ≡ true }
+    ensures unspent { result ≢ disk_fault → is_spent store.new ≡ false }
+    ensures only { is_spent store.new ≡ true → result ≡ disk_fault }
+    ensures stands { result ≢ disk_fault → D.told → StandsFor (D.state disk.new) store.new }
+
+    // A crash leaves the history before or with the operation that was accepted. After a reply it leaves the store's.
+    ensures leaves { D.told → LeavesAnswered (IsOutcome store.old request.now now)
+        (D.state disk.old) (D.state disk.new) store.old store.new (result ≡ disk_fault) }
+    ensures settled { result ≢ disk_fault → D.told → IsAtRest (D.state disk.old)
+        → Settled (D.state disk.new) store.new.head store.new.history (length store.new.history) }
+    ensures rests { result ≢ disk_fault → D.told → IsAtRest (D.state disk.old) → IsAtRest (D.state disk.new) }
+    ensures mirror { LeavesAlone (D.state disk.old) (D.state disk.new) Mirror }
+
+    ensures calls { MakesSome (D.state disk.old) (D.state disk.new) (call_count store.old) (call_count store.new) }
+    // The history grows where the reply acknowledges a change, and only there.
+    ensures grows { request.now.verb ≢ Get → IsDone result
+        → Grows (D.state disk.old) (D.state disk.new) store.old store.new }
+    ensures same { (request.now.verb ≡ Get) ⊎ (¬ IsDone result) → store.new.history ≡ store.old.history }
+{
+    // A law, which does nothing.
+    begun_images_are_whole();
+    match reply_of(alloc, store, disk, request, now) {
+        Ok(reply) => reply,
+        Err(Stop::Disk) => line(500, Line7::Disk),
+        Err(Stop::Changed) => line(500, Line7::Changed),
+        Err(Stop::NoMemory) => line(503, Line7::NoMemory),
+    }
+}
+
+/// The reply to a request, unless the disk or the memory fails.
+fn reply_of<D: Disk>(
+    alloc: Global,
+    store: &mut Store,
+    disk: &mut D,
+    request: &Request,
+    now: u64,
+) -> Result<Reply, Stop>
+    requires unspent { is_spent store.old ≡ false }
+    requires stands { D.told → StandsFor (D.state disk.old) store.old }
+    ensures answered { D.told → ComesTo (IsOutcome store.old request.now now) store.old store.new result }
+    ensures own { IfOk result IsOwn }
+    ensures steps { Steps D.told (D.state disk.old) (D.state disk.new) store.old store.new (result ≡ Err Stop.Disk) }
+    ensures leaves { ReadsOrCommits D.told (IsOutcome store.old request.now now) (D.state disk.old) (D.state disk.new)
+        store.old store.new (result ≡ Err Stop.Disk) }
+    ensures grows { request.now.verb ≢ Get → Acknowledges result
+        → Grows (D.state disk.old) (D.state disk.new) store.old store.new }
+    ensures same { (request.now.verb ≡ Get) ⊎ (¬ Acknowledges result) → store.new.history ≡ store.old.history }
+{
+    if let Verb::Other = request.verb {
+        return Ok(line(501, Line7::NotImplemented));
+    }
+    let Some(address) = store.head().name.base.read_target(request.target.slice()) else {
+        return Ok(line(404, Line7::NotFound));
+    };
+    match address {
+        Address::Feed => of_feed(alloc, store, disk, request, now),
+        Address::Archive(number) => of_archive(store, disk, number, request.verb),
+        Address::Member(number) => of_member(alloc, store, disk, number, request, now),
+    }
+}
+
+/// The reply to a request of the feed.
+fn of_feed<D: Disk>(
+    alloc: Global,
+    store: &mut Store,
+    disk: &mut D,
+    request: &Request,
+    now: u64,
+) -> Result<Reply, Stop>
+    requires unspent { is_spent store.old ≡ false }
+    requires stands { D.told → StandsFor (D.state disk.old) store.old }
+    ensures answered { D.told → ComesTo (IsOfFeed store.old request.now now request.now.verb)
+        store.old store.new result }
+    ensures own { IfOk result IsOwn }
+    ensures steps { Steps D.told (D.state disk.old) (D.state disk.new) store.old store.new (result ≡ Err Stop.Disk) }
+    ensures leaves { ReadsOrCommits D.told (IsOfFeed store.old request.now now request.now.verb)
+        (D.state disk.old) (D.state disk.new) store.old store.new (result ≡ Err Stop.Disk) }
+    ensures grows { request.now.verb ≢ Get → Acknowledges result
+        → Grows (D.state disk.old) (D.state disk.new) store.old store.new }
+    ensures same { (request.now.verb ≡ Get) ⊎ (¬ Acknowledges result) → store.new.history ≡ store.old.history }
+{
+    match request.verb {
+        Verb::Get => show_feed(store),
+        Verb::Post => create(alloc, store, disk, request, now),
+        _ => Ok(refused_method(Allow::OfFeed)),
+    }
+}
+
+/// The reply to a request of an archive.
+fn of_archive<D: Disk>(
+    store: &mut Store,
+    disk: &mut D,
+    number: u32,
+    verb: Verb,
+) -> Result<Reply, Stop>
+    requires unspent { is_spent store.old ≡ false }
+    requires stands { D.told → StandsFor (D.state disk.old) store.old }
+    ensures answered { D.told → ComesTo (IsOfArchive store.old number verb) store.old store.new result }
+    ensures own { IfOk result IsOwn }
+    ensures steps { Steps D.told (D.state disk.old) (D.state disk.new) store.old store.new (result ≡ Err Stop.Disk) }
+    ensures reads { OnlyReads (D.state disk.old) (D.state disk.new) store.old store.new }
+    ensures undone { verb ≢ Get → ¬ Acknowledges result }
+{
+    match verb {
+        Verb::Get => show_archive(store, disk, number),
+        _ => Ok(refused_method(Allow::OfArchive)),
+    }
+}
+
+/// The reply to a request of a member.
+fn of_member<D: Disk>(
+    alloc: Global,
+    store: &mut Store,
+    disk: &mut D,
+    number: u32,
+    request: &Request,
+    now: u64,
+) -> Result<Reply, Stop>
+    requires unspent { is_spent store.old ≡ false }
+    requires stands { D.told → StandsFor (D.state disk.old) store.old }
+    ensures answered { D.told → ComesTo (IsOfMember store.old request.now now number request.now.verb)
+        store.old store.new result }
+    ensures own { IfOk result IsOwn }
+    ensures steps { Steps D.told (D.state disk.old) (D.state disk.new) store.old store.new (result ≡ Err Stop.Disk) }
+    ensures leaves { ReadsOrCommits D.told (IsOfMember store.old request.now now number request.now.verb)
+        (D.state disk.old) (D.state disk.new) store.old store.new (result ≡ Err Stop.Disk) }
+    ensures grows { request.now.verb ≢ Get → Acknowledges result
+        → Grows (D.state disk.old) (D.state disk.new) store.old store.new }
+    ensures same { (request.now.verb ≡ Get) ⊎ (¬ Acknowledges result) → store.new.history ≡ store.old.history }
+{
+    match request.verb {
+        Verb::Get => show_member(store, disk, number),
+        Verb::Put => replace(alloc, store, disk, number, request, now),
+        Verb::Delete => delete(alloc, store, disk, number, now),
+        _ => Ok(refused_method(Allow::OfMember)),
+    }
+}

@@ -1,0 +1,356 @@
+ghost use Rattle.std.specs.Prelude.{◌≡◌, ◌≢◌, ◌⊎◌, ◌+◌, ◌<◌, ◌≤◌, ◌++◌, ℕ, List, [], ◌∷◌, length, true, false, None, Some};
+ghost use Rattle.std.specs.Prelude.{Ok, Err, IfErr, IfSome, IsSome, OnOk};
+ghost use Rattle.atom_values.specs.Counts.{Rose, counter_limit};
+ghost use Rattle.document_server.specs.Answer.{Grows, Steps};
+ghost use Rattle.document_server.specs.Serving.{CountsFrom, RepliesOne, Serves, ServesFrom, ServesOne, end_of};
+ghost use Rattle.document_server.specs.Session.{fault_reply};
+ghost use Rattle.feed_disk.specs.Moments.{LeavesAlone};
+ghost use Rattle.feed_disk.specs.declared.area.Area.TheVariants.{Journal, Sealed, Mirror};
+ghost use Rattle.feed_journal.specs.Log.{MakesSome};
+ghost use Rattle.feed_journal.specs.Records.{records};
+ghost use Rattle.feed_recovery.specs.Faults.{IsLoadFault};
+ghost use Rattle.feed_recovery.specs.Settled.{IsAtRest, LeavesStores, Settled};
+ghost use Rattle.feed_recovery.specs.Store.{StandsFor, call_count, is_spent};
+ghost use Rattle.feed_recovery.specs.Stored.{OpensTo, Stored};
+ghost use Rattle.feed_recovery.specs.declared.fault.LoadFault.{LoadFault as Fault};
+ghost use Rattle.http_face.specs.Conn.{Reads};
+ghost use Rattle.http_face.specs.Reply.{HasPhrase};
+
+use crate::clock::Clock;
+use crate::dispatch::answer;
+use crate::door::Door;
+use crate::laws::shown_are_served;
+use crate::line::Line;
+use crate::replies::line;
+use atom_values::{Failed, Many, NoMemory};
+use feed_disk::Disk;
+use feed_journal::begun_images_are_whole;
+use feed_recovery::{LoadFault, Store, stores_open_in_one_way};
+use http_face::{Conn, Line7, Reply, RequestFault, read_request, write_reply};
+use member_rules::{prefixes_are_lawful, served_stays_served};
+use std::alloc::Global;
+
+/// Why a session ended.
+#[derive(Clone, Copy, Debug, PartialEq, Eq)]
+pub enum End {
+    /// The number of connections was served, or the door has none left.
+    Done,
+    /// The store wasn't loaded.
+    Load(LoadFault),
+    /// A device call failed. The store has to be loaded again.
+    DiskFault,
+    /// A call on the door failed.
+    DoorFault,
+    /// Memory ran out before the door was opened.
+    NoMemory,
+}
+
+/// The connections of a session, in order, and why it ended.
+#[derive(Debug, Drop)]
+pub struct ServeEnd {
+    pub lines: Many<Line, 1_000_000>,
+    pub end: End,
+}
+
+/// Loads the store of the disk, opens the door at the address `listen`, and serves at most `requests` connections, one
+/// after the other.
+///
+/// Each request is answered by [`answer`] at one moment of the clock. A connection that fails ends alone. The session
+/// ends early if a device call fails, behind the reply 500 to its request, or if a call on the door fails. Takes the
+/// memory for all lines before it opens the door.
+pub fn serve<D: Disk, C: Clock, L: Door>(
+    alloc: Global,
+    disk: &mut D,
+    clock: &mut C,
+    door: &mut L,
+    listen: &[u8],
+    requests: u32,
+) -> ServeEnd
+    requires some { 1 ≤ requests }
+    requires few { requests ≤ 1_000_000 }
+    // The session over the connections that the door gave, and what a crash leaves.
+    ensures serves { D.told → ((fault : Fault) → result.end ≢ End.Load fault)
+        → Serves (D.state disk.old) (D.state disk.new) (C.coming clock.old) (L.state door.old) (L.state door.new)
+        (C.told × L.told) result.lines.items (result.end ≡ End.DiskFault) }
+    ensures most { length result.lines.items ≤ requests }
+    ensures done { result.end ≡ End.Done
+        → (length result.lines.items ≡ requests) ⊎ (L.told → (L.state door.new).left ≡ []) }
+    ensures returned { L.told → (L.state door.new).out ≡ (L.state door.old).out }
+
+    // A store that isn't loaded.
+    ensures refused { (fault : Fault) → result.end ≡ End.Load fault → D.told
+        → IsLoadFault (records ((D.state disk.old).content Journal)) (records ((D.state disk.old).content Sealed)) fault }
+    ensures only { D.told → (stored : Stored) → OpensTo (D.state disk.old).content stored
+        → (fault : Fault) → result.end ≡ End.Load fault → (fault ≡ Fault.DiskFault) ⊎ (fault ≡ Fault.NoMemory) }
+    ensures safe { (result.end ≡ End.NoMemory) ⊎ ((fault : Fault) × (result.end ≡ End.Load fault)) → D.told
+        → LeavesStores (D.state disk.old) (D.state disk.new) }
+    ensures unopened { (result.end ≡ End.NoMemory) ⊎ ((fault : Fault) × (result.end ≡ End.Load fault))
+        → (result.lines.items ≡ []) × (door.new ≡ door.old) }
+    ensures mirror { LeavesAlone (D.state disk.old) (D.state disk.new) Mirror }
+
+    // A fault comes only where the object's count of faults rose.
+    ensures disk_fault { (result.end ≡ End.DiskFault) ⊎ (result.end ≡ End.Load Fault.DiskFault)
+        → Rose (D.state disk.old).faults (D.state disk.new).faults }
+    ensures no_hidden_disk_fault { result.end ≢ End.DiskFault → result.end ≢ End.Load Fault.DiskFault
+        → (D.state disk.new).faults ≡ (D.state disk.old).faults }
+    ensures door_fault { result.end ≡ End.DoorFault → Rose (L.state door.old).faults (L.state door.new).faults }
+    ensures no_hidden_door_fault { result.end ≢ End.DoorFault
+        → (L.state door.new).faults ≡ (L.state door.old).faults }
+{
+    let mut lines = Many::new(alloc);
+    let end = match serve_into(alloc, disk, clock, door, listen, requests, &mut lines) {
+        Ok(()) => End::Done,
+        Err(end) => end,
+    };
+    ServeEnd { lines, end }
+}
+
+/// Loads the store, opens the door and serves, and adds a line for each connection.
+fn serve_into<D: Disk, C: Clock, L: Door>(
+    alloc: Global,
+    disk: &mut D,
+    clock: &mut C,
+    door: &mut L,
+    listen: &[u8],
+    requests: u32,
+    lines: &mut Many<Line, 1_000_000>,
+) -> Result<(), End>
+    requires empty { lines.old.items ≡ [] }
+    requires some { 1 ≤ requests }
+    requires few { requests ≤ 1_000_000 }
+    ensures serves { D.told → ((fault : Fault) → result ≢ Err (End.Load fault))
+        → Serves (D.state disk.old) (D.state disk.new) (C.coming clock.old) (L.state door.old) (L.state door.new)
+        (C.told × L.told) lines.new.items (end_of result ≡ End.DiskFault) }
+    ensures most { length lines.new.items ≤ requests }
+    ensures done { OnOk result
+        ((length lines.new.items ≡ requests) ⊎ (L.told → (L.state door.new).left ≡ [])) }
+    ensures returned { L.told → (L.state door.new).out ≡ (L.state door.old).out }
+
+    ensures refused { (fault : Fault) → result ≡ Err (End.Load fault) → D.told
+        → IsLoadFault (records ((D.state disk.old).content Journal)) (records ((D.state disk.old).content Sealed)) fault }
+    ensures only { D.told → (stored : Stored) → OpensTo (D.state disk.old).content stored
+        → (fault : Fault) → result ≡ Err (End.Load fault) → (fault ≡ Fault.DiskFault) ⊎ (fault ≡ Fault.NoMemory) }
+    ensures safe { (result ≡ Err End.NoMemory) ⊎ ((fault : Fault) × (result ≡ Err (End.Load fault))) → D.told
+        → LeavesStores (D.state disk.old) (D.state disk.new) }
+    ensures unopened { (result ≡ Err End.NoMemory) ⊎ ((fault : Fault) × (result ≡ Err (End.Load fault)))
+        → (lines.new.items ≡ []) × (door.new ≡ door.old) }
+    ensures own { result ≢ Err End.Done }
+    ensures mirror { LeavesAlone (D.state disk.old) (D.state disk.new) Mirror }
+
+    ensures disk_fault { (result ≡ Err End.DiskFault) ⊎ (result ≡ Err (End.Load Fault.DiskFault))
+        → Rose (D.state disk.old).faults (D.state disk.new).faults }
+    ensures no_hidden_disk_fault { result ≢ Err End.DiskFault → result ≢ Err (End.Load Fault.DiskFault)
+        → (D.state disk.new).faults ≡ (D.state disk.old).faults }
+    ensures door_fault { result ≡ Err End.DoorFault → Rose (L.state door.old).faults (L.state door.new).faults }
+    ensures no_hidden_door_fault { result ≢ Err End.DoorFault
+        → (L.state door.new).faults ≡ (L.state door.old).faults }
+{
+    // Laws, which do nothing.
+    stores_open_in_one_way();
+    begun_images_are_whole();
+    let mut store = Store::load(alloc, disk)?;
+    lines.reserve(requests as usize)?;
+    door.listen(listen)?;
+    serve_links(alloc, &mut store, disk, clock, door, requests, lines)
+}
+
+/// Serves the connections that the door gives, at most `requests`.
+fn serve_links<D: Disk, C: Clock, L: Door>(
+    alloc: Global,
+    store: &mut Store,
+    disk: &mut D,
+    clock: &mut C,
+    door: &mut L,
+    requests: u32,
+    lines: &mut Many<Line, 1_000_000>,
+) -> Result<(), End>
+    requires unspent { is_spent store.old ≡ false }
+    requires stands { D.told → StandsFor (D.state disk.old) store.old }
+    requires settled { D.told → IsAtRest (D.state disk.old)
+        → Settled (D.state disk.old) store.old.head store.old.history (length store.old.history) }
+    requires empty { lines.old.items ≡ [] }
+    requires few { requests ≤ 1_000_000 }
+    requires room { requests ≤ lines.old.spare }
+    ensures serves { D.told → (start : ℕ)
+        → CountsFrom start (D.state disk.old) (D.state disk.new) store.old
+        → ServesFrom start (D.state disk.old) (D.state disk.new) (C.coming clock.old) (L.state door.old)
+        (L.state door.new) (C.told × L.told) store.old lines.new.items (end_of result ≡ End.DiskFault) }
+    ensures most { length lines.new.items ≤ requests }
+    ensures done { OnOk result
+        ((length lines.new.items ≡ requests) ⊎ (L.told → (L.state door.new).left ≡ [])) }
+    ensures returned { L.told → (L.state door.new).out ≡ (L.state door.old).out }
+    ensures own { IfErr result (λ end. (end ≡ End.DiskFault) ⊎ (end ≡ End.DoorFault)) }
+    ensures mirror { LeavesAlone (D.state disk.old) (D.state disk.new) Mirror }
+
+    ensures disk_fault { result ≡ Err End.DiskFault → Rose (D.state disk.old).faults (D.state disk.new).faults }
+    ensures no_hidden_disk_fault { result ≢ Err End.DiskFault
+        → (D.state disk.new).faults ≡ (D.state disk.old).faults }
+    ensures door_fault { result ≡ Err End.DoorFault → Rose (L.state door.old).faults (L.state door.new).faults }
+    ensures no_hidden_door_fault { result ≢ Err End.DoorFault
+        → (L.state door.new).faults ≡ (L.state door.old).faults }
+{
+    // Laws, which do nothing.
+    shown_are_served();
+    served_stays_served();
+    prefixes_are_lawful();
+    for _count in 0..requests {
+        let Some(mut link) = door.next()? else {
+            return Ok(());
+        };
+        // Says the rules of the logs, so that the history has room for one more operation.
+        let _ = store.calls();
+        let line = serve_link(alloc, store, disk, clock, &mut link);
+        door.back(link);
+        match lines.push(line) {
+            Ok(()) => {}
+            // There is room for a line of each connection.
+            Err(_) => unreachable!(),
+        }
+        if store.is_spent() {
+            return Err(End::DiskFault);
+        }
+    }
+    Ok(())
+}
+
+/// Serves a connection: reads its request, answers it and sends the reply.
+fn serve_link<D: Disk, C: Clock, K: Conn>(
+    alloc: Global,
+    store: &mut Store,
+    disk: &mut D,
+    clock: &mut C,
+    link: &mut K,
+) -> Line
+    requires unspent { is_spent store.old ≡ false }
+    requires stands { D.told → StandsFor (D.state disk.old) store.old }
+    requires unbegun { (K.state link.old).begun ≡ None }
+    ensures serves { D.told → ServesOne (D.state disk.old) (D.state disk.new) (C.coming clock.old) (C.coming clock.new)
+        (K.state link.old) (K.state link.new) (C.told × K.told) store.old store.new result }
+    ensures head { store.new.head ≡ store.old.head }
+    ensures stays { is_spent store.new ≡ true → store.new.history ≡ store.old.history }
+    ensures version { result.version ≡ length store.new.history }
+    ensures calls { result.calls ≡ call_count store.new }
+    ensures makes { MakesSome (D.state disk.old) (D.state disk.new) (call_count store.old) (call_count store.new) }
+    ensures grows { (store.new.history ≡ store.old.history)
+        ⊎ Grows (D.state disk.old) (D.state disk.new) store.old store.new }
+    // The mark of the reply.
+    ensures begun { result.status ≢ 0 → (K.state link.new).begun ≡ Some (D.state disk.new).clock }
+    ensures unbegun { result.status ≡ 0 → (K.state link.new).begun ≡ None }
+
+    ensures stands { is_spent store.new ≡ false → D.told → StandsFor (D.state disk.new) store.new }
+    ensures rests { is_spent store.new ≡ false → D.told → IsAtRest (D.state disk.old) → IsAtRest (D.state disk.new) }
+    ensures settled { is_spent store.new ≡ false → D.told → IsAtRest (D.state disk.old)
+        → Settled (D.state disk.new) store.new.head store.new.history (length store.new.history) }
+    ensures mirror { LeavesAlone (D.state disk.old) (D.state disk.new) Mirror }
+    ensures failed { is_spent store.new ≡ true → Rose (D.state disk.old).faults (D.state disk.new).faults }
+    ensures unfailed { is_spent store.new ≡ false → (D.state disk.new).faults ≡ (D.state disk.old).faults }
+{
+    // A law, which does nothing.
+    begun_images_are_whole();
+    let Some(reply) = reply_to(alloc, store, disk, clock, link) else {
+        return line_of(store, 0, false);
+    };
+    link.begin(disk);
+    let whole = write_reply(link, &reply).is_ok();
+    line_of(store, reply.status, whole)
+}
+
+/// Reads the request of a connection and answers it. `None` if the connection failed.
+fn reply_to<D: Disk, C: Clock, K: Conn>(
+    alloc: Global,
+    store: &mut Store,
+    disk: &mut D,
+    clock: &mut C,
+    link: &mut K,
+) -> Option<Reply>
+    requires unspent { is_spent store.old ≡ false }
+    requires stands { D.told → StandsFor (D.state disk.old) store.old }
+    ensures replies { D.told → RepliesOne (D.state disk.old) (D.state disk.new)
+        (C.coming clock.old) (C.coming clock.new) (K.state link.old) (K.state link.new) (C.told × K.told)
+        store.old store.new result }
+    ensures steps { Steps D.told (D.state disk.old) (D.state disk.new) store.old store.new
+        (is_spent store.new ≡ true) }
+    ensures grows { (store.new.history ≡ store.old.history)
+        ⊎ Grows (D.state disk.old) (D.state disk.new) store.old store.new }
+    // The status line of the reply has a phrase.
+    ensures status { IfSome result (λ reply. HasPhrase reply.status) }
+    ensures reads { Reads (K.state link.old) (K.state link.new) }
+    ensures lost { result ≡ None → Rose (K.state link.old).faults (K.state link.new).faults }
+    ensures unfailed { IsSome result → (K.state link.new).faults ≡ (K.state link.old).faults }
+{
+    // A law, which does nothing.
+    begun_images_are_whole();
+    // Says the rules of the logs, so that their sizes are those of their payloads.
+    let _ = store.calls();
+    match read_request(alloc, link) {
+        Ok(request) => Some(answer(alloc, store, disk, &request, clock.now())),
+        Err(fault) => fault_reply(fault),
+    }
+}
+
+/// The line of a connection, as the store is when its reply was begun.
+fn line_of(store: &Store, status: u16, whole: bool) -> Line
+    ensures { result ≡ record {
+      status = status;
+      version = length store.now.history;
+      calls = call_count store.now;
+      whole = whole;
+    } }
+{
+    Line {
+        status,
+        version: store.version(),
+        calls: store.calls(),
+        whole,
+    }
+}
+
+/// The reply to bytes that are no request. `None` if the connection failed.
+fn fault_reply(fault: RequestFault) -> Option<Reply>
+    ensures { result ≡ fault_reply fault }
+{
+    let (status, refusal) = match fault {
+        RequestFault::ConnFault => return None,
+        RequestFault::BadHead => (400, Line7::BadHead),
+        RequestFault::HeadTooLarge => (431, Line7::HeadTooLarge),
+        RequestFault::EndedEarly { .. } => (400, Line7::EndedEarly),
+        RequestFault::NoLength => (411, Line7::NoLength),
+        RequestFault::TwoLengths => (400, Line7::TwoLengths),
+        RequestFault::BodyTooLarge { .. } => (413, Line7::BodyTooLarge),
+        RequestFault::NoMemory => (503, Line7::NoMemory),
+    };
+    Some(line(status, refusal))
+}
+
+impl From<LoadFault> for End {
+    ghost use Rattle.std.specs.Prelude.{◌≡◌};
+    ghost use Rattle.document_server.specs.declared.session.End.TheVariants.{Load};
+
+    ghost from_gives = { λ fault end. end ≡ Load fault };
+
+    fn from(fault: LoadFault) -> End {
+        End::Load(fault)
+    }
+}
+
+impl From<NoMemory> for End {
+    ghost use Rattle.std.specs.Prelude.{◌≡◌};
+    ghost use Rattle.document_server.specs.declared.session.End.TheVariants.{NoMemory as OutOfMemory};
+
+    ghost from_gives = { λ _ end. end ≡ OutOfMemory };
+
+    fn from(_error: NoMemory) -> End {
+        End::NoMemory
+    }
+}
+
+impl From<Failed> for End {
+    ghost use Rattle.std.specs.Prelude.{◌≡◌};
+    ghost use Rattle.document_server.specs.declared.session.End.TheVariants.{DoorFault};
+
+    ghost from_gives = { λ _ end. end ≡ DoorFault };
+
+    fn from(_error: Failed) -> End {
+        End::DoorFault
+    }
+}

@@ -1,0 +1,248 @@
+//! The TCP of the system: thin adapters, of which contracts know the counts of faults and the mark of a reply alone.
+
+ghost use Rattle.std.specs.Prelude.{◌≡◌, [], None, IfSome};
+
+use atom_values::Failed;
+use document_server::Door;
+use feed_disk::Disk;
+use http_face::Conn;
+use std::io::{Error, ErrorKind, Read, Write};
+use std::net::{Net, OpenListener, OpenStream, Shutdown, SocketAddr, TcpListener};
+use std::time::{Duration, Instant};
+use std::{rt, str, thread};
+
+/// How long a client may take for its whole request. Connections are served one at a time, so a silent or slow client
+/// holds up all others.
+const REQUEST_SECONDS: u64 = 10;
+
+/// How long a client may take to receive its whole reply. It is longer, since a reply may be large.
+const REPLY_SECONDS: u64 = 30;
+
+/// How long a client may go on sending after its reply.
+const DRAIN_SECONDS: u64 = 1;
+
+/// How many bytes a client may go on sending after its reply.
+const DRAIN_BYTES: usize = 256 * 1024;
+
+/// How many times in a row `accept` may fail.
+const MAX_FAILURES: u32 = 100;
+
+/// The pause after a failure of `accept`, so that the loop doesn't spin.
+const PAUSE_MILLIS: u64 = 10;
+
+/// Whether `accept` may work when it is called again.
+fn passes(error: &Error) -> bool {
+    match error.raw_os_error() {
+        // ENOMEM, ENFILE, EMFILE and ENOBUFS: memory or descriptors ran out, and may be free again soon.
+        Some(12 | 23 | 24 | 105) => true,
+        // EPERM is the refusal of a firewall. ENONET, EPROTO, ENOPROTOOPT, EOPNOTSUPP, ENETDOWN, ENETUNREACH,
+        // ECONNABORTED, ECONNRESET, ETIMEDOUT, EHOSTDOWN and EHOSTUNREACH are network errors of the accepted
+        // connection, which Linux returns here. All concern that client alone.
+        Some(1 | 64 | 71 | 92 | 95 | 100 | 101 | 103 | 104 | 110 | 112 | 113) => true,
+        _ => false,
+    }
+}
+
+/// The moment that is `seconds` away. `None` if the clock can't be read.
+fn deadline_in(clock: &impl rt::Clock, seconds: u64) -> Option<Instant> {
+    Instant::now(clock)
+        .ok()?
+        .checked_add(Duration::from_secs(seconds))
+}
+
+/// A connection with a client over TCP.
+///
+/// The request has a deadline from the acceptance of the connection, and the reply has one from its beginning. Each
+/// call waits at most until the deadline, so a client that sends or takes a few bytes at a time doesn't extend it.
+/// Past the deadline all calls fail.
+#[derive(Drop)]
+pub struct TcpConn<'a, R: Net + rt::Clock> {
+    runtime: &'a R,
+    stream: R::Stream,
+    // `None` if the clock couldn't be read: then all calls fail.
+    deadline: Option<Instant>,
+    begun: Option<u64>,
+    faults: u64,
+}
+
+impl<'a, R: Net + rt::Clock> TcpConn<'a, R> {
+    /// The time until the deadline, which isn't 0. `None` if it has passed or the clock can't be read.
+    fn left(&self) -> Option<Duration> {
+        let now = Instant::now(self.runtime).ok()?;
+        let left = self.deadline?.duration_since(now);
+        if left.is_zero() { None } else { Some(left) }
+    }
+
+    fn set_read_timeout(&self) -> Option<()> {
+        self.stream.set_read_timeout(Some(self.left()?)).ok()
+    }
+
+    fn set_write_timeout(&self) -> Option<()> {
+        self.stream.set_write_timeout(Some(self.left()?)).ok()
+    }
+
+    /// Ends the reply, and drops what the client still sends.
+    ///
+    /// To close a socket with unread bytes resets the connection, and a reset can overtake the reply. So a client that
+    /// sends more than was read would lose its reply.
+    fn drain(&mut self) {
+        if self.stream.shutdown(Shutdown::Write).is_err() {
+            return;
+        }
+        self.deadline = deadline_in(self.runtime, DRAIN_SECONDS);
+        let mut dropped = [0u8; 4096];
+        let mut room = DRAIN_BYTES;
+        while room > 0 {
+            let most = room.min(dropped.len());
+            match self.read(&mut dropped[..most]) {
+                Ok(count) if count > 0 => room -= count,
+                _ => return,
+            }
+        }
+    }
+}
+
+impl<R: Net + rt::Clock> Conn for TcpConn<'_, R> {
+    ghost told = { ⊥ };
+
+    ghost state = { λ s. record { left = []; sent = []; faults = s.faults; begun = s.begun } };
+
+    fn read(&mut self, into: &mut [u8]) -> Result<usize, Failed> {
+        // A read that a signal interrupted took no byte, and is made again.
+        for _ in 0..u64::MAX {
+            if self.set_read_timeout().is_none() {
+                break;
+            }
+            match self.stream.read(into) {
+                Ok(count) => return Ok(count),
+                Err(error) if error.kind() == ErrorKind::Interrupted => {}
+                Err(_) => break,
+            }
+        }
+        self.faults = self.faults.saturating_add(1);
+        Err(Failed)
+    }
+
+    fn begin<D: Disk>(&mut self, disk: &D) {
+        self.begun = Some(disk.calls());
+        self.deadline = deadline_in(self.runtime, REPLY_SECONDS);
+    }
+
+    // A write to a client that has gone fails and raises no SIGPIPE, since std sends with MSG_NOSIGNAL.
+    fn write(&mut self, from: &[u8]) -> Result<usize, Failed> {
+        // A write that a signal interrupted took no byte, and is made again. One that takes no byte of some is a
+        // failure, since it could be made again for ever.
+        for _ in 0..u64::MAX {
+            if self.set_write_timeout().is_none() {
+                break;
+            }
+            match self.stream.write(from) {
+                Ok(count) if count > 0 || from.is_empty() => return Ok(count),
+                Err(error) if error.kind() == ErrorKind::Interrupted => {}
+                _ => break,
+            }
+        }
+        self.faults = self.faults.saturating_add(1);
+        Err(Failed)
+    }
+}
+
+/// A TCP port, on which clients connect. It gives one connection at a time, and never runs out of them.
+#[derive(Drop)]
+pub struct TcpDoor<'a, R: Net + rt::Clock> {
+    runtime: &'a R,
+    listener: Option<R::Listener>,
+    faults: u64,
+}
+
+impl<'a, R: Net + rt::Clock> TcpDoor<'a, R> {
+    /// A door that doesn't listen yet.
+    pub fn new(runtime: &'a R) -> TcpDoor<'a, R> {
+        TcpDoor {
+            runtime,
+            listener: None,
+            faults: 0,
+        }
+    }
+
+    /// The address at which the door listens. At port 0 the system chose the port.
+    pub fn address(&self) -> Option<SocketAddr> {
+        self.listener.as_ref()?.local_addr().ok()
+    }
+
+    /// Binds a port, or returns `None`. std sets SO_REUSEADDR, so after a restart the port can be bound at once, while
+    /// the system still keeps the connections of the last run.
+    fn bind(&self, at: &[u8]) -> Option<R::Listener> {
+        TcpListener::bind(self.runtime, str::from_utf8(at).ok()?).ok()
+    }
+
+    /// Accepts a connection. `None` if the door doesn't listen, the clock can't be read, or `accept` failed for good or
+    /// `MAX_FAILURES` times in a row.
+    fn accept(&self) -> Option<TcpConn<'a, R>>
+        ensures unbegun { IfSome result (λ link. link.begun ≡ None) }
+    {
+        let listener = self.listener.as_ref()?;
+        let mut failures = 0;
+        for _ in 0..u64::MAX {
+            match listener.accept() {
+                Ok((stream, _)) => {
+                    // Sends the end of a reply at once, and not when the client has acknowledged the rest. A failure
+                    // concerns this client alone.
+                    if stream.set_nodelay(true).is_ok() {
+                        return Some(TcpConn {
+                            runtime: self.runtime,
+                            stream,
+                            deadline: Some(deadline_in(self.runtime, REQUEST_SECONDS)?),
+                            begun: None,
+                            faults: 0,
+                        });
+                    }
+                    failures = 0;
+                }
+                Err(error) if error.kind() == ErrorKind::Interrupted => {}
+                Err(error) if passes(&error) && failures < MAX_FAILURES - 1 => {
+                    failures += 1;
+                    thread::sleep(self.runtime, Duration::from_millis(PAUSE_MILLIS));
+                }
+                Err(_) => return None,
+            }
+        }
+        None
+    }
+}
+
+impl<'a, R: Net + rt::Clock> Door for TcpDoor<'a, R> {
+    type Link = TcpConn<'a, R>;
+
+    ghost told = { ⊥ };
+
+    ghost state = { λ d. record { left = []; back = []; out = 0; faults = d.faults } };
+
+    fn listen(&mut self, at: &[u8]) -> Result<(), Failed> {
+        self.listener = self.bind(at);
+        if self.listener.is_none() {
+            self.faults = self.faults.saturating_add(1);
+            return Err(Failed);
+        }
+        Ok(())
+    }
+
+    fn next(&mut self) -> Result<Option<TcpConn<'a, R>>, Failed> {
+        match self.accept() {
+            Some(link) => Ok(Some(link)),
+            None => {
+                self.faults = self.faults.saturating_add(1);
+                Err(Failed)
+            }
+        }
+    }
+
+    // A connection that failed, before its reply or within it, closes at once.
+    fn back(&mut self, mut link: TcpConn<'a, R>) {
+        if link.begun.is_some() && link.faults == 0 {
+            link.drain();
+        }
+    }
+
+    ghost tells = { λ none. none };
+}

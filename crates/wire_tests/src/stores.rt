@@ -1,0 +1,106 @@
+//! Stores on disks in memory, and requests on them, for the other modules.
+//!
+//! A function that owns a store or a disk has few exits, since the proof drops each of its values at each exit.
+
+ghost use Rattle.std.specs.Prelude.{◌≤◌};
+
+use crate::conns::{conn_of, disk_of};
+use atom_values::{AtomText, Stamp};
+use atom_writer::FeedName;
+use chain_links::Base;
+use deleted_entries::FeedId;
+use document_server::answer;
+use feed_disk::{Disk, MemoryDisk};
+use feed_recovery::Store;
+use http_face::{Conn, read_request, write_reply};
+use member_rules::Head;
+use std::alloc::Global;
+use std::process::Abort;
+
+/// The moment of the clock unless a table has another: 2023-11-14T22:13:20Z.
+pub const NOW: u64 = 1_700_000_000_000;
+
+/// The capacity of a store unless a test has another.
+pub const CAPACITY: u64 = 1 << 36;
+
+/// Returns the head of a feed that is made at `NOW`.
+fn head_of(rt: &impl Abort, alloc: Global, window: u32, capacity: u64) -> Head
+    requires window { (1 ≤ window) × (window ≤ 100) }
+    requires capacity { (4_096 ≤ capacity) × (capacity ≤ 68_719_476_736) }
+{
+    Head {
+        name: FeedName {
+            base: Base::parse(alloc, b"http://feed.example/").expect(rt, "a base"),
+            id: FeedId::parse(b"6d1f0c5a-93be-4c27-8d10-2b7f9e4a5c36").expect(rt, "an identifier"),
+            title: AtomText::of(alloc, b"Feed").expect(rt, "a title"),
+            author: AtomText::of(alloc, b"Editor").expect(rt, "an author"),
+        },
+        window,
+        capacity,
+        created: Stamp::new(NOW as i64).expect(rt, "a timestamp"),
+    }
+}
+
+/// Makes a store that has no operation.
+pub fn init<D: Disk>(rt: &impl Abort, alloc: Global, disk: &mut D, window: u32, capacity: u64)
+    requires window { (1 ≤ window) × (window ≤ 100) }
+    requires capacity { (4_096 ≤ capacity) × (capacity ≤ 68_719_476_736) }
+{
+    let head = head_of(rt, alloc, window, capacity);
+    Store::init(alloc, disk, &head).expect(rt, "a store");
+}
+
+/// Returns a disk with a store that has no operation, of which this device call fails. 0 lists no call.
+pub fn store_disk(
+    rt: &impl Abort,
+    alloc: Global,
+    window: u32,
+    capacity: u64,
+    failing: u64,
+) -> MemoryDisk
+    requires window { (1 ≤ window) × (window ≤ 100) }
+    requires capacity { (4_096 ≤ capacity) × (capacity ≤ 68_719_476_736) }
+{
+    let mut disk = disk_of(rt, alloc, failing);
+    init(rt, alloc, &mut disk, window, capacity);
+    disk
+}
+
+/// Loads the store and answers a request at a moment of the clock. Returns the bytes that the connection is sent.
+pub fn exchange<D: Disk>(
+    rt: &impl Abort,
+    alloc: Global,
+    disk: &mut D,
+    now: u64,
+    bytes: &[u8],
+) -> Vec<u8> {
+    let mut store = Store::load(alloc, disk).expect(rt, "a store");
+    let mut conn = conn_of(rt, alloc, bytes, 0);
+    let request = read_request(alloc, &mut conn).expect(rt, "a request");
+    let reply = answer(alloc, &mut store, disk, &request, now);
+    conn.begin(disk);
+    write_reply(&mut conn, &reply).expect(rt, "a whole reply");
+    Vec::from_slice(alloc, conn.sent()).expect(rt, "memory")
+}
+
+/// Returns a POST of an entry with a title of this many letters and a comment of this many.
+pub fn post_of(rt: &impl Abort, alloc: Global, title: usize, comment: usize) -> Vec<u8> {
+    let title = vec![in alloc; b'a'; title].expect(rt, "memory");
+    let comment = vec![in alloc; b'a'; comment].expect(rt, "memory");
+    let parts: [&[u8]; 5] = [
+        b"<entry xmlns=\"http://www.w3.org/2005/Atom\"><title>",
+        title.as_slice(),
+        b"</title><!--",
+        comment.as_slice(),
+        b"--></entry>",
+    ];
+    let body = parts.concat(alloc).expect(rt, "memory");
+    let start = format!(in alloc;
+        "POST /feed HTTP/1.1\r\nContent-Length: {}\r\n\r\n",
+        body.len()
+    )
+    .expect(rt, "memory");
+    [start.as_bytes(), body.as_slice()]
+        .concat(alloc)
+        .expect(rt, "memory")
+}
