@@ -183,7 +183,7 @@ static ROWS: [(&str, &str); 122] = [
     ("--listen a --requests 5", "usage"),
 ];
 
-/// Each row has words as above, a letter, how often it stands in place of each `%`, and whether the words are read.
+/// Each row has words as above, a letter, how many times it replaces each `%`, and whether the words are read.
 static LENGTHS: [(&str, &str, usize, bool); 9] = [
     ("init *base *uuid --title % --author=%", "x", 1_024, true),
     ("init *base *uuid --title % *author", "x", 1_025, false),
