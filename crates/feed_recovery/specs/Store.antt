@@ -1,10 +1,12 @@
 -- A store as contracts see it.
-use Rattle.std.specs.Prelude.{◌≡◌, ℕ, ◌+◌, ◌*◌, ◌<◌, min, Bool, ◌||◌, List, length}
+use Rattle.std.specs.Prelude.{◌≡◌, ℕ, ◌+◌, ◌*◌, ◌<◌, min, Bool, ◌||◌, List, length, Option, MatchOption}
 use Rattle.atom_values.specs.Counts.{counter_limit}
 use Rattle.feed_disk.specs.Disk.{DiskState}
 use Rattle.feed_disk.specs.declared.area.Area.TheVariants.{Journal, Sealed}
 use Rattle.feed_journal.specs.Log.{LogValue, IsListed}
 use Rattle.feed_recovery.specs.Opening.{IsSealCount, Opens}
+use Rattle.atom_writer.specs.Pieces.{text}
+use Rattle.member_rules.specs.Documents.{subscription}
 use Rattle.member_rules.specs.Head.{HeadValue, IsHead}
 use Rattle.member_rules.specs.History.{IsLawful}
 use Rattle.member_rules.specs.Table.{Table, IsTableOf}
@@ -47,6 +49,11 @@ pub record KeepsStore (store : StoreValue) : Type 0 where
   pub records : length store.journal.extents ≡ length store.history + 1
   pub seals : IsSealCount store.head store.history (seal_count store)
   pub long : least_frame * length store.history < store.journal.size
+
+-- the text that a store keeps, if any, is that of its subscription document
+abbrev pub KeepsNewest : StoreValue → Option (List ℕ) → Type 0
+KeepsNewest store newest =
+    MatchOption newest (Unit {0}) (λ written. written ≡ text (subscription store.head store.history))
 
 -- the store stands for the content of the disk: the content opens to it, and its logs list the content
 pub record StandsFor (disk : DiskState) (store : StoreValue) : Type 0 where

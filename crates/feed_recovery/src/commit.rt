@@ -154,6 +154,7 @@ impl Store {
             self.spent = true;
             return Err(fault);
         }
+        self.newest = None;
         self.members.commit(&operation);
         self.history.push(operation).unwrap();
         Ok(version)

@@ -16,7 +16,7 @@ ghost use Rattle.member_rules.specs.Documents as documents;
 use crate::fault::{ArchiveFault, MemberFault};
 use crate::store::Store;
 use archive_sealer::subscription;
-use atom_values::{Entry, NoMemory, Stamp};
+use atom_values::{Bytes, Entry, NoMemory, Stamp};
 use atom_writer::{FeedName, write_doc, write_member};
 use feed_disk::Disk;
 use feed_journal::LogFault;
@@ -25,14 +25,22 @@ use std::alloc::Global;
 
 impl Store {
     /// Returns the text of the subscription document. It makes no device call.
+    ///
+    /// The first call after an operation makes the text, and each further one copies it.
     pub fn subscription(&mut self) -> Result<Vec<u8>, NoMemory>
         requires { is_spent self.old ≡ false }
         ensures document { IfOk result (λ written.
             written.items ≡ text (documents.subscription self.old.head self.old.history)) }
         ensures same { self.new ≡ self.old }
     {
+        if let Some(written) = &self.newest {
+            return Ok(Vec::from_slice(self.alloc, written.slice())?);
+        }
         let document = subscription(self.alloc, &self.head, self.history.as_slice())?;
-        write_doc(self.alloc, &document)
+        let written = write_doc(self.alloc, &document)?;
+        // Without memory for the copy, the next call makes the text again.
+        self.newest = Bytes::of(self.alloc, written.as_slice()).ok();
+        Ok(written)
     }
 
     /// Returns the text of a sealed archive, as it was sealed, in one device call.

@@ -112,6 +112,7 @@ fn reopen<D: Disk>(
         journal,
         seals,
         spent: false,
+        newest: None,
     })
 }
 

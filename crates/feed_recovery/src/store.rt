@@ -6,6 +6,7 @@ ghost use Rattle.feed_recovery.specs.Store.{call_count, is_spent};
 ghost use Rattle.member_rules.specs.Fold.{state_of};
 
 use archive_sealer::{full_windows, sealed_windows};
+use atom_values::Bytes;
 use feed_journal::Log;
 use member_rules::{Head, Members, Op, State};
 use std::alloc::Global;
@@ -23,11 +24,14 @@ pub struct Store {
     pub(crate) seals: Log,
     /// Whether a device call failed.
     pub(crate) spent: bool,
+    /// The text of the subscription document, once it was asked for, until the next operation. A reader asks for it
+    /// far more often than it changes.
+    pub(crate) newest: Option<Bytes>,
 }
 
 impl Model for Store {
     ghost use Rattle.std.specs.Prelude.{◌≡◌, ◌-◌, vec_len, vec_capacity};
-    ghost use Rattle.feed_recovery.specs.Store.{StoreValue, KeepsStore, is_spent};
+    ghost use Rattle.feed_recovery.specs.Store.{StoreValue, KeepsStore, KeepsNewest, is_spent};
 
     ghost Value = { StoreValue };
 
@@ -49,7 +53,7 @@ impl Model for Store {
           seals = s.seals;
           spare = vec_capacity s.history - vec_len s.history;
         } in
-        KeepsStore store × (s.spent ≡ is_spent store) };
+        KeepsStore store × (s.spent ≡ is_spent store) × KeepsNewest store s.newest };
 }
 
 impl Store {

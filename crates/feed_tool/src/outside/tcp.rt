@@ -81,14 +81,24 @@ impl<'a, R: Net + rt::Clock> TcpConn<'a, R> {
         self.stream.set_write_timeout(Some(self.left()?)).ok()
     }
 
-    /// Ends the reply, and drops what the client still sends.
+    /// Whether the client sent more than was read, without waiting for it. `None` if it closed the connection.
+    fn sends_more(&self) -> Option<bool> {
+        self.stream.set_nonblocking(true).ok()?;
+        let sent = self.stream.peek(&mut [0u8; 1]);
+        self.stream.set_nonblocking(false).ok()?;
+        match sent {
+            Ok(0) => None,
+            Ok(_) => Some(true),
+            Err(error) if error.kind() == ErrorKind::WouldBlock => Some(false),
+            Err(_) => None,
+        }
+    }
+
+    /// Drops what the client still sends.
     ///
     /// To close a socket with unread bytes resets the connection, and a reset can overtake the reply. So a client that
     /// sends more than was read would lose its reply.
     fn drain(&mut self) {
-        if self.stream.shutdown(Shutdown::Write).is_err() {
-            return;
-        }
         self.deadline = deadline_in(self.runtime, DRAIN_SECONDS);
         let mut dropped = [0u8; 4096];
         let mut room = DRAIN_BYTES;
@@ -152,6 +162,9 @@ impl<R: Net + rt::Clock> Conn for TcpConn<'_, R> {
 pub struct TcpDoor<'a, R: Net + rt::Clock> {
     runtime: &'a R,
     listener: Option<R::Listener>,
+    /// The last connection that was given back, if its client neither closed it nor sent more by then. It stays open
+    /// while the next one is served, so that nobody waits for its client.
+    closing: Option<TcpConn<'a, R>>,
     faults: u64,
 }
 
@@ -161,7 +174,19 @@ impl<'a, R: Net + rt::Clock> TcpDoor<'a, R> {
         TcpDoor {
             runtime,
             listener: None,
+            closing: None,
             faults: 0,
+        }
+    }
+
+    /// Closes the connection that waits for its client.
+    fn close_last(&mut self)
+        ensures { self.new.faults ≡ self.old.faults }
+    {
+        if let Some(mut link) = self.closing.take() {
+            if link.sends_more() == Some(true) {
+                link.drain();
+            }
         }
     }
 
@@ -239,8 +264,17 @@ impl<'a, R: Net + rt::Clock> Door for TcpDoor<'a, R> {
 
     // A connection that failed, before its reply or within it, closes at once.
     fn back(&mut self, mut link: TcpConn<'a, R>) {
-        if link.begun.is_some() && link.faults == 0 {
-            link.drain();
+        self.close_last();
+        if link.begun.is_none()
+            || link.faults > 0
+            || link.stream.shutdown(Shutdown::Write).is_err()
+        {
+            return;
+        }
+        match link.sends_more() {
+            Some(true) => link.drain(),
+            Some(false) => self.closing = Some(link),
+            None => {}
         }
     }
 

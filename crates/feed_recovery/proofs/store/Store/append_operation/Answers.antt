@@ -106,6 +106,7 @@ invariant_of-self-2 g c =
           (c.commit.ensures.table c.self.inside.head.created c.self.inside.history.items keeps.members)
           (ap (λ (v : LogValue). v.area) ok) size),
       c.self.invariant.1 ∙ ap (λ (v : LogValue). v.spent || c.self.inside.seals.spent) (sym ok),
+      tt,
     )
 
 pub returns-clause-stands : goal.returns-clause-stands

@@ -93,6 +93,7 @@ invariant_of-self-in_default-append g c =
       keeps_sealed store (c.sealed_windows_are_full.ensures store.head store.history keeps.head) due.0 c.in-Some.seal
           due.1 log keeps (ap (λ (v : LogValue). v.area) ok) count,
       c.self.invariant.1 ∙ ap (λ (v : LogValue). store.journal.spent || v.spent) (sym ok),
+      c.self.invariant.2,
     )
 
 pub returns-clause-stands : goal.returns-clause-stands
