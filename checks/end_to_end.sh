@@ -173,6 +173,7 @@ entry 5 NOW e
 TEXT
 : >"$work/input"
 stored show archive 1
+cp "$work/output" "$work/archive"
 summarized
 compare 'a sealed archive' 0 <<'TEXT'
 archive 1
@@ -185,6 +186,17 @@ entry 3 NOW c
 entry 2 NOW b
 entry 1 NOW a
 TEXT
+# the pile of the store has its two documents
+offered() {
+    echo "http://feed.example/$1 $(($(wc -c <"$2")))"
+    cat "$2"
+    echo
+}
+stored show feed
+cp "$work/output" "$work/feed"
+stored show pile
+{ echo 'pile 1'; offered feed "$work/feed"; offered archive/1 "$work/archive"; } >"$work/pile"
+masked <"$work/pile" | compare 'show pile' 0
 printf 'remove 5\nsubtract\nadd f\n' >"$work/input"
 stored apply
 echo 'bad line 2' | compare 'a bad line on a store' 10

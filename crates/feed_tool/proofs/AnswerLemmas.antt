@@ -10,7 +10,7 @@ use Rattle.feed_disk.specs.declared.area.Area.TheVariants.{Journal, Sealed}
 use Rattle.feed_recovery.specs.Opening.{OpensInOneWay}
 use Rattle.tool_words.specs.declared.command.Command.{Command}
 use Rattle.tool_words.specs.declared.command.Command.TheVariants.{Init, Apply, Serve, Show}
-use Rattle.tool_words.specs.declared.command.Show.TheVariants.{Document, Feed, Archive, Member}
+use Rattle.tool_words.specs.declared.command.Show.TheVariants.{Document, Feed, Archive, Member, Pile}
 use Rattle.feed_tool.specs.Answer.{Answer}
 use Rattle.feed_tool.specs.Fault.{refusal_answer}
 use Rattle.feed_tool.specs.Show.{IsShown, IsPast, IsSummary, IsBadDocument, summary}
@@ -80,3 +80,5 @@ answer_once law (Show (Archive number)) moments input content one other p q =
     of_store_once law (Show (Archive number)) moments input content one other p q
 answer_once law (Show (Member number)) moments input content one other p q =
     of_store_once law (Show (Member number)) moments input content one other p q
+answer_once law (Show Pile) moments input content one other p q =
+    of_store_once law (Show Pile) moments input content one other p q

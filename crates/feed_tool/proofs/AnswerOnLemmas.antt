@@ -18,7 +18,7 @@ use Rattle.feed_recovery.specs.declared.fault.MemberFault.{MemberFault}
 use Rattle.feed_recovery.specs.declared.fault.MemberFault.TheVariants as member
 use Rattle.feed_recovery.specs.Stored.{OpensTo, Stored, stored_of}
 use Rattle.feed_tool.specs.declared.fault.Fault.{Fault}
-use Rattle.feed_tool.specs.declared.fault.Fault.TheVariants.{Input, Refused}
+use Rattle.feed_tool.specs.declared.fault.Fault.TheVariants.{Disk, Input, Refused}
 use Rattle.feed_tool.specs.declared.fault.Refusal.TheVariants.{NotSealed}
 use Rattle.feed_tool.specs.declared.status.Status.TheVariants.{Done}
 use Rattle.feed_tool.specs.Answer.{Answer}
@@ -63,6 +63,19 @@ answer-bad content on fault is only refusal = record {
   exact = λ stored opens.
       absurd (not-refusal fault (only stored.head stored.history stored.seals opens) refusal);
 }
+
+-- the fault of an archive is the disk's only if the disk failed, and never the input's
+pub archive-disk : (fault : ArchiveFault) → archive_fault fault ≡ Disk → fault ≡ archive.DiskFault
+archive-disk (archive.NotSealed number sealed) e = cc
+archive-disk archive.DiskFault e = refl
+archive-disk (archive.Changed index) e = cc
+archive-disk archive.NoMemory e = cc
+
+pub archive-input : (fault : ArchiveFault) → archive_fault fault ≡ Input → ⊥
+archive-input (archive.NotSealed number sealed) e = cc
+archive-input archive.DiskFault e = cc
+archive-input (archive.Changed index) e = cc
+archive-input archive.NoMemory e = cc
 
 -- an archive that is sealed
 pub archive-sealed : (store : StoreValue) (number : ℕ) (written : List ℕ) → IsSealed store number

@@ -20,6 +20,10 @@ pub mod LineLemmas
 pub mod LinesLemmas
 -- the commands on a store: what a crash leaves
 pub mod MomentsLemmas
+-- `show pile`: how the program ends
+pub mod PileEndLemmas
+-- `show pile`: the documents that the output took
+pub mod PileLemmas
 -- `run`
 pub mod PrintLemmas
 -- the loops over the lines of an input

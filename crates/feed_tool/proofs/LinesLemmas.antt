@@ -32,7 +32,7 @@ use Rattle.std.proofs.Common.{
 use Rattle.std.proofs.lemmas.List.{append-nil, append_assoc, drop-take, drop-drop, length-append, length-take, take_at}
 use Rattle.std.proofs.lemmas.Bool.{both_ways, eq-eqb, not-true}
 use Rattle.std.proofs.lemmas.List.Elements.{All-append, All-nil}
-use Rattle.feed_tool.specs.Outside.{SourceState}
+use Rattle.doc_source.specs.Outside.{SourceState}
 use Rattle.atom_values.specs.Ascii.{lf}
 use Rattle.feed_tool.specs.Line.{prefix_limit}
 use Rattle.feed_tool.specs.Lines.{

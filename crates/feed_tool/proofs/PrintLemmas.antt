@@ -4,8 +4,8 @@ use Rattle.atom_values.specs.Counts.{HasCause}
 use Rattle.feed_tool.specs.declared.fault.Fault.{Fault}
 use Rattle.feed_tool.specs.declared.fault.Fault.TheVariants.{NoMemory, Input, Disk, BadStore, Full, Refused}
 use Rattle.feed_tool.specs.declared.fault.Refusal.{Refusal}
-use Rattle.feed_tool.specs.Outside.{SinkState}
-use Rattle.feed_tool.specs.Answer.{TakesPrefix, Prints}
+use Rattle.doc_source.specs.Outside.{SinkState, TakesPrefix}
+use Rattle.feed_tool.specs.Answer.{Prints}
 use Rattle.feed_tool.specs.Fault.{fault_answer, refusal_answer}
 use Rattle.feed_tool.specs.Run.{IsAlone, alone_line}
 use Rattle.feed_tool.specs.Status.{code_of}

@@ -48,7 +48,7 @@ use Rattle.std.proofs.lemmas.List.Concat.{flat_map-append}
 use Rattle.feed_tool.specs.declared.fault.Fault.{Fault}
 use Rattle.feed_tool.specs.declared.fault.Fault.TheVariants.{Refused}
 use Rattle.feed_tool.specs.declared.fault.Refusal.TheVariants.{TooLong}
-use Rattle.feed_tool.specs.Outside.{SourceState}
+use Rattle.doc_source.specs.Outside.{SourceState}
 use Rattle.atom_values.specs.Ascii.{lf}
 use Rattle.feed_tool.specs.Line.{prefix_limit}
 use Rattle.feed_tool.specs.Lines.{

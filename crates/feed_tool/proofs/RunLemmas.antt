@@ -11,7 +11,7 @@ use Rattle.feed_tool.specs.declared.status.Status.TheVariants.{Done}
 use Rattle.feed_tool.specs.declared.status.Status.TheVariants as ends
 use Rattle.feed_tool.specs.Answer.{Prints}
 use Rattle.feed_tool.specs.Fault.{fault_answer}
-use Rattle.feed_tool.specs.Outside.{SinkState}
+use Rattle.doc_source.specs.Outside.{SinkState}
 use Rattle.feed_tool.specs.Run.{EndsWith, IsGiven, IsStatus}
 use Rattle.feed_tool.specs.Status.{code_of}
 use Rattle.feed_tool.proofs.EndLemmas.{no_end}
@@ -83,22 +83,27 @@ no_command words result is only command of_words = ⊎_elim
     (λ (e : result ≡ Err NoMemory). let other : ◌≡◌ {A = Result Command WordsFault} (Err Usage) (Err NoMemory) = sym is ∙ e in cc)
     (only command of_words)
 
--- the words that were read as `serve` are those of this command
-pub read_serve : (words : List (List ℕ)) (result : Result Command WordsFault) (read : Command) (listen : List ℕ)
-    (requests : ℕ) → result ≡ Ok read → read ≡ Serve listen requests → IfOk result (IsCommandOf words)
-    → IsCommandOf words (Serve listen requests)
-read_serve words result read listen requests is serves found =
-    subst (IsCommandOf words) serves (rw is at found)
+-- the words that were read as a command are those of that command
+pub read_as : (words : List (List ℕ)) (result : Result Command WordsFault) (read command : Command) → result ≡ Ok read
+    → read ≡ command → IfOk result (IsCommandOf words) → IsCommandOf words command
+read_as words result read command is same found = subst (IsCommandOf words) same (rw is at found)
 
--- and of no other number of requests
+-- and of no other command
+pub read_only : (words : List (List ℕ)) (result : Result Command WordsFault) (read command : Command) → result ≡ Ok read
+    → read ≡ command
+    → ((other : Command) → IsCommandOf words other → (result ≡ Ok other) ⊎ (result ≡ Err NoMemory))
+    → (other : Command) → IsCommandOf words other → command ≡ other
+read_only words result read command is same only =
+    read_all words result read (λ other. command ≡ other) is only (sym same)
+
+-- words of `serve` have one number of requests
 pub same_requests : (P : ℕ → Type 0) (words : List (List ℕ)) (result : Result Command WordsFault) (read : Command)
     (listen : List ℕ) (requests : ℕ) → result ≡ Ok read → read ≡ Serve listen requests
     → ((command : Command) → IsCommandOf words command → (result ≡ Ok command) ⊎ (result ≡ Err NoMemory))
     → P requests → (other : List ℕ) (number : ℕ) → IsCommandOf words (Serve other number) → P number
 same_requests P words result read listen requests is serves only holds other number of_words =
-    let same : read ≡ Serve other number =
-    read_all words result read (λ command. read ≡ command) is only refl (Serve other number) of_words in
-    let numbers : Serve listen requests ≡ Serve other number = sym serves ∙ same in
+    let same : Serve listen requests ≡ Serve other number =
+    read_only words result read (Serve listen requests) is serves only (Serve other number) of_words in
     let equal : requests ≡ number = cc in
     subst P equal holds
 

@@ -7,14 +7,15 @@ use Rattle.std.proofs.lemmas.Grind.{flat_map-append}
 use Rattle.std.proofs.lemmas.List.{take-append-drop, take_all}
 use Rattle.atom_values.specs.Counts.{HasCause, Rose}
 use Rattle.atom_values.specs.declared.memory.Failed.{Failed}
+use Rattle.doc_source.proofs.WriteLemmas.{takes_more}
 use Rattle.document_server.specs.declared.line.Line.{Line}
 use Rattle.document_server.specs.declared.session.End.{End}
 use Rattle.document_server.specs.declared.session.End.TheVariants as session
 use Rattle.feed_recovery.specs.declared.fault.LoadFault.{LoadFault}
 use Rattle.feed_recovery.specs.declared.fault.LoadFault.TheVariants as load
 use Rattle.feed_tool.specs.declared.commands.serve.SessionFault.{SessionFault}
-use Rattle.feed_tool.specs.Answer.{Prints, TakesPrefix}
-use Rattle.feed_tool.specs.Outside.{SinkState}
+use Rattle.feed_tool.specs.Answer.{Prints}
+use Rattle.doc_source.specs.Outside.{SinkState, TakesPrefix}
 use Rattle.feed_tool.specs.Serve.{IsOpened, end_fault, fault_status, fault_text, session_line, session_status, session_text}
 use Rattle.feed_tool.specs.Status.{code_of}
 use Rattle.feed_tool.proofs.PrintLemmas.{prints-from}
@@ -29,18 +30,6 @@ lines-split lines i d inside =
     ∙ ap (λ (more : List Line). flat_map session_line (take i lines) ++ flat_map session_line more)
     (drop-cons lines i d inside)
 
--- behind the front of a text a prefix of the next part was taken
-takes-more : (before mid after : SinkState) (front more rest text : List ℕ) → text ≡ front ++ (more ++ rest)
-    → mid.taken ≡ before.taken ++ front → TakesPrefix mid after more → TakesPrefix before after text
-takes-more before mid after front more rest text split taken prefix = record {
-  sent = front ++ prefix.sent;
-  rest = prefix.rest ++ rest;
-  whole = split ∙ ap (λ (m : List ℕ). front ++ (m ++ rest)) prefix.whole
-      ∙ ap (λ (x : List ℕ). front ++ x) (append_assoc prefix.sent prefix.rest rest)
-      ∙ sym (append_assoc front prefix.sent (prefix.rest ++ rest));
-  taken = prefix.taken ∙ ap (λ (x : List ℕ). x ++ prefix.sent) taken ∙ append_assoc before.taken front prefix.sent;
-}
-
 -- the output failed within a line of a connection
 pub line-prefix : (before mid after : SinkState) (lines : List Line) (i : ℕ) (d : Line) (fault : Option SessionFault)
     (bytes : List ℕ) → i < length lines → bytes ≡ session_line (get_or lines i d)
@@ -50,7 +39,7 @@ line-prefix before mid after lines i d fault bytes inside is taken prefix =
     let front = flat_map session_line (take i lines) in
     let line = session_line (get_or lines i d) in
     let rest = flat_map session_line (drop (suc i) lines) in
-    takes-more before mid after front line (rest ++ fault_text fault) (session_text lines fault)
+    takes_more before mid after front line (rest ++ fault_text fault) (session_text lines fault)
     (ap (λ (x : List ℕ). x ++ fault_text fault) (lines-split lines i d inside)
     ∙ append_assoc front (line ++ rest) (fault_text fault)
     ∙ ap (λ (x : List ℕ). front ++ x) (append_assoc line rest (fault_text fault)))
@@ -62,7 +51,7 @@ pub fault-prefix : (before mid after : SinkState) (lines : List Line) (i : ℕ) 
     → mid.taken ≡ before.taken ++ flat_map session_line (take i lines) → TakesPrefix mid after bytes
     → TakesPrefix before after (session_text lines fault)
 fault-prefix before mid after lines i fault bytes all is taken prefix =
-    takes-more before mid after (flat_map session_line lines) bytes [] (session_text lines fault)
+    takes_more before mid after (flat_map session_line lines) bytes [] (session_text lines fault)
     (ap (λ (x : List ℕ). flat_map session_line lines ++ x) (sym (append-nil bytes ∙ is)))
     (taken ∙ ap (λ (l : List Line). before.taken ++ flat_map session_line l) (take_all i lines all)) prefix
 

@@ -2,7 +2,7 @@
 use Rattle.std.specs.Prelude.{◌≡◌, ℕ, List, ◌++◌, codes}
 use Rattle.atom_values.specs.Counts.{Rose}
 use Rattle.feed_tool.specs.declared.status.Status.{Status}
-use Rattle.feed_tool.specs.Outside.{SinkState}
+use Rattle.doc_source.specs.Outside.{SinkState, TakesPrefix}
 
 -- how a command ends, and the bytes that it prints
 pub record Answer : Type 0 where
@@ -12,13 +12,6 @@ pub record Answer : Type 0 where
 -- the line for words that name no command
 abbrev pub usage_line : List ℕ
 usage_line = codes "usage: feed_tool init, apply, show, serve, mirror, audit, drill\n"
-
--- the output took a prefix of the text
-pub record TakesPrefix (before after : SinkState) (text : List ℕ) : Type 0 where
-  pub sent : List ℕ
-  pub rest : List ℕ
-  pub whole : text ≡ sent ++ rest
-  pub taken : after.taken ≡ before.taken ++ sent
 
 -- the output took the text, or a prefix of it where one of the output's calls failed
 pub record Prints (before after : SinkState) (text : List ℕ) : Type 0 where

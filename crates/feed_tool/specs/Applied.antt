@@ -5,7 +5,7 @@ use Rattle.feed_tool.specs.declared.fault.Fault.{Fault}
 use Rattle.feed_tool.specs.declared.fault.Fault.TheVariants.{Refused}
 use Rattle.feed_tool.specs.declared.fault.Refusal.TheVariants.{TooLong}
 use Rattle.feed_tool.specs.Lines.{lines as lines_of, ended_lines, input_limit}
-use Rattle.feed_tool.specs.Outside.{SourceState}
+use Rattle.doc_source.specs.Outside.{SourceState}
 
 -- what a line after `before` other lines makes of a feed
 abbrev pub Step : Type 0 → Type 0

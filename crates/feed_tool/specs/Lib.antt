@@ -1,5 +1,4 @@
 pub mod Status
-pub mod Outside
 pub mod Answer
 pub mod Line
 pub mod Lines
@@ -8,6 +7,7 @@ pub mod StoreFaults
 pub mod Applied
 pub mod Apply
 pub mod Stored
+pub mod Pile
 pub mod Show
 pub mod Run
 pub mod Crash

@@ -23,7 +23,7 @@ use Rattle.std.specs.Prelude.{
 }
 use Rattle.atom_values.specs.Ascii.{lf}
 use Rattle.feed_tool.specs.Line.{prefix_limit}
-use Rattle.feed_tool.specs.Outside.{SourceState}
+use Rattle.doc_source.specs.Outside.{SourceState}
 
 -- a byte in front of the first line
 abbrev pub onto_first : ℕ → List (List ℕ) → List (List ℕ)

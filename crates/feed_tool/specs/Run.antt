@@ -6,11 +6,12 @@ use Rattle.feed_recovery.specs.Stored.{OpensTo, Stored}
 use Rattle.feed_tool.specs.declared.fault.Fault.TheVariants.{NoMemory, Input, Disk}
 use Rattle.feed_tool.specs.declared.status.Status.{Status}
 use Rattle.feed_tool.specs.declared.status.Status.TheVariants as ends
-use Rattle.feed_tool.specs.Outside.{SourceState, SinkState}
+use Rattle.doc_source.specs.Outside.{SourceState, SinkState}
 use Rattle.feed_tool.specs.Answer.{Answer, Prints, usage_line}
 use Rattle.feed_tool.specs.Applied.{IsUnrefused}
 use Rattle.feed_tool.specs.Apply.{answer, history_step, test_head}
 use Rattle.feed_tool.specs.Fault.{fault_answer}
+use Rattle.feed_tool.specs.Pile.{pile_answer}
 use Rattle.feed_tool.specs.Show.{IsShown, ReadsWithinLimit}
 use Rattle.feed_tool.specs.Status.{code_of}
 use Rattle.feed_tool.specs.Stored.{IsBadStore, IsInitAnswer, apply_answer, archive_answer, feed_answer, member_answer, stored_step}
@@ -18,7 +19,7 @@ use Rattle.member_rules.specs.Head.{window_limit, capacity_floor, capacity_limit
 use Rattle.tool_words.specs.Words.{IsCommandOf, request_limit}
 use Rattle.tool_words.specs.declared.command.Command.{Command}
 use Rattle.tool_words.specs.declared.command.Command.TheVariants.{Init, Apply, Serve, Show}
-use Rattle.tool_words.specs.declared.command.Show.TheVariants.{Document, Feed, Archive, Member}
+use Rattle.tool_words.specs.declared.command.Show.TheVariants.{Document, Feed, Archive, Member, Pile}
 
 -- the ranges of a command's values
 abbrev pub HasRange : Command → Type 0
@@ -53,6 +54,16 @@ abbrev pub IsAnswering : Command → Type 0
 IsAnswering (Serve listen requests) = ⊥
 IsAnswering _ = Unit {0}
 
+-- whether all that the command prints is made before the first byte is printed: each but `serve` and `show pile`
+abbrev pub IsAtOnce : Command → Type 0
+IsAtOnce (Serve listen requests) = ⊥
+IsAtOnce (Show Pile) = ⊥
+IsAtOnce _ = Unit {0}
+
+-- the words are those of such a command, or of none
+abbrev pub PrintsAtOnce : List (List ℕ) → Type 0
+PrintsAtOnce words = (command : Command) → IsCommandOf words command → IsAtOnce command
+
 -- the words are those of another command than `serve`, or of none
 abbrev pub ServesNot : List (List ℕ) → Type 0
 ServesNot words = (listen : List ℕ) (requests : ℕ) → ¬ IsCommandOf words (Serve listen requests)
@@ -71,6 +82,7 @@ abbrev pub stored_answer : Command → (ℕ → ℕ) → List ℕ → Stored →
 stored_answer (Show Feed) moments input stored = feed_answer stored
 stored_answer (Show (Archive number)) moments input stored = archive_answer number stored
 stored_answer (Show (Member number)) moments input stored = member_answer number stored
+stored_answer (Show Pile) moments input stored = pile_answer stored
 stored_answer _ moments input stored = apply_answer moments input stored
 
 -- the content opens to a store, and the command answers this of it

@@ -23,7 +23,7 @@ use Rattle.feed_tool.specs.declared.status.Status.{Status}
 use Rattle.feed_tool.specs.declared.status.Status.TheVariants as ends
 use Rattle.feed_tool.specs.Answer.{Answer, Prints}
 use Rattle.feed_tool.specs.Fault.{fault_answer, spaced}
-use Rattle.feed_tool.specs.Outside.{SinkState}
+use Rattle.doc_source.specs.Outside.{SinkState}
 use Rattle.feed_tool.specs.Status.{code_of}
 use Rattle.feed_tool.specs.StoreFaults.{load_fault}
 

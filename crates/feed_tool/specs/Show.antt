@@ -12,7 +12,7 @@ use Rattle.atom_writer.specs.declared.doc.Kind.TheVariants.{Subscription, Archiv
 use Rattle.atom_writer.specs.Doc.{DocValue, IsDoc}
 use Rattle.atom_writer.specs.Pieces.{text}
 use Rattle.atom_grammar.specs.Refusal.{IsNoDocument, IsPlaceOfRefusal}
-use Rattle.feed_tool.specs.Outside.{SourceState}
+use Rattle.doc_source.specs.Outside.{SourceState}
 use Rattle.feed_tool.specs.declared.fault.Refusal.TheVariants.{TooLong, BadDocument}
 use Rattle.feed_tool.specs.declared.status.Status.TheVariants.{Done}
 use Rattle.feed_tool.specs.Answer.{Answer}

@@ -4,6 +4,7 @@ pub mod apply;
 pub mod init;
 mod line;
 mod lines;
+pub mod pile;
 pub mod serve;
 pub mod show;
 pub mod store;

@@ -13,18 +13,17 @@
 //! assert_eq!(rt; ended.status, 0);
 //! ```
 //!
-//! The commands are in `commands`. The objects outside the program are traits in `outside`: those of the system are
-//! thin adapters, and those in memory are for tests.
+//! The commands are in `commands`. `outside` has the clock, the input, the output and the TCP of the system, as thin
+//! adapters. The traits that they implement are in the crates below, with objects in memory for tests.
 //!
-//! Stands on `document_server` for the server, on `archive_sealer` and `atom_grammar` for the documents, and on the
-//! crates below them.
+//! Stands on `document_server` for the server, on `doc_source` for piles, the input and the output, on `archive_sealer`
+//! and `atom_grammar` for the documents, and on the crates below them.
 #![tactic(auto)]
 
 mod commands;
 mod fault;
 mod laws;
 mod outside;
-mod print;
 mod run;
 mod status;
 #[cfg(test)]

@@ -10,23 +10,25 @@ ghost use Rattle.feed_recovery.specs.Stored.{OpensTo, Stored};
 ghost use Rattle.feed_tool.specs.Crash.{AddsNothing, AppliesSafely, MakesStoreAt, OpensToApplied};
 ghost use Rattle.feed_tool.specs.Fault.{fault_answer, HasAnswer, IsRefusal};
 ghost use Rattle.feed_tool.specs.Run.{HasRange, IsDueAnswer, IsGiven, IsSeen, IsUnrefusedBy, IsStatus, IsAnswered};
-ghost use Rattle.feed_tool.specs.Run.{EndsWith, IsAnswering, IsComplete, IsAlone, ServesNot, alone_line};
+ghost use Rattle.feed_tool.specs.Pile.{EndsCut};
+ghost use Rattle.feed_tool.specs.Run.{EndsWith, IsAtOnce, IsComplete, IsAlone, PrintsAtOnce, ServesNot, alone_line};
 ghost use Rattle.feed_tool.specs.Serve.{EndsServing, IsServedWhole};
 ghost use Rattle.feed_tool.specs.Status.{code_of};
 ghost use Rattle.tool_words.specs.Words.{IsCommandOf};
 ghost use Rattle.tool_words.specs.declared.command.Command.{Command as CommandValue};
-ghost use Rattle.tool_words.specs.declared.command.Command.TheVariants.{Init, Apply, Serve};
+ghost use Rattle.tool_words.specs.declared.command.Command.TheVariants.{Init, Apply, Serve, Show as ShowOf};
+ghost use Rattle.tool_words.specs.declared.command.Show.TheVariants.{Pile};
 
 use crate::commands::apply::apply;
 use crate::commands::init::init;
+use crate::commands::pile::show_pile;
 use crate::commands::serve::serve;
 use crate::commands::show::show;
 use crate::commands::store;
 use crate::fault::Fault;
-use crate::outside::{Sink, Source};
-use crate::print::write_all;
 use crate::status::Status;
 use atom_values::{Failed, Many};
+use doc_source::{Sink, Source, write_all};
 use document_server::{Clock, Door, Line};
 use feed_disk::Disk;
 use std::alloc::Global;
@@ -48,7 +50,7 @@ pub struct Ended {
 /// - `apply` applies the lines of the input to the store, each with one moment of the clock, and prints the
 ///   subscription document. `apply W` applies them to an empty history, and uses no store.
 /// - `show` reads the input as one document and prints its summary. `show feed`, `show archive J` and `show member N`
-///   print a document of the store.
+///   print a document of the store, and `show pile` the subscription document and all archives as a pile.
 /// - `serve` serves the feed of the store at an address, one connection after the other, and then prints a line for each.
 ///
 /// At any other end the line of that end is printed. A failure to print that line changes no status.
@@ -75,8 +77,13 @@ pub fn run<D: Disk, C: Clock, L: Door, I: Source, O: Sink>(
         (O.state output.old) (O.state output.new) result.status }
 
     // The other ends print their line, which says nothing of the input and of the store.
-    ensures alone { O.told → ServesNot (map string_bytes words.now) → IsAlone result.status
+    ensures alone { O.told → PrintsAtOnce (map string_bytes words.now) → IsAlone result.status
         → Prints (O.state output.old) (O.state output.new) (alone_line result.status) }
+
+    // `show pile` prints its documents as they are made. The line of a fault comes behind those that were printed.
+    ensures cut { IsCommandOf (map string_bytes words.now) (ShowOf Pile) → O.told
+        → result.status ≢ code_of status.Done → result.status ≢ code_of status.OutputFault
+        → EndsCut (D.state disk.old).content D.told (O.state output.old) (O.state output.new) result.status }
 
     // A fault comes only where the object's count of faults rose, and nothing that was read before it is refused.
     ensures disk_fault { result.status ≡ code_of status.DiskFault
@@ -149,20 +156,23 @@ pub fn run<D: Disk, C: Clock, L: Door, I: Source, O: Sink>(
         }
         Err(WordsFault::NoMemory) => return end_with(alloc, output, Fault::NoMemory),
     };
-    if let Command::Serve { listen, requests } = &command {
-        return serve(alloc, listen.slice(), *requests, disk, clock, door, output);
-    }
-    match answer(alloc, command, disk, clock, input) {
-        Ok(text) => match write_all(output, text.as_slice()) {
-            Ok(()) => end_as(alloc, Status::Done),
-            Err(Failed) => end_as(alloc, Status::OutputFault),
+    match command {
+        Command::Serve { listen, requests } => {
+            serve(alloc, listen.slice(), requests, disk, clock, door, output)
+        }
+        Command::Show(Show::Pile) => show_pile(alloc, disk, output),
+        command => match answer(alloc, command, disk, clock, input) {
+            Ok(text) => match write_all(output, text.as_slice()) {
+                Ok(()) => end_as(alloc, Status::Done),
+                Err(Failed) => end_as(alloc, Status::OutputFault),
+            },
+            Err(fault) => end_with(alloc, output, fault),
         },
-        Err(fault) => end_with(alloc, output, fault),
     }
 }
 
 /// The end of a command that served nothing.
-fn end_as(alloc: Global, status: Status) -> Ended
+pub fn end_as(alloc: Global, status: Status) -> Ended
     ensures status { result.status ≡ code_of status }
     ensures lines { result.lines.items ≡ [] }
 {
@@ -187,7 +197,7 @@ pub fn end_with<O: Sink>(alloc: Global, output: &mut O, fault: Fault) -> Ended
 /// The line for words that name no command. Its names are those of the finished program.
 const USAGE: &[u8] = b"usage: feed_tool init, apply, show, serve, mirror, audit, drill\n";
 
-/// Returns what the command prints at its defined end. `serve` has no such answer, since it depends on the door.
+/// Returns what the command prints at its defined end. `serve` and `show pile` print by themselves.
 fn answer<D: Disk, C: Clock, I: Source>(
     alloc: Global,
     command: Command,
@@ -196,7 +206,7 @@ fn answer<D: Disk, C: Clock, I: Source>(
     input: &mut I,
 ) -> Result<Vec<u8>, Fault>
     requires range { HasRange command }
-    requires prints { IsAnswering command }
+    requires prints { IsAtOnce command }
     ensures answer { IfOk result (λ written. IsSeen command D.told C.told I.told
         → IsGiven command (C.coming clock.old) (I.state input.old).left (D.state disk.old).content
         record { status = status.Done; printed = written.items }) }
@@ -236,6 +246,7 @@ fn answer<D: Disk, C: Clock, I: Source>(
             Show::Feed => store::show_feed(alloc, disk),
             Show::Archive(number) => store::show_archive(alloc, number, disk),
             Show::Member(number) => store::show_member(alloc, number, disk),
+            Show::Pile => unreachable!(),
         },
         Command::Serve { .. } => unreachable!(),
     }

@@ -3,15 +3,16 @@
 mod apply;
 mod faults;
 mod outside;
+mod pile;
 mod serve;
 mod show;
 mod store;
 mod tcp;
 mod words;
 
-use crate::outside::memory::{ListSink, ListSource};
 use crate::run::run;
 use atom_values::{Bytes, ListFault, Many};
+use doc_source::{ListSink, ListSource};
 use document_server::{ScriptDoor, SetClock};
 use feed_disk::MemoryDisk;
 use std::alloc::{AllocError, Global};

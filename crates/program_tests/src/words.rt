@@ -16,7 +16,7 @@ static NEEDED: [(&str, &str); 4] = [
 
 /// Each row has words, separated by single spaces, and what they are read as. `*` means all options that `init` needs,
 /// `*title` only the title, and so on. `_` means a space within a word.
-static ROWS: [(&str, &str); 122] = [
+static ROWS: [(&str, &str); 124] = [
     ("apply", "apply"),
     ("apply 1", "apply 1"),
     ("apply 100", "apply 100"),
@@ -36,6 +36,7 @@ static ROWS: [(&str, &str); 122] = [
     ("show archive 4294967295", "show archive 4294967295"),
     ("show member 001", "show member 1"),
     ("show member 4294967295", "show member 4294967295"),
+    ("show pile", "show pile"),
     ("show archive 0", "usage"),
     ("show archive 4294967296", "usage"),
     ("show member 0", "usage"),
@@ -43,6 +44,7 @@ static ROWS: [(&str, &str); 122] = [
     ("show archive", "usage"),
     ("show archive 7 8", "usage"),
     ("show feed 1", "usage"),
+    ("show pile 1", "usage"),
     ("show page 1", "usage"),
     ("show Feed", "usage"),
     ("show 7", "usage"),
@@ -235,6 +237,7 @@ fn reading(rt: &impl Abort, alloc: Global, words: &[String]) -> Result<String, F
         Command::Show(Show::Feed) => String::from_str(alloc, "show feed")?,
         Command::Show(Show::Archive(number)) => format!(in alloc; "show archive {number}")?,
         Command::Show(Show::Member(number)) => format!(in alloc; "show member {number}")?,
+        Command::Show(Show::Pile) => String::from_str(alloc, "show pile")?,
         Command::Serve { listen, requests } => {
             let listen = str::from_utf8(listen.slice())?;
             format!(in alloc; "serve {listen} {requests}")?

@@ -11,7 +11,7 @@ use Rattle.tool_words.specs.Options.{Given, AreOptions, value_of}
 use Rattle.tool_words.specs.declared.command.Command.{Command}
 use Rattle.tool_words.specs.declared.command.Command.TheVariants.{Init, Apply, Show, Serve}
 use Rattle.tool_words.specs.declared.command.Show.{Show as Shown}
-use Rattle.tool_words.specs.declared.command.Show.TheVariants.{Document, Feed, Archive, Member}
+use Rattle.tool_words.specs.declared.command.Show.TheVariants.{Document, Feed, Archive, Member, Pile}
 
 -- the most operations of a window, and how many it has where the words don't say
 abbrev pub window_limit : ℕ
@@ -101,6 +101,7 @@ IsShow words Document = words ≡ []
 IsShow words Feed = words ≡ codes "feed" ∷ []
 IsShow words (Archive number) = IsNumbered (codes "archive") words number
 IsShow words (Member number) = IsNumbered (codes "member") words number
+IsShow words Pile = words ≡ codes "pile" ∷ []
 
 -- the value is an address to listen at
 pub record IsListen (value : Option (List ℕ)) (listen : List ℕ) : Type 0 where

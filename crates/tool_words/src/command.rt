@@ -39,4 +39,6 @@ pub enum Show {
     Archive(u32),
     /// The document of the store's member of this number, from 1 on.
     Member(u32),
+    /// The store's subscription document and all its archives, as a pile.
+    Pile,
 }

@@ -61,7 +61,11 @@ fn shown(words: &[String]) -> Option<Show>
 {
     match words {
         [] => Some(Show::Document),
-        [kind] if kind.as_str() == "feed" => Some(Show::Feed),
+        [word] => match word.as_str() {
+            "feed" => Some(Show::Feed),
+            "pile" => Some(Show::Pile),
+            _ => None,
+        },
         [kind, word] => {
             let number = number(word.as_bytes(), 1, NUMBER_LIMIT)? as u32;
             match kind.as_str() {

@@ -4,8 +4,8 @@ ghost use Rattle.atom_values.specs.Counts.{HasCause, Rose};
 ghost use Rattle.feed_tool.specs.Lines.{KnowsEnd, FindsLine, HasNoLf, IsTooLong, StopsAmid, IsFirst, TakesEnd, TakesAll, ReadsMore, IsSpent, allowance, stream, with_prefix};
 
 use crate::commands::line::PREFIX_LIMIT;
-use crate::outside::Source;
 use atom_values::{Failed, NoMemory};
+use doc_source::Source;
 use std::alloc::{AllocError, Global};
 use std::marker::Model;
 

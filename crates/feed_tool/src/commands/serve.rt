@@ -2,19 +2,18 @@ ghost use Rattle.std.specs.Prelude.{◌≡◌, ◌≢◌, ◌⊎◌, ◌≤◌, 
 ghost use Rattle.atom_values.specs.Counts.{HasCause, Rose};
 ghost use Rattle.feed_disk.specs.Moments.{LeavesAlone};
 ghost use Rattle.feed_disk.specs.declared.area.Area.TheVariants.{Mirror};
+ghost use Rattle.doc_source.specs.Outside.{TakesPrefix};
 ghost use Rattle.feed_recovery.specs.Stored.{OpensTo, Stored};
 ghost use Rattle.feed_tool.specs.declared.status.Status.TheVariants as status;
-ghost use Rattle.feed_tool.specs.Answer.{TakesPrefix};
 ghost use Rattle.feed_tool.specs.Serve.{EndsServing, IsServedWhole, end_fault, session_answer};
 ghost use Rattle.feed_tool.specs.Serve.{session_line, session_status, session_text};
 ghost use Rattle.feed_tool.specs.Status.{code_of};
 
 use crate::fault::{Fault, FaultLine, line_of, line_of_numbers};
-use crate::outside::Sink;
-use crate::print::write_all;
 use crate::run::Ended;
 use crate::status::Status;
 use atom_values::Failed;
+use doc_source::{Sink, write_all};
 use document_server::{Clock, Door, End, Line};
 use feed_disk::Disk;
 use std::alloc::Global;

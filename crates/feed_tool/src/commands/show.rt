@@ -8,8 +8,8 @@ ghost use Rattle.feed_tool.specs.Show.{IsShown, ReadsWithinLimit};
 
 use crate::commands::summary::summary;
 use crate::fault::{Fault, Refusal};
-use crate::outside::Source;
 use atom_grammar::{MAX_DOCUMENT, ReadFault, read_doc};
+use doc_source::Source;
 use std::alloc::Global;
 
 /// How many bytes are asked of the input at a time.

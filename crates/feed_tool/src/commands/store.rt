@@ -19,7 +19,7 @@ ghost use Rattle.member_rules.specs.declared.operation.Op.{Op};
 use crate::commands::line::line_ask;
 use crate::commands::lines::Lines;
 use crate::fault::{Fault, Refusal};
-use crate::outside::Source;
+use doc_source::Source;
 use document_server::Clock;
 use feed_disk::Disk;
 use feed_recovery::{Store, stores_open_in_one_way};

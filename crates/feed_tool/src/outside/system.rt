@@ -3,8 +3,8 @@
 
 ghost use Rattle.std.specs.Prelude.{[]};
 
-use crate::outside::{Sink, Source};
 use atom_values::Failed;
+use doc_source::{Sink, Source};
 use document_server::Clock;
 use std::io::{ErrorKind, Read, Write};
 use std::rt;

@@ -3,8 +3,8 @@
 ghost use Rattle.std.specs.Prelude.{◌≤◌, IfOk};
 
 use crate::outside::system::{InputSource, OutputSink};
-use crate::outside::{Sink, Source};
 use atom_values::Failed;
+use doc_source::{Sink, Source};
 use std::io::{self, Error, ErrorKind, Read, Write};
 
 /// A reader and writer of which a signal interrupts the first two calls. The third call moves one byte, and all later

@@ -2,9 +2,9 @@
 
 use super::store::{disk_of, init};
 use super::{NOW, clock_of, listed, words_of};
-use crate::outside::memory::{ListSink, ListSource};
 use crate::run::run;
 use atom_values::{Bytes, Many};
+use doc_source::{ListSink, ListSource};
 use document_server::ScriptDoor;
 use http_face::ScriptConn;
 use std::alloc::Global;

@@ -1,10 +1,10 @@
 //! `init`, and `apply` and `show` of a store, on a disk in memory. Calls on a disk are in functions over any `Disk`,
 //! since their proofs are shorter.
 
-use crate::outside::memory::{ListSink, ListSource};
 use crate::run::run;
 use crate::tests::{NOW, OPENING, clock_of, words_of};
 use atom_values::{Bytes, Many};
+use doc_source::{ListSink, ListSource};
 use document_server::ScriptDoor;
 use feed_disk::{Area, Choice, Disk, MemoryDisk};
 use std::alloc::Global;
@@ -36,16 +36,27 @@ pub fn disk_of(alloc: Global, failing: Many<u64, 64>) -> Result<MemoryDisk, Fail
 }
 
 /// Runs a command with the clock at `NOW`, and returns its status and what is printed.
-fn ran<D: Disk>(
+pub fn ran<D: Disk>(
     alloc: Global,
     disk: &mut D,
     words: &[&str],
     input: &[u8],
 ) -> Result<(u8, Vec<u8>), Fail> {
+    ran_failing(alloc, disk, words, input, Many::new(alloc))
+}
+
+/// Runs a command as `ran` does, with an output of which these calls fail.
+pub fn ran_failing<D: Disk>(
+    alloc: Global,
+    disk: &mut D,
+    words: &[&str],
+    input: &[u8],
+    failing: Many<u64, 64>,
+) -> Result<(u8, Vec<u8>), Fail> {
     let words = words_of(alloc, words)?;
     let mut clock = clock_of(alloc, (NOW, NOW))?;
     let mut source = ListSource::new(Bytes::of(alloc, input)?, Many::new(alloc));
-    let mut sink = ListSink::new(alloc, Many::new(alloc));
+    let mut sink = ListSink::new(alloc, failing);
     let mut door = ScriptDoor::new(alloc, Many::new(alloc), Many::new(alloc))?;
     let ended = run(
         alloc,

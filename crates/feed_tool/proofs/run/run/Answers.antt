@@ -1,14 +1,19 @@
 use Rattle.std.proofs.Common.{◌≡◌, ⊎_elim, None, refl, sym, subst, ap, ◌∙◌, arith}
 use Rattle.std.proofs.lemmas.Result.{on_ok_weaker}
-use Rattle.tool_words.specs.declared.command.Command.TheVariants.{Init, Apply, Serve}
-use Rattle.feed_tool.specs.declared.fault.Fault.TheVariants.{Disk}
+use Rattle.tool_words.specs.declared.command.Command.TheVariants.{Init, Apply, Serve, Show}
+use Rattle.tool_words.specs.declared.command.Show.TheVariants.{Pile}
+use Rattle.tool_words.specs.declared.command.Command.{Command}
+use Rattle.feed_tool.specs.declared.fault.Fault.TheVariants.{Disk, NoMemory}
+use Rattle.feed_tool.specs.Answer.{Answer}
 use Rattle.feed_tool.specs.Crash.{AddsNothing}
 use Rattle.feed_tool.specs.Fault.{fault_answer}
+use Rattle.feed_tool.specs.Run.{EndsWith, IsAnswered, IsComplete, IsDueAnswer, IsSeen}
 use Rattle.feed_tool.specs.Status.{code_of}
 use Rattle.feed_tool.proofs.DiskLemmas.{applies-weaker, makes-none, makes-weaker}
 use Rattle.feed_tool.proofs.EndLemmas.{answered-refusal, no_door, no_end, no_output}
+use Rattle.feed_tool.proofs.PileEndLemmas.{cut-at-once, pile-is_status}
 use Rattle.feed_tool.proofs.PrintLemmas.{alone-fault, prints-from}
-use Rattle.feed_tool.proofs.RunLemmas.{ends-done, ends-refused, ends-unsent, no_command, read_all, read_serve, same_requests}
+use Rattle.feed_tool.proofs.RunLemmas.{ends-done, ends-refused, ends-unsent, no_command, read_all, read_as, read_only, same_requests}
 use Rattle.feed_tool.proofs.RunLemmas.{serve-status, usage}
 use Rattle.feed_tool.proofs.run.run.Goals as goal
 
@@ -133,9 +138,9 @@ pub returns-in-Serve-clause-statuses : goal.returns-in-Serve-clause-statuses
 returns-in-Serve-clause-statuses g c = serve-status c.serve.result.status c.serve.ensures.statuses
 
 pub returns-in-Serve-clause-alone : goal.returns-in-Serve-clause-alone
-returns-in-Serve-clause-alone g c = λ sink others.
-    absurd (others _ _ (read_serve _ c.read_words.result c.in-Ok.command _ _ c.in-Ok.is c.in-Serve.is
-    c.read_words.ensures.found))
+returns-in-Serve-clause-alone g c = λ sink once.
+    absurd (once (Serve c.in-Serve.listen c.in-Serve.requests) (read_as _ c.read_words.result c.in-Ok.command _
+    c.in-Ok.is c.in-Serve.is c.read_words.ensures.found))
 
 pub returns-in-Serve-clause-safe : goal.returns-in-Serve-clause-safe
 returns-in-Serve-clause-safe g c = read_all _ c.read_words.result c.in-Ok.command _ c.in-Ok.is
@@ -148,14 +153,33 @@ returns-in-Serve-clause-serves g c =
 
 pub returns-in-Serve-clause-no_lines : goal.returns-in-Serve-clause-no_lines
 returns-in-Serve-clause-no_lines g c = λ others.
-    absurd (others _ _ (read_serve _ c.read_words.result c.in-Ok.command _ _ c.in-Ok.is c.in-Serve.is
+    absurd (others _ _ (read_as _ c.read_words.result c.in-Ok.command _ c.in-Ok.is c.in-Serve.is
     c.read_words.ensures.found))
 
 pub returns-in-Serve-clause-no_door : goal.returns-in-Serve-clause-no_door
 returns-in-Serve-clause-no_door g c = λ others.
-    absurd (others _ _ (read_serve _ c.read_words.result c.in-Ok.command _ _ c.in-Ok.is c.in-Serve.is
+    absurd (others _ _ (read_as _ c.read_words.result c.in-Ok.command _ c.in-Ok.is c.in-Serve.is
     c.read_words.ensures.found))
 
 pub returns-clause-door_fault : goal.returns-clause-door_fault
 returns-clause-door_fault g c = λ is.
     absurd (no_door c.in-Err.fault (sym c.end_with-in-Err.ensures.status ∙ is))
+
+pub returns-in-Err-Usage-clause-cut : goal.returns-in-Err-Usage-clause-cut
+returns-in-Err-Usage-clause-cut g c = λ of_words.
+    absurd (no_command _ c.read_words.result (usage c.in-Err-Usage.is c.in-Err-Usage.field-0-is)
+    c.read_words.ensures.only (Show Pile) of_words)
+
+pub returns-in-Err-NoMemory-clause-cut : goal.returns-in-Err-NoMemory-clause-cut
+returns-in-Err-NoMemory-clause-cut g c = λ of_words sink done output.
+    cut-at-once _ _ _ _ NoMemory _ c.end_with.ensures.status (c.end_with.ensures.prints sink)
+
+pub returns-in-Show-Pile-clause-statuses : goal.returns-in-Show-Pile-clause-statuses
+returns-in-Show-Pile-clause-statuses g c = pile-is_status c.show_pile.result.status c.show_pile.ensures.statuses
+
+pub returns-in-Ok-answer-clause-opens : goal.returns-in-Ok-answer-clause-opens
+returns-in-Ok-answer-clause-opens g c = λ of_words disk clock source answered.
+    c.in-Ok-answer.ensures.opens
+    (read_all _ c.read_words.result c.in-Ok.command (λ command. c.in-Ok.command ≡ command) c.in-Ok.is
+    c.read_words.ensures.only refl (Apply None) of_words)
+    disk clock source tt

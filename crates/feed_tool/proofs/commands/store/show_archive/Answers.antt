@@ -1,13 +1,15 @@
-use Rattle.std.proofs.Common.{◌≡◌, Err, ap, ◌∙◌}
+use Rattle.std.proofs.Common.{◌≡◌, Err, ap, subst, ◌∙◌}
+use Rattle.atom_values.specs.Counts.{Rose}
 use Rattle.std.proofs.lemmas.Result.{err_from_is_err_and}
 use Rattle.feed_disk.specs.declared.area.Area.TheVariants.{Journal, Sealed, Mirror}
 use Rattle.feed_disk.proofs.MomentLemmas.{alone_joins}
 use Rattle.feed_recovery.specs.Settled.{OpensPast}
 use Rattle.feed_recovery.specs.declared.fault.ArchiveFault.TheVariants.{DiskFault}
 use Rattle.feed_recovery.specs.Stored.{stored_of}
+use Rattle.feed_tool.specs.declared.fault.Fault.TheVariants.{Disk, Input}
 use Rattle.feed_tool.specs.StoreFaults.{archive_fault}
 use Rattle.feed_tool.specs.Stored.{archive_answer}
-use Rattle.feed_tool.proofs.AnswerOnLemmas.{answer-bad, answer-on, archive-refused, archive-sealed}
+use Rattle.feed_tool.proofs.AnswerOnLemmas.{answer-bad, answer-on, archive-disk, archive-input, archive-refused, archive-sealed}
 use Rattle.feed_recovery.proofs.BothLemmas.{both_joins}
 use Rattle.feed_recovery.proofs.PastLemmas.{both_alone}
 use Rattle.feed_tool.proofs.StoreLemmas.{opens-same}
@@ -53,6 +55,23 @@ returns-in_err-archive-clause-disk_faults g c =
     c.in_err-archive.ensures.unfailed
     (λ e. let is : c.in_err-archive.field-0.0 ≡ DiskFault = cc in other (ap (λ f. Err (archive_fault f)) is))
     ∙ c.in_ok-store.ensures.unfailed (λ e. cc))
+
+pub returns-in_err-archive-clause-disk : goal.returns-in_err-archive-clause-disk
+returns-in_err-archive-clause-disk g c =
+    let p = err_from_is_err_and c.from_residual-in_err-archive.result c.from_residual-in_err-archive.ensures.1 in
+    let fault = c.in_err-archive.field-0.0 in
+    rw (p.1, p.2) (λ e.
+    let is : archive_fault fault ≡ Disk = cc in
+    let same : (g.D.Disk.state c.load.new.disk).faults ≡ (g.D.Disk.state c.args.disk.now).faults =
+    c.in_ok-store.ensures.unfailed (λ e. cc) in
+    subst (λ n. Rose n (g.D.Disk.state c.archive.new.disk).faults) same
+    (c.in_err-archive.ensures.failed (ap Err (archive-disk fault is))))
+
+pub returns-in_err-archive-clause-own : goal.returns-in_err-archive-clause-own
+returns-in_err-archive-clause-own g c =
+    let p = err_from_is_err_and c.from_residual-in_err-archive.result c.from_residual-in_err-archive.ensures.1 in
+    let fault = c.in_err-archive.field-0.0 in
+    rw (p.1, p.2) (λ e. let is : archive_fault fault ≡ Input = cc in archive-input fault is)
 
 pub returns-clause-answer : goal.returns-clause-answer
 returns-clause-answer g c = λ told.

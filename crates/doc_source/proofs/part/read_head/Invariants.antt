@@ -1,0 +1,12 @@
+use Rattle.std.proofs.Common.{◌≡◌, ◌-◌}
+use Rattle.doc_source.specs.Intake.{TakesMore}
+use Rattle.doc_source.proofs.part.read_head.Given as goal
+
+abbrev pub invariant-loop-intake : goal.invariant-loop-intake
+invariant-loop-intake g l = record {
+  takes : TakesMore g.S.Source.told l.fn.intake l.intake (g.S.Source.state l.fn.source) (g.S.Source.state l.source);
+  faults : (g.S.Source.state l.source).faults ≡ (g.S.Source.state l.fn.source).faults;
+}
+
+abbrev pub decreases-loop-intake : goal.decreases-loop-intake
+decreases-loop-intake g l = l.intake.limit - l.intake.taken

@@ -1,0 +1,6 @@
+pub mod Outside
+pub mod Pile
+pub mod Intake
+pub mod Line
+pub mod Part
+pub mod Laws

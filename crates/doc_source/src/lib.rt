@@ -1,0 +1,42 @@
+//! Piles of documents: a reader and a writer, and the traits of the source and the sink that they work on.
+//!
+//! Begin with [`PileReader::new`], and call [`PileReader::next`] until it returns `None`:
+//!
+//! ```
+//! let mut reader = PileReader::new(alloc, 1_073_741_824)?;
+//! while let Some(offer) = reader.next(&mut source)? {
+//!     write_offer(&mut sink, offer.address.slice(), offer.bytes.slice())?;
+//! }
+//! ```
+//!
+//! A pile is the line `pile 1` and any number of offers, up to the end of the source. An offer is an address, a space,
+//! the number of its bytes in decimal, LF, the bytes, and LF. An address has 1 to 1,024 bytes, and no space and no LF.
+//! The bytes are at most 67,108,864.
+//!
+//! `next` returns exactly the offers of the pile, one at a time, and `None` exactly at its end. It refuses a pile that
+//! is cut short or malformed with an offset, and one that is over the limit with the limit. `write_pile_head` and
+//! `write_offer` send exactly the bytes of a pile, or a prefix if a call of the sink failed.
+//!
+//! [`ListSource`] and [`ListSink`] are a source and a sink in memory, for tests.
+//!
+//! The crate stands on `itoa` and `arrayvec` for numbers in decimal, and on `atom_values` for bytes and failures.
+#![tactic(auto)]
+
+mod fault;
+mod intake;
+mod laws;
+mod line;
+mod memory;
+mod offer;
+mod outside;
+mod part;
+mod reader;
+mod write;
+
+pub use fault::PileFault;
+pub use laws::piles_have_one_reading;
+pub use memory::{ListSink, ListSource};
+pub use offer::Offer;
+pub use outside::{Sink, Source};
+pub use reader::PileReader;
+pub use write::{write_all, write_offer, write_pile_head};
