@@ -1,0 +1,150 @@
+ghost use Rattle.std.specs.Prelude.{◌≡◌, ◌≢◌, [], false, IfSome, None, Some, option_map, option_copied};
+ghost use Rattle.chain_links.specs.Address.{IsAddress};
+ghost use Rattle.chain_links.specs.declared.address.Address.{Address};
+ghost use Rattle.member_rules.specs.Chain.{place_of};
+ghost use Rattle.mirror_walk.specs.Holding.{archive_at, best_of, digest_at, first_missing, name_of_best};
+
+use atom_writer::{Doc, FeedName};
+use chain_links::{Address, Base, Place};
+use std::alloc::Global;
+use std::collections::BTreeMap;
+use std::marker::Model;
+
+/// A document that a mirror took, and the SHA-256 digest of its bytes.
+#[derive(Debug, Drop)]
+pub(crate) struct Kept {
+    pub(crate) document: Doc,
+    pub(crate) digest: [u8; 32],
+}
+
+/// The best subscription document: its index among the documents taken, and the greatest archive that it
+/// needs and that isn't held, or 0.
+#[derive(Clone, Copy, Debug)]
+pub(crate) struct Best {
+    pub(crate) at: usize,
+    pub(crate) missing: u32,
+}
+
+/// The entry of a live member: the index of its document among those taken, and the index of the item in it.
+#[derive(Clone, Copy, Debug)]
+pub(crate) struct EntryPlace {
+    pub(crate) document: usize,
+    pub(crate) item: usize,
+}
+
+/// A mirror of one feed, in memory: the documents that it took of those offered to it.
+///
+/// Contracts see the base, the documents taken with their digests, in order, and whether the live entries are
+/// listed. Beside the documents the mirror keeps where each archive and the best subscription document is, so
+/// that an offer looks at no other document.
+#[derive(Drop)]
+pub struct Held {
+    pub(crate) alloc: Global,
+    pub(crate) base: Base,
+    pub(crate) kept: Vec<Kept>,
+    /// The index among the documents taken of each archive, by its number.
+    pub(crate) archives: BTreeMap<u32, usize>,
+    pub(crate) best: Option<Best>,
+    /// The live entries by the members' numbers, if they are listed.
+    pub(crate) live: Option<BTreeMap<u32, EntryPlace>>,
+}
+
+impl Model for Held {
+    ghost use Rattle.std.specs.Prelude.{is_some};
+    ghost use Rattle.mirror_walk.specs.Holding.{HeldValue};
+    ghost use Rattle.mirror_walk.specs.Index.{IsIndexed};
+
+    ghost Value = { HeldValue };
+
+    ghost view = { λ h. record { base = h.base; kept = h.kept.items; listed = is_some h.live } };
+
+    ghost invariant = { λ h. IsIndexed h.kept.items h.archives h.best h.live };
+}
+
+impl Held {
+    /// A mirror of the feed below this base that holds no document. Takes no memory.
+    pub fn new(alloc: Global, base: Base) -> Held
+        ensures base { result.base ≡ base }
+        ensures empty { result.kept ≡ [] }
+        ensures unlisted { result.listed ≡ false }
+    {
+        Held {
+            alloc,
+            base,
+            kept: Vec::new(alloc),
+            archives: BTreeMap::new(alloc),
+            best: None,
+            live: None,
+        }
+    }
+
+    /// The held archive of this number.
+    pub(crate) fn archive(&self, number: u32) -> Option<&Kept>
+        ensures { option_copied result ≡ archive_at self.now.kept number }
+    {
+        self.kept.get(*self.archives.get(&number)?)
+    }
+
+    /// The held subscription document with the greatest `last`.
+    pub(crate) fn best_kept(&self) -> Option<&Kept>
+        ensures { option_copied result ≡ best_of self.now.kept }
+    {
+        self.kept.get(self.best?.at)
+    }
+
+    /// The place of the best subscription document in the chain. `None` if no subscription document is held.
+    /// Takes no memory.
+    pub fn best(&self) -> Option<Place>
+        ensures { result ≡ option_map (λ kept. place_of kept.document) (best_of self.now.kept) }
+    {
+        Some(self.best_kept()?.document.place())
+    }
+
+    /// The feed's name as the best subscription document states it. `None` if no subscription document is
+    /// held.
+    pub fn name(&self) -> Option<&FeedName>
+        ensures { option_copied result ≡ name_of_best self.now.kept }
+    {
+        Some(&self.best_kept()?.document.name)
+    }
+
+    /// The SHA-256 digest of the bytes of the best subscription document for `Feed`, and of the held archive
+    /// for an archive. `None` for a document that isn't held, and for a member. Takes no memory.
+    pub fn digest(&self, address: Address) -> Option<[u8; 32]>
+        ensures { result ≡ digest_at self.now.kept address }
+    {
+        let kept = match address {
+            Address::Feed => self.best_kept()?,
+            Address::Archive(number) => self.archive(number)?,
+            Address::Member(_) => return None,
+        };
+        Some(kept.digest)
+    }
+
+    /// The first missing document: the subscription document if none is held, else the greatest archive that
+    /// the best one needs, from its `prev` down to 1, and that isn't held. `None` if none is missing.
+    ///
+    /// Takes no memory, and the same time however many documents are held.
+    pub fn wanted(&self) -> Option<Address>
+        ensures missing { result ≡ first_missing self.now.kept }
+        ensures address { IfSome result IsAddress }
+    {
+        match self.best {
+            None => Some(Address::Feed),
+            Some(best) => archive_address(best.missing),
+        }
+    }
+}
+
+/// The address of the archive with this number. `None` for 0.
+fn archive_address(number: u32) -> Option<Address>
+    ensures none { number ≡ 0 → result ≡ None }
+    ensures some { number ≢ 0 → result ≡ Some (Address.Archive number) }
+    ensures address { IfSome result IsAddress }
+{
+    if number == 0 {
+        None
+    } else {
+        Some(Address::Archive(number))
+    }
+}
