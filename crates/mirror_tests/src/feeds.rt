@@ -69,7 +69,8 @@ pub fn entry(rt: &impl Abort, alloc: Global, number: u32, title: &[u8], moment: 
     Draft::titled(alloc, title).normal(number, moment, None)
 }
 
-/// A feed with windows of four operations, each of which makes a member with one of these letters as its title.
+/// A feed with windows of four operations. Each operation makes a member with one of these letters, of which
+/// up to 100 count, as its title.
 pub fn letters(rt: &impl Abort, alloc: Global, titles: &[u8]) -> Feed {
     let mut history = Vec::new(alloc);
     for at in 0..titles.len().min(100) {

@@ -1,5 +1,5 @@
-//! Piles of documents of a history of 200 operations, in any order, with losses and repeats: a mirror shows the plain
-//! fold.
+//! Piles of documents of a history of 200 operations, in any order, with losses and repeats: a mirror shows
+//! the plain fold.
 
 ghost use Rattle.std.specs.Prelude.{◌≤◌, length};
 
@@ -153,9 +153,8 @@ fn folded(rt: &impl Abort, alloc: Global, history: &[Op], name: &FeedName) -> Ve
     let mut all = Vec::new(alloc);
     for before in 0..plain_count(history) {
         if let State::Live { version, .. } = plain_state(history, before + 1) {
-            if let Some(Op::Add(entry) | Op::Change(entry)) = history.get(
-                (version as usize).saturating_sub(1),
-            ) {
+            let at = (version as usize).saturating_sub(1);
+            if let Some(Op::Add(entry) | Op::Change(entry)) = history.get(at) {
                 let text = write_member(alloc, name, entry).expect(rt, "memory");
                 all.extend_from_slice(text.as_slice()).expect(rt, "memory");
             }
@@ -174,8 +173,8 @@ fn draw(seed: u64, sealed: u32) -> Given {
     }
 }
 
-/// Offers drawn documents to a new mirror, and compares each answer, each outcome, and the entries at the end. Returns
-/// whether the mirror was complete at the end.
+/// Offers drawn documents to a new mirror, and compares each answer, each outcome, and the entries at the
+/// end. Returns whether the mirror was complete at the end.
 fn expect(rt: &impl Abort, alloc: Global, feed: &Feed, sealed: u32, round: u64) -> bool {
     let mut held = Held::new(alloc, base(rt, alloc, "http://feed.example/"));
     let mut drawn = Drawn {
