@@ -197,6 +197,31 @@ cp "$work/output" "$work/feed"
 stored show pile
 { echo 'pile 1'; offered feed "$work/feed"; offered archive/1 "$work/archive"; } >"$work/pile"
 masked <"$work/pile" | compare 'show pile' 0
+# a mirror of that pile is complete, and one without the archive names it
+cp "$work/output" "$work/input"
+ran mirror --base http://feed.example/ --report
+compare 'mirror of a pile' 0 <<'TEXT'
+offers 2 0 0 0
+entry 1 NOW a
+entry 2 NOW b
+entry 3 NOW c
+entry 4 NOW d
+entry 5 NOW e
+complete 5 5
+TEXT
+{ echo 'pile 1'; offered feed "$work/feed"; offered feed "$work/feed"; offered feed "$work/archive"; } >"$work/input"
+ran mirror --report --base=http://feed.example/
+compare 'mirror without the archive' 3 <<'TEXT'
+refused http://feed.example/feed WrongAddress
+offers 1 1 0 1
+missing http://feed.example/archive/1
+TEXT
+{ echo 'pile 1'; offered feed "$work/feed"; echo 'http://feed.example/archive/1 9'; } >"$work/input"
+ran mirror --base http://feed.example/ --report
+echo "bad pile $(($(wc -c <"$work/input") - 32))" | compare 'mirror of a pile that is cut' 10
+: >"$work/input"
+ran mirror --base http://feed.example/
+echo "$usage" | compare 'mirror without --report' 2
 printf 'remove 5\nsubtract\nadd f\n' >"$work/input"
 stored apply
 echo 'bad line 2' | compare 'a bad line on a store' 10

@@ -94,7 +94,7 @@ impl PileReader {
             ≡ used_text self.old.used result ++ unused self.new (S.state source.new) }
         ensures used { self.new.used ≡ self.old.used + length (used_text self.old.used result) }
         ensures limit { self.new.limit ≡ self.old.limit }
-        ensures bound { self.new.used ≤ self.new.limit }
+        ensures bound { self.new.used + length self.new.ahead ≤ self.new.limit }
         ensures rules { IfOk result (λ found. IfSome found IsOffer) }
 
         ensures failed { result ≡ Err PileFault.SourceFault
@@ -124,7 +124,7 @@ impl PileReader {
             ≡ used_text self.old.used result ++ unused self.new (S.state source.new) }
         ensures used { self.new.used ≡ self.old.used + length (used_text self.old.used result) }
         ensures limit { self.new.limit ≡ self.old.limit }
-        ensures bound { self.new.used ≤ self.new.limit }
+        ensures bound { self.new.used + length self.new.ahead ≤ self.new.limit }
         ensures rules { IfOk result (λ found. IfSome found IsOffer) }
         ensures failed { result ≡ Err PileFault.SourceFault
             → Rose (S.state source.old).faults (S.state source.new).faults }

@@ -1,6 +1,5 @@
 -- Each command has one answer.
 use Rattle.std.proofs.Common.{◌≡◌, inl, inr, ℕ, List, Some, None, sym, ap, ◌∙◌, arith}
-use Rattle.atom_grammar.specs.Refusal.{IsPlaceOfRefusal}
 use Rattle.atom_grammar.proofs.RefusalLemmas.{one_reading}
 use Rattle.feed_recovery.specs.Stored.{OpensTo, Stored}
 use Rattle.feed_tool.specs.declared.fault.Refusal.TheVariants.{BadDocument}
@@ -9,18 +8,15 @@ use Rattle.feed_disk.specs.declared.area.Area.{Area}
 use Rattle.feed_disk.specs.declared.area.Area.TheVariants.{Journal, Sealed}
 use Rattle.feed_recovery.specs.Opening.{OpensInOneWay}
 use Rattle.tool_words.specs.declared.command.Command.{Command}
-use Rattle.tool_words.specs.declared.command.Command.TheVariants.{Init, Apply, Serve, Show}
+use Rattle.tool_words.specs.declared.command.Command.TheVariants.{Init, Apply, Serve, Show, Mirror}
 use Rattle.tool_words.specs.declared.command.Show.TheVariants.{Document, Feed, Archive, Member, Pile}
 use Rattle.feed_tool.specs.Answer.{Answer}
 use Rattle.feed_tool.specs.Fault.{refusal_answer}
 use Rattle.feed_tool.specs.Show.{IsShown, IsPast, IsSummary, IsBadDocument, summary}
 use Rattle.feed_tool.specs.Run.{IsOfStore, OneAnswer, stored_answer}
 use Rattle.feed_tool.specs.Stored.{IsInitAnswer}
-
--- bytes are refused at one place
-place_once : (input : List ℕ) (at other : ℕ) → IsPlaceOfRefusal input at → IsPlaceOfRefusal input other → at ≡ other
-place_once input at other p q =
-    omega (arith, p.place, q.place, p.longest q.read q.some q.there, q.longest p.read p.some p.there)
+use Rattle.feed_tool.proofs.OneMirroredLemmas.{mirrored-once}
+use Rattle.feed_tool.proofs.PlaceLemmas.{place_once}
 
 past_once : (input : List ℕ) (one other : Answer) → IsPast input one → IsShown input other → one ≡ other
 past_once input one other p (inl q) = p.is ∙ sym q.is
@@ -73,6 +69,7 @@ answer_once law (Apply None) moments input content one other p q =
     of_store_once law (Apply None) moments input content one other p q
 answer_once law (Apply (Some window)) moments input content one other p q = sym p ∙ q
 answer_once law (Serve listen requests) moments input content one other p q = absurd p
+answer_once law (Mirror base) moments input content one other p q = mirrored-once base input one other p q
 answer_once law (Show Document) moments input content one other p q = shown_once input one other p q
 answer_once law (Show Feed) moments input content one other p q =
     of_store_once law (Show Feed) moments input content one other p q

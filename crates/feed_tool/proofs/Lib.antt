@@ -8,6 +8,8 @@ pub mod CommandLemmas
 pub mod DiskLemmas
 -- `run`
 pub mod EndLemmas
+-- `mirror`: the live entries in order of number
+pub mod EntriesLemmas
 -- `history_of`, clauses `refused` and `unrefused`
 pub mod FaultLemmas
 -- `history_of`, clauses `history` and `lawful`
@@ -20,6 +22,12 @@ pub mod LineLemmas
 pub mod LinesLemmas
 -- the commands on a store: what a crash leaves
 pub mod MomentsLemmas
+-- `mirror`: the offers of a pile, one after another
+pub mod OffersLemmas
+-- `commands_have_one_answer`: an input of `mirror` has one answer
+pub mod OneMirroredLemmas
+-- `commands_have_one_answer`: bytes are refused at one place
+pub mod PlaceLemmas
 -- `show pile`: how the program ends
 pub mod PileEndLemmas
 -- `show pile`: the documents that the output took
@@ -34,6 +42,8 @@ pub mod RoomLemmas
 pub mod RunLemmas
 -- `serve`: what is printed, and how the program ends
 pub mod ServeLemmas
+-- `mirror`, clause `mirrored`
+pub mod ServedReportLemmas
 -- `show`, clause `shown`
 pub mod ShowLemmas
 -- the loops over the lines of an input

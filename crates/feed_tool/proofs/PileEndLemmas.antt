@@ -1,5 +1,5 @@
 -- `show pile`: how the program ends behind a pile.
-use Rattle.std.proofs.Common.{◌≡◌, ◌⊎◌, inl, inr, ℕ, List, [], ◌++◌, Result, Err, refl, sym, ap, subst, ◌∙◌, append-nil, arith}
+use Rattle.std.proofs.Common.{◌≡◌, ◌⊎◌, inl, inr, ⊎_elim, ℕ, List, [], ◌++◌, Result, Err, refl, sym, ap, subst, ◌∙◌, append-nil, arith}
 use Rattle.atom_values.specs.Counts.{Rose}
 use Rattle.doc_source.specs.Outside.{SinkState, TakesPrefix}
 use Rattle.feed_disk.specs.declared.area.Area.{Area}
@@ -11,12 +11,12 @@ use Rattle.feed_tool.specs.declared.status.Status.TheVariants as ends
 use Rattle.feed_tool.specs.Answer.{Prints}
 use Rattle.feed_tool.specs.Fault.{IsRefusal, fault_answer}
 use Rattle.feed_tool.specs.Pile.{EndsCut, MayEndPile, pile_answer, pile_of}
-use Rattle.feed_tool.specs.Run.{EndsWith, IsStatus}
+use Rattle.feed_tool.specs.Run.{EndsWith, IsDone, IsStatus}
 use Rattle.feed_tool.specs.Status.{code_of}
 use Rattle.feed_tool.specs.Stored.{IsBadStore}
 use Rattle.tool_words.specs.declared.command.Command.TheVariants.{Show}
 use Rattle.tool_words.specs.declared.command.Show.TheVariants.{Pile}
-use Rattle.feed_tool.proofs.EndLemmas.{no_end}
+use Rattle.feed_tool.proofs.EndLemmas.{no_done}
 
 -- a fault under its own name
 pub failed-by : {result : Result (Unit {0}) PrintFault} {fault other : PrintFault} → result ≡ Err fault → fault ≡ other
@@ -54,9 +54,9 @@ module _ (content : Area → List ℕ) (moments : ℕ → ℕ) (input : List ℕ
   ends-unpiled stored opens failed prefix rose = record {
     answer = pile_answer stored;
     is = inl record { stored = stored; opens = opens; is = refl };
-    status = inr (failed, refl);
+    status = inr (failed, inl refl);
     prints = λ seen. record { prefix = prefix seen; whole = λ none. absurd (none rose) };
-    whole = λ seen done. absurd (omega (arith, failed, done));
+    whole = λ seen. ⊎_elim (λ done. absurd (omega (arith, failed, done))) (λ done. absurd (omega (arith, failed, done)));
   }
 
   -- the content opens to no store
@@ -68,7 +68,7 @@ module _ (content : Area → List ℕ) (moments : ℕ → ℕ) (input : List ℕ
     is = inr bad;
     status = inl is;
     prints = prints;
-    whole = λ seen done. absurd (no_end fault (sym is ∙ done));
+    whole = λ seen done. absurd (no_done fault (subst IsDone is done));
   }
 
 -- memory ran out before the store was loaded: the line stands alone

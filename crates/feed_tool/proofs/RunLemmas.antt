@@ -4,7 +4,7 @@ use Rattle.feed_disk.specs.declared.area.Area.{Area}
 use Rattle.tool_words.specs.Words.{IsCommandOf}
 use Rattle.tool_words.specs.declared.command.Command.{Command}
 use Rattle.tool_words.specs.declared.fault.WordsFault.{WordsFault}
-use Rattle.tool_words.specs.declared.command.Command.TheVariants.{Serve}
+use Rattle.tool_words.specs.declared.command.Command.TheVariants.{Serve, Mirror}
 use Rattle.tool_words.specs.declared.fault.WordsFault.TheVariants.{NoMemory, Usage}
 use Rattle.feed_tool.specs.declared.fault.Fault.{Fault}
 use Rattle.feed_tool.specs.declared.status.Status.TheVariants.{Done}
@@ -12,9 +12,10 @@ use Rattle.feed_tool.specs.declared.status.Status.TheVariants as ends
 use Rattle.feed_tool.specs.Answer.{Prints}
 use Rattle.feed_tool.specs.Fault.{fault_answer}
 use Rattle.doc_source.specs.Outside.{SinkState}
-use Rattle.feed_tool.specs.Run.{EndsWith, IsGiven, IsStatus}
+use Rattle.feed_tool.specs.Run.{EndsWith, IsDone, IsGiven, IsStatus}
+use Rattle.feed_tool.specs.Mirror.{MayEndMirror}
 use Rattle.feed_tool.specs.Status.{code_of}
-use Rattle.feed_tool.proofs.EndLemmas.{no_end}
+use Rattle.feed_tool.proofs.EndLemmas.{no_done}
 use Rattle.feed_tool.proofs.ServeLemmas.{IsServeCode}
 
 -- what holds of the command that was read holds of each command of the words
@@ -49,9 +50,9 @@ module _ (command : Command) (moments : ℕ → ℕ) (input : List ℕ) (content
   ends-unsent text given prints = record {
     answer = record { status = Done; printed = text };
     is = given.is;
-    status = inr (refl, refl);
+    status = inr (refl, inl refl);
     prints = prints;
-    whole = λ seen e. absurd (omega (arith, e));
+    whole = λ seen. ⊎_elim (λ e. absurd (omega (arith, e))) (λ e. absurd (omega (arith, e)));
   }
 
   -- the line of a refusal was printed
@@ -64,7 +65,7 @@ module _ (command : Command) (moments : ℕ → ℕ) (input : List ℕ) (content
     is = given.is;
     status = inl e;
     prints = prints;
-    whole = λ seen done. absurd (no_end fault (sym e ∙ done));
+    whole = λ seen done. absurd (no_done fault (subst IsDone e done));
   }
 
 -- words that were refused for this fault
@@ -115,3 +116,23 @@ serve-status n (inr (inr (inl e))) = (ends.NoMemory, e)
 serve-status n (inr (inr (inr (inl e)))) = (ends.BadStore, e)
 serve-status n (inr (inr (inr (inr (inl e))))) = (ends.DoorFault, e)
 serve-status n (inr (inr (inr (inr (inr e))))) = (ends.OutputFault, e)
+
+-- the status of `mirror` is one of the program's
+pub mirror-status : (n : ℕ) → MayEndMirror n → IsStatus n
+mirror-status n (inl e) = (ends.Done, e)
+mirror-status n (inr (inl e)) = (ends.Incomplete, e)
+mirror-status n (inr (inr (inl e))) = (ends.NoMemory, e)
+mirror-status n (inr (inr (inr (inl e)))) = (ends.OutputFault, e)
+mirror-status n (inr (inr (inr (inr (inl e))))) = (ends.InputFault, e)
+mirror-status n (inr (inr (inr (inr (inr e))))) = (ends.BadInput, e)
+
+-- the words of `mirror` have one base
+pub same_base : (P : List ℕ → Type 0) (words : List (List ℕ)) (result : Result Command WordsFault) (read : Command)
+    (base : List ℕ) → result ≡ Ok read → read ≡ Mirror base
+    → ((command : Command) → IsCommandOf words command → (result ≡ Ok command) ⊎ (result ≡ Err NoMemory))
+    → P base → (other : List ℕ) → IsCommandOf words (Mirror other) → P other
+same_base P words result read base is mirrors only holds other of_words =
+    let same : Mirror base ≡ Mirror other =
+    read_only words result read (Mirror base) is mirrors only (Mirror other) of_words in
+    let equal : base ≡ other = cc in
+    subst P equal holds

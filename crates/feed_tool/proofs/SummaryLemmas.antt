@@ -1,5 +1,5 @@
 -- What is added one after another.
-use Rattle.std.proofs.Common.{◌≡◌, ℕ, List, ◌++◌, ap, ◌∙◌, append_assoc, Ok, Err}
+use Rattle.std.proofs.Common.{◌≡◌, ℕ, List, ◌++◌, ap, sym, ◌∙◌, append_assoc, Ok, Err}
 use Rattle.std.specs.Prelude.{Result, OnOk}
 
 -- bytes added one after another are added together
@@ -22,3 +22,10 @@ pub joins_five : (o0 o1 o2 o3 o4 o5 a b c d e : List ℕ) → o1 ≡ o0 ++ a →
 joins_five o0 o1 o2 o3 o4 o5 a b c d e one two three four five =
     joins o0 o4 o5 (a ++ b ++ c ++ d) e
     (joins o0 o3 o4 (a ++ b ++ c) d (joins_three o0 o1 o2 o3 a b c one two three) four) five
+
+-- a number and its end are added together
+pub joins_number : {T E : Type 0} (result : Result T E) (o0 o1 o2 s x y : List ℕ) → o1 ≡ o0 ++ s →
+    OnOk result (o2 ≡ o1 ++ (x ++ y)) → OnOk result (o2 ≡ o0 ++ (s ++ x ++ y))
+joins_number (Ok _) o0 o1 o2 s x y one other =
+    joins o0 o1 o2 s (x ++ y) one other ∙ ap (λ (z : List ℕ). o0 ++ z) (sym (append_assoc s x y))
+joins_number (Err _) o0 o1 o2 s x y one other = other

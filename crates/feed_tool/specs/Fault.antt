@@ -10,8 +10,8 @@ use Rattle.feed_tool.specs.declared.fault.Fault.TheVariants.{NoMemory, Input, Di
 use Rattle.feed_tool.specs.declared.fault.BadStore.{BadStore}
 use Rattle.feed_tool.specs.declared.fault.BadStore.TheVariants.{NotInit, AlreadyInit, BadRecord, SealCount, BadSeal, Changed}
 use Rattle.feed_tool.specs.declared.fault.Refusal.{Refusal}
-use Rattle.feed_tool.specs.declared.fault.Refusal.TheVariants.{TooLong, BadDocument, BadLine, NotFound, Deleted, Clock}
-use Rattle.feed_tool.specs.declared.fault.Refusal.TheVariants.{TooLarge, NotSealed, NoMember, DeletedMember}
+use Rattle.feed_tool.specs.declared.fault.Refusal.TheVariants.{TooLong, BadDocument, BadPile, BadLine, NotFound, Deleted}
+use Rattle.feed_tool.specs.declared.fault.Refusal.TheVariants.{Clock, TooLarge, NotSealed, NoMember, DeletedMember}
 use Rattle.feed_tool.specs.Answer.{Answer}
 
 -- a number between two words
@@ -50,6 +50,8 @@ abbrev pub refusal_answer : Refusal → Answer
 refusal_answer TooLong = record { status = status.BadInput; printed = codes "input too long\n" }
 refusal_answer (BadDocument offset) =
     record { status = status.BadInput; printed = numbered (codes "bad document ") offset (codes "\n") }
+refusal_answer (BadPile at) =
+    record { status = status.BadInput; printed = numbered (codes "bad pile ") at (codes "\n") }
 refusal_answer (BadLine line) =
     record { status = status.BadInput; printed = numbered (codes "bad line ") line (codes "\n") }
 refusal_answer (NotFound line member) =

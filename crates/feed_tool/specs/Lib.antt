@@ -9,6 +9,8 @@ pub mod Apply
 pub mod Stored
 pub mod Pile
 pub mod Show
+pub mod Report
+pub mod Mirror
 pub mod Run
 pub mod Crash
 pub mod Loaded

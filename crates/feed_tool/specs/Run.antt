@@ -11,6 +11,7 @@ use Rattle.feed_tool.specs.Answer.{Answer, Prints, usage_line}
 use Rattle.feed_tool.specs.Applied.{IsUnrefused}
 use Rattle.feed_tool.specs.Apply.{answer, history_step, test_head}
 use Rattle.feed_tool.specs.Fault.{fault_answer}
+use Rattle.feed_tool.specs.Mirror.{IsMirrored, ReadsWithinPile}
 use Rattle.feed_tool.specs.Pile.{pile_answer}
 use Rattle.feed_tool.specs.Show.{IsShown, ReadsWithinLimit}
 use Rattle.feed_tool.specs.Status.{code_of}
@@ -18,7 +19,7 @@ use Rattle.feed_tool.specs.Stored.{IsBadStore, IsInitAnswer, apply_answer, archi
 use Rattle.member_rules.specs.Head.{window_limit, capacity_floor, capacity_limit, title_limit}
 use Rattle.tool_words.specs.Words.{IsCommandOf, request_limit}
 use Rattle.tool_words.specs.declared.command.Command.{Command}
-use Rattle.tool_words.specs.declared.command.Command.TheVariants.{Init, Apply, Serve, Show}
+use Rattle.tool_words.specs.declared.command.Command.TheVariants.{Init, Apply, Serve, Show, Mirror}
 use Rattle.tool_words.specs.declared.command.Show.TheVariants.{Document, Feed, Archive, Member, Pile}
 
 -- the ranges of a command's values
@@ -36,6 +37,7 @@ HasRange _ = Unit {0}
 abbrev pub ReadsInput : Command → Type 0
 ReadsInput (Apply window) = Unit {0}
 ReadsInput (Show Document) = Unit {0}
+ReadsInput (Mirror base) = Unit {0}
 ReadsInput _ = ⊥
 
 -- whether the answer depends on the clock
@@ -47,6 +49,7 @@ AsksClock _ = ⊥
 abbrev pub UsesDisk : Command → Type 0
 UsesDisk (Apply (Some window)) = ⊥
 UsesDisk (Show Document) = ⊥
+UsesDisk (Mirror base) = ⊥
 UsesDisk _ = Unit {0}
 
 -- whether the command has an answer that disk, clock and input determine: each but `serve`, which depends on the door
@@ -60,7 +63,12 @@ IsAtOnce (Serve listen requests) = ⊥
 IsAtOnce (Show Pile) = ⊥
 IsAtOnce _ = Unit {0}
 
--- the words are those of such a command, or of none
+-- whether the command has one defined end, with the status 0: each but `mirror`
+abbrev pub IsTextual : Command → Type 0
+IsTextual (Mirror base) = ⊥
+IsTextual _ = Unit {0}
+
+-- the words are those of a command that prints at once, or of none
 abbrev pub PrintsAtOnce : List (List ℕ) → Type 0
 PrintsAtOnce words = (command : Command) → IsCommandOf words command → IsAtOnce command
 
@@ -96,6 +104,7 @@ abbrev pub IsAnswer : Command → (ℕ → ℕ) → List ℕ → (Area → List 
 IsAnswer (Init name window capacity) moments input content given = IsInitAnswer content given
 IsAnswer (Apply (Some window)) moments input content given = answer (test_head window) moments input ≡ given
 IsAnswer (Show Document) moments input content given = IsShown input given
+IsAnswer (Mirror base) moments input content given = IsMirrored base input given
 IsAnswer (Serve listen requests) moments input content given = ⊥
 IsAnswer command moments input content given =
     IsOfStore command moments input content given ⊎ IsBadStore content given
@@ -106,6 +115,7 @@ abbrev pub IsDueAnswer : Command → (ℕ → ℕ) → List ℕ → (Area → Li
 IsDueAnswer (Init name window capacity) moments input content given = IsInitAnswer content given
 IsDueAnswer (Apply (Some window)) moments input content given = answer (test_head window) moments input ≡ given
 IsDueAnswer (Show Document) moments input content given = IsShown input given
+IsDueAnswer (Mirror base) moments input content given = IsMirrored base input given
 IsDueAnswer (Serve listen requests) moments input content given = ⊥
 IsDueAnswer command moments input content given = IsOfStore command moments input content given
 
@@ -122,6 +132,7 @@ IsUnrefusedBy (Apply (Some window)) moments content before after =
 IsUnrefusedBy (Apply None) moments content before after =
     (stored : Stored) × OpensTo content stored × IsUnrefused (stored_step moments) stored before after
 IsUnrefusedBy (Show Document) moments content before after = ReadsWithinLimit before after
+IsUnrefusedBy (Mirror base) moments content before after = ReadsWithinPile before after
 IsUnrefusedBy _ moments content before after = ⊥
 
 -- All commands
@@ -134,26 +145,30 @@ OneAnswer = (command : Command) (moments : ℕ → ℕ) (input : List ℕ) (cont
 abbrev pub IsStatus : ℕ → Type 0
 IsStatus ended = (status : Status) × (ended ≡ code_of status)
 
--- the exit statuses that input, clock and disk determine: the defined end and the refusals
+-- the exit statuses of the defined ends
+abbrev pub IsDone : ℕ → Type 0
+IsDone ended = (ended ≡ code_of ends.Done) ⊎ (ended ≡ code_of ends.Incomplete)
+
+-- the exit statuses that input, clock and disk determine: the defined ends and the refusals
 abbrev pub IsDetermined : ℕ → Type 0
 IsDetermined ended =
-    (ended ≡ code_of ends.Done) ⊎ (ended ≡ code_of ends.BadStore) ⊎ (ended ≡ code_of ends.BadInput)
+    (ended ≡ code_of ends.Done) ⊎ (ended ≡ code_of ends.Incomplete) ⊎ (ended ≡ code_of ends.BadStore) ⊎ (ended ≡ code_of ends.BadInput)
     ⊎ (ended ≡ code_of ends.Full) ⊎ (ended ≡ code_of ends.Refused)
 
 -- the exit statuses behind an answer: these, and a failure of the output
 abbrev pub IsAnswered : ℕ → Type 0
 IsAnswered ended = IsDetermined ended ⊎ (ended ≡ code_of ends.OutputFault)
 
--- the command has an answer. The exit status is the answer's, or that of a failed output where the answer is the
+-- the command has an answer. The exit status is the answer's, or that of a failed output where the answer is a
 -- defined end. The output took what the answer prints, or a prefix of it where a call on the output failed
 pub record EndsWith (command : Command) (moments : ℕ → ℕ) (input : List ℕ) (content : Area → List ℕ) (told : Type 0)
     (before after : SinkState) (ended : ℕ) : Type 0 where
   pub answer : Answer
   pub is : IsAnswer command moments input content answer
   pub status :
-      (ended ≡ code_of answer.status) ⊎ ((ended ≡ code_of ends.OutputFault) × (answer.status ≡ ends.Done))
+      (ended ≡ code_of answer.status) ⊎ ((ended ≡ code_of ends.OutputFault) × IsDone (code_of answer.status))
   pub prints : told → Prints before after answer.printed
-  pub whole : told → ended ≡ code_of ends.Done → after.taken ≡ before.taken ++ answer.printed
+  pub whole : told → IsDone ended → after.taken ≡ before.taken ++ answer.printed
 
 -- if no call on the disk, the input or the output failed, the exit status is the answer's, or memory ran out
 pub record IsComplete (disk_before disk_after : ℕ) (input rest : SourceState) (output after : SinkState)

@@ -1,13 +1,15 @@
 -- The exit statuses.
 use Rattle.std.specs.Prelude.{ℕ}
 use Rattle.feed_tool.specs.declared.status.Status.{Status}
-use Rattle.feed_tool.specs.declared.status.Status.TheVariants.{Done, Usage, DiskFault, NoMemory, BadStore, DoorFault}
-use Rattle.feed_tool.specs.declared.status.Status.TheVariants.{OutputFault, InputFault, BadInput, Full, Refused}
+use Rattle.feed_tool.specs.declared.status.Status.TheVariants.{Done, Usage, Incomplete, DiskFault, NoMemory, BadStore}
+use Rattle.feed_tool.specs.declared.status.Status.TheVariants.{DoorFault, OutputFault, InputFault, BadInput, Full}
+use Rattle.feed_tool.specs.declared.status.Status.TheVariants.{Refused}
 
 -- the exit status of each way to end
 abbrev pub code_of : Status → ℕ
 code_of Done = 0
 code_of Usage = 2
+code_of Incomplete = 3
 code_of DiskFault = 4
 code_of NoMemory = 5
 code_of BadStore = 6

@@ -60,6 +60,8 @@ pub enum Refusal {
     TooLong,
     /// The input isn't the text of a document: no piece of a document can begin at this offset.
     BadDocument { offset: u64 },
+    /// The input isn't a pile: at this offset a line or an offer begins that can't be read.
+    BadPile { at: u64 },
     /// The line is none of the command's.
     BadLine { line: u64 },
     /// The line names a member that was never made.
@@ -192,9 +194,10 @@ impl Refusal {
         ensures { result ≡ (refusal_answer self).status }
     {
         match self {
-            Refusal::TooLong | Refusal::BadDocument { .. } | Refusal::BadLine { .. } => {
-                Status::BadInput
-            }
+            Refusal::TooLong
+            | Refusal::BadDocument { .. }
+            | Refusal::BadPile { .. }
+            | Refusal::BadLine { .. } => Status::BadInput,
             Refusal::NotFound { .. }
             | Refusal::Deleted { .. }
             | Refusal::Clock { .. }
@@ -211,6 +214,7 @@ impl Refusal {
         match self {
             Refusal::TooLong => line_of("input too long\n"),
             Refusal::BadDocument { offset } => numbered("bad document ", offset, "\n"),
+            Refusal::BadPile { at } => numbered("bad pile ", at, "\n"),
             Refusal::BadLine { line } => numbered("bad line ", line, "\n"),
             Refusal::NotFound { line, member } => naming_member(line, " not found ", member),
             Refusal::Deleted { line, member } => naming_member(line, " deleted ", member),

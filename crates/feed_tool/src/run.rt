@@ -5,22 +5,29 @@ ghost use Rattle.feed_disk.specs.Moments.{LeavesAlone};
 ghost use Rattle.feed_disk.specs.declared.area.Area.TheVariants.{Mirror};
 ghost use Rattle.feed_tool.specs.declared.status.Status.TheVariants as status;
 ghost use Rattle.feed_tool.specs.Answer.{Answer, Prints};
+ghost use Rattle.doc_source.specs.declared.offer.Offer.{Offer as OfferValue};
+ghost use Rattle.member_rules.specs.Head.{HeadValue};
+ghost use Rattle.member_rules.specs.declared.operation.Op.{Op};
+ghost use Rattle.mirror_walk.specs.Offers.{AreServed};
 ghost use Rattle.feed_recovery.specs.Settled.{LeavesStores};
 ghost use Rattle.feed_recovery.specs.Stored.{OpensTo, Stored};
 ghost use Rattle.feed_tool.specs.Crash.{AddsNothing, AppliesSafely, MakesStoreAt, OpensToApplied};
 ghost use Rattle.feed_tool.specs.Fault.{fault_answer, HasAnswer, IsRefusal};
 ghost use Rattle.feed_tool.specs.Run.{HasRange, IsDueAnswer, IsGiven, IsSeen, IsUnrefusedBy, IsStatus, IsAnswered};
+ghost use Rattle.feed_tool.specs.Mirror.{EndsServed, IsPileOf, IsReported, offering};
 ghost use Rattle.feed_tool.specs.Pile.{EndsCut};
-ghost use Rattle.feed_tool.specs.Run.{EndsWith, IsAtOnce, IsComplete, IsAlone, PrintsAtOnce, ServesNot, alone_line};
+ghost use Rattle.feed_tool.specs.Run.{EndsWith, IsAtOnce, IsComplete, IsAlone, IsDone, IsTextual, PrintsAtOnce, ServesNot, alone_line};
 ghost use Rattle.feed_tool.specs.Serve.{EndsServing, IsServedWhole};
 ghost use Rattle.feed_tool.specs.Status.{code_of};
 ghost use Rattle.tool_words.specs.Words.{IsCommandOf};
 ghost use Rattle.tool_words.specs.declared.command.Command.{Command as CommandValue};
 ghost use Rattle.tool_words.specs.declared.command.Command.TheVariants.{Init, Apply, Serve, Show as ShowOf};
+ghost use Rattle.tool_words.specs.declared.command.Command.TheVariants.{Mirror as MirrorOf};
 ghost use Rattle.tool_words.specs.declared.command.Show.TheVariants.{Pile};
 
 use crate::commands::apply::apply;
 use crate::commands::init::init;
+use crate::commands::mirror::mirror;
 use crate::commands::pile::show_pile;
 use crate::commands::serve::serve;
 use crate::commands::show::show;
@@ -52,6 +59,7 @@ pub struct Ended {
 /// - `show` reads the input as one document and prints its summary. `show feed`, `show archive J` and `show member N`
 ///   print a document of the store, and `show pile` the subscription document and all archives as a pile.
 /// - `serve` serves the feed of the store at an address, one connection after the other, and then prints a line for each.
+/// - `mirror` mirrors the feed below a base address from the pile that is the input, and prints a report.
 ///
 /// At any other end the line of that end is printed. A failure to print that line changes no status.
 pub fn run<D: Disk, C: Clock, L: Door, I: Source, O: Sink>(
@@ -96,7 +104,7 @@ pub fn run<D: Disk, C: Clock, L: Door, I: Source, O: Sink>(
         → (I.state input.new).faults ≡ (I.state input.old).faults }
     ensures output_fault { result.status ≡ code_of status.OutputFault
         → Rose (O.state output.old).faults (O.state output.new).faults }
-    ensures output_whole { result.status ≡ code_of status.Done
+    ensures output_whole { IsDone result.status
         → (O.state output.new).faults ≡ (O.state output.old).faults }
     ensures first_fault { (command : CommandValue) → IsCommandOf (map string_bytes words.now) command
         → IsSeen command D.told C.told I.told → result.status ≡ code_of status.InputFault
@@ -146,6 +154,13 @@ pub fn run<D: Disk, C: Clock, L: Door, I: Source, O: Sink>(
         → Rose (L.state door.old).faults (L.state door.new).faults }
     ensures no_hidden_door_fault { result.status ≢ code_of status.DoorFault
         → (L.state door.new).faults ≡ (L.state door.old).faults }
+    // `mirror`: the report of documents that one feed served.
+    ensures mirrored { (base : List ℕ) → IsCommandOf (map string_bytes words.now) (MirrorOf base) → I.told
+        → (head : HeadValue) (history : List Op) (offers : List OfferValue)
+        → base ≡ head.name.base → IsPileOf offers (I.state input.old).left
+        → AreServed head history (map offering offers) → IsReported result.status
+        → EndsServed head history (map offering offers) O.told (O.state output.old) (O.state output.new)
+        result.status }
 {
     let command = match read_words(alloc, words) {
         Ok(command) => command,
@@ -161,6 +176,7 @@ pub fn run<D: Disk, C: Clock, L: Door, I: Source, O: Sink>(
             serve(alloc, listen.slice(), requests, disk, clock, door, output)
         }
         Command::Show(Show::Pile) => show_pile(alloc, disk, output),
+        Command::Mirror { base } => mirror(alloc, &base, input, output),
         command => match answer(alloc, command, disk, clock, input) {
             Ok(text) => match write_all(output, text.as_slice()) {
                 Ok(()) => end_as(alloc, Status::Done),
@@ -197,7 +213,7 @@ pub fn end_with<O: Sink>(alloc: Global, output: &mut O, fault: Fault) -> Ended
 /// The line for words that name no command. Its names are those of the finished program.
 const USAGE: &[u8] = b"usage: feed_tool init, apply, show, serve, mirror, audit, drill\n";
 
-/// Returns what the command prints at its defined end. `serve` and `show pile` print by themselves.
+/// Returns what the command prints at its defined end. `serve`, `show pile` and `mirror` print by themselves.
 fn answer<D: Disk, C: Clock, I: Source>(
     alloc: Global,
     command: Command,
@@ -207,6 +223,7 @@ fn answer<D: Disk, C: Clock, I: Source>(
 ) -> Result<Vec<u8>, Fault>
     requires range { HasRange command }
     requires prints { IsAtOnce command }
+    requires text { IsTextual command }
     ensures answer { IfOk result (λ written. IsSeen command D.told C.told I.told
         → IsGiven command (C.coming clock.old) (I.state input.old).left (D.state disk.old).content
         record { status = status.Done; printed = written.items }) }
@@ -248,6 +265,6 @@ fn answer<D: Disk, C: Clock, I: Source>(
             Show::Member(number) => store::show_member(alloc, number, disk),
             Show::Pile => unreachable!(),
         },
-        Command::Serve { .. } => unreachable!(),
+        Command::Serve { .. } | Command::Mirror { .. } => unreachable!(),
     }
 }

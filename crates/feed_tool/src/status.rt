@@ -8,6 +8,8 @@ pub enum Status {
     Done,
     /// The words name no command: 2.
     Usage,
+    /// A document of the mirror is missing: 3.
+    Incomplete,
     /// A call on the disk failed: 4.
     DiskFault,
     /// Memory ran out: 5.
@@ -36,6 +38,7 @@ impl Status {
         match self {
             Status::Done => 0,
             Status::Usage => 2,
+            Status::Incomplete => 3,
             Status::DiskFault => 4,
             Status::NoMemory => 5,
             Status::BadStore => 6,

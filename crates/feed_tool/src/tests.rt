@@ -2,6 +2,7 @@
 
 mod apply;
 mod faults;
+mod mirror;
 mod outside;
 mod pile;
 mod serve;

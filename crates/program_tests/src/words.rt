@@ -16,7 +16,7 @@ static NEEDED: [(&str, &str); 4] = [
 
 /// Each row has words, separated by single spaces, and what they are read as. `*` means all options that `init` needs,
 /// `*title` only the title, and so on. `_` means a space within a word.
-static ROWS: [(&str, &str); 124] = [
+static ROWS: [(&str, &str); 146] = [
     ("apply", "apply"),
     ("apply 1", "apply 1"),
     ("apply 100", "apply 100"),
@@ -168,6 +168,31 @@ static ROWS: [(&str, &str); 124] = [
     ("serve --listen a --requests 5 --window 4", "usage"),
     ("serve --listen a --requests 5 *title", "usage"),
     ("serve *", "usage"),
+    ("mirror *base --report", "mirror /"),
+    ("mirror --report *base", "mirror /"),
+    (
+        "mirror --base=http://feed.example:8080/a/ --report",
+        "mirror :8080/a/",
+    ),
+    ("mirror", "usage"),
+    ("mirror *base", "usage"),
+    ("mirror --report", "usage"),
+    ("mirror *base --report --report", "usage"),
+    ("mirror *base *base --report", "usage"),
+    ("mirror *base --report=", "usage"),
+    ("mirror *base --report=yes", "usage"),
+    ("mirror *base --report yes", "usage"),
+    ("mirror --base --report http://feed.example/", "usage"),
+    ("mirror --report --base", "usage"),
+    ("mirror --report --base=", "usage"),
+    ("mirror --report --base http://feed.example", "usage"),
+    ("mirror --report --base http://feed.example:80/", "usage"),
+    ("mirror *base --report *title", "usage"),
+    ("mirror *base --report 4", "usage"),
+    ("mirror report *base", "usage"),
+    ("Mirror *base --report", "usage"),
+    ("init * --report", "usage"),
+    ("show --report", "usage"),
     ("init * --listen a", "usage"),
     ("init * --requests=5", "usage"),
     ("init --listen a --requests 5", "usage"),
@@ -242,6 +267,10 @@ fn reading(rt: &impl Abort, alloc: Global, words: &[String]) -> Result<String, F
             let listen = str::from_utf8(listen.slice())?;
             format!(in alloc; "serve {listen} {requests}")?
         }
+        Command::Mirror { base } => {
+            let base = base_of(base.text())?;
+            format!(in alloc; "mirror {base}")?
+        }
         Command::Init {
             name,
             window,
@@ -253,13 +282,19 @@ fn reading(rt: &impl Abort, alloc: Global, words: &[String]) -> Result<String, F
     })
 }
 
+/// Returns a base address without `http://feed.example`.
+fn base_of(text: &[u8]) -> Result<&str, Fail> {
+    let base = str::from_utf8(text)?;
+    Ok(
+        base.strip_prefix("http://feed.example")
+            .ok_or("another base address")?,
+    )
+}
+
 /// Returns the base address of the name without `http://feed.example`, its title and its author.
 fn named(rt: &impl Abort, alloc: Global, name: &FeedName) -> Result<String, Fail> {
     assert_eq!(rt; name.id.print().as_slice(), NEEDED[1].1.as_bytes());
-    let base = str::from_utf8(name.base.text())?;
-    let base = base
-        .strip_prefix("http://feed.example")
-        .ok_or("another base address")?;
+    let base = base_of(name.base.text())?;
     let title = str::from_utf8(name.title.bytes())?;
     let author = str::from_utf8(name.author.bytes())?;
     Ok(format!(in alloc; "{base} {title} {author}")?)

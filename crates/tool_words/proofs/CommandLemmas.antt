@@ -4,9 +4,9 @@ use Rattle.std.proofs.Common.{codes, bytes_eq, false, refl, sym, ◌∙◌, subs
 use Rattle.std.proofs.lemmas.Bool.{true≢false}
 use Rattle.std.proofs.lemmas.Slice.Eq.{bytes_eq-Decides}
 use Rattle.atom_writer.specs.declared.doc.FeedName.{FeedName}
-use Rattle.tool_words.specs.Words.{IsApply, IsCommandOf, IsInit, IsServe}
+use Rattle.tool_words.specs.Words.{IsApply, IsCommandOf, IsInit, IsMirror, IsServe}
 use Rattle.tool_words.specs.declared.command.Command.{Command}
-use Rattle.tool_words.specs.declared.command.Command.TheVariants.{Init, Apply, Show, Serve}
+use Rattle.tool_words.specs.declared.command.Command.TheVariants.{Init, Apply, Show, Serve, Mirror}
 use Rattle.tool_words.specs.declared.fault.WordsFault.{WordsFault}
 use Rattle.tool_words.specs.declared.fault.WordsFault.TheVariants.{NoMemory}
 
@@ -28,6 +28,8 @@ module _ (words rest : List (List ℕ)) (r : Result Command WordsFault) where
       absurd (other_first (codes "init") (codes "show") rest behind refl (sym spelt ∙ e))
   init_only spelt only (Serve listen requests) (behind, e, i) =
       absurd (other_first (codes "init") (codes "serve") rest behind refl (sym spelt ∙ e))
+  init_only spelt only (Mirror base) (behind, e, i) =
+      absurd (other_first (codes "init") (codes "mirror") rest behind refl (sym spelt ∙ e))
 
   pub serve_only : words ≡ codes "serve" ∷ rest →
       ((listen : List ℕ) (requests : ℕ) → IsServe rest listen requests →
@@ -41,6 +43,22 @@ module _ (words rest : List (List ℕ)) (r : Result Command WordsFault) where
       absurd (other_first (codes "serve") (codes "apply") rest behind refl (sym spelt ∙ e))
   serve_only spelt only (Show shown) (behind, e, i) =
       absurd (other_first (codes "serve") (codes "show") rest behind refl (sym spelt ∙ e))
+  serve_only spelt only (Mirror base) (behind, e, i) =
+      absurd (other_first (codes "serve") (codes "mirror") rest behind refl (sym spelt ∙ e))
+
+  pub mirror_only : words ≡ codes "mirror" ∷ rest →
+      ((base : List ℕ) → IsMirror rest base → (r ≡ Ok (Mirror base)) ⊎ (r ≡ Err NoMemory)) →
+      (command : Command) → IsCommandOf words command → (r ≡ Ok command) ⊎ (r ≡ Err NoMemory)
+  mirror_only spelt only (Mirror base) (behind, e, i) =
+      let same : behind ≡ rest = cc in only base (subst (λ b. IsMirror b base) same i)
+  mirror_only spelt only (Init name window capacity) (behind, e, i) =
+      absurd (other_first (codes "mirror") (codes "init") rest behind refl (sym spelt ∙ e))
+  mirror_only spelt only (Apply window) (behind, e, i) =
+      absurd (other_first (codes "mirror") (codes "apply") rest behind refl (sym spelt ∙ e))
+  mirror_only spelt only (Show shown) (behind, e, i) =
+      absurd (other_first (codes "mirror") (codes "show") rest behind refl (sym spelt ∙ e))
+  mirror_only spelt only (Serve listen requests) (behind, e, i) =
+      absurd (other_first (codes "mirror") (codes "serve") rest behind refl (sym spelt ∙ e))
 
 pub apply_found : (words rest : List (List ℕ)) (r : Result Command WordsFault) → words ≡ codes "apply" ∷ rest →
     IfOk r (λ command. (window : Option ℕ) × (command ≡ Apply window) × IsApply rest window) →

@@ -1,9 +1,9 @@
 -- What options give depends on their names and their values only.
-use Rattle.std.proofs.Common.{◌≡◌, ◌⊎◌, ℕ, List, Result, Ok, Err, map, codes, sym, ap, ◌∙◌, subst, inl, inr}
+use Rattle.std.proofs.Common.{◌≡◌, ◌⊎◌, ℕ, List, [], Result, Ok, Err, map, codes, sym, ap, ◌∙◌, subst, inl, inr}
 use Rattle.atom_writer.specs.declared.doc.FeedName.{FeedName}
 use Rattle.tool_words.specs.Options.{Given, value_of}
 use Rattle.tool_words.specs.Reading.{AreRead, apart}
-use Rattle.tool_words.specs.Words.{IsFeedIdText, IsNameText, IsNamed, IsNumberOr, IsInit, init_options, window_limit, default_window}
+use Rattle.tool_words.specs.Words.{IsBaseText, IsFeedIdText, IsNameText, IsNamed, IsNumberOr, IsInit, init_options, window_limit, default_window}
 use Rattle.tool_words.specs.Words.{capacity_floor, capacity_limit, default_capacity}
 use Rattle.tool_words.specs.declared.command.Command.{Command}
 use Rattle.tool_words.specs.declared.command.Command.TheVariants.{Init}
@@ -23,9 +23,7 @@ give_same : (one other : List Given) (name : FeedName) (window capacity : ℕ) �
     Give other name window capacity
 give_same one other name window capacity same g = record {
   named = record {
-    base = sym (same (codes "base")) ∙ g.named.base;
-    is_base = g.named.is_base;
-    is_url = g.named.is_url;
+    base = subst (λ v. IsBaseText v name.base) (same (codes "base")) g.named.base;
     id = subst (λ v. IsFeedIdText v name.id) (same (codes "uuid")) g.named.id;
     title = subst (λ v. IsNameText v name.title) (same (codes "title")) g.named.title;
     author = subst (λ v. IsNameText v name.author) (same (codes "author")) g.named.author;
@@ -44,7 +42,7 @@ init_gives words given name window capacity i same =
     (record { named = i.is_named; window_is = i.is_window; capacity_is = i.is_capacity })
 
 pub gives_init : (words : List (List ℕ)) (given : List Given) (name : FeedName) (window capacity : ℕ) →
-    AreRead init_options words given → Give given name window capacity → IsInit words name window capacity
+    AreRead init_options [] words given → Give given name window capacity → IsInit words name window capacity
 gives_init words given name window capacity (options, are, same) g =
     let k = give_same given options name window capacity
     (λ key. ap (value_of key) (sym same) ∙ value_of-apart key options) g in

@@ -1,5 +1,5 @@
 -- What the options of `serve` give depends on their names and their values only.
-use Rattle.std.proofs.Common.{◌≡◌, ◌⊎◌, ℕ, List, Result, Ok, Err, map, codes, sym, ap, ◌∙◌, subst, inl, inr}
+use Rattle.std.proofs.Common.{◌≡◌, ◌⊎◌, ℕ, List, [], Result, Ok, Err, map, codes, sym, ap, ◌∙◌, subst, inl, inr}
 use Rattle.tool_words.specs.Options.{Given, value_of}
 use Rattle.tool_words.specs.Reading.{AreRead, apart}
 use Rattle.tool_words.specs.Words.{IsListen, IsRequests, IsServe, serve_options}
@@ -30,7 +30,7 @@ serve_gives words given listen requests i same =
     (record { listen_is = i.is_listen; requests_is = i.is_requests })
 
 pub gives_serve : (words : List (List ℕ)) (given : List Given) (listen : List ℕ) (requests : ℕ) →
-    AreRead serve_options words given → Give given listen requests → IsServe words listen requests
+    AreRead serve_options [] words given → Give given listen requests → IsServe words listen requests
 gives_serve words given listen requests (options, are, same) g =
     let k = give_same given options listen requests
     (λ key. ap (value_of key) (sym same) ∙ value_of-apart key options) g in

@@ -1,8 +1,9 @@
 -- Options as the code keeps them, which doesn't keep whether an option was in one word or in two.
-use Rattle.std.specs.Prelude.{◌≡◌, ℕ, List, ◌++◌, Bool, false, not, ◌==◌, None, Any, IsTrue, map}
+use Rattle.std.specs.Prelude.{◌≡◌, ℕ, List, ◌++◌, Bool, false, not, ◌==◌, ◌&&◌, Option, None, Some, Any, IsTrue, bytes_eq, map}
 use Rattle.std.specs.Borrow.{Bor}
-use Rattle.std.specs.List.{list_all}
-use Rattle.tool_words.specs.Options.{Given, AreOptions, spelled, is_value, value_of}
+use Rattle.std.specs.List.{list_all, list_any}
+use Rattle.std.specs.Option.{option_copied}
+use Rattle.tool_words.specs.Options.{Given, AreOptions, IsKnown, spelled, is_given}
 use Rattle.tool_words.specs.declared.options.Given.{Given as Kept}
 
 -- the same option in two words
@@ -11,7 +12,7 @@ apart given = record { name = given.name; value = given.value; joined = false }
 
 -- the option that is kept
 abbrev pub option_of : Kept → Given
-option_of kept = record { name = kept.name.now; value = kept.value.now; joined = false }
+option_of kept = record { name = kept.name.now; value = option_copied kept.value; joined = false }
 
 -- the words are those of the option, in one word or in two, and then the others
 abbrev pub BeginsWith : List (List ℕ) → Given → List (List ℕ) → Type 0
@@ -26,12 +27,28 @@ names_of names = map (λ name. name.now) names
 abbrev pub are_names : List (List ℕ) → Bool
 are_names names = list_all (list_all (λ c. not (c == 61))) names
 
--- the option has a value and one of these names, which no other option has
-pub record MayFollow (names : List (List ℕ)) (options : List Given) (given : Given) : Type 0 where
-  pub value : IsTrue (is_value given.value)
-  pub known : Any (λ name. name ≡ given.name) names
-  pub fresh : value_of given.name options ≡ None
+-- no option has the name of a flag
+abbrev pub are_apart : List (List ℕ) → List (List ℕ) → Bool
+are_apart names flags = list_all (λ name. not (list_any (λ flag. bytes_eq flag name) flags)) names
 
--- the words are these options, of these names
-abbrev pub AreRead : List (List ℕ) → List (List ℕ) → List Given → Type 0
-AreRead names words given = (options : List Given) × AreOptions names words options × (map apart options ≡ given)
+-- names of options and names of flags
+abbrev pub can_be_read : List (List ℕ) → List (List ℕ) → Bool
+can_be_read names flags = are_names names && are_names flags && are_apart names flags
+
+-- a flag has one of the names of flags, and an option has none of them
+abbrev pub IsFormAs : List (List ℕ) → List ℕ → Option (List ℕ) → Type 0
+IsFormAs flags name None = Any (λ flag. flag ≡ name) flags
+IsFormAs flags name (Some value) = ¬ Any (λ flag. flag ≡ name) flags
+
+abbrev pub IsOfForm : List (List ℕ) → Given → Type 0
+IsOfForm flags given = IsFormAs flags given.name given.value
+
+-- the option or the flag is known, and no other has its name
+pub record MayFollow (names flags : List (List ℕ)) (options : List Given) (given : Given) : Type 0 where
+  pub known : IsKnown names flags given
+  pub fresh : is_given given.name options ≡ false
+
+-- the words are these options and flags, of these names
+abbrev pub AreRead : List (List ℕ) → List (List ℕ) → List (List ℕ) → List Given → Type 0
+AreRead names flags words given =
+    (options : List Given) × AreOptions names flags words options × (map apart options ≡ given)

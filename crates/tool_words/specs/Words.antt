@@ -1,5 +1,5 @@
 -- The words of each command.
-use Rattle.std.specs.Prelude.{◌≡◌, ◌≢◌, ℕ, ◌-◌, ◌≤◌, ◌^◌, List, [], ◌∷◌, Option, Some, None, codes, length}
+use Rattle.std.specs.Prelude.{◌≡◌, ◌≢◌, ℕ, ◌-◌, ◌≤◌, ◌^◌, List, [], ◌∷◌, Option, Some, None, IsTrue, codes, length}
 use Rattle.uuid.specs.Text.{parsed}
 use Rattle.atom_values.specs.XmlText.{IsAtomText}
 use Rattle.atom_writer.specs.declared.doc.FeedName.{FeedName}
@@ -7,9 +7,9 @@ use Rattle.chain_links.specs.Base.{IsBase}
 use Rattle.chain_links.specs.Checked.{IsUrlText}
 use Rattle.deleted_entries.specs.FeedId.{version, member_version}
 use Rattle.tool_words.specs.Numbers.{IsNumber}
-use Rattle.tool_words.specs.Options.{Given, AreOptions, value_of}
+use Rattle.tool_words.specs.Options.{Given, AreOptions, is_given, value_of}
 use Rattle.tool_words.specs.declared.command.Command.{Command}
-use Rattle.tool_words.specs.declared.command.Command.TheVariants.{Init, Apply, Show, Serve}
+use Rattle.tool_words.specs.declared.command.Command.TheVariants.{Init, Apply, Show, Serve, Mirror}
 use Rattle.tool_words.specs.declared.command.Show.{Show as Shown}
 use Rattle.tool_words.specs.declared.command.Show.TheVariants.{Document, Feed, Archive, Member, Pile}
 
@@ -49,10 +49,22 @@ init_options =
 abbrev pub serve_options : List (List ℕ)
 serve_options = codes "listen" ∷ codes "requests" ∷ []
 
+abbrev pub mirror_options : List (List ℕ)
+mirror_options = codes "base" ∷ []
+
+abbrev pub mirror_flags : List (List ℕ)
+mirror_flags = codes "report" ∷ []
+
 -- the value is this number in the range, or is left out and the number is the default
 abbrev pub IsNumberOr : ℕ → ℕ → ℕ → Option (List ℕ) → ℕ → Type 0
 IsNumberOr default least most None number = number ≡ default
 IsNumberOr default least most (Some word) number = IsNumber least most word number
+
+-- the value is a base address that the parser of the URL Standard leaves as it is
+pub record IsBaseText (value : Option (List ℕ)) (base : List ℕ) : Type 0 where
+  pub there : value ≡ Some base
+  pub is_base : IsBase base
+  pub is_url : IsUrlText base
 
 -- the value is a feed's title or author
 pub record IsNameText (value : Option (List ℕ)) (text : List ℕ) : Type 0 where
@@ -69,9 +81,7 @@ pub record IsFeedIdText (value : Option (List ℕ)) (id : List ℕ) : Type 0 whe
 
 -- the options name the feed
 pub record IsNamed (options : List Given) (name : FeedName) : Type 0 where
-  pub base : value_of (codes "base") options ≡ Some name.base
-  pub is_base : IsBase name.base
-  pub is_url : IsUrlText name.base
+  pub base : IsBaseText (value_of (codes "base") options) name.base
   pub id : IsFeedIdText (value_of (codes "uuid") options) name.id
   pub title : IsNameText (value_of (codes "title") options) name.title
   pub author : IsNameText (value_of (codes "author") options) name.author
@@ -79,7 +89,7 @@ pub record IsNamed (options : List Given) (name : FeedName) : Type 0 where
 -- the words after `init`
 pub record IsInit (words : List (List ℕ)) (name : FeedName) (window capacity : ℕ) : Type 0 where
   pub options : List Given
-  pub are_options : AreOptions init_options words options
+  pub are_options : AreOptions init_options [] words options
   pub is_named : IsNamed options name
   pub is_window : IsNumberOr default_window 1 window_limit (value_of (codes "window") options) window
   pub is_capacity :
@@ -118,9 +128,16 @@ pub record IsRequests (value : Option (List ℕ)) (requests : ℕ) : Type 0 wher
 -- the words after `serve`
 pub record IsServe (words : List (List ℕ)) (listen : List ℕ) (requests : ℕ) : Type 0 where
   pub options : List Given
-  pub are_options : AreOptions serve_options words options
+  pub are_options : AreOptions serve_options [] words options
   pub is_listen : IsListen (value_of (codes "listen") options) listen
   pub is_requests : IsRequests (value_of (codes "requests") options) requests
+
+-- the words after `mirror`
+pub record IsMirror (words : List (List ℕ)) (base : List ℕ) : Type 0 where
+  pub options : List Given
+  pub are_options : AreOptions mirror_options mirror_flags words options
+  pub is_base : IsBaseText (value_of (codes "base") options) base
+  pub is_report : IsTrue (is_given (codes "report") options)
 
 abbrev pub IsCommandOf : List (List ℕ) → Command → Type 0
 IsCommandOf words (Init name window capacity) =
@@ -131,3 +148,5 @@ IsCommandOf words (Show shown) =
     (rest : List (List ℕ)) × (words ≡ codes "show" ∷ rest) × IsShow rest shown
 IsCommandOf words (Serve listen requests) =
     (rest : List (List ℕ)) × (words ≡ codes "serve" ∷ rest) × IsServe rest listen requests
+IsCommandOf words (Mirror base) =
+    (rest : List (List ℕ)) × (words ≡ codes "mirror" ∷ rest) × IsMirror rest base

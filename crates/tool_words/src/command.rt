@@ -1,5 +1,6 @@
 use atom_values::Bytes;
 use atom_writer::FeedName;
+use chain_links::Base;
 
 /// The most operations of a window.
 pub(crate) const WINDOW_LIMIT: u64 = 100;
@@ -25,6 +26,10 @@ pub enum Command {
     Serve {
         listen: Bytes,
         requests: u32,
+    },
+    /// `mirror`: mirrors the feed below a base address from the pile that is the input, and prints a report.
+    Mirror {
+        base: Base,
     },
 }
 

@@ -1,19 +1,17 @@
 ghost use Rattle.std.specs.Prelude.{◌≡◌, ◌⊎◌, ℕ, List, Some, codes, map, string_bytes, Ok, Err, IfOk};
 ghost use Rattle.atom_writer.specs.declared.doc.FeedName.{FeedName as NameValue};
-ghost use Rattle.chain_links.specs.Base.{IsBase};
-ghost use Rattle.chain_links.specs.Checked.{IsUrlText};
 ghost use Rattle.tool_words.specs.Options.{value_of};
 ghost use Rattle.tool_words.specs.Reading.{option_of};
 ghost use Rattle.tool_words.specs.Words.{IsFeedIdText, IsInit, IsNamed, IsNameText, IsNumberOr, window_limit, default_window, capacity_floor, capacity_limit, default_capacity};
 ghost use Rattle.tool_words.specs.declared.command.Command.{Command as CommandValue};
 
+use crate::base::base;
 use crate::command::{Command, WINDOW_LIMIT};
 use crate::fault::WordsFault;
 use crate::number::number;
 use crate::options::{Given, read_options, required, value_of};
 use atom_values::{AtomText, TextFault};
 use atom_writer::FeedName;
-use chain_links::{Base, BaseFault};
 use deleted_entries::FeedId;
 use std::alloc::Global;
 
@@ -40,7 +38,7 @@ pub(crate) fn init(alloc: Global, words: &[String]) -> Result<Command, WordsFaul
     ensures only { (name : NameValue) (window capacity : ℕ) → IsInit (map string_bytes words.now) name window capacity
         → (result ≡ Ok (Command.Init name window capacity)) ⊎ (result ≡ Err WordsFault.NoMemory) }
 {
-    let Some(options) = read_options(alloc, &INIT_OPTIONS, words)? else {
+    let Some(options) = read_options(alloc, &INIT_OPTIONS, &[], words)? else {
         return Err(WordsFault::Usage);
     };
     let options = options.as_slice();
@@ -60,7 +58,7 @@ fn feed_name(alloc: Global, options: &[Given<'_>]) -> Result<FeedName, WordsFaul
     ensures only { (name : NameValue) → IsNamed (map option_of options.now) name
         → (result ≡ Ok name) ⊎ (result ≡ Err WordsFault.NoMemory) }
 {
-    let base = base(alloc, required(options, "base")?)?;
+    let base = base(alloc, options)?;
     let id = feed_id(required(options, "uuid")?)?;
     let title = name_text(alloc, required(options, "title")?)?;
     let author = name_text(alloc, required(options, "author")?)?;
@@ -100,23 +98,6 @@ fn capacity(options: &[Given<'_>]) -> Result<u64, WordsFault>
         Some(word) => number(word.as_bytes(), CAPACITY_FLOOR, CAPACITY_LIMIT).ok_or(
             WordsFault::Usage,
         ),
-    }
-}
-
-/// The base address that a value is, if the parser of the URL Standard reads and prints the same text.
-fn base(alloc: Global, text: &str) -> Result<Base, WordsFault>
-    ensures found { IfOk result (λ base. (base ≡ text.now) × IsBase text.now × IsUrlText text.now) }
-    ensures refused { result ≡ Err WordsFault.Usage → IsBase text.now → ¬ IsUrlText text.now }
-{
-    let base = match Base::parse(alloc, text.as_bytes()) {
-        Ok(base) => base,
-        Err(BaseFault::BadBase) => return Err(WordsFault::Usage),
-        Err(BaseFault::NoMemory) => return Err(WordsFault::NoMemory),
-    };
-    if base.checked(alloc)? {
-        Ok(base)
-    } else {
-        Err(WordsFault::Usage)
     }
 }
 

@@ -1,36 +1,37 @@
 ghost use Rattle.std.specs.Prelude.{◌≡◌, ◌≢◌, ◌↔◌, ℕ, List, ◌∷◌, ◌++◌, Option, None, Some, All, Any, IsTrue, IfOk, OnErr, IfSome, IsSomeAnd, MatchOption, codes, map, string_bytes};
 ghost use Rattle.std.specs.Option.{option_copied};
-ghost use Rattle.tool_words.specs.Options.{Given as GivenOption, AreOptions, spelled, is_value, value_of};
-ghost use Rattle.tool_words.specs.Reading.{AreRead, BeginsWith, MayFollow, apart, are_names, names_of, option_of};
+ghost use Rattle.tool_words.specs.Options.{Given as GivenOption, AreOptions, IsKnown, spelled, is_given, is_value, value_of};
+ghost use Rattle.tool_words.specs.Reading.{AreRead, BeginsWith, IsOfForm, MayFollow, apart, can_be_read, names_of, option_of};
 
 use crate::fault::WordsFault;
 use std::alloc::{AllocError, Global};
 
-/// An option with its value, as the words give it.
+/// An option with its value, as the words give it, or a flag, which has no value.
 #[derive(Clone, Copy, Debug)]
 pub(crate) struct Given<'a> {
     pub(crate) name: &'a str,
-    pub(crate) value: &'a str,
+    pub(crate) value: Option<&'a str>,
 }
 
-/// Reads words as options of these names, in any order, each at most once. `None` if they aren't.
+/// Reads words as options and flags of these names, in any order, each at most once. `None` if they aren't.
 pub(crate) fn read_options<'a>(
     alloc: Global,
     names: &[&str],
+    flags: &[&str],
     words: &'a [String],
 ) -> Result<Option<Vec<Given<'a>>>, AllocError>
-    // A word is cut at its first `=`.
-    requires { IsTrue (are_names (names_of names.now)) }
-    ensures found { IfOk result (λ r. IfSome r (λ v.
-        AreRead (names_of names.now) (map string_bytes words.now) (map option_of v.items))) }
+    // A word is cut at its first `=`, and a name is an option's or a flag's.
+    requires { IsTrue (can_be_read (names_of names.now) (names_of flags.now)) }
+    ensures found { IfOk result (λ r. IfSome r (λ v. AreRead (names_of names.now) (names_of flags.now)
+        (map string_bytes words.now) (map option_of v.items))) }
     ensures only { (options : List GivenOption)
-        → AreOptions (names_of names.now) (map string_bytes words.now) options
+        → AreOptions (names_of names.now) (names_of flags.now) (map string_bytes words.now) options
         → IfOk result (λ r. IsSomeAnd r (λ v. map option_of v.items ≡ map apart options)) }
 {
     let mut options = Vec::new(alloc);
     let mut rest = words;
-    while let Some((given, left)) = first_option(rest) {
-        if !may_follow(names, options.as_slice(), given) {
+    while let Some((given, left)) = first_option(flags, rest) {
+        if !may_follow(names, flags, options.as_slice(), given) {
             return Ok(None);
         }
         options.push(given)?;
@@ -43,23 +44,29 @@ pub(crate) fn read_options<'a>(
     }
 }
 
-/// Reads the first option, and returns it with the words after it. `None` if the words begin with none.
-fn first_option<'a>(words: &'a [String]) -> Option<(Given<'a>, &'a [String])>
+/// Reads the first option or flag, and returns it with the words after it. `None` if the words begin with none.
+fn first_option<'a>(flags: &[&str], words: &'a [String]) -> Option<(Given<'a>, &'a [String])>
     ensures found { IfSome result (λ x. BeginsWith (map string_bytes words.now) (option_of x.0)
         (map string_bytes x.1.now)) }
     ensures only { (given : GivenOption) (rest : List (List ℕ)) → All (λ c. c ≢ 61) given.name
-        → map string_bytes words.now ≡ spelled given ++ rest
+        → IsOfForm (names_of flags.now) given → map string_bytes words.now ≡ spelled given ++ rest
         → IsSomeAnd result (λ x. (option_of x.0 ≡ apart given) × (map string_bytes x.1.now ≡ rest)) }
 {
     let (word, behind) = words.split_first()?;
     let (name, joined) = name_of(word.as_str())?;
-    if let Some(value) = joined {
-        return Some((Given { name, value }, behind));
+    if joined.is_some() || is_one_of(flags, name) {
+        return Some((
+            Given {
+                name,
+                value: joined,
+            },
+            behind,
+        ));
     }
     let (value, left) = behind.split_first()?;
     let given = Given {
         name,
-        value: value.as_str(),
+        value: Some(value.as_str()),
     };
     Some((given, left))
 }
@@ -81,11 +88,22 @@ fn name_of(word: &str) -> Option<(&str, Option<&str>)>
     }
 }
 
-/// Whether the option has a value and one of the names that none of the other options has.
-fn may_follow(names: &[&str], options: &[Given<'_>], given: Given<'_>) -> bool
-    ensures { IsTrue result ↔ MayFollow (names_of names.now) (map option_of options.now) (option_of given.entry) }
+/// Whether the option or the flag is known, and none of the others has its name.
+fn may_follow(names: &[&str], flags: &[&str], options: &[Given<'_>], given: Given<'_>) -> bool
+    ensures { IsTrue result ↔ MayFollow (names_of names.now) (names_of flags.now) (map option_of options.now)
+        (option_of given.entry) }
 {
-    is_value(given.value) && is_known(names, given.name) && value_of(options, given.name).is_none()
+    is_known(names, flags, given) && !is_given(options, given.name)
+}
+
+/// Whether it is an option of these names with a value, or a flag of these.
+fn is_known(names: &[&str], flags: &[&str], given: Given<'_>) -> bool
+    ensures { IsTrue result ↔ IsKnown (names_of names.now) (names_of flags.now) (option_of given.entry) }
+{
+    match given.value {
+        Some(value) => is_value(value) && is_one_of(names, given.name),
+        None => is_one_of(flags, given.name),
+    }
 }
 
 /// Whether the word may be a value: it isn't empty and doesn't begin with `-`.
@@ -96,7 +114,7 @@ fn is_value(word: &str) -> bool
 }
 
 /// Whether it is one of the names.
-fn is_known(names: &[&str], name: &str) -> bool
+fn is_one_of(names: &[&str], name: &str) -> bool
     ensures { IsTrue result ↔ Any (λ known. known ≡ name.now) (names_of names.now) }
 {
     names.contains(&name)
@@ -108,10 +126,22 @@ pub(crate) fn value_of<'a>(options: &[Given<'a>], name: &str) -> Option<&'a str>
 {
     for given in options {
         if given.name == name {
-            return Some(given.value);
+            return given.value;
         }
     }
     None
+}
+
+/// Whether the option or the flag of this name is there.
+pub(crate) fn is_given(options: &[Given<'_>], name: &str) -> bool
+    ensures { result ≡ is_given name.now (map option_of options.now) }
+{
+    for given in options {
+        if given.name == name {
+            return true;
+        }
+    }
+    false
 }
 
 /// The value of an option that has to be there.

@@ -27,7 +27,7 @@ pub(crate) fn serve(alloc: Global, words: &[String]) -> Result<Command, WordsFau
     ensures only { (listen : List ℕ) (requests : ℕ) → IsServe (map string_bytes words.now) listen requests
         → (result ≡ Ok (Command.Serve listen requests)) ⊎ (result ≡ Err WordsFault.NoMemory) }
 {
-    let Some(options) = read_options(alloc, &SERVE_OPTIONS, words)? else {
+    let Some(options) = read_options(alloc, &SERVE_OPTIONS, &[], words)? else {
         return Err(WordsFault::Usage);
     };
     let options = options.as_slice();

@@ -6,6 +6,7 @@ ghost use Rattle.tool_words.specs.declared.command.Show.{Show as ShowValue};
 use crate::command::{Command, Show, WINDOW_LIMIT};
 use crate::fault::WordsFault;
 use crate::init::init;
+use crate::mirror::mirror;
 use crate::number::number;
 use crate::serve::serve;
 use std::alloc::Global;
@@ -31,6 +32,7 @@ pub fn read_words(alloc: Global, words: &[String]) -> Result<Command, WordsFault
         "apply" => apply(rest),
         "show" => Ok(Command::Show(shown(rest).ok_or(WordsFault::Usage)?)),
         "serve" => serve(alloc, rest),
+        "mirror" => mirror(alloc, rest),
         _ => Err(WordsFault::Usage),
     }
 }

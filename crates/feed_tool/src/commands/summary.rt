@@ -89,7 +89,8 @@ fn push_item(out: &mut Vec<u8>, item: &Item) -> Result<(), NoMemory>
     }
 }
 
-fn push_entry(out: &mut Vec<u8>, entry: &Entry) -> Result<(), NoMemory>
+/// Adds the line of an entry.
+pub fn push_entry(out: &mut Vec<u8>, entry: &Entry) -> Result<(), NoMemory>
     ensures { OnOk result (out.new.items ≡ out.old.items ++ lines.entry_line entry.now) }
 {
     push_numbered(out, b"entry ", entry.number, b" ")?;
@@ -110,7 +111,12 @@ fn push_tombstone(out: &mut Vec<u8>, tombstone: Tombstone) -> Result<(), NoMemor
 }
 
 /// Adds a number between two texts.
-fn push_numbered(out: &mut Vec<u8>, front: &[u8], number: u32, back: &[u8]) -> Result<(), NoMemory>
+pub fn push_numbered(
+    out: &mut Vec<u8>,
+    front: &[u8],
+    number: u32,
+    back: &[u8],
+) -> Result<(), NoMemory>
     ensures { OnOk result (out.new.items ≡ out.old.items ++ (front.now ++ decimal number ++ back.now)) }
 {
     out.extend_from_slice(front)?;

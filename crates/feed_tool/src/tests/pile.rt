@@ -16,7 +16,7 @@ const LINES: &[u8] =
     b"add a\nadd b\nadd c\nadd d\nadd e\nadd f\nadd g\nadd h\nadd i\nadd j\nadd k\nadd l\nadd m\n";
 
 /// The documents of their pile: the address of each, and the words that show it.
-static DOCUMENTS: [(&str, &[&str]); 4] = [
+pub static DOCUMENTS: [(&str, &[&str]); 4] = [
     ("http://feed.example/feed", &["show", "feed"]),
     ("http://feed.example/archive/3", &["show", "archive", "3"]),
     ("http://feed.example/archive/2", &["show", "archive", "2"]),
@@ -24,7 +24,7 @@ static DOCUMENTS: [(&str, &[&str]); 4] = [
 ];
 
 /// Makes a store of the thirteen operations.
-fn filled(alloc: Global, failing: Many<u64, 64>) -> Result<MemoryDisk, Fail> {
+pub fn filled(alloc: Global, failing: Many<u64, 64>) -> Result<MemoryDisk, Fail> {
     let mut disk = disk_of(alloc, failing)?;
     init(alloc, &mut disk, &["--window", "4"])?;
     ran(alloc, &mut disk, &["apply"], LINES)?;
@@ -35,30 +35,24 @@ fn filled(alloc: Global, failing: Many<u64, 64>) -> Result<MemoryDisk, Fail> {
 fn pile_of<D: Disk>(alloc: Global, disk: &mut D, count: usize) -> Result<Vec<u8>, Fail> {
     let mut pile = Vec::from_slice(alloc, b"pile 1\n")?;
     for (address, words) in DOCUMENTS.iter().take(count) {
-        let (_, document) = ran(alloc, disk, words, b"")?;
-        let line = format!(in alloc; "{address} {}\n", document.len())?;
-        pile.extend_from_slice(line.as_bytes())?;
-        pile.extend_from_slice(document.as_slice())?;
-        pile.push(b'\n')?;
+        push_document(alloc, disk, &mut pile, address, words)?;
     }
     Ok(pile)
 }
 
-/// Reads the pile of the store back, and compares its documents with those that the store shows.
-fn read_back<D: Disk>(rt: &impl Abort, alloc: Global, disk: &mut D) -> Result<(), Fail> {
-    let (status, pile) = ran(alloc, disk, PILE, b"")?;
-    let mut source = ListSource::new(Bytes::from_vec(pile), Many::new(alloc));
-    let mut reader = PileReader::new(alloc, 100_000)?;
-    for (address, words) in &DOCUMENTS {
-        let offer = reader.next(&mut source)?.ok_or("no offer")?;
-        let (_, document) = ran(alloc, disk, words, b"")?;
-        assert!(rt;
-            offer.address.slice() == address.as_bytes()
-                && offer.bytes.slice() == document.as_slice(),
-            "{address}"
-        );
-    }
-    assert!(rt; status == 0 && reader.next(&mut source)?.is_none());
+/// Appends an offer of the document that these words show.
+pub fn push_document<D: Disk>(
+    alloc: Global,
+    disk: &mut D,
+    pile: &mut Vec<u8>,
+    address: &str,
+    words: &[&str],
+) -> Result<(), Fail> {
+    let (_, document) = ran(alloc, disk, words, b"")?;
+    let line = format!(in alloc; "{address} {}\n", document.len())?;
+    pile.extend_from_slice(line.as_bytes())?;
+    pile.extend_from_slice(document.as_slice())?;
+    pile.push(b'\n')?;
     Ok(())
 }
 
@@ -66,7 +60,21 @@ fn read_back<D: Disk>(rt: &impl Abort, alloc: Global, disk: &mut D) -> Result<()
 fn has_the_documents_of_the_store(rt: HostRuntime) -> Result<(), Fail> {
     let alloc = rt.alloc();
     let mut disk = filled(alloc, Many::new(alloc))?;
-    read_back(&rt, alloc, &mut disk)
+    let (status, pile) = ran(alloc, &mut disk, PILE, b"")?;
+    assert!(rt; status == 0 && pile.as_slice() == pile_of(alloc, &mut disk, 4)?.as_slice());
+    let mut source = ListSource::new(Bytes::from_vec(pile), Many::new(alloc));
+    let mut reader = PileReader::new(alloc, 100_000)?;
+    for (address, words) in &DOCUMENTS {
+        let offer = reader.next(&mut source)?.ok_or("no offer")?;
+        let (_, document) = ran(alloc, &mut disk, words, b"")?;
+        assert!(rt;
+            offer.address.slice() == address.as_bytes()
+                && offer.bytes.slice() == document.as_slice(),
+            "{address}"
+        );
+    }
+    assert!(rt; reader.next(&mut source)?.is_none());
+    Ok(())
 }
 
 #[test]

@@ -14,7 +14,7 @@ use Rattle.feed_tool.proofs.EndLemmas.{answered-refusal, no_door, no_end, no_out
 use Rattle.feed_tool.proofs.PileEndLemmas.{cut-at-once, pile-is_status}
 use Rattle.feed_tool.proofs.PrintLemmas.{alone-fault, prints-from}
 use Rattle.feed_tool.proofs.RunLemmas.{ends-done, ends-refused, ends-unsent, no_command, read_all, read_as, read_only, same_requests}
-use Rattle.feed_tool.proofs.RunLemmas.{serve-status, usage}
+use Rattle.feed_tool.proofs.RunLemmas.{mirror-status, same_base, serve-status, usage}
 use Rattle.feed_tool.proofs.run.run.Goals as goal
 
 pub returns-in-Err-Usage-clause-made : goal.returns-in-Err-Usage-clause-made
@@ -183,3 +183,18 @@ returns-in-Ok-answer-clause-opens g c = λ of_words disk clock source answered.
     (read_all _ c.read_words.result c.in-Ok.command (λ command. c.in-Ok.command ≡ command) c.in-Ok.is
     c.read_words.ensures.only refl (Apply None) of_words)
     disk clock source tt
+
+pub returns-in-Ok-write_all-clause-opens : goal.returns-in-Ok-write_all-clause-opens
+returns-in-Ok-write_all-clause-opens g c = λ of_words disk clock source answered.
+    c.in-Ok-answer.ensures.opens
+    (read_all _ c.read_words.result c.in-Ok.command (λ command. c.in-Ok.command ≡ command) c.in-Ok.is
+    c.read_words.ensures.only refl (Apply None) of_words)
+    disk clock source tt
+
+pub returns-in-Mirror-clause-statuses : goal.returns-in-Mirror-clause-statuses
+returns-in-Mirror-clause-statuses g c = mirror-status c.mirror.result.status c.mirror.ensures.statuses
+
+pub returns-in-Mirror-clause-mirrored : goal.returns-in-Mirror-clause-mirrored
+returns-in-Mirror-clause-mirrored g c =
+    same_base _ _ c.read_words.result c.in-Ok.command _ c.in-Ok.is c.in-Mirror.is c.read_words.ensures.only
+    c.mirror.ensures.mirrored

@@ -1,4 +1,4 @@
-use Rattle.std.proofs.Common.{Global, map, refl, ap, ◌∙◌, inl, string_bytes}
+use Rattle.std.proofs.Common.{Global, [], map, refl, ap, ◌∙◌, inl, string_bytes}
 use Rattle.tool_words.specs.Reading.{AreRead, option_of}
 use Rattle.tool_words.specs.Words.{init_options}
 use Rattle.tool_words.proofs.FaultLemmas.{memory_only, not_usage_of}
@@ -32,7 +32,7 @@ returns-in_err-capacity-clause-only c = λ name window capacity i.
 
 pub returns-clause-found : goal.returns-clause-found
 returns-clause-found c =
-    let read : AreRead init_options (map (string_bytes {Z = Global}) c.args.words.now)
+    let read : AreRead init_options [] (map (string_bytes {Z = Global}) c.args.words.now)
     (map option_of c.as_slice-options.result.now) =
     rw c.as_slice-options.ensures.value (rw c.in-Some.is at c.in_ok-options.ensures.found) in (
       c.in_ok-name.name,

@@ -7,12 +7,13 @@ use Rattle.tool_words.proofs.options.read_options.Given as goal
 abbrev pub invariant-loop-given : goal.invariant-loop-given
 invariant-loop-given l =
     let names = names_of l.names in
+    let flags = names_of l.flags in
     let words = map (string_bytes {Z = Global}) l.words in
     let given = map option_of l.options.items in
     let rest = map (string_bytes {Z = Global}) l.rest in
     record {
-      begun : AreBegun names words given rest;
-      only : (all : List Given) → AreOptions names words all → IsLeft given rest all;
+      begun : AreBegun names flags words given rest;
+      only : (all : List Given) → AreOptions names flags words all → IsLeft given rest all;
     }
 
 abbrev pub decreases-loop-given : goal.decreases-loop-given

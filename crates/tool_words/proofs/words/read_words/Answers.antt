@@ -1,5 +1,5 @@
 use Rattle.std.proofs.Common.{◌∷◌, Global, map, string_bytes, sym, ap, ◌∙◌}
-use Rattle.tool_words.proofs.CommandLemmas.{init_only, apply_found, serve_only}
+use Rattle.tool_words.proofs.CommandLemmas.{init_only, apply_found, mirror_only, serve_only}
 use Rattle.tool_words.proofs.words.read_words.Goals as goal
 
 pub returns-in-init-clause-only : goal.returns-in-init-clause-only
@@ -29,3 +29,10 @@ returns-in-serve-clause-only c =
     let spelt = ap (map (string_bytes {Z = Global})) c.in-Some.ensures.cases.0
     ∙ ap (λ word. word ∷ rest) (sym c.as_str.ensures.value ∙ c.in-serve.is) in
     serve_only (map (string_bytes {Z = Global}) c.args.words.now) rest c.serve.result spelt c.serve.ensures.only
+
+pub returns-in-mirror-clause-only : goal.returns-in-mirror-clause-only
+returns-in-mirror-clause-only c =
+    let rest = map (string_bytes {Z = Global}) c.in-Some.rest.now in
+    let spelt = ap (map (string_bytes {Z = Global})) c.in-Some.ensures.cases.0
+    ∙ ap (λ word. word ∷ rest) (sym c.as_str.ensures.value ∙ c.in-mirror.is) in
+    mirror_only (map (string_bytes {Z = Global}) c.args.words.now) rest c.mirror.result spelt c.mirror.ensures.only

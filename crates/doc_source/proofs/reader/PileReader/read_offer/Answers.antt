@@ -190,3 +190,32 @@ returns-clause-used g c =
     let own = c.into_offer.ensures.text used in
     rw (← c.self.view_is)
     (omega (arith, sum, parts, ap length own, ap length c.ahead.ensures.bytes, c.taken.ensures.count))
+
+pub returns-clause-bound : goal.returns-clause-bound
+returns-clause-bound g c =
+    let told' = g.S.Source.told in
+    let inside = c.self.inside in
+    let used = inside.used in
+    let old = with_part used inside.part inside.intake in
+    let mid = with_part used (Some c.in-Some.part) c.next_part.new.intake in
+    let s0 = g.S.Source.state c.args.source.now in
+    let s1 = g.S.Source.state c.next_part.new.source in
+    let began : TakesMore told' (with_part used c.take-kept.result inside.intake) mid s0 s1 =
+    takes_if _ told' (with_part used c.take-kept.result inside.intake) mid s0 s1 (λ t. (t, tt))
+    (rw c.in-Some.is at c.in_ok-part.ensures.takes) in
+    let first : TakesMore told' old mid s0 s1 =
+    subst (λ (p : Option Part). TakesMore told' (with_part used p inside.intake) mid s0 s1) c.take-kept.ensures.value
+    began in
+    let part = c.read_on.new.self in
+    let now = c.read_on.new.intake in
+    let text = part_text used part in
+    let s2 = g.S.Source.state c.read_on.new.source in
+    let second : TakesMore told' mid (with_part used (Some part) now) s1 s2 =
+    takes_if _ told' mid (with_part used (Some part) now) s1 s2 (λ t. (t, tt)) c.in_default-read_on.ensures.takes in
+    let both = takes_both told' old mid (with_part used (Some part) now) s0 s1 s2 first second in
+    let sum : used + length (text ++ now.ahead) ≡ now.taken =
+    takes_sum told' used old (with_part used (Some part) now) s0 s2 both
+    (c.self.invariant.sum ∙ sym (with_part-taken used inside.part inside.intake)) in
+    let parts = length-append text now.ahead in
+    rw c.take-kept.ensures.after
+    (omega (arith, sum, parts, ap length c.ahead.ensures.bytes, c.taken.ensures.count, c.read_on.ensures.bound))

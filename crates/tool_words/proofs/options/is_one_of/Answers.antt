@@ -4,7 +4,7 @@ use Rattle.std.specs.List.{list_any}
 use Rattle.std.proofs.lemmas.List.Folds.{Any-from_list_any, list_any-from_Any}
 use Rattle.std.proofs.lemmas.Slice.Eq.{bytes_eq-Decides}
 use Rattle.tool_words.specs.Reading.{names_of}
-use Rattle.tool_words.proofs.options.is_known.Goals as goal
+use Rattle.tool_words.proofs.options.is_one_of.Goals as goal
 
 list_any-names_of : (names : List (Bor (List ℕ))) (name : List ℕ) →
     list_any (λ known. bytes_eq known.now name) names ≡ list_any (λ known. bytes_eq known name) (names_of names)
