@@ -1,6 +1,6 @@
-//! Tests of the public calls of `mirror_walk`.
+//! Tests of the public calls of `doc_source` and `mirror_walk`.
 //!
-//! They are in a crate of their own, so that `mirror_walk` is proved once, without its tests.
+//! They are in a crate of their own, so that these crates are proved once, without their tests.
 #![tactic(auto)]
 
 #[cfg(test)]
@@ -9,6 +9,8 @@ mod faults;
 mod feeds;
 #[cfg(test)]
 mod mirrors;
+#[cfg(test)]
+mod offers;
 #[cfg(test)]
 mod piles;
 #[cfg(test)]
