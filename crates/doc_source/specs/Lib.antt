@@ -1,4 +1,6 @@
 pub mod Outside
+pub mod Fetch
+pub mod Http
 pub mod Pile
 pub mod Intake
 pub mod Line

@@ -1,4 +1,5 @@
 //! Piles of documents: a reader and a writer, and the traits of the source and the sink that they work on.
+//! The documents of a server, which are asked for by their addresses.
 //!
 //! Begin with [`PileReader::new`], and call [`PileReader::next`] until it returns `None`:
 //!
@@ -17,12 +18,19 @@
 //! is cut short or malformed with an offset, and one that is over the limit with the limit. `write_pile_head` and
 //! `write_offer` send exactly the bytes of a pile, or a prefix if a call of the sink failed.
 //!
-//! [`ListSource`] and [`ListSink`] are a source and a sink in memory, for tests.
+//! [`Fetch::get`] asks for the document of an address. [`HttpFetch`] does so over HTTP: contracts know the
+//! bytes of its request, the limit of 67,108,864 bytes and its count of failures, and nothing of the server.
 //!
-//! The crate stands on `itoa` and `arrayvec` for numbers in decimal, and on `atom_values` for bytes and failures.
+//! [`ListSource`], [`ListSink`] and [`PileFetch`] are in memory, for tests.
+//!
+//! The crate stands on `itoa` and `arrayvec` for numbers in decimal, on `http_face` for the response to a
+//! request, on `feed_disk` for the disk that a connection is lent, and on `atom_values` for bytes and
+//! failures.
 #![tactic(auto)]
 
 mod fault;
+mod fetch;
+mod http_fetch;
 mod intake;
 mod laws;
 mod line;
@@ -31,11 +39,14 @@ mod offer;
 mod outside;
 mod part;
 mod reader;
+mod target;
 mod write;
 
 pub use fault::PileFault;
+pub use fetch::{Fetch, GetFault};
+pub use http_fetch::HttpFetch;
 pub use laws::piles_have_one_reading;
-pub use memory::{ListSink, ListSource};
+pub use memory::{ListSink, ListSource, PileFetch};
 pub use offer::Offer;
 pub use outside::{Sink, Source};
 pub use reader::PileReader;

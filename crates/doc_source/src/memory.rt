@@ -1,13 +1,18 @@
-//! A source and a sink in memory, for tests. Contracts can see their content, and listed calls of them fail.
+//! A source, a sink and a fetch in memory, for tests. Contracts can see their content, and listed calls of
+//! them fail.
 
-ghost use Rattle.std.specs.Prelude.{◌≡◌, ◌↔◌, ◌+◌, ◌-◌, ◌<◌, ◌≤◌, ◌++◌, [], length, take, drop, min, slice_index, IfOk, OnOk, OnErr, IsErr, IsTrue};
-ghost use Rattle.atom_values.specs.Counts.{HasCause};
+ghost use Rattle.std.specs.Prelude.{◌≡◌, ◌≢◌, ◌↔◌, ◌+◌, ◌-◌, ◌<◌, ◌≤◌, ◌∷◌, ◌++◌, [], length, take, drop, min, slice_index, All, Err, IfOk, IfSome, OnOk, OnErr, IsErr, IsTrue, map, option_map, vec_len};
+ghost use Rattle.atom_values.specs.Counts.{HasCause, Rose};
 ghost use Rattle.atom_values.specs.ListedCalls.{after_call, next_call_fails};
+ghost use Rattle.doc_source.specs.Fetch.{answer_of};
 ghost use Rattle.doc_source.specs.Outside.{SourceState, SinkState};
+ghost use Rattle.doc_source.specs.Pile.{offer_limit};
 
+use crate::fetch::{Fetch, GetFault};
+use crate::offer::Offer;
 use crate::outside::{Sink, Source};
 use atom_values::{Bytes, Failed, ListedCalls, Many};
-use std::alloc::Global;
+use std::alloc::{AllocError, Global};
 
 /// A source of given bytes, whose listed calls fail.
 #[derive(Debug, Drop)]
@@ -120,5 +125,105 @@ impl Sink for ListSink {
                 Err(Failed)
             }
         }
+    }
+}
+
+/// A fetch that answers from given offers, and whose listed calls fail.
+#[derive(Debug, Drop)]
+pub struct PileFetch {
+    offers: Many<Offer, 100_000>,
+    asked: Vec<Bytes>,
+    calls: ListedCalls,
+    ghost short: { All (λ offer. length offer.bytes ≤ offer_limit) offers.items },
+}
+
+impl PileFetch {
+    /// The fetch before its first call. Each of the offers has at most 67,108,864 bytes. Calls are numbered
+    /// from 1, and those in `failing` fail.
+    pub fn new(alloc: Global, offers: Many<Offer, 100_000>, failing: Many<u64, 64>) -> PileFetch
+        requires { All (λ offer. length offer.bytes ≤ offer_limit) offers.items }
+        ensures state { ⟦<PileFetch as Fetch>⟧.state result
+            ≡ record { asked = []; answers = answer_of offers.items; faults = 0 } }
+        ensures calls { result.calls ≡ record { failing = failing.items; made = 0; faults = 0 } }
+    {
+        PileFetch {
+            offers,
+            asked: Vec::new(alloc),
+            calls: ListedCalls::new(failing),
+        }
+    }
+
+    /// The addresses that were asked, in order.
+    pub fn asked(&self) -> &[Bytes]
+        ensures { result.now ≡ (⟦<PileFetch as Fetch>⟧.state self.now).asked }
+    {
+        self.asked.as_slice()
+    }
+
+    /// The bytes of the first offer of this address.
+    fn first_of(&self, address: &[u8]) -> Option<&[u8]>
+        ensures answer { option_map (λ bytes. bytes.now) result
+            ≡ answer_of self.now.offers.items address.now }
+        ensures limit { IfSome result (λ bytes. length bytes.now ≤ offer_limit) }
+    {
+        let offers = self.offers.as_slice();
+        let offer = offers
+            .iter()
+            .find(|offer| offer.address.slice() == address)?;
+        Some(offer.bytes.slice())
+    }
+
+    /// A copy of the bytes of the first offer of this address.
+    fn answer(&self, alloc: Global, address: &[u8]) -> Result<Option<Vec<u8>>, AllocError>
+        ensures answer { IfOk result (λ found. option_map (λ bytes. bytes.items) found
+            ≡ answer_of self.now.offers.items address.now) }
+        ensures limit { IfOk result (λ found. IfSome found (λ bytes. vec_len bytes ≤ offer_limit)) }
+    {
+        match self.first_of(address) {
+            Some(bytes) => Ok(Some(Vec::from_slice(alloc, bytes)?)),
+            None => Ok(None),
+        }
+    }
+}
+
+impl Fetch for PileFetch {
+    ghost told = { Unit {0} };
+
+    ghost state = { λ f. record {
+      asked = f.asked.items;
+      answers = answer_of f.offers.items;
+      faults = f.calls.faults;
+    } };
+
+    fn get(&mut self, alloc: Global, address: &[u8]) -> Result<Option<Vec<u8>>, GetFault>
+        // It fails the listed calls, unless memory runs out before, and no others.
+        ensures listed { result ≡ Err GetFault.Failed → IsTrue (next_call_fails self.old.calls) }
+        ensures fails { IsTrue (next_call_fails self.old.calls) → IsErr result }
+        ensures calls { result ≢ Err GetFault.NoMemory → self.new.calls ≡ after_call self.old.calls }
+
+        // The clauses of the trait.
+        ensures asked { result ≢ Err GetFault.NoMemory → Unit {0}
+            → self.new.asked.items ≡ self.old.asked.items ++ address.now ∷ [] }
+        ensures unasked { result ≡ Err GetFault.NoMemory → Unit {0}
+            → self.new.asked.items ≡ self.old.asked.items }
+        ensures answers { answer_of self.new.offers.items ≡ answer_of self.old.offers.items }
+        ensures answer { IfOk result (λ found. Unit {0} → option_map (λ bytes. bytes.items) found
+            ≡ answer_of self.old.offers.items address.now) }
+        ensures limit { IfOk result (λ found. IfSome found (λ bytes. vec_len bytes ≤ offer_limit)) }
+        ensures later { self.old.calls.faults ≤ self.new.calls.faults }
+        ensures failed { result ≡ Err GetFault.Failed → Rose self.old.calls.faults self.new.calls.faults }
+        ensures worked { result ≢ Err GetFault.Failed → self.new.calls.faults ≡ self.old.calls.faults }
+    {
+        // All memory is taken before the call is counted.
+        let asked = Bytes::of(alloc, address)?;
+        self.asked.reserve(1)?;
+        let answer = self.answer(alloc, address)?;
+        let fails = self.calls.next_fails();
+        // There is room, so the address is never handed back.
+        let _ = self.asked.push(asked);
+        if fails {
+            return Err(GetFault::Failed);
+        }
+        Ok(answer)
     }
 }

@@ -9,7 +9,7 @@ use Rattle.httparse.proofs.GrammarLemmas.{print_request-append, request_prefix_f
 use Rattle.http_face.specs.Heard.{HasNoHead, IsHeadFault, head_limit, field_limit}
 use Rattle.std.specs.Prelude.{Result, Err}
 use Rattle.http_face.specs.declared.fault.RequestFault.{RequestFault}
-use Rattle.http_face.specs.declared.fault.RequestFault.TheVariants.{ConnFault, BadHead, HeadTooLarge}
+use Rattle.http_face.specs.declared.fault.RequestFault.TheVariants.{BadHead, HeadTooLarge}
 
 -- no head is empty
 pub no_head-nil : HasNoHead []
@@ -80,8 +80,6 @@ pub field_count : (buf : List ℕ) (headers : List HeaderSpan) (count : ℕ) (fi
 field_count buf headers count fields fits e =
     omega (arith, simp (length-map, length-take) at (ap length e), fits)
 
--- no text is a failed call
-pub no_call_failed : {A : Type 0} {P : Type 0} (bytes : List ℕ) (fault : RequestFault) → IsHeadFault bytes fault →
-    ◌≡◌ {A = Result A RequestFault} (Err fault) (Err ConnFault) → P
-no_call_failed bytes fault h e =
-    let same : fault ≡ ConnFault = cc in absurd (subst (λ (f : RequestFault). IsHeadFault bytes f) same h)
+-- equal refusals have equal faults
+pub err_same : {A : Type 0} {one other : RequestFault} → ◌≡◌ {A = Result A RequestFault} (Err one) (Err other) → one ≡ other
+err_same e = cc

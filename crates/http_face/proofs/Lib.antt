@@ -12,5 +12,9 @@ pub mod PhraseLemmas
 pub mod BodyLemmas
 -- `read_request`: `heard` and `refused`, from a head and a body to the bytes of the connection
 pub mod RequestLemmas
+-- `read_response`: `answered` and `bad`, for which bytes begin with a head
+pub mod ResponseHeadLemmas
+-- `read_response`: `answered` and `bad`, for the answer of a head; `responses_have_one_reading`
+pub mod AnswerLemmas
 -- `requests_have_one_reading`, and `read_request`: `only`
 pub mod ReadingLemmas

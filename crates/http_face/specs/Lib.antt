@@ -1,5 +1,6 @@
 pub mod Conn
 pub mod Request
 pub mod Heard
+pub mod Response
 pub mod Put
 pub mod Reply

@@ -5,7 +5,8 @@ ghost use Rattle.http_face.specs.Conn.{ConnState, Reads, Writes};
 use atom_values::Failed;
 use feed_disk::Disk;
 
-/// A connection with a client. A request is read from it and then a reply is written to it.
+/// A connection with a client or a server. With a client, a request is read from it and then a reply is
+/// written to it. With a server, a response is read from it.
 ///
 /// A failed call is counted as a fault, and takes no byte.
 pub trait Conn {

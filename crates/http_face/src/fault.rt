@@ -74,6 +74,52 @@ impl From<AllocError> for RequestFault {
     }
 }
 
+/// Why [`crate::read_response`] returned no answer.
+#[derive(Clone, Copy, Debug, PartialEq, Eq)]
+pub enum ResponseFault {
+    /// A call on the connection failed.
+    ConnFault,
+    /// No response begins with the bytes, its head is over a limit, its status is another than 200, 404 and
+    /// 410, or its body can't be read.
+    BadResponse,
+    /// Memory ran out.
+    NoMemory,
+}
+
+impl fmt::Display for ResponseFault {
+    fn fmt<W: fmt::Write>(&self, f: &mut fmt::Formatter<W>) -> fmt::Result {
+        match self {
+            ResponseFault::ConnFault => write!(f, "connection fault"),
+            ResponseFault::BadResponse => write!(f, "bad response"),
+            ResponseFault::NoMemory => write!(f, "no memory"),
+        }
+    }
+}
+
+impl Error for ResponseFault {}
+
+impl From<Failed> for ResponseFault {
+    ghost use Rattle.std.specs.Prelude.{◌≡◌};
+    ghost use Rattle.http_face.specs.declared.fault.ResponseFault.TheVariants.{ConnFault};
+
+    ghost from_gives = { λ _ e. e ≡ ConnFault };
+
+    fn from(_error: Failed) -> ResponseFault {
+        ResponseFault::ConnFault
+    }
+}
+
+impl From<AllocError> for ResponseFault {
+    ghost use Rattle.std.specs.Prelude.{◌≡◌};
+    ghost use Rattle.http_face.specs.declared.fault.ResponseFault.TheVariants.{NoMemory};
+
+    ghost from_gives = { λ _ e. e ≡ NoMemory };
+
+    fn from(_error: AllocError) -> ResponseFault {
+        ResponseFault::NoMemory
+    }
+}
+
 /// A call on the connection failed. Before that, the connection took the first `sent` bytes of the reply. The count
 /// stays at the greatest `u64`.
 #[derive(Clone, Copy, Debug, PartialEq, Eq)]

@@ -1,13 +1,15 @@
 //! What the fields of a head say.
 
-ghost use Rattle.std.specs.Prelude.{◌≡◌, ◌↔◌, IsTrue, ◌∷◌, [], map, length, All, IfSome, MatchOption, Some, None, if◌then◌else◌};
+ghost use Rattle.std.specs.Prelude.{◌≡◌, ◌≤◌, ◌↔◌, IsTrue, ◌∷◌, [], map, length, All, IfOk, IfSome, MatchOption, Some, None, if◌then◌else◌};
 ghost use Rattle.std.specs.Char.{to_ascii_lowercase};
 ghost use Rattle.std.specs.Str.Parse.{digits_value};
 ghost use Rattle.httparse.specs.Spans.{IsHeaderWithin, header_bytes};
 ghost use Rattle.http_face.specs.Heard.{values_of, is_length, size_of, stated_size};
+ghost use Rattle.http_face.specs.Response.{answer_limit, extent_of, stated_extent};
 
-use crate::fault::RequestFault;
+use crate::fault::{RequestFault, ResponseFault};
 use crate::request::MAX_BODY;
+use crate::response::MAX_ANSWER;
 use httparse::spans::HeaderSpan;
 
 /// The most digits of a length.
@@ -69,6 +71,44 @@ fn size_of(value: &[u8]) -> Result<usize, RequestFault>
                 Err(RequestFault::BodyTooLarge { length })
             } else {
                 Ok(length as usize)
+            }
+        }
+    }
+}
+
+/// The length of the body that the fields of a response state. `None`: the body goes on up to the end.
+pub(crate) fn stated_extent(
+    bytes: &[u8],
+    headers: &[HeaderSpan],
+) -> Result<Option<usize>, ResponseFault>
+    requires { All (IsHeaderWithin (length bytes.now)) headers.now }
+    ensures extent { result ≡ stated_extent (map (header_bytes bytes.now) headers.now) }
+    ensures limit { IfOk result (λ extent. IfSome extent (λ size. size ≤ answer_limit)) }
+{
+    if find(bytes, headers, b"transfer-encoding").is_some() {
+        return Err(ResponseFault::BadResponse);
+    }
+    let Some((value, more)) = find(bytes, headers, b"content-length") else {
+        return Ok(None);
+    };
+    if find(bytes, more, b"content-length").is_some() {
+        return Err(ResponseFault::BadResponse);
+    }
+    extent_of(value)
+}
+
+/// The length that the value of a response's field states.
+fn extent_of(value: &[u8]) -> Result<Option<usize>, ResponseFault>
+    ensures extent { result ≡ extent_of value.now }
+    ensures limit { IfOk result (λ extent. IfSome extent (λ size. size ≤ answer_limit)) }
+{
+    match length_of(value) {
+        None => Err(ResponseFault::BadResponse),
+        Some(length) => {
+            if length > MAX_ANSWER as u128 {
+                Err(ResponseFault::BadResponse)
+            } else {
+                Ok(Some(length as usize))
             }
         }
     }

@@ -9,14 +9,18 @@ ghost use Rattle.http_face.specs.Heard.{head_limit, field_limit, HasNoHead, IsHe
 use crate::conn::Conn;
 use crate::fault::RequestFault;
 use crate::fill::read_behind;
-use httparse::spans::{HeaderSpan, RequestSpans, parse_request};
+use httparse::spans::{EMPTY_HEADER_SPAN, HeaderSpan, RequestSpans, parse_request};
 use httparse::{Error, Status};
+use std::alloc::Global;
 
 /// The most bytes of a head.
 pub(crate) const MAX_HEAD: usize = 16_384;
 
 /// The most fields of a head.
-const MAX_FIELDS: usize = 64;
+pub(crate) const MAX_FIELDS: usize = 64;
+
+/// The room for fields: no head of `MAX_HEAD` bytes has more.
+const FIELD_ROOM: usize = 5_461;
 
 /// A head in a buffer.
 #[derive(Clone, Copy, Debug)]
@@ -28,6 +32,7 @@ pub(crate) struct ReadHead {
 
 /// Reads the head of a request into the buffer.
 pub(crate) fn read_head<C: Conn>(
+    alloc: Global,
     conn: &mut C,
     buffer: &mut [u8],
     headers: &mut [HeaderSpan],
@@ -42,8 +47,8 @@ pub(crate) fn read_head<C: Conn>(
     ensures few { IfOk result (λ head. head.spans.headers ≤ field_limit) }
     ensures bytes { IfOk result (λ head. C.told → (C.state conn.old).left
         ≡ take head.filled buffer.new ++ (C.state conn.new).left) }
-    ensures refused { IfErr result (λ fault. fault ≢ RequestFault.ConnFault → C.told
-        → HasNoHead (C.state conn.old).left × IsHeadFault (C.state conn.old).left fault) }
+    ensures refused { IfErr result (λ fault. fault ≢ RequestFault.ConnFault → fault ≢ RequestFault.NoMemory
+        → C.told → HasNoHead (C.state conn.old).left × IsHeadFault (C.state conn.old).left fault) }
     ensures most { C.told → TakesAtMost head_limit (C.state conn.old) (C.state conn.new) }
     ensures reads { Reads (C.state conn.old) (C.state conn.new) }
     ensures failed { result ≡ Err RequestFault.ConnFault → Rose (C.state conn.old).faults (C.state conn.new).faults }
@@ -59,7 +64,7 @@ pub(crate) fn read_head<C: Conn>(
             });
         }
         filled += count;
-        if let Some(spans) = parse(&buffer[..filled], headers)? {
+        if let Some(spans) = parse(alloc, &buffer[..filled], headers)? {
             return Ok(ReadHead { spans, filled });
         }
     }
@@ -67,15 +72,20 @@ pub(crate) fn read_head<C: Conn>(
 }
 
 /// Parses the head that the bytes begin with. `None`: it isn't there yet.
-fn parse(bytes: &[u8], headers: &mut [HeaderSpan]) -> Result<Option<RequestSpans>, RequestFault>
+fn parse(
+    alloc: Global,
+    bytes: &[u8],
+    headers: &mut [HeaderSpan],
+) -> Result<Option<RequestSpans>, RequestFault>
     requires short { length bytes.now ≤ head_limit }
     requires fields { field_limit ≤ length headers.old }
     ensures within { IfOk result (λ found. IfSome found (IsRequestWithin bytes.now headers.new)) }
     ensures complete { IfOk result (λ found. IfSome found (IsRequestOf bytes.now headers.new)) }
     ensures few { IfOk result (λ found. IfSome found (λ spans. spans.headers ≤ field_limit)) }
     ensures unfinished { IfOk result (λ found. IsNone found → HasNoHead bytes.now) }
-    ensures refused { IfErr result (λ fault. (more : List ℕ)
+    ensures refused { IfErr result (λ fault. fault ≢ RequestFault.NoMemory → (more : List ℕ)
         → HasNoHead (bytes.now ++ more) × IsHeadFault (bytes.now ++ more) fault) }
+    ensures own { IfErr result (λ fault. fault ≢ RequestFault.ConnFault) }
 {
     match parse_request(bytes, headers) {
         Ok(Status::Complete(spans)) => {
@@ -83,6 +93,32 @@ fn parse(bytes: &[u8], headers: &mut [HeaderSpan]) -> Result<Option<RequestSpans
                 Err(RequestFault::HeadTooLarge)
             } else {
                 Ok(Some(spans))
+            }
+        }
+        Ok(Status::Partial) => Ok(None),
+        Err(error) => match error {
+            Error::TooManyHeaders => parse_many(alloc, bytes),
+            _ => Err(RequestFault::BadHead),
+        },
+    }
+}
+
+/// Parses the bytes of a head that has more fields than there was room for: `HeadTooLarge` once it is there, and
+/// `None` before. The room for all fields is made here, because few requests need it.
+fn parse_many(alloc: Global, bytes: &[u8]) -> Result<Option<RequestSpans>, RequestFault>
+    requires short { length bytes.now ≤ head_limit }
+    ensures none { IfOk result IsNone }
+    ensures refused { IfErr result (λ fault. fault ≢ RequestFault.NoMemory → (more : List ℕ)
+        → HasNoHead (bytes.now ++ more) × IsHeadFault (bytes.now ++ more) fault) }
+    ensures own { IfErr result (λ fault. fault ≢ RequestFault.ConnFault) }
+{
+    let mut headers = vec![in alloc; EMPTY_HEADER_SPAN; FIELD_ROOM]?;
+    match parse_request(bytes, &mut headers) {
+        Ok(Status::Complete(spans)) => {
+            if spans.headers > MAX_FIELDS {
+                Err(RequestFault::HeadTooLarge)
+            } else {
+                Ok(None)
             }
         }
         Ok(Status::Partial) => Ok(None),

@@ -10,7 +10,7 @@ use crate::body::read_body;
 use crate::conn::Conn;
 use crate::fault::RequestFault;
 use crate::fields::{find, stated_size};
-use crate::head::{MAX_HEAD, read_head};
+use crate::head::{MAX_FIELDS, MAX_HEAD, read_head};
 use atom_values::{Bytes, Copies, NoMemory};
 use httparse::spans::{EMPTY_HEADER_SPAN, HeaderSpan, RequestSpans};
 use std::alloc::Global;
@@ -64,9 +64,6 @@ impl Verb {
         matches!(self, Verb::Post | Verb::Put)
     }
 }
-
-/// The room for fields: no head of `MAX_HEAD` bytes has more.
-const FIELD_ROOM: usize = 5_461;
 
 /// A request of a client. Its body has at most `MAX_BODY` bytes.
 #[derive(Debug, Drop)]
@@ -133,7 +130,7 @@ pub fn read_request<C: Conn>(alloc: Global, conn: &mut C) -> Result<Request, Req
         → (C.state conn.new).faults ≡ (C.state conn.old).faults }
 {
     let mut buffer = vec![in alloc; 0; MAX_HEAD]?;
-    let mut headers = vec![in alloc; EMPTY_HEADER_SPAN; FIELD_ROOM]?;
+    let mut headers = [EMPTY_HEADER_SPAN; MAX_FIELDS];
     read_within(alloc, conn, &mut buffer, &mut headers)
 }
 
@@ -156,7 +153,7 @@ fn read_within<C: Conn>(
     ensures unfailed { result ≢ Err RequestFault.ConnFault
         → (C.state conn.new).faults ≡ (C.state conn.old).faults }
 {
-    let head = read_head(conn, buffer, headers)?;
+    let head = read_head(alloc, conn, buffer, headers)?;
     let spans = head.spans;
     request_of(
         alloc,

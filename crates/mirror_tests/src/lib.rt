@@ -8,6 +8,8 @@ mod faults;
 #[cfg(test)]
 mod feeds;
 #[cfg(test)]
+mod fetches;
+#[cfg(test)]
 mod mirrors;
 #[cfg(test)]
 mod offers;

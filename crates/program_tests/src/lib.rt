@@ -1,7 +1,25 @@
-//! Tests of the public calls of `tool_words`. The tests of the program itself are in `feed_tool`.
+//! Tests of the public calls of `tool_words` and `feed_commands`.
 //!
-//! They are in a crate of their own so that `tool_words` is proved once, without its tests.
+//! They are in a crate of their own, so that these crates are proved once, without their tests.
 #![tactic(auto)]
 
+#[cfg(test)]
+mod apply;
+#[cfg(test)]
+mod documents;
+#[cfg(test)]
+mod faults;
+#[cfg(test)]
+mod mirror;
+#[cfg(test)]
+mod pile;
+#[cfg(test)]
+mod runs;
+#[cfg(test)]
+mod serve;
+#[cfg(test)]
+mod show;
+#[cfg(test)]
+mod store;
 #[cfg(test)]
 mod words;

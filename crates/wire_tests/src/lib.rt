@@ -16,6 +16,8 @@ mod reply_after_commit;
 #[cfg(test)]
 mod requests;
 #[cfg(test)]
+mod responses;
+#[cfg(test)]
 mod sentences;
 #[cfg(test)]
 mod sessions;

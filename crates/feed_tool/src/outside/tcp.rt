@@ -82,11 +82,11 @@ impl<'a, R: Net + rt::Clock> TcpConn<'a, R> {
     }
 
     /// Whether the client sent more than was read, without waiting for it. `None` if it closed the connection.
+    ///
+    /// Leaves the stream without waiting, since most connections are only closed after it.
     fn sends_more(&self) -> Option<bool> {
         self.stream.set_nonblocking(true).ok()?;
-        let sent = self.stream.peek(&mut [0u8; 1]);
-        self.stream.set_nonblocking(false).ok()?;
-        match sent {
+        match self.stream.peek(&mut [0u8; 1]) {
             Ok(0) => None,
             Ok(_) => Some(true),
             Err(error) if error.kind() == ErrorKind::WouldBlock => Some(false),
@@ -99,6 +99,9 @@ impl<'a, R: Net + rt::Clock> TcpConn<'a, R> {
     /// To close a socket with unread bytes resets the connection, and a reset can overtake the reply. So a client that
     /// sends more than was read would lose its reply.
     fn drain(&mut self) {
+        if self.stream.set_nonblocking(false).is_err() {
+            return;
+        }
         self.deadline = deadline_in(self.runtime, DRAIN_SECONDS);
         let mut dropped = [0u8; 4096];
         let mut room = DRAIN_BYTES;

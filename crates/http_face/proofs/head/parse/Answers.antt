@@ -4,7 +4,7 @@ use Rattle.http_face.proofs.HeadLemmas.{no_head-many, many_fields, field_count, 
 use Rattle.http_face.proofs.head.parse.Goals as goal
 
 pub returns-then-spans-gt-MAX_FIELDS-clause-refused : goal.returns-then-spans-gt-MAX_FIELDS-clause-refused
-returns-then-spans-gt-MAX_FIELDS-clause-refused c = λ more.
+returns-then-spans-gt-MAX_FIELDS-clause-refused c = λ _ more.
     let bytes = c.args.bytes.now in
     let spans = c.in-Ok-Complete.spans in
     let found = rw c.in-Ok-Complete.field-0-is at c.in-Ok-Complete.ensures.complete in
@@ -12,12 +12,13 @@ returns-then-spans-gt-MAX_FIELDS-clause-refused c = λ more.
     let head = found.0 in
     let count = field_count bytes c.parse_request.new.headers spans.headers head.fields within.section.count_fits
     found.1.fields in
-    let many : field_limit < length head.fields = omega (arith, count, c.if-spans-gt-MAX_FIELDS.true) in (
+    let over = rw c.in-Ok-Complete.field-0-is at c.if-spans-gt-MAX_FIELDS.true in
+    let many : field_limit < length head.fields = omega (arith, count, over) in (
       no_head-many bytes more (drop spans.len bytes) head found.1.reads many,
       many_fields bytes more (drop spans.len bytes) head c.requires.short found.1.reads many,
     )
 
 pub returns-in_default-clause-refused : goal.returns-in_default-clause-refused
-returns-in_default-clause-refused c = λ more.
+returns-in_default-clause-refused c = λ _ more.
     let never = c.in-Err.ensures.invalid c.in_default.not-TooManyHeaders in
     (no_head-never c.args.bytes.now more never, bad_head c.args.bytes.now more c.requires.short never)

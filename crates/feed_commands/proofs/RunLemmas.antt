@@ -1,0 +1,138 @@
+-- How a run ends, by how its command ended.
+use Rattle.std.proofs.Common.{◌≡◌, ◌⊎◌, inl, inr, ⊎_elim, ℕ, List, ◌++◌, Result, Ok, Err, IfOk, refl, sym, ◌∙◌, ap, subst, arith}
+use Rattle.feed_disk.specs.declared.area.Area.{Area}
+use Rattle.tool_words.specs.Words.{IsCommandOf}
+use Rattle.tool_words.specs.declared.command.Command.{Command}
+use Rattle.tool_words.specs.declared.fault.WordsFault.{WordsFault}
+use Rattle.tool_words.specs.declared.command.Command.TheVariants.{Serve, Mirror}
+use Rattle.tool_words.specs.declared.fault.WordsFault.TheVariants.{NoMemory, Usage}
+use Rattle.feed_commands.specs.declared.fault.Fault.{Fault}
+use Rattle.feed_commands.specs.declared.status.Status.TheVariants.{Done}
+use Rattle.feed_commands.specs.declared.status.Status.TheVariants as ends
+use Rattle.feed_commands.specs.Answer.{Prints}
+use Rattle.feed_commands.specs.Fault.{fault_answer}
+use Rattle.doc_source.specs.Outside.{SinkState}
+use Rattle.feed_commands.specs.Run.{EndsWith, IsDone, IsGiven, IsStatus}
+use Rattle.feed_commands.specs.Mirror.{MayEndMirror}
+use Rattle.feed_commands.specs.Status.{code_of}
+use Rattle.feed_commands.proofs.EndLemmas.{no_done}
+use Rattle.feed_commands.proofs.ServeLemmas.{IsServeCode}
+
+-- what holds of the command that was read holds of each command of the words
+pub read_all : (words : List (List ℕ)) (result : Result Command WordsFault) (read : Command)
+    (P : Command → Type 0) → result ≡ Ok read →
+    ((command : Command) → IsCommandOf words command → (result ≡ Ok command) ⊎ (result ≡ Err NoMemory)) →
+    P read → (command : Command) → IsCommandOf words command → P command
+read_all words result read P is only p = λ command of_words. ⊎_elim
+    (λ (e : result ≡ Ok command). let same : Ok read ≡ Ok command = sym is ∙ e in
+    let read_is : read ≡ command = cc in subst P read_is p)
+    (λ (e : result ≡ Err NoMemory). let other : Ok read ≡ Err NoMemory = sym is ∙ e in cc)
+    (only command of_words)
+
+module _ (command : Command) (moments : ℕ → ℕ) (input : List ℕ) (content : Area → List ℕ) (told : Type 0)
+    (before after : SinkState) where
+  -- the answer was printed
+  pub ends-done : (text : List ℕ) → IsGiven command moments input content (record { status = Done; printed = text }) →
+      (told → Prints before after text) → (told → after.taken ≡ before.taken ++ text) →
+      EndsWith command moments input content told before after 0
+  ends-done text given prints whole = record {
+    answer = record { status = Done; printed = text };
+    is = given.is;
+    status = inl refl;
+    prints = prints;
+    whole = λ seen _. whole seen;
+  }
+
+  -- the output failed
+  pub ends-unsent : (text : List ℕ) →
+      IsGiven command moments input content (record { status = Done; printed = text }) →
+      (told → Prints before after text) → EndsWith command moments input content told before after 8
+  ends-unsent text given prints = record {
+    answer = record { status = Done; printed = text };
+    is = given.is;
+    status = inr (refl, inl refl);
+    prints = prints;
+    whole = λ seen. ⊎_elim (λ e. absurd (omega (arith, e))) (λ e. absurd (omega (arith, e)));
+  }
+
+  -- the line of a refusal was printed
+  pub ends-refused : (fault : Fault) (ended : ℕ) → ended ≡ code_of (fault_answer fault).status →
+      IsGiven command moments input content (fault_answer fault) →
+      (told → Prints before after (fault_answer fault).printed) →
+      EndsWith command moments input content told before after ended
+  ends-refused fault ended e given prints = record {
+    answer = fault_answer fault;
+    is = given.is;
+    status = inl e;
+    prints = prints;
+    whole = λ seen done. absurd (no_done fault (subst IsDone e done));
+  }
+
+-- words that were refused for this fault
+pub usage : {result : Result Command WordsFault} {fault : WordsFault} → result ≡ Err fault → fault ≡ Usage
+    → result ≡ Err Usage
+usage is same =
+    let refused : WordsFault → Result Command WordsFault = λ fault. Err fault in
+    is ∙ ap refused same
+
+-- words that were refused are those of no command
+pub no_command : (words : List (List ℕ)) (result : Result Command WordsFault) → result ≡ Err Usage
+    → ((command : Command) → IsCommandOf words command → (result ≡ Ok command) ⊎ (result ≡ Err NoMemory))
+    → (command : Command) → IsCommandOf words command → ⊥
+no_command words result is only command of_words = ⊎_elim
+    (λ (e : result ≡ Ok command). let other : ◌≡◌ {A = Result Command WordsFault} (Err Usage) (Ok command) = sym is ∙ e in cc)
+    (λ (e : result ≡ Err NoMemory). let other : ◌≡◌ {A = Result Command WordsFault} (Err Usage) (Err NoMemory) = sym is ∙ e in cc)
+    (only command of_words)
+
+-- the words that were read as a command are those of that command
+pub read_as : (words : List (List ℕ)) (result : Result Command WordsFault) (read command : Command) → result ≡ Ok read
+    → read ≡ command → IfOk result (IsCommandOf words) → IsCommandOf words command
+read_as words result read command is same found = subst (IsCommandOf words) same (rw is at found)
+
+-- and of no other command
+pub read_only : (words : List (List ℕ)) (result : Result Command WordsFault) (read command : Command) → result ≡ Ok read
+    → read ≡ command
+    → ((other : Command) → IsCommandOf words other → (result ≡ Ok other) ⊎ (result ≡ Err NoMemory))
+    → (other : Command) → IsCommandOf words other → command ≡ other
+read_only words result read command is same only =
+    read_all words result read (λ other. command ≡ other) is only (sym same)
+
+-- words of `serve` have one number of requests
+pub same_requests : (P : ℕ → Type 0) (words : List (List ℕ)) (result : Result Command WordsFault) (read : Command)
+    (listen : List ℕ) (requests : ℕ) → result ≡ Ok read → read ≡ Serve listen requests
+    → ((command : Command) → IsCommandOf words command → (result ≡ Ok command) ⊎ (result ≡ Err NoMemory))
+    → P requests → (other : List ℕ) (number : ℕ) → IsCommandOf words (Serve other number) → P number
+same_requests P words result read listen requests is serves only holds other number of_words =
+    let same : Serve listen requests ≡ Serve other number =
+    read_only words result read (Serve listen requests) is serves only (Serve other number) of_words in
+    let equal : requests ≡ number = cc in
+    subst P equal holds
+
+-- a session's status is one of the program's
+pub serve-status : (n : ℕ) → IsServeCode n → IsStatus n
+serve-status n (inl e) = (ends.Done, e)
+serve-status n (inr (inl e)) = (ends.DiskFault, e)
+serve-status n (inr (inr (inl e))) = (ends.NoMemory, e)
+serve-status n (inr (inr (inr (inl e)))) = (ends.BadStore, e)
+serve-status n (inr (inr (inr (inr (inl e))))) = (ends.DoorFault, e)
+serve-status n (inr (inr (inr (inr (inr e))))) = (ends.OutputFault, e)
+
+-- the status of `mirror` is one of the program's
+pub mirror-status : (n : ℕ) → MayEndMirror n → IsStatus n
+mirror-status n (inl e) = (ends.Done, e)
+mirror-status n (inr (inl e)) = (ends.Incomplete, e)
+mirror-status n (inr (inr (inl e))) = (ends.NoMemory, e)
+mirror-status n (inr (inr (inr (inl e)))) = (ends.OutputFault, e)
+mirror-status n (inr (inr (inr (inr (inl e))))) = (ends.InputFault, e)
+mirror-status n (inr (inr (inr (inr (inr e))))) = (ends.BadInput, e)
+
+-- the words of `mirror` have one base
+pub same_base : (P : List ℕ → Type 0) (words : List (List ℕ)) (result : Result Command WordsFault) (read : Command)
+    (base : List ℕ) → result ≡ Ok read → read ≡ Mirror base
+    → ((command : Command) → IsCommandOf words command → (result ≡ Ok command) ⊎ (result ≡ Err NoMemory))
+    → P base → (other : List ℕ) → IsCommandOf words (Mirror other) → P other
+same_base P words result read base is mirrors only holds other of_words =
+    let same : Mirror base ≡ Mirror other =
+    read_only words result read (Mirror base) is mirrors only (Mirror other) of_words in
+    let equal : base ≡ other = cc in
+    subst P equal holds

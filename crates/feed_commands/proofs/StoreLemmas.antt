@@ -1,0 +1,53 @@
+-- What a loaded store opens to, and the sizes of its two logs.
+use Rattle.std.proofs.Common.{◌≡◌, ◌⊎◌, inl, inr, Result, ℕ, zero, suc, ◌+◌, ◌-◌, ◌<◌, ◌≤◌, List, [], ◌∷◌, ◌++◌, length, get_or, take, refl}
+use Rattle.std.proofs.Common.{sym, ◌∙◌, ap, subst, arith}
+use Rattle.std.specs.Prelude.{Some, slice_get}
+use Rattle.std.proofs.Math.Seq.{take-length, take-suc}
+use Rattle.std.proofs.lemmas.Option.{slice_get-get_or}
+use Rattle.feed_disk.specs.Disk.{DiskState}
+use Rattle.feed_disk.specs.declared.area.Area.{Area}
+use Rattle.feed_disk.specs.declared.area.Area.TheVariants.{Journal, Sealed}
+use Rattle.feed_journal.specs.Log.{IsLog}
+use Rattle.feed_journal.specs.Records.{records, size_of}
+use Rattle.feed_journal.proofs.ListLemmas.{is_size}
+use Rattle.feed_recovery.specs.Opening.{AreSeals, IsJournal, Opens, journal_of, seal_of}
+use Rattle.feed_recovery.specs.Store.{StandsFor, StoreValue, seal_count}
+use Rattle.feed_commands.specs.declared.fault.Fault.{Fault}
+use Rattle.feed_commands.specs.declared.fault.Fault.TheVariants.{NoMemory, Input, Disk, BadStore, Full, Refused}
+use Rattle.feed_commands.specs.Apply.{line_operation}
+use Rattle.feed_commands.specs.Fault.{IsRefusal}
+use Rattle.feed_commands.specs.Loaded.{line_made}
+use Rattle.feed_recovery.specs.Stored.{OpensTo, Stored, stored_of}
+use Rattle.feed_commands.specs.Stored.{stored_step}
+use Rattle.member_rules.specs.Head.{HeadValue}
+use Rattle.member_rules.specs.declared.operation.Op.{Op}
+
+-- the payloads decide what a content opens to
+pub opens-same : (content other : Area → List ℕ) (stored : Stored)
+    → ((a : Area) → records (other a) ≡ records (content a)) → OpensTo other stored → OpensTo content stored
+opens-same content other stored same o = record {
+  is_journal = subst (λ (ps : List (List ℕ)). IsJournal ps stored.head stored.history) (same Journal) o.is_journal;
+  are_seals = subst (AreSeals stored.head stored.history) (same Sealed) o.are_seals;
+  number = ap length (sym (same Sealed)) ∙ o.number;
+  count = o.count;
+}
+
+-- what a line makes of a store, by what was asked of it
+pub line-is : (moments : ℕ → ℕ) (store : StoreValue) (before : ℕ) (line read : List ℕ) (number now : ℕ)
+    (made : Result Stored Fault) → read ≡ line → number ≡ before + 1 → now ≡ moments before
+    → line_made store number now read ≡ made → stored_step moments (stored_of store) before line ≡ made
+unfolding line_operation
+line-is moments store before line read number now made is_line is_number is_now e =
+    rw (← is_number, ← is_line, ← is_now) e
+
+-- a fault of a line is one of the disk, or isn't
+pub disk-or-not : (fault : Fault) → (fault ≡ Disk) ⊎ (fault ≡ Disk → ⊥)
+disk-or-not NoMemory = inr (λ e. cc)
+disk-or-not Input = inr (λ e. cc)
+disk-or-not Disk = inl refl
+disk-or-not (BadStore bad) = inr (λ e. cc)
+disk-or-not (Full area size needed capacity) = inr (λ e. cc)
+disk-or-not (Refused refusal) = inr (λ e. cc)
+
+pub no-disk : (fault : Fault) → IsRefusal fault → fault ≡ Disk → ⊥
+no-disk fault refusal e = rw e at refusal

@@ -1,0 +1,69 @@
+use Rattle.std.proofs.Common.{◌≡◌, inr, subst}
+use Rattle.std.proofs.lemmas.Result.{err_from_is_err_and, on_ok_weaker}
+use Rattle.feed_disk.specs.declared.area.Area.TheVariants.{Journal, Sealed, Mirror}
+use Rattle.feed_disk.proofs.MomentLemmas.{alone_joins}
+use Rattle.feed_recovery.specs.Settled.{OpensPast}
+use Rattle.feed_recovery.specs.Stored.{stored_of}
+use Rattle.feed_recovery.proofs.BothLemmas.{both_joins}
+use Rattle.feed_recovery.proofs.PastLemmas.{both_alone}
+use Rattle.feed_commands.specs.Fault.{IsRefusal}
+use Rattle.feed_commands.specs.StoreFaults.{load_fault}
+use Rattle.feed_commands.proofs.AnswerOnLemmas.{not-refusal}
+use Rattle.feed_commands.proofs.StoreLemmas.{opens-same}
+use Rattle.feed_commands.proofs.commands.pile.print_pile.Goals as goal
+
+pub returns-in_err-store-clause-opened : goal.returns-in_err-store-clause-opened
+returns-in_err-store-clause-opened g c = λ fault is told stored opens refusal.
+    let p = err_from_is_err_and c.from_residual.result c.from_residual.ensures.1 in
+    let same : fault ≡ load_fault c.in_err-store.field-0.0 = cc (p.1, p.2) in
+    not-refusal c.in_err-store.field-0.0
+    (c.in_err-store.ensures.only told stored.head stored.history stored.seals opens) (subst IsRefusal same refusal)
+
+pub returns-clause-whole : goal.returns-clause-whole
+returns-clause-whole g c = on_ok_weaker c.print_documents.result
+    (λ whole told.
+    let stored = stored_of c.in_ok-store.store in (
+      stored,
+      opens-same (g.D.Disk.state c.args.disk.now).content (g.D.Disk.state c.load.new.disk).content stored
+          (c.in_ok-store.ensures.same told) (c.in_ok-store.ensures.opens told).opens,
+      whole told,
+    ))
+    c.print_documents.ensures.whole
+
+pub returns-clause-prefix : goal.returns-clause-prefix
+returns-clause-prefix g c = λ is told.
+    let stored = stored_of c.in_ok-store.store in (
+      stored,
+      opens-same (g.D.Disk.state c.args.disk.now).content (g.D.Disk.state c.load.new.disk).content stored
+          (c.in_ok-store.ensures.same told) (c.in_ok-store.ensures.opens told).opens,
+      c.print_documents.ensures.prefix is told,
+    )
+
+pub returns-clause-cut : goal.returns-clause-cut
+returns-clause-cut g c = λ fault is sink.
+    let stored = stored_of c.in_ok-store.store in
+    let cut = c.print_documents.ensures.cut fault is sink in (
+      cut.1.front,
+      cut.1.taken,
+      λ told.
+          inr record {
+            stored = stored;
+            opens = opens-same (g.D.Disk.state c.args.disk.now).content (g.D.Disk.state c.load.new.disk).content stored
+                (c.in_ok-store.ensures.same told) (c.in_ok-store.ensures.opens told).opens;
+            left = cut.0;
+            is = cut.1.is told;
+          },
+    )
+
+pub returns-clause-refused : goal.returns-clause-refused
+returns-clause-refused g c = λ fault is refusal told. absurd (c.print_documents.ensures.opened fault is told refusal)
+
+pub returns-clause-safe : goal.returns-clause-safe
+returns-clause-safe g c = λ told head operations least settled.
+    let loaded = c.in_ok-store.ensures.moments told head operations least settled in
+    both_joins _ _ _ (OpensPast head operations least) loaded
+    (both_alone _ _ (OpensPast head operations least) (g.met.D.Disk.is_disk c.load.new.disk)
+    (c.print_documents.ensures.areas Journal) (c.print_documents.ensures.areas Sealed) loaded.now)
+
+pub returns-clause-mirror : goal.returns-clause-mirror
+returns-clause-mirror g c = alone_joins _ _ _ Mirror c.load.ensures.mirror (c.print_documents.ensures.areas Mirror)

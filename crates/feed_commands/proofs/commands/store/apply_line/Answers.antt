@@ -1,0 +1,26 @@
+use Rattle.std.proofs.Common.{sym, ◌∙◌}
+use Rattle.feed_commands.proofs.RoomLemmas.{line-refused, line-made}
+use Rattle.feed_recovery.proofs.SizeLemmas.{journal-size, seals-size}
+use Rattle.feed_commands.proofs.commands.store.apply_line.Goals as goal
+
+pub returns-in-Err-clause-refused : goal.returns-in-Err-clause-refused
+returns-in-Err-clause-refused g c =
+    let store = c.args.store.now in
+    let disk = g.D.Disk.state c.args.disk.now in
+    rw c.of_prepare.ensures (λ refusal told.
+    line-refused store (journal-size disk store (c.requires.stands told) c.prepare.ensures.logs.0)
+    (seals-size disk store (c.requires.stands told) c.prepare.ensures.logs.1) c.args.number c.args.now c.args.line.now
+    c.in-Some.ask c.in-Err.fault (sym c.in_ok-ask.ensures ∙ c.in-Some.is) c.in-Err.ensures.refused refusal)
+
+pub returns-in_ok-commit-in-Ok-clause-made : goal.returns-in_ok-commit-in-Ok-clause-made
+returns-in_ok-commit-in-Ok-clause-made g c = λ told.
+    let store = c.args.store.now in
+    let disk = g.D.Disk.state c.args.disk.now in
+    let prepared = c.prepare.new.self in
+    line-made store prepared c.commit.new.self prepared.members.spare prepared.journal.spare prepared.seals.spare
+    prepared.spare c.prepare.ensures.same
+    (journal-size disk store (c.requires.stands told) c.prepare.ensures.logs.0)
+    (seals-size disk store (c.requires.stands told) c.prepare.ensures.logs.1) c.args.number c.args.now c.args.line.now
+    c.in-Some.ask c.in-Ok.ready (sym c.in_ok-ask.ensures ∙ c.in-Some.is) c.in-Ok.ensures.decided
+    c.in-Ok.ensures.commits c.commit.ensures.head c.in_ok-commit-in-Ok.ensures.history
+    c.in_ok-commit-in-Ok.ensures.sealed

@@ -1,0 +1,44 @@
+use Rattle.std.proofs.Common.{◌≡◌, ℕ, ◌+◌, ◌-◌, ◌≤◌, false, length}
+use Rattle.feed_disk.specs.Moments.{LeavesAlone}
+use Rattle.feed_disk.specs.declared.area.Area.TheVariants.{Mirror}
+use Rattle.feed_recovery.specs.Settled.{AlwaysLeavesBoth, IsAtRest, OpensPast, Settled}
+use Rattle.feed_recovery.specs.Store.{StandsFor, is_spent}
+use Rattle.feed_recovery.specs.Stored.{stored_of}
+use Rattle.feed_commands.specs.Lines.{KnowsEnd, allowance}
+use Rattle.feed_commands.specs.Stored.{stored_step}
+use Rattle.feed_commands.proofs.ProgressLemmas.{Progress}
+use Rattle.feed_commands.proofs.commands.store.apply_lines.Given as goal
+
+abbrev pub invariant-loop-lines : goal.invariant-loop-lines
+invariant-loop-lines g l =
+    let input = g.I.Source.state l.fn.input in
+    let before = g.D.Disk.state l.fn.disk in
+    let disk = g.D.Disk.state l.disk in
+    let old = l.fn.store in
+    let coming = g.C.Clock.coming l.fn.clock in
+    record {
+      unspent : is_spent l.store ≡ false;
+      stands : g.D.Disk.told → StandsFor disk l.store;
+      head : l.store.head ≡ old.head;
+      opened : l.opened ≡ length old.history;
+      grown : length old.history ≤ length l.store.history;
+      progress : g.D.Disk.told → g.C.Clock.told → g.I.Source.told →
+          Progress (stored_step coming) (stored_of old) input.left l.lines (g.I.Source.state l.input)
+          (length l.store.history - length old.history) (stored_of l.store);
+      moments : g.C.Clock.told → (k : ℕ) →
+          g.C.Clock.coming l.clock k ≡ coming (k + (length l.store.history - length old.history));
+      knows : g.I.Source.told → KnowsEnd l.lines (g.I.Source.state l.input);
+      faults : (g.I.Source.state l.input).faults ≡ input.faults;
+      disk_faults : disk.faults ≡ before.faults;
+      mirror : LeavesAlone before disk Mirror;
+      rests : g.D.Disk.told → IsAtRest before → IsAtRest disk;
+      leaves : g.D.Disk.told → IsAtRest before →
+          Settled before old.head old.history (length old.history) →
+          AlwaysLeavesBoth before disk (OpensPast old.head l.store.history (length old.history));
+      settled : g.D.Disk.told → IsAtRest before →
+          Settled before old.head old.history (length old.history) →
+          Settled disk old.head l.store.history (length l.store.history);
+    }
+
+abbrev pub decreases-loop-lines : goal.decreases-loop-lines
+decreases-loop-lines g l = allowance l.lines

@@ -1,0 +1,67 @@
+use Rattle.std.proofs.Common.{◌≡◌, Err, ap, ◌∙◌}
+use Rattle.std.proofs.lemmas.Result.{err_from_is_err_and}
+use Rattle.feed_disk.specs.declared.area.Area.TheVariants.{Journal, Sealed}
+use Rattle.feed_recovery.specs.Settled.{OpensPast}
+use Rattle.feed_recovery.specs.declared.fault.MemberFault.TheVariants.{DiskFault}
+use Rattle.feed_recovery.specs.Stored.{stored_of}
+use Rattle.feed_commands.specs.StoreFaults.{member_fault}
+use Rattle.feed_commands.specs.Stored.{member_answer}
+use Rattle.feed_commands.proofs.AnswerOnLemmas.{answer-bad, answer-on, member-live, member-refused}
+use Rattle.feed_recovery.proofs.BothLemmas.{both_joins}
+use Rattle.feed_recovery.proofs.PastLemmas.{both_alone}
+use Rattle.feed_commands.proofs.StoreLemmas.{opens-same}
+use Rattle.feed_commands.proofs.commands.store.show_member.Goals as goal
+
+pub returns-in_err-store-clause-refused : goal.returns-in_err-store-clause-refused
+returns-in_err-store-clause-refused g c =
+    let p = err_from_is_err_and c.from_residual.result c.from_residual.ensures.1 in
+    rw (p.1, p.2) (λ refusal told.
+    answer-bad (g.D.Disk.state c.args.disk.now).content (member_answer c.args.number) c.in_err-store.field-0.0
+    (c.in_err-store.ensures.refused told) (c.in_err-store.ensures.only told) refusal)
+
+pub returns-in_err-member-clause-refused : goal.returns-in_err-member-clause-refused
+returns-in_err-member-clause-refused g c =
+    let p = err_from_is_err_and c.from_residual-in_err-member.result c.from_residual-in_err-member.ensures.1 in
+    let store = c.in_ok-store.store in
+    let fault = c.in_err-member.field-0.0 in
+    let before = (g.D.Disk.state c.args.disk.now).content in
+    let loaded = (g.D.Disk.state c.load.new.disk).content in
+    rw (p.1, p.2) (λ refusal told.
+    answer-on before (member_answer c.args.number) _ (stored_of store) c.stores_open_in_one_way.ensures
+    (opens-same before loaded (stored_of store) (c.in_ok-store.ensures.same told)
+    (c.in_ok-store.ensures.opens told).opens)
+    (member-refused store c.args.number fault c.in_err-member.ensures.refused
+    (λ index e. c.in_err-member.ensures.never told index (ap Err e)) refusal))
+
+pub returns-in_err-member-clause-safe : goal.returns-in_err-member-clause-safe
+returns-in_err-member-clause-safe g c = λ told head operations least settled.
+    let loaded = c.in_ok-store.ensures.moments told head operations least settled in
+    both_joins _ _ _ (OpensPast head operations least) loaded
+    (both_alone _ _ (OpensPast head operations least) (g.met.D.Disk.is_disk c.load.new.disk)
+    (c.member.ensures.areas Journal) (c.member.ensures.areas Sealed) loaded.now)
+
+pub returns-in_err-member-clause-disk_faults : goal.returns-in_err-member-clause-disk_faults
+returns-in_err-member-clause-disk_faults g c =
+    let p = err_from_is_err_and c.from_residual-in_err-member.result c.from_residual-in_err-member.ensures.1 in
+    rw (p.1, p.2) (λ other.
+    c.in_err-member.ensures.unfailed
+    (λ e. let is : c.in_err-member.field-0.0 ≡ DiskFault = cc in other (ap (λ f. Err (member_fault f)) is))
+    ∙ c.in_ok-store.ensures.unfailed (λ e. cc))
+
+pub returns-clause-answer : goal.returns-clause-answer
+returns-clause-answer g c = λ told.
+    let store = c.in_ok-store.store in
+    let before = (g.D.Disk.state c.args.disk.now).content in
+    let loaded = (g.D.Disk.state c.load.new.disk).content in
+    answer-on before (member_answer c.args.number) _ (stored_of store) c.stores_open_in_one_way.ensures
+    (opens-same before loaded (stored_of store) (c.in_ok-store.ensures.same told)
+    (c.in_ok-store.ensures.opens told).opens)
+    (member-live store c.args.number c.in_ok-member.ensures.live.0 _ c.in_ok-member.ensures.live.1
+    (c.in_ok-member.ensures.document told))
+
+pub returns-clause-safe : goal.returns-clause-safe
+returns-clause-safe g c = λ told head operations least settled.
+    let loaded = c.in_ok-store.ensures.moments told head operations least settled in
+    both_joins _ _ _ (OpensPast head operations least) loaded
+    (both_alone _ _ (OpensPast head operations least) (g.met.D.Disk.is_disk c.load.new.disk)
+    (c.member.ensures.areas Journal) (c.member.ensures.areas Sealed) loaded.now)

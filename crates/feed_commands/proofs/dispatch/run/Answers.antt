@@ -1,0 +1,200 @@
+use Rattle.std.proofs.Common.{◌≡◌, ⊎_elim, None, refl, sym, subst, ap, ◌∙◌, arith}
+use Rattle.std.proofs.lemmas.Result.{on_ok_weaker}
+use Rattle.tool_words.specs.declared.command.Command.TheVariants.{Init, Apply, Serve, Show}
+use Rattle.tool_words.specs.declared.command.Show.TheVariants.{Pile}
+use Rattle.tool_words.specs.declared.command.Command.{Command}
+use Rattle.feed_commands.specs.declared.fault.Fault.TheVariants.{Disk, NoMemory}
+use Rattle.feed_commands.specs.Answer.{Answer}
+use Rattle.feed_commands.specs.Crash.{AddsNothing}
+use Rattle.feed_commands.specs.Fault.{fault_answer}
+use Rattle.feed_commands.specs.Run.{EndsWith, IsAnswered, IsComplete, IsDueAnswer, IsSeen}
+use Rattle.feed_commands.specs.Status.{code_of}
+use Rattle.feed_commands.proofs.DiskLemmas.{applies-weaker, makes-none, makes-weaker}
+use Rattle.feed_commands.proofs.EndLemmas.{answered-refusal, no_door, no_end, no_output}
+use Rattle.feed_commands.proofs.PileEndLemmas.{cut-at-once, pile-is_status}
+use Rattle.feed_commands.proofs.PrintLemmas.{alone-fault, prints-from}
+use Rattle.feed_commands.proofs.RunLemmas.{ends-done, ends-refused, ends-unsent, no_command, read_all, read_as, read_only, same_requests}
+use Rattle.feed_commands.proofs.RunLemmas.{mirror-status, same_base, serve-status, usage}
+use Rattle.feed_commands.proofs.dispatch.run.Goals as goal
+
+pub returns-in-Err-Usage-clause-made : goal.returns-in-Err-Usage-clause-made
+returns-in-Err-Usage-clause-made g c = λ name window capacity of_words told.
+    makes-none (g.D.Disk.state c.args.disk.now) name window capacity g.C.Clock.told
+    (g.C.Clock.coming c.args.clock.now 0) _ (g.met.D.Disk.is_disk c.args.disk.now)
+    (⊎_elim (λ e. omega (arith, e, c.end_as.ensures.status)) (λ e. omega (arith, e, c.end_as.ensures.status)))
+
+pub returns-in-Err-NoMemory-clause-made : goal.returns-in-Err-NoMemory-clause-made
+returns-in-Err-NoMemory-clause-made g c = λ name window capacity of_words told.
+    makes-none (g.D.Disk.state c.args.disk.now) name window capacity g.C.Clock.told
+    (g.C.Clock.coming c.args.clock.now 0) _ (g.met.D.Disk.is_disk c.args.disk.now)
+    (⊎_elim (λ e. omega (arith, e, c.end_with.ensures.status)) (λ e. omega (arith, e, c.end_with.ensures.status)))
+
+pub returns-in-Ok-write_all-clause-answered : goal.returns-in-Ok-write_all-clause-answered
+returns-in-Ok-write_all-clause-answered g c = read_all _ c.read_words.result c.in-Ok.command _ c.in-Ok.is c.read_words.ensures.only
+    (λ seen answered. rw c.end_as-in-Ok-write_all.ensures.status
+    (ends-done c.in-Ok.command _ _ _ _ _ _ c.in-Ok-answer.text.items (c.in-Ok-answer.ensures.answer seen)
+    (λ sink. rw (← c.as_slice.ensures.value) (prints-from c.write_all-in-Ok-answer.result _ _ _
+    (c.write_all-in-Ok-answer.ensures.prefix sink)
+    (on_ok_weaker c.write_all-in-Ok-answer.result (λ whole. whole sink) c.write_all-in-Ok-answer.ensures.whole)
+    c.write_all-in-Ok-answer.ensures.counts))
+    (λ sink. rw (← c.as_slice.ensures.value) (c.in-Ok-write_all.ensures.whole sink))))
+
+pub returns-in-Ok-write_all-clause-safe : goal.returns-in-Ok-write_all-clause-safe
+returns-in-Ok-write_all-clause-safe g c = read_all _ c.read_words.result c.in-Ok.command _ c.in-Ok.is c.read_words.ensures.only
+    c.answer.ensures.safe
+
+pub returns-in-Ok-write_all-clause-made : goal.returns-in-Ok-write_all-clause-made
+returns-in-Ok-write_all-clause-made g c = λ name window capacity of_words told.
+    makes-weaker _ _ name window capacity _ _ _ _ (λ _. refl) (c.in-Ok-answer.ensures.made name window capacity
+    (read_all _ c.read_words.result c.in-Ok.command (λ command. c.in-Ok.command ≡ command) c.in-Ok.is
+    c.read_words.ensures.only refl (Init name window capacity) of_words) told)
+
+pub returns-in-Ok-write_all-clause-applied : goal.returns-in-Ok-write_all-clause-applied
+returns-in-Ok-write_all-clause-applied g c = λ of_words told.
+    applies-weaker _ _ _ _ _ _ _ (λ e. cc) (c.in-Ok-answer.ensures.applied
+    (read_all _ c.read_words.result c.in-Ok.command (λ command. c.in-Ok.command ≡ command) c.in-Ok.is
+    c.read_words.ensures.only refl (Apply None) of_words) told)
+
+pub returns-in-Ok-answer-clause-answered : goal.returns-in-Ok-answer-clause-answered
+returns-in-Ok-answer-clause-answered g c = read_all _ c.read_words.result c.in-Ok.command _ c.in-Ok.is c.read_words.ensures.only
+    (λ seen answered. rw c.end_as-in-Err-write_all.ensures.status
+    (ends-unsent c.in-Ok.command _ _ _ _ _ _ c.in-Ok-answer.text.items (c.in-Ok-answer.ensures.answer seen)
+    (λ sink. rw (← c.as_slice.ensures.value) (prints-from c.write_all-in-Ok-answer.result _ _ _
+    (c.write_all-in-Ok-answer.ensures.prefix sink)
+    (on_ok_weaker c.write_all-in-Ok-answer.result (λ whole. whole sink) c.write_all-in-Ok-answer.ensures.whole)
+    c.write_all-in-Ok-answer.ensures.counts))))
+
+pub returns-in-Ok-answer-clause-safe : goal.returns-in-Ok-answer-clause-safe
+returns-in-Ok-answer-clause-safe g c = read_all _ c.read_words.result c.in-Ok.command _ c.in-Ok.is c.read_words.ensures.only
+    c.answer.ensures.safe
+
+pub returns-in-Ok-answer-clause-made : goal.returns-in-Ok-answer-clause-made
+returns-in-Ok-answer-clause-made g c = λ name window capacity of_words told.
+    makes-weaker _ _ name window capacity _ _ _ _ (λ _. refl) (c.in-Ok-answer.ensures.made name window capacity
+    (read_all _ c.read_words.result c.in-Ok.command (λ command. c.in-Ok.command ≡ command) c.in-Ok.is
+    c.read_words.ensures.only refl (Init name window capacity) of_words) told)
+
+pub returns-in-Ok-answer-clause-applied : goal.returns-in-Ok-answer-clause-applied
+returns-in-Ok-answer-clause-applied g c = λ of_words told.
+    applies-weaker _ _ _ _ _ _ _ (λ e. cc) (c.in-Ok-answer.ensures.applied
+    (read_all _ c.read_words.result c.in-Ok.command (λ command. c.in-Ok.command ≡ command) c.in-Ok.is
+    c.read_words.ensures.only refl (Apply None) of_words) told)
+
+pub returns-clause-answered : goal.returns-clause-answered
+returns-clause-answered g c = read_all _ c.read_words.result c.in-Ok.command _ c.in-Ok.is c.read_words.ensures.only
+    (λ seen answered. ends-refused c.in-Ok.command _ _ _ _ _ _ c.in-Err.fault _ c.end_with-in-Err.ensures.status
+    (c.in-Err.ensures.refused (answered-refusal c.in-Err.fault (rw c.end_with-in-Err.ensures.status at answered)) seen)
+    c.end_with-in-Err.ensures.prints)
+
+pub returns-clause-alone : goal.returns-clause-alone
+returns-clause-alone g c = λ sink others alone.
+    rw c.end_with-in-Err.ensures.status (rw (alone-fault c.in-Err.fault (rw c.end_with-in-Err.ensures.status at alone))
+    (c.end_with-in-Err.ensures.prints sink))
+
+pub returns-clause-no_hidden_disk_fault : goal.returns-clause-no_hidden_disk_fault
+returns-clause-no_hidden_disk_fault g c = λ other.
+    c.in-Err.ensures.disk_faults (λ e. let same : c.in-Err.fault ≡ Disk = cc in
+    other (c.end_with-in-Err.ensures.status ∙ ap (λ fault. code_of (fault_answer fault).status) same))
+
+pub returns-clause-safe : goal.returns-clause-safe
+returns-clause-safe g c = read_all _ c.read_words.result c.in-Ok.command _ c.in-Ok.is c.read_words.ensures.only
+    c.answer.ensures.safe
+
+pub returns-clause-made : goal.returns-clause-made
+returns-clause-made g c = λ name window capacity of_words told.
+    makes-weaker _ _ name window capacity _ _ _ _
+    (λ done. absurd (⊎_elim (λ e. no_end c.in-Err.fault (sym c.end_with-in-Err.ensures.status ∙ e))
+    (λ e. no_output c.in-Err.fault (sym c.end_with-in-Err.ensures.status ∙ e)) done))
+    (c.in-Err.ensures.made name window capacity
+    (read_all _ c.read_words.result c.in-Ok.command (λ command. c.in-Ok.command ≡ command) c.in-Ok.is
+    c.read_words.ensures.only refl (Init name window capacity) of_words) told)
+
+pub returns-clause-applied : goal.returns-clause-applied
+returns-clause-applied g c = λ of_words told.
+    applies-weaker _ _ _ _ _ _ _ (λ e. let same : c.in-Err.fault ≡ Disk = cc in
+    c.end_with-in-Err.ensures.status ∙ ap (λ fault. code_of (fault_answer fault).status) same)
+    (c.in-Err.ensures.applied
+    (read_all _ c.read_words.result c.in-Ok.command (λ command. c.in-Ok.command ≡ command) c.in-Ok.is
+    c.read_words.ensures.only refl (Apply None) of_words) told)
+
+pub returns-clause-opens : goal.returns-clause-opens
+returns-clause-opens g c = λ of_words disk clock source answered.
+    c.in-Err.ensures.opens
+    (read_all _ c.read_words.result c.in-Ok.command (λ command. c.in-Ok.command ≡ command) c.in-Ok.is
+    c.read_words.ensures.only refl (Apply None) of_words)
+    disk clock source (answered-refusal c.in-Err.fault (rw c.end_with-in-Err.ensures.status at answered))
+
+pub returns-in-Err-Usage-clause-serves : goal.returns-in-Err-Usage-clause-serves
+returns-in-Err-Usage-clause-serves g c = λ listen requests of_words.
+    absurd (no_command _ c.read_words.result (usage c.in-Err-Usage.is c.in-Err-Usage.field-0-is)
+    c.read_words.ensures.only (Serve listen requests) of_words)
+
+pub returns-in-Err-Usage-clause-serves_whole : goal.returns-in-Err-Usage-clause-serves_whole
+returns-in-Err-Usage-clause-serves_whole g c = λ listen requests of_words.
+    absurd (no_command _ c.read_words.result (usage c.in-Err-Usage.is c.in-Err-Usage.field-0-is)
+    c.read_words.ensures.only (Serve listen requests) of_words)
+
+pub returns-in-Serve-clause-statuses : goal.returns-in-Serve-clause-statuses
+returns-in-Serve-clause-statuses g c = serve-status c.serve.result.status c.serve.ensures.statuses
+
+pub returns-in-Serve-clause-alone : goal.returns-in-Serve-clause-alone
+returns-in-Serve-clause-alone g c = λ sink once.
+    absurd (once (Serve c.in-Serve.listen c.in-Serve.requests) (read_as _ c.read_words.result c.in-Ok.command _
+    c.in-Ok.is c.in-Serve.is c.read_words.ensures.found))
+
+pub returns-in-Serve-clause-safe : goal.returns-in-Serve-clause-safe
+returns-in-Serve-clause-safe g c = read_all _ c.read_words.result c.in-Ok.command _ c.in-Ok.is
+    c.read_words.ensures.only (λ adds. absurd (subst AddsNothing c.in-Serve.is adds))
+
+pub returns-in-Serve-clause-serves : goal.returns-in-Serve-clause-serves
+returns-in-Serve-clause-serves g c =
+    same_requests _ _ c.read_words.result c.in-Ok.command _ _ c.in-Ok.is c.in-Serve.is c.read_words.ensures.only
+    c.serve.ensures.serves
+
+pub returns-in-Serve-clause-no_lines : goal.returns-in-Serve-clause-no_lines
+returns-in-Serve-clause-no_lines g c = λ others.
+    absurd (others _ _ (read_as _ c.read_words.result c.in-Ok.command _ c.in-Ok.is c.in-Serve.is
+    c.read_words.ensures.found))
+
+pub returns-in-Serve-clause-no_door : goal.returns-in-Serve-clause-no_door
+returns-in-Serve-clause-no_door g c = λ others.
+    absurd (others _ _ (read_as _ c.read_words.result c.in-Ok.command _ c.in-Ok.is c.in-Serve.is
+    c.read_words.ensures.found))
+
+pub returns-clause-door_fault : goal.returns-clause-door_fault
+returns-clause-door_fault g c = λ is.
+    absurd (no_door c.in-Err.fault (sym c.end_with-in-Err.ensures.status ∙ is))
+
+pub returns-in-Err-Usage-clause-cut : goal.returns-in-Err-Usage-clause-cut
+returns-in-Err-Usage-clause-cut g c = λ of_words.
+    absurd (no_command _ c.read_words.result (usage c.in-Err-Usage.is c.in-Err-Usage.field-0-is)
+    c.read_words.ensures.only (Show Pile) of_words)
+
+pub returns-in-Err-NoMemory-clause-cut : goal.returns-in-Err-NoMemory-clause-cut
+returns-in-Err-NoMemory-clause-cut g c = λ of_words sink done output.
+    cut-at-once _ _ _ _ NoMemory _ c.end_with.ensures.status (c.end_with.ensures.prints sink)
+
+pub returns-in-Show-Pile-clause-statuses : goal.returns-in-Show-Pile-clause-statuses
+returns-in-Show-Pile-clause-statuses g c = pile-is_status c.show_pile.result.status c.show_pile.ensures.statuses
+
+pub returns-in-Ok-answer-clause-opens : goal.returns-in-Ok-answer-clause-opens
+returns-in-Ok-answer-clause-opens g c = λ of_words disk clock source answered.
+    c.in-Ok-answer.ensures.opens
+    (read_all _ c.read_words.result c.in-Ok.command (λ command. c.in-Ok.command ≡ command) c.in-Ok.is
+    c.read_words.ensures.only refl (Apply None) of_words)
+    disk clock source tt
+
+pub returns-in-Ok-write_all-clause-opens : goal.returns-in-Ok-write_all-clause-opens
+returns-in-Ok-write_all-clause-opens g c = λ of_words disk clock source answered.
+    c.in-Ok-answer.ensures.opens
+    (read_all _ c.read_words.result c.in-Ok.command (λ command. c.in-Ok.command ≡ command) c.in-Ok.is
+    c.read_words.ensures.only refl (Apply None) of_words)
+    disk clock source tt
+
+pub returns-in-Mirror-clause-statuses : goal.returns-in-Mirror-clause-statuses
+returns-in-Mirror-clause-statuses g c = mirror-status c.mirror.result.status c.mirror.ensures.statuses
+
+pub returns-in-Mirror-clause-mirrored : goal.returns-in-Mirror-clause-mirrored
+returns-in-Mirror-clause-mirrored g c =
+    same_base _ _ c.read_words.result c.in-Ok.command _ c.in-Ok.is c.in-Mirror.is c.read_words.ensures.only
+    c.mirror.ensures.mirrored

@@ -1,0 +1,30 @@
+-- What lines make of a store that was loaded.
+use Rattle.std.specs.Prelude.{◌≡◌, ℕ, List, length, Result}
+use Rattle.feed_disk.specs.Disk.{DiskState}
+use Rattle.feed_recovery.specs.Settled.{AlwaysLeavesBoth, OpensPast, Settled}
+use Rattle.feed_recovery.specs.Store.{StoreValue}
+use Rattle.feed_recovery.specs.Stored.{Stored, stored_of}
+use Rattle.feed_commands.specs.declared.fault.Fault.{Fault}
+use Rattle.feed_commands.specs.Applied.{IsMadeBy}
+use Rattle.feed_commands.specs.Apply.{asked, ◌>>=◌}
+use Rattle.feed_commands.specs.Crash.{IsWithOneMore}
+use Rattle.feed_commands.specs.Line.{line_ask}
+use Rattle.feed_commands.specs.Stored.{stored_operation, stored_step}
+use Rattle.member_rules.specs.declared.operation.Op.{Op}
+
+-- what the line of this number makes of a loaded store, with the clock at `now`
+abbrev pub line_made : StoreValue → ℕ → ℕ → List ℕ → Result Stored Fault
+line_made store number now line =
+    asked store.head store.history number now (line_ask line) >>= stored_operation (stored_of store)
+
+-- Lines were applied to a store. Whenever the machine crashes, the history is the opened one with some of the
+-- operations that the lines add, and with all of them at the end if no device call failed.
+pub record LeavesLines (before after : DiskState) (moments : ℕ → ℕ) (input : List ℕ) (told : Type 0) (opened : Stored)
+    (failed : Type 0) : Type 0 where
+  -- the store that the lines made, and its history with an operation that failed on the disk
+  pub made : Stored
+  pub lines : told → IsMadeBy (stored_step moments) opened input made
+  pub history : List Op
+  pub adds : IsWithOneMore made.history history
+  pub each : AlwaysLeavesBoth before after (OpensPast opened.head history (length opened.history))
+  pub whole : ¬ failed → (history ≡ made.history) × Settled after opened.head history (length history)

@@ -1,0 +1,99 @@
+-- The report of `mirror`: its lines, and what an offer adds to it.
+use Rattle.std.specs.Prelude.{◌≡◌, ℕ, ◌+◌, List, [], ◌∷◌, ◌++◌, Ok, Err, codes, decimal, flat_map, fold}
+use Rattle.atom_values.specs.Entry.{EntryValue}
+use Rattle.chain_links.specs.Address.{printed}
+use Rattle.chain_links.specs.declared.address.Address.{Address}
+use Rattle.mirror_walk.specs.declared.answer.Accepted.TheVariants.{Taken, Known, Stale}
+use Rattle.mirror_walk.specs.declared.answer.Offered.{Offered}
+use Rattle.mirror_walk.specs.declared.answer.Offered.TheVariants.{NotADocument, WrongAddress, WrongFeed, Conflict}
+use Rattle.mirror_walk.specs.declared.answer.Offered.TheVariants.{Break, NoMemory}
+use Rattle.mirror_walk.specs.declared.answer.Outcome.{Outcome}
+use Rattle.mirror_walk.specs.declared.answer.Outcome.TheVariants.{Complete, Missing}
+use Rattle.mirror_walk.specs.declared.held.Kept.{Kept}
+use Rattle.mirror_walk.specs.Accept.{Answer as MirrorAnswer}
+use Rattle.mirror_walk.specs.Listing.{live_entries, outcome_of}
+use Rattle.mirror_walk.specs.Offers.{AreAnswered, Offering}
+use Rattle.feed_commands.specs.declared.commands.report.Counts.{Counts}
+use Rattle.feed_commands.specs.declared.commands.report.Report.{Report}
+use Rattle.feed_commands.specs.declared.status.Status.{Status}
+use Rattle.feed_commands.specs.declared.status.Status.TheVariants.{Done, Incomplete}
+use Rattle.feed_commands.specs.Answer.{Answer}
+use Rattle.feed_commands.specs.Show.{entry_line}
+
+-- the name of a refusal: that of its variant
+abbrev pub refusal_name : Offered → List ℕ
+refusal_name (NotADocument at) = codes "NotADocument"
+refusal_name (WrongAddress says) = codes "WrongAddress"
+refusal_name (WrongFeed kept given) = codes "WrongFeed"
+refusal_name (Conflict address kept given) = codes "Conflict"
+refusal_name (Break last first) = codes "Break"
+refusal_name NoMemory = codes "NoMemory"
+
+-- the line of an offer, if it was refused; the address is printed as it was given
+abbrev pub refused_line : List ℕ → MirrorAnswer → List ℕ
+refused_line address (Ok accepted) = []
+refused_line address (Err refusal) =
+    codes "refused " ++ address ++ codes " " ++ refusal_name refusal ++ codes "\n"
+
+-- the lines of all offers that were refused, in order
+abbrev pub refused_lines : List Offering → List MirrorAnswer → List ℕ
+refused_lines [] answers = []
+refused_lines (offer ∷ offers) [] = []
+refused_lines (offer ∷ offers) (answer ∷ answers) = refused_line offer.address answer ++ refused_lines offers answers
+
+-- how many offers got each answer
+abbrev pub no_counts : Counts
+no_counts = record { taken = 0; known = 0; stale = 0; refused = 0 }
+
+abbrev pub counted : Counts → MirrorAnswer → Counts
+counted counts (Ok Taken) = record counts { taken = counts.taken + 1 }
+counted counts (Ok Known) = record counts { known = counts.known + 1 }
+counted counts (Ok Stale) = record counts { stale = counts.stale + 1 }
+counted counts (Err refusal) = record counts { refused = counts.refused + 1 }
+
+abbrev pub counts_of : List MirrorAnswer → Counts
+counts_of answers = fold counted no_counts answers
+
+abbrev pub total : Counts → ℕ
+total counts = counts.taken + counts.known + counts.stale + counts.refused
+
+unfoldable pub counts_line : Counts → List ℕ
+counts_line counts =
+    codes "offers " ++ decimal counts.taken ++ codes " " ++ decimal counts.known ++ codes " " ++ decimal counts.stale
+    ++ codes " " ++ decimal counts.refused ++ codes "\n"
+
+-- the last line: the address of a missing document, or the version and the number of live entries
+unfoldable pub missing_line : List ℕ → Address → List ℕ
+missing_line base address = codes "missing " ++ printed base address ++ codes "\n"
+
+unfoldable pub complete_line : ℕ → ℕ → List ℕ
+complete_line version live = codes "complete " ++ decimal version ++ codes " " ++ decimal live ++ codes "\n"
+
+-- what the mirror shows: the missing document alone, or a line for each live entry and the last line
+abbrev pub ending : List ℕ → List EntryValue → Outcome → List ℕ
+ending base entries (Missing address) = missing_line base address
+ending base entries (Complete version live) = flat_map entry_line entries ++ complete_line version live
+
+abbrev pub status_of : Outcome → Status
+status_of (Missing address) = Incomplete
+status_of (Complete version live) = Done
+
+-- the report of a mirror that gave these answers to the offers, and holds `kept`
+unfoldable pub report_of : List ℕ → List Offering → List MirrorAnswer → List Kept → Answer
+report_of base offers answers kept = record {
+  status = status_of (outcome_of kept);
+  printed = refused_lines offers answers ++ counts_line (counts_of answers)
+      ++ ending base (live_entries kept) (outcome_of kept);
+}
+
+-- the report with the answer to one more offer
+pub record HasAdded (before after : Report) (address : List ℕ) (answer : MirrorAnswer) : Type 0 where
+  pub text : after.text.items ≡ before.text.items ++ refused_line address answer
+  pub counts : after.counts ≡ counted before.counts answer
+
+-- the report so far, of a mirror with this base to which these documents were offered and which holds `kept`
+pub record Reports (base : List ℕ) (offers : List Offering) (kept : List Kept) (report : Report) : Type 0 where
+  pub answers : List MirrorAnswer
+  pub answered : AreAnswered base [] offers answers kept
+  pub text : report.text.items ≡ refused_lines offers answers
+  pub counts : report.counts ≡ counts_of answers

@@ -1,0 +1,169 @@
+ghost use Rattle.std.specs.Prelude.{◌≡◌, ◌≢◌, ℕ, ◌≤◌, ◌<◌, ◌+◌, ◌∷◌, [], ◌++◌, List, length, Some, None, Ok, Err, IfOk, IfErr, OnOk};
+ghost use Rattle.atom_values.specs.Counts.{Rose};
+ghost use Rattle.member_rules.specs.declared.operation.Op.{Op};
+ghost use Rattle.member_rules.specs.History.{IsLawful, MayFollow, history_limit};
+ghost use Rattle.member_rules.specs.Table.{IsTableOf};
+ghost use Rattle.feed_commands.specs.declared.status.Status.TheVariants as status;
+ghost use Rattle.feed_commands.specs.Applied.{IsUnrefused};
+ghost use Rattle.feed_commands.specs.Apply.{applied_history, asked, answer, history_step, test_head};
+ghost use Rattle.feed_commands.specs.Fault.{fault_answer, IsRefusal};
+ghost use Rattle.feed_commands.specs.Line.{line_ask};
+
+use crate::commands::line::line_ask;
+use crate::commands::lines::{Lines, LinesFault};
+use crate::fault::{Fault, Refusal};
+use archive_sealer::subscription;
+use atom_values::{AtomText, NoMemory, Stamp};
+use atom_writer::{FeedName, write_doc};
+use chain_links::Base;
+use deleted_entries::FeedId;
+use doc_source::Source;
+use document_server::Clock;
+use member_rules::{Head, Members, Op, decide};
+use std::alloc::Global;
+
+impl From<LinesFault> for Fault {
+    ghost use Rattle.std.specs.Prelude.{◌≡◌};
+    ghost use Rattle.feed_commands.specs.Apply.{lines_fault};
+
+    ghost from_gives = { λ fault e. e ≡ lines_fault fault };
+
+    fn from(fault: LinesFault) -> Fault {
+        match fault {
+            LinesFault::TooLong => Fault::Refused(Refusal::TooLong),
+            LinesFault::Input => Fault::Input,
+            LinesFault::NoMemory => Fault::NoMemory,
+        }
+    }
+}
+
+/// Returns the head that `apply W` uses. It is fixed but for the window.
+pub fn test_head(alloc: Global, window: u32) -> Result<Head, NoMemory>
+    requires { (1 ≤ window) × (window ≤ 100) }
+    ensures { IfOk result (λ head. head ≡ test_head window) }
+{
+    let Ok(base) = Base::parse(alloc, b"http://feed.example/") else {
+        return Err(NoMemory);
+    };
+    let Some(id) = FeedId::parse(b"6d1f0c5a-93be-4c27-8d10-2b7f9e4a5c36") else {
+        unreachable!();
+    };
+    let Ok(title) = AtomText::of(alloc, b"Feed") else {
+        return Err(NoMemory);
+    };
+    let Ok(author) = AtomText::of(alloc, b"Editor") else {
+        return Err(NoMemory);
+    };
+    let name = FeedName {
+        base,
+        id,
+        title,
+        author,
+    };
+    let created = Stamp::new(0).unwrap();
+    Ok(Head {
+        name,
+        window,
+        capacity: CAPACITY,
+        created,
+    })
+}
+
+/// The capacity of that head, in bytes. `apply W` has no store, so nothing is held against it.
+const CAPACITY: u64 = 1_073_741_824;
+
+/// Returns the history that the lines of the input make from the empty one. Each line takes one moment of the clock.
+///
+/// Its memory is one operation for each line, and a fixed buffer.
+pub fn history_of<C: Clock, I: Source>(
+    alloc: Global,
+    head: &Head,
+    clock: &mut C,
+    input: &mut I,
+) -> Result<Vec<Op>, Fault>
+    ensures history { IfOk result (λ history. I.told → C.told
+        → applied_history head.now (C.coming clock.old) (I.state input.old).left
+        ≡ record { feed = history.items; fault = None }) }
+    ensures lawful { IfOk result (λ history. IsLawful head.now history.items) }
+    ensures refused { IfErr result (λ fault. IsRefusal fault → I.told → C.told
+        → (applied_history head.now (C.coming clock.old) (I.state input.old).left).fault ≡ Some fault) }
+    ensures input { result ≡ Err Fault.Input → Rose (I.state input.old).faults (I.state input.new).faults }
+    ensures unrefused { result ≡ Err Fault.Input → I.told → C.told
+        → IsUnrefused (history_step head.now (C.coming clock.old)) [] (I.state input.old) (I.state input.new) }
+    ensures no_disk { result ≢ Err Fault.Disk }
+    ensures faults { result ≢ Err Fault.Input → (I.state input.new).faults ≡ (I.state input.old).faults }
+{
+    let mut lines = Lines::new(alloc)?;
+    let mut members = Members::new(alloc, head.created);
+    let mut history = Vec::new(alloc);
+    while lines.next(input)? {
+        let number = history.len() as u64 + 1;
+        let operation = operation_of(alloc, head, &members, number, clock, lines.line())?;
+        members.prepare()?;
+        members.commit(&operation);
+        history.push(operation)?;
+    }
+    Ok(history)
+}
+
+/// Returns the operation that a line asks for, at the next moment of the clock. `members` is the table of the
+/// operations so far. `line` may be the prefix that `Lines` keeps of a longer line.
+fn operation_of<C: Clock>(
+    alloc: Global,
+    head: &Head,
+    members: &Members,
+    number: u64,
+    clock: &mut C,
+    line: &[u8],
+) -> Result<Op, Fault>
+    requires { members.now.operations < history_limit }
+    ensures operation { IfOk result (λ operation. C.told → (history : List Op)
+        → IsTableOf members.now head.now.created history
+        → asked head.now history number (C.coming clock.old 0) (line_ask line.now) ≡ Ok operation) }
+    ensures refused { IfErr result (λ fault. IsRefusal fault → C.told → (history : List Op)
+        → IsTableOf members.now head.now.created history
+        → asked head.now history number (C.coming clock.old 0) (line_ask line.now) ≡ Err fault) }
+    ensures own { result ≢ Err Fault.Input }
+    ensures no_disk { result ≢ Err Fault.Disk }
+    ensures follows { IfOk result (λ operation. (history : List Op)
+        → IsTableOf members.now head.now.created history
+        → MayFollow head.now.created history operation) }
+    ensures lawful { IfOk result (λ operation. (history : List Op)
+        → IsTableOf members.now head.now.created history
+        → IsLawful head.now history → IsLawful head.now (history ++ operation ∷ [])) }
+    ensures moment { OnOk result (C.told → (k : ℕ) → C.coming clock.new k ≡ C.coming clock.old (k + 1)) }
+{
+    let Some(ask) = line_ask(alloc, line)? else {
+        return Err(Fault::Refused(Refusal::BadLine { line: number }));
+    };
+    match decide(members, &head.name, ask, clock.now()) {
+        Ok(operation) => Ok(operation),
+        Err(fault) => Err(Fault::of_rule(number, fault)),
+    }
+}
+
+/// Returns the text of the subscription document of the history that the lines of the input make.
+pub fn apply<C: Clock, I: Source>(
+    alloc: Global,
+    window: u32,
+    clock: &mut C,
+    input: &mut I,
+) -> Result<Vec<u8>, Fault>
+    requires { (1 ≤ window) × (window ≤ 100) }
+    ensures answer { IfOk result (λ written. I.told → C.told
+        → answer (test_head window) (C.coming clock.old) (I.state input.old).left
+        ≡ record { status = status.Done; printed = written.items }) }
+    ensures refused { IfErr result (λ fault. IsRefusal fault → I.told → C.told
+        → answer (test_head window) (C.coming clock.old) (I.state input.old).left ≡ fault_answer fault) }
+    ensures input { result ≡ Err Fault.Input → Rose (I.state input.old).faults (I.state input.new).faults }
+    ensures unrefused { result ≡ Err Fault.Input → I.told → C.told
+        → IsUnrefused (history_step (test_head window) (C.coming clock.old)) [] (I.state input.old)
+        (I.state input.new) }
+    ensures no_disk { result ≢ Err Fault.Disk }
+    ensures faults { result ≢ Err Fault.Input → (I.state input.new).faults ≡ (I.state input.old).faults }
+{
+    let head = test_head(alloc, window)?;
+    let history = history_of(alloc, &head, clock, input)?;
+    let doc = subscription(alloc, &head, history.as_slice())?;
+    Ok(write_doc(alloc, &doc)?)
+}

@@ -1,0 +1,65 @@
+ghost use Rattle.std.specs.Prelude.{◌≡◌, ◌≢◌, ◌≤◌, length, min, pos, Err, IfOk, IfErr, IsOk};
+ghost use Rattle.atom_values.specs.Counts.{Rose};
+ghost use Rattle.feed_disk.specs.Moments.{LeavesAlone};
+ghost use Rattle.feed_disk.specs.declared.area.Area.TheVariants.{Mirror};
+ghost use Rattle.feed_commands.specs.declared.status.Status.TheVariants as status;
+ghost use Rattle.feed_recovery.specs.Settled.{LeavesStores};
+ghost use Rattle.feed_commands.specs.Crash.{MakesStoreAt};
+ghost use Rattle.feed_commands.specs.Fault.{fault_answer, IsRefusal};
+ghost use Rattle.feed_commands.specs.Stored.{IsInitAnswer};
+
+use crate::fault::Fault;
+use atom_values::Stamp;
+use atom_writer::FeedName;
+use document_server::Clock;
+use feed_disk::Disk;
+use feed_recovery::Store;
+use member_rules::Head;
+use std::alloc::Global;
+
+/// The greatest moment of a stamp: 9999-12-31T23:59:59.999Z.
+const LAST_STAMP: u64 = 253_402_300_799_999;
+
+/// Makes a store of the feed with this name, window and capacity, and returns what is printed then. The feed is made at
+/// the moment of the clock.
+pub fn init<D: Disk, C: Clock>(
+    alloc: Global,
+    name: FeedName,
+    window: u32,
+    capacity: u64,
+    disk: &mut D,
+    clock: &mut C,
+) -> Result<Vec<u8>, Fault>
+    requires window { (1 ≤ window) × (window ≤ 100) }
+    requires capacity { (4_096 ≤ capacity) × (capacity ≤ 68_719_476_736) }
+    requires title { length name.title ≤ 1_024 }
+    requires author { length name.author ≤ 1_024 }
+    ensures answer { IfOk result (λ written. D.told → IsInitAnswer (D.state disk.old).content
+        record { status = status.Done; printed = written.items }) }
+    ensures refused { IfErr result (λ fault. IsRefusal fault → D.told
+        → IsInitAnswer (D.state disk.old).content (fault_answer fault)) }
+    ensures makes { D.told → MakesStoreAt (D.state disk.old) (D.state disk.new) name window capacity C.told
+        (C.coming clock.old 0) (IsOk result) }
+    ensures safe { D.told → LeavesStores (D.state disk.old) (D.state disk.new) }
+    ensures mirror { LeavesAlone (D.state disk.old) (D.state disk.new) Mirror }
+    ensures disk { result ≡ Err Fault.Disk → Rose (D.state disk.old).faults (D.state disk.new).faults }
+    ensures disk_faults { result ≢ Err Fault.Disk → (D.state disk.new).faults ≡ (D.state disk.old).faults }
+    ensures own { result ≢ Err Fault.Input }
+{
+    let printed = Vec::from_slice(alloc, b"ready\n")?;
+    let head = Head {
+        name,
+        window,
+        capacity,
+        created: stamp_of(clock.now()),
+    };
+    Store::init(alloc, disk, &head)?;
+    Ok(printed)
+}
+
+/// The stamp of a moment of the clock, or the greatest one.
+fn stamp_of(now: u64) -> Stamp
+    ensures { result ≡ pos (min now 253_402_300_799_999) }
+{
+    Stamp::new(now.min(LAST_STAMP) as i64).unwrap()
+}

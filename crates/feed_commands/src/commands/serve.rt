@@ -1,0 +1,150 @@
+ghost use Rattle.std.specs.Prelude.{◌≡◌, ◌≢◌, ◌⊎◌, ◌≤◌, ◌++◌, OnOk};
+ghost use Rattle.atom_values.specs.Counts.{HasCause, Rose};
+ghost use Rattle.feed_disk.specs.Moments.{LeavesAlone};
+ghost use Rattle.feed_disk.specs.declared.area.Area.TheVariants.{Mirror};
+ghost use Rattle.doc_source.specs.Outside.{TakesPrefix};
+ghost use Rattle.feed_recovery.specs.Stored.{OpensTo, Stored};
+ghost use Rattle.feed_commands.specs.declared.status.Status.TheVariants as status;
+ghost use Rattle.feed_commands.specs.Serve.{EndsServing, IsServedWhole, end_fault, session_answer};
+ghost use Rattle.feed_commands.specs.Serve.{session_line, session_status, session_text};
+ghost use Rattle.feed_commands.specs.Status.{code_of};
+
+use crate::dispatch::Ended;
+use crate::fault::{Fault, FaultLine, line_of, line_of_numbers};
+use crate::status::Status;
+use atom_values::Failed;
+use doc_source::{Sink, write_all};
+use document_server::{Clock, Door, End, Line};
+use feed_disk::Disk;
+use std::alloc::Global;
+
+/// Why a session ended before its defined end.
+#[derive(Clone, Copy, Debug, PartialEq, Eq)]
+pub enum SessionFault {
+    /// A call on the door failed.
+    Door,
+    /// The store or the memory ended it.
+    Other(Fault),
+}
+
+impl SessionFault {
+    /// The fault of a session's end. `None` if it came to its defined end.
+    fn of(end: End) -> Option<SessionFault>
+        ensures { result ≡ end_fault end }
+    {
+        match end {
+            End::Done => None,
+            End::Load(fault) => Some(SessionFault::Other(Fault::from(fault))),
+            End::DiskFault => Some(SessionFault::Other(Fault::Disk)),
+            End::DoorFault => Some(SessionFault::Door),
+            End::NoMemory => Some(SessionFault::Other(Fault::NoMemory)),
+        }
+    }
+
+    /// The status with which the program ends.
+    fn status(self) -> Status
+        ensures { result ≡ (session_answer self).status }
+    {
+        match self {
+            SessionFault::Door => Status::DoorFault,
+            SessionFault::Other(fault) => fault.status(),
+        }
+    }
+
+    /// The line that is printed, with its LF.
+    fn line(self) -> FaultLine
+        ensures { result.bytes ≡ (session_answer self).printed }
+    {
+        match self {
+            SessionFault::Door => line_of("door fault\n"),
+            SessionFault::Other(fault) => fault.line(),
+        }
+    }
+}
+
+/// Serves the feed at the address `listen`, at most `requests` connections, and then prints a line for each. If the
+/// session ended by a fault, the fault's line comes behind them.
+pub fn serve<D: Disk, C: Clock, L: Door, O: Sink>(
+    alloc: Global,
+    listen: &[u8],
+    requests: u32,
+    disk: &mut D,
+    clock: &mut C,
+    door: &mut L,
+    output: &mut O,
+) -> Ended
+    requires some { 1 ≤ requests }
+    requires few { requests ≤ 1_000_000 }
+    ensures serves { EndsServing requests (D.state disk.old) (D.state disk.new) (C.coming clock.old)
+        (L.state door.old) (L.state door.new) D.told C.told L.told O.told (O.state output.old) (O.state output.new)
+        result.lines.items result.status }
+    ensures complete { D.told → (stored : Stored) → OpensTo (D.state disk.old).content stored
+        → IsServedWhole (D.state disk.old) (D.state disk.new) (L.state door.old) (L.state door.new)
+        (O.state output.old) (O.state output.new) result.status }
+    ensures statuses { (result.status ≡ code_of status.Done) ⊎ (result.status ≡ code_of status.DiskFault)
+        ⊎ (result.status ≡ code_of status.NoMemory) ⊎ (result.status ≡ code_of status.BadStore)
+        ⊎ (result.status ≡ code_of status.DoorFault) ⊎ (result.status ≡ code_of status.OutputFault) }
+    ensures disk_fault { result.status ≡ code_of status.DiskFault
+        → Rose (D.state disk.old).faults (D.state disk.new).faults }
+    ensures no_hidden_disk_fault { result.status ≢ code_of status.DiskFault
+        → (D.state disk.new).faults ≡ (D.state disk.old).faults }
+    ensures door_fault { result.status ≡ code_of status.DoorFault
+        → Rose (L.state door.old).faults (L.state door.new).faults }
+    ensures no_hidden_door_fault { result.status ≢ code_of status.DoorFault
+        → (L.state door.new).faults ≡ (L.state door.old).faults }
+    ensures output_fault { result.status ≡ code_of status.OutputFault
+        → Rose (O.state output.old).faults (O.state output.new).faults }
+    ensures output_whole { result.status ≡ code_of status.Done
+        → (O.state output.new).faults ≡ (O.state output.old).faults }
+    ensures mirror { LeavesAlone (D.state disk.old) (D.state disk.new) Mirror }
+{
+    let session = document_server::serve(alloc, disk, clock, door, listen, requests);
+    let fault = SessionFault::of(session.end);
+    let printed = print_session(output, session.lines.as_slice(), fault);
+    Ended {
+        status: status_of(fault, printed).code(),
+        lines: session.lines,
+    }
+}
+
+/// The status behind a session. It tells of the first fault, so it doesn't depend on whether the fault's line could be
+/// printed.
+fn status_of(fault: Option<SessionFault>, printed: Result<(), Failed>) -> Status
+    ensures { result ≡ session_status fault printed }
+{
+    match fault {
+        Some(fault) => fault.status(),
+        None => match printed {
+            Ok(()) => Status::Done,
+            Err(Failed) => Status::OutputFault,
+        },
+    }
+}
+
+/// Prints the lines of a session, and that of its fault.
+fn print_session<O: Sink>(
+    output: &mut O,
+    lines: &[Line],
+    fault: Option<SessionFault>,
+) -> Result<(), Failed>
+    ensures prefix { O.told
+        → TakesPrefix (O.state output.old) (O.state output.new) (session_text lines.now fault) }
+    ensures whole { OnOk result (O.told
+        → (O.state output.new).taken ≡ (O.state output.old).taken ++ session_text lines.now fault) }
+    ensures counts { HasCause (O.state output.old).faults (O.state output.new).faults result }
+{
+    for line in lines {
+        write_all(output, line_of_session(line).as_str().as_bytes())?;
+    }
+    match fault {
+        Some(fault) => write_all(output, fault.line().as_str().as_bytes()),
+        None => Ok(()),
+    }
+}
+
+/// The line of a connection.
+fn line_of_session(line: &Line) -> FaultLine
+    ensures { result.bytes ≡ session_line line.now }
+{
+    line_of_numbers(u64::from(line.status), u64::from(line.version))
+}

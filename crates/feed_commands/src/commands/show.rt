@@ -1,0 +1,65 @@
+ghost use Rattle.std.specs.Prelude.{◌≡◌, ◌≢◌, ◌⊎◌, ◌≤◌, ◌<◌, length, Err, IfOk, IfErr};
+ghost use Rattle.atom_values.specs.Counts.{Rose};
+ghost use Rattle.feed_commands.specs.declared.fault.Fault.TheVariants.{Refused};
+ghost use Rattle.feed_commands.specs.declared.fault.Refusal.TheVariants.{TooLong};
+ghost use Rattle.feed_commands.specs.declared.status.Status.TheVariants as status;
+ghost use Rattle.feed_commands.specs.Fault.{fault_answer, IsRefusal};
+ghost use Rattle.feed_commands.specs.Show.{IsShown, ReadsWithinLimit};
+
+use crate::commands::summary::summary;
+use crate::fault::{Fault, Refusal};
+use atom_grammar::{MAX_DOCUMENT, ReadFault, read_doc};
+use doc_source::Source;
+use std::alloc::Global;
+
+/// How many bytes are asked of the input at a time.
+const BUFFER: usize = 65_536;
+
+/// Returns the summary of the document that the input is. The input is read to its end first.
+pub fn show<I: Source>(alloc: Global, input: &mut I) -> Result<Vec<u8>, Fault>
+    ensures shown { IfOk result (λ written. I.told
+        → IsShown (I.state input.old).left record { status = status.Done; printed = written.items }) }
+    ensures refused { IfErr result (λ fault. IsRefusal fault → I.told
+        → IsShown (I.state input.old).left (fault_answer fault)) }
+    ensures input { result ≡ Err Fault.Input → Rose (I.state input.old).faults (I.state input.new).faults }
+    ensures within { result ≡ Err Fault.Input → I.told
+        → ReadsWithinLimit (I.state input.old) (I.state input.new) }
+    ensures no_disk { result ≢ Err Fault.Disk }
+    ensures faults { result ≢ Err Fault.Input → (I.state input.new).faults ≡ (I.state input.old).faults }
+{
+    let bytes = read_to_end(alloc, input)?;
+    match read_doc(alloc, bytes.as_slice()) {
+        Ok(doc) => Ok(summary(alloc, &doc)?),
+        Err(ReadFault::NotADocument { at }) => Err(Fault::Refused(Refusal::BadDocument {
+            offset: at as u64,
+        })),
+        Err(ReadFault::NoMemory) => Err(Fault::NoMemory),
+    }
+}
+
+/// Returns all bytes of the input, if they are no more than a document may have. Of a longer input at most one buffer
+/// more is read.
+fn read_to_end<I: Source>(alloc: Global, input: &mut I) -> Result<Vec<u8>, Fault>
+    ensures bytes { IfOk result (λ bytes. I.told → bytes.items ≡ (I.state input.old).left) }
+    ensures room { IfOk result (λ bytes. length bytes.items ≤ MAX_DOCUMENT) }
+    ensures own { IfErr result (λ fault.
+        (fault ≡ Fault.NoMemory) ⊎ (fault ≡ Fault.Input) ⊎ (fault ≡ Refused TooLong)) }
+    ensures past { result ≡ Err (Refused TooLong) → I.told → MAX_DOCUMENT < length (I.state input.old).left }
+    ensures input { result ≡ Err Fault.Input → Rose (I.state input.old).faults (I.state input.new).faults }
+    ensures within { result ≡ Err Fault.Input → I.told
+        → ReadsWithinLimit (I.state input.old) (I.state input.new) }
+    ensures faults { result ≢ Err Fault.Input → (I.state input.new).faults ≡ (I.state input.old).faults }
+{
+    let mut buffer = vec![in alloc; 0; BUFFER]?;
+    let mut bytes = Vec::new(alloc);
+    loop {
+        let count = input.read(&mut buffer)?;
+        if count == 0 {
+            return Ok(bytes);
+        }
+        if count > MAX_DOCUMENT - bytes.len() {
+            return Err(Fault::Refused(Refusal::TooLong));
+        }
+        bytes.extend_from_slice(&buffer[..count])?;
+    }
+}

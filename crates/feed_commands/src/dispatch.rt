@@ -1,0 +1,270 @@
+ghost use Rattle.std.specs.Prelude.{◌≡◌, ◌≢◌, ◌⊎◌, ℕ, ◌≤◌, List, [], None, Err, map, string_bytes, IfOk, IfErr, IsOk};
+ghost use Rattle.atom_values.specs.Counts.{Rose};
+ghost use Rattle.atom_writer.specs.declared.doc.FeedName.{FeedName};
+ghost use Rattle.feed_disk.specs.Moments.{LeavesAlone};
+ghost use Rattle.feed_disk.specs.declared.area.Area.TheVariants.{Mirror};
+ghost use Rattle.feed_commands.specs.declared.status.Status.TheVariants as status;
+ghost use Rattle.feed_commands.specs.Answer.{Answer, Prints};
+ghost use Rattle.doc_source.specs.declared.offer.Offer.{Offer as OfferValue};
+ghost use Rattle.member_rules.specs.Head.{HeadValue};
+ghost use Rattle.member_rules.specs.declared.operation.Op.{Op};
+ghost use Rattle.mirror_walk.specs.Offers.{AreServed};
+ghost use Rattle.feed_recovery.specs.Settled.{LeavesStores};
+ghost use Rattle.feed_recovery.specs.Stored.{OpensTo, Stored};
+ghost use Rattle.feed_commands.specs.Crash.{AddsNothing, AppliesSafely, MakesStoreAt, OpensToApplied};
+ghost use Rattle.feed_commands.specs.Fault.{fault_answer, HasAnswer, IsRefusal};
+ghost use Rattle.feed_commands.specs.Run.{HasRange, IsDueAnswer, IsGiven, IsSeen, IsUnrefusedBy, IsStatus, IsAnswered};
+ghost use Rattle.feed_commands.specs.Mirror.{EndsServed, IsPileOf, IsReported, offering};
+ghost use Rattle.feed_commands.specs.Pile.{EndsCut};
+ghost use Rattle.feed_commands.specs.Run.{EndsWith, IsAtOnce, IsComplete, IsAlone, IsDone, IsTextual, PrintsAtOnce, ServesNot, alone_line};
+ghost use Rattle.feed_commands.specs.Serve.{EndsServing, IsServedWhole};
+ghost use Rattle.feed_commands.specs.Status.{code_of};
+ghost use Rattle.tool_words.specs.Words.{IsCommandOf};
+ghost use Rattle.tool_words.specs.declared.command.Command.{Command as CommandValue};
+ghost use Rattle.tool_words.specs.declared.command.Command.TheVariants.{Init, Apply, Serve, Show as ShowOf};
+ghost use Rattle.tool_words.specs.declared.command.Command.TheVariants.{Mirror as MirrorOf};
+ghost use Rattle.tool_words.specs.declared.command.Show.TheVariants.{Pile};
+
+use crate::commands::apply::apply;
+use crate::commands::init::init;
+use crate::commands::mirror::mirror;
+use crate::commands::pile::show_pile;
+use crate::commands::serve::serve;
+use crate::commands::show::show;
+use crate::commands::store;
+use crate::fault::Fault;
+use crate::status::Status;
+use atom_values::{Failed, Many};
+use doc_source::{Sink, Source, write_all};
+use document_server::{Clock, Door, Line};
+use feed_disk::Disk;
+use std::alloc::Global;
+use tool_words::{Command, Show, WordsFault, read_words};
+
+/// How the program ends.
+#[derive(Debug, Drop)]
+pub struct Ended {
+    /// The exit status: the code of a `Status`.
+    pub status: u8,
+    /// The connections that `serve` served, in order. Empty for each other command.
+    pub lines: Many<Line, 1_000_000>,
+}
+
+/// Runs the command that the words name, and returns the exit status, which docs/FORMATS.md lists with what is
+/// printed.
+///
+/// - `init` makes a store on the disk.
+/// - `apply` applies the lines of the input to the store, each with one moment of the clock, and prints the
+///   subscription document. `apply W` applies them to an empty history, and uses no store.
+/// - `show` reads the input as one document and prints its summary. `show feed`, `show archive J` and `show member N`
+///   print a document of the store, and `show pile` the subscription document and all archives as a pile.
+/// - `serve` serves the feed of the store at an address, one connection after the other, and then prints a line for each.
+/// - `mirror` mirrors the feed below a base address from the pile that is the input, and prints a report.
+///
+/// At any other end the line of that end is printed. A failure to print that line changes no status.
+pub fn run<D: Disk, C: Clock, L: Door, I: Source, O: Sink>(
+    alloc: Global,
+    words: &[String],
+    disk: &mut D,
+    clock: &mut C,
+    door: &mut L,
+    input: &mut I,
+    output: &mut O,
+) -> Ended
+    // The exit statuses, and the words that name no command.
+    ensures statuses { IsStatus result.status }
+    ensures usage { result.status ≡ code_of status.Usage
+        → (command : CommandValue) → ¬ IsCommandOf (map string_bytes words.now) command }
+    ensures foreign { ((command : CommandValue) → ¬ IsCommandOf (map string_bytes words.now) command)
+        → (result.status ≡ code_of status.Usage) ⊎ (result.status ≡ code_of status.NoMemory) }
+
+    // If contracts can see all that the command's answer depends on: status and output are those of the answer.
+    ensures answered { (command : CommandValue) → IsCommandOf (map string_bytes words.now) command
+        → IsSeen command D.told C.told I.told → IsAnswered result.status
+        → EndsWith command (C.coming clock.old) (I.state input.old).left (D.state disk.old).content O.told
+        (O.state output.old) (O.state output.new) result.status }
+
+    // The other ends print their line, which says nothing of the input and of the store.
+    ensures alone { O.told → PrintsAtOnce (map string_bytes words.now) → IsAlone result.status
+        → Prints (O.state output.old) (O.state output.new) (alone_line result.status) }
+
+    // `show pile` prints its documents as they are made. The line of a fault comes behind those that were printed.
+    ensures cut { IsCommandOf (map string_bytes words.now) (ShowOf Pile) → O.told
+        → result.status ≢ code_of status.Done → result.status ≢ code_of status.OutputFault
+        → EndsCut (D.state disk.old).content D.told (O.state output.old) (O.state output.new) result.status }
+
+    // A fault comes only where the object's count of faults rose, and nothing that was read before it is refused.
+    ensures disk_fault { result.status ≡ code_of status.DiskFault
+        → Rose (D.state disk.old).faults (D.state disk.new).faults }
+    ensures no_hidden_disk_fault { result.status ≢ code_of status.DiskFault
+        → (D.state disk.new).faults ≡ (D.state disk.old).faults }
+    ensures input_fault { result.status ≡ code_of status.InputFault
+        → Rose (I.state input.old).faults (I.state input.new).faults }
+    ensures no_hidden_fault { result.status ≢ code_of status.InputFault
+        → (I.state input.new).faults ≡ (I.state input.old).faults }
+    ensures output_fault { result.status ≡ code_of status.OutputFault
+        → Rose (O.state output.old).faults (O.state output.new).faults }
+    ensures output_whole { IsDone result.status
+        → (O.state output.new).faults ≡ (O.state output.old).faults }
+    ensures first_fault { (command : CommandValue) → IsCommandOf (map string_bytes words.now) command
+        → IsSeen command D.told C.told I.told → result.status ≡ code_of status.InputFault
+        → IsUnrefusedBy command (C.coming clock.old) (D.state disk.old).content
+        (I.state input.old) (I.state input.new) }
+
+    // With a command's words and no fault, the exit status is the answer's, or memory ran out. A store that opens has
+    // an answer.
+    ensures complete { (command : CommandValue) → IsCommandOf (map string_bytes words.now) command
+        → IsSeen command D.told C.told I.told → (given : Answer)
+        → IsDueAnswer command (C.coming clock.old) (I.state input.old).left (D.state disk.old).content given
+        → IsComplete (D.state disk.old).faults (D.state disk.new).faults (I.state input.old) (I.state input.new)
+        (O.state output.old) (O.state output.new) result.status given.status }
+
+    // A crash within the command, or after it: the commands that add no operation leave what a crash could leave
+    // before, `init` leaves an unused disk as it is or with the new store, and `apply` leaves the history before, with
+    // some of the lines' operations, and with all of them at its end. No command reaches the mirror's area.
+    ensures safe { (command : CommandValue) → IsCommandOf (map string_bytes words.now) command
+        → AddsNothing command → D.told → LeavesStores (D.state disk.old) (D.state disk.new) }
+    ensures made { (name : FeedName) (window capacity : ℕ)
+        → IsCommandOf (map string_bytes words.now) (Init name window capacity) → D.told
+        → MakesStoreAt (D.state disk.old) (D.state disk.new) name window capacity C.told (C.coming clock.old 0)
+        ((result.status ≡ code_of status.Done) ⊎ (result.status ≡ code_of status.OutputFault)) }
+    ensures applied { IsCommandOf (map string_bytes words.now) (Apply None) → D.told
+        → AppliesSafely (D.state disk.old) (D.state disk.new) (C.coming clock.old) (I.state input.old).left
+        (C.told × I.told) (result.status ≡ code_of status.DiskFault) }
+    ensures opens { IsCommandOf (map string_bytes words.now) (Apply None) → D.told → C.told → I.told
+        → IsAnswered result.status
+        → OpensToApplied (D.state disk.old) (D.state disk.new) (C.coming clock.old) (I.state input.old).left }
+    ensures mirror { LeavesAlone (D.state disk.old) (D.state disk.new) Mirror }
+
+    // `serve`: the session over the connections that the door gave, its lines, and what a crash leaves. No other command
+    // uses the door.
+    ensures serves { (listen : List ℕ) (requests : ℕ)
+        → IsCommandOf (map string_bytes words.now) (Serve listen requests)
+        → EndsServing requests (D.state disk.old) (D.state disk.new) (C.coming clock.old)
+        (L.state door.old) (L.state door.new) D.told C.told L.told O.told (O.state output.old) (O.state output.new)
+        result.lines.items result.status }
+    ensures serves_whole { (listen : List ℕ) (requests : ℕ)
+        → IsCommandOf (map string_bytes words.now) (Serve listen requests) → D.told
+        → (stored : Stored) → OpensTo (D.state disk.old).content stored
+        → IsServedWhole (D.state disk.old) (D.state disk.new) (L.state door.old) (L.state door.new)
+        (O.state output.old) (O.state output.new) result.status }
+    ensures no_lines { ServesNot (map string_bytes words.now) → result.lines.items ≡ [] }
+    ensures no_door { ServesNot (map string_bytes words.now) → door.new ≡ door.old }
+    ensures door_fault { result.status ≡ code_of status.DoorFault
+        → Rose (L.state door.old).faults (L.state door.new).faults }
+    ensures no_hidden_door_fault { result.status ≢ code_of status.DoorFault
+        → (L.state door.new).faults ≡ (L.state door.old).faults }
+    // `mirror`: the report of documents that one feed served.
+    ensures mirrored { (base : List ℕ) → IsCommandOf (map string_bytes words.now) (MirrorOf base) → I.told
+        → (head : HeadValue) (history : List Op) (offers : List OfferValue)
+        → base ≡ head.name.base → IsPileOf offers (I.state input.old).left
+        → AreServed head history (map offering offers) → IsReported result.status
+        → EndsServed head history (map offering offers) O.told (O.state output.old) (O.state output.new)
+        result.status }
+{
+    let command = match read_words(alloc, words) {
+        Ok(command) => command,
+        Err(WordsFault::Usage) => {
+            // The status doesn't depend on whether its line could be printed.
+            let _ = write_all(output, USAGE);
+            return end_as(alloc, Status::Usage);
+        }
+        Err(WordsFault::NoMemory) => return end_with(alloc, output, Fault::NoMemory),
+    };
+    match command {
+        Command::Serve { listen, requests } => {
+            serve(alloc, listen.slice(), requests, disk, clock, door, output)
+        }
+        Command::Show(Show::Pile) => show_pile(alloc, disk, output),
+        Command::Mirror { base } => mirror(alloc, &base, input, output),
+        command => match answer(alloc, command, disk, clock, input) {
+            Ok(text) => match write_all(output, text.as_slice()) {
+                Ok(()) => end_as(alloc, Status::Done),
+                Err(Failed) => end_as(alloc, Status::OutputFault),
+            },
+            Err(fault) => end_with(alloc, output, fault),
+        },
+    }
+}
+
+/// The end of a command that served nothing.
+pub(crate) fn end_as(alloc: Global, status: Status) -> Ended
+    ensures status { result.status ≡ code_of status }
+    ensures lines { result.lines.items ≡ [] }
+{
+    Ended {
+        status: status.code(),
+        lines: Many::new(alloc),
+    }
+}
+
+/// Prints the line of a fault, in one call of the output unless the output takes only a part of it.
+pub fn end_with<O: Sink>(alloc: Global, output: &mut O, fault: Fault) -> Ended
+    ensures lines { result.lines.items ≡ [] }
+    ensures status { result.status ≡ code_of (fault_answer fault).status }
+    ensures prints { O.told → Prints (O.state output.old) (O.state output.new) (fault_answer fault).printed }
+    ensures faults { (O.state output.old).faults ≤ (O.state output.new).faults }
+{
+    // The status tells of the first fault, so it doesn't depend on whether its line could be printed.
+    let _ = write_all(output, fault.line().as_str().as_bytes());
+    end_as(alloc, fault.status())
+}
+
+/// The line for words that name no command. Its names are those of the finished program.
+const USAGE: &[u8] = b"usage: feed_tool init, apply, show, serve, mirror, audit, drill\n";
+
+/// Returns what the command prints at its defined end. `serve`, `show pile` and `mirror` print by themselves.
+fn answer<D: Disk, C: Clock, I: Source>(
+    alloc: Global,
+    command: Command,
+    disk: &mut D,
+    clock: &mut C,
+    input: &mut I,
+) -> Result<Vec<u8>, Fault>
+    requires range { HasRange command }
+    requires prints { IsAtOnce command }
+    requires text { IsTextual command }
+    ensures answer { IfOk result (λ written. IsSeen command D.told C.told I.told
+        → IsGiven command (C.coming clock.old) (I.state input.old).left (D.state disk.old).content
+        record { status = status.Done; printed = written.items }) }
+    ensures refused { IfErr result (λ fault. IsRefusal fault → IsSeen command D.told C.told I.told
+        → IsGiven command (C.coming clock.old) (I.state input.old).left (D.state disk.old).content
+        (fault_answer fault)) }
+    ensures disk { result ≡ Err Fault.Disk → Rose (D.state disk.old).faults (D.state disk.new).faults }
+    ensures disk_faults { result ≢ Err Fault.Disk → (D.state disk.new).faults ≡ (D.state disk.old).faults }
+    ensures input { result ≡ Err Fault.Input → Rose (I.state input.old).faults (I.state input.new).faults }
+    ensures unrefused { result ≡ Err Fault.Input → IsSeen command D.told C.told I.told
+        → IsUnrefusedBy command (C.coming clock.old) (D.state disk.old).content
+        (I.state input.old) (I.state input.new) }
+    ensures faults { result ≢ Err Fault.Input → (I.state input.new).faults ≡ (I.state input.old).faults }
+    ensures safe { AddsNothing command → D.told → LeavesStores (D.state disk.old) (D.state disk.new) }
+    ensures made { (name : FeedName) (window capacity : ℕ) → command ≡ Init name window capacity → D.told
+        → MakesStoreAt (D.state disk.old) (D.state disk.new) name window capacity C.told (C.coming clock.old 0)
+        (IsOk result) }
+    ensures applied { command ≡ Apply None → D.told
+        → AppliesSafely (D.state disk.old) (D.state disk.new) (C.coming clock.old) (I.state input.old).left
+        (C.told × I.told) (result ≡ Err Fault.Disk) }
+    ensures opens { command ≡ Apply None → D.told → C.told → I.told → HasAnswer result
+        → OpensToApplied (D.state disk.old) (D.state disk.new) (C.coming clock.old) (I.state input.old).left }
+    ensures mirror { LeavesAlone (D.state disk.old) (D.state disk.new) Mirror }
+{
+    match command {
+        Command::Init {
+            name,
+            window,
+            capacity,
+        } => init(alloc, name, window, capacity, disk, clock),
+        Command::Apply { window } => match window {
+            None => store::apply(alloc, disk, clock, input),
+            Some(window) => apply(alloc, window, clock, input),
+        },
+        Command::Show(shown) => match shown {
+            Show::Document => show(alloc, input),
+            Show::Feed => store::show_feed(alloc, disk),
+            Show::Archive(number) => store::show_archive(alloc, number, disk),
+            Show::Member(number) => store::show_member(alloc, number, disk),
+            Show::Pile => unreachable!(),
+        },
+        Command::Serve { .. } | Command::Mirror { .. } => unreachable!(),
+    }
+}

@@ -1,0 +1,10 @@
+ghost use Rattle.feed_commands.specs.Run.{OneAnswer};
+
+use feed_recovery::stores_open_in_one_way;
+
+/// A command has one answer to an input at the moments that the clock gives.
+pub fn commands_have_one_answer()
+    ensures { OneAnswer }
+{
+    stores_open_in_one_way();
+}

@@ -1,5 +1,0 @@
-use Rattle.feed_tool.proofs.AnswerLemmas.{answer_once}
-use Rattle.feed_tool.proofs.laws.commands_have_one_answer.Goals as goal
-
-pub returns : goal.returns
-returns c = answer_once c.stores_open_in_one_way.ensures

@@ -1,0 +1,28 @@
+use Rattle.std.proofs.Common.{◌<◌, length, drop, arith}
+use Rattle.http_face.specs.Heard.{field_limit}
+use Rattle.http_face.proofs.HeadLemmas.{no_head-many, many_fields, field_count, no_head-never, bad_head}
+use Rattle.http_face.proofs.head.parse_many.Goals as goal
+
+pub returns-then-spans-gt-MAX_FIELDS-clause-refused : goal.returns-then-spans-gt-MAX_FIELDS-clause-refused
+returns-then-spans-gt-MAX_FIELDS-clause-refused c = λ _ more.
+    let bytes = c.args.bytes.now in
+    let spans = c.in-Ok-Complete.spans in
+    let found = rw c.in-Ok-Complete.field-0-is at c.in-Ok-Complete.ensures.complete in
+    let within = rw c.in-Ok-Complete.field-0-is at c.in-Ok-Complete.ensures.within in
+    let head = found.0 in
+    let count = field_count bytes c.parse_request.new.headers spans.headers head.fields within.section.count_fits
+    found.1.fields in
+    let many : field_limit < length head.fields = omega (arith, count, c.if-spans-gt-MAX_FIELDS.true) in (
+      no_head-many bytes more (drop spans.len bytes) head found.1.reads many,
+      many_fields bytes more (drop spans.len bytes) head c.requires.short found.1.reads many,
+    )
+
+pub returns : goal.returns
+returns c =
+    let never = c.in-Err.ensures.invalid c.in_default.not-TooManyHeaders in
+    record {
+      none = record {};
+      refused = λ _ more.
+          (no_head-never c.args.bytes.now more never, bad_head c.args.bytes.now more c.requires.short never);
+      own = λ e. cc;
+    }

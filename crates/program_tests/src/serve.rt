@@ -1,0 +1,64 @@
+//! `serve` on a store on a disk in memory, with connections in memory.
+
+use crate::runs::{APPLY, Run, ended_at, listed};
+use crate::store::made;
+use atom_values::{Bytes, Many};
+use document_server::ScriptDoor;
+use http_face::ScriptConn;
+use std::alloc::Global;
+use std::process::Abort;
+
+/// The requests of the clients, one after the other.
+static REQUESTS: [&[u8]; 6] = [
+    b"POST /feed HTTP/1.1\r\nContent-Length: 67\r\n\r\n<entry xmlns=\"http://www.w3.org/2005/Atom\"><title>a</title></entry>",
+    b"DELETE /member/1 HTTP/1.1\r\n\r\n",
+    b"DELETE /member/1 HTTP/1.1\r\n\r\n",
+    b"GET /member/1 HTTP/1.1\r\n\r\n",
+    b"PUT /member/1 HTTP/1.1\r\nContent-Length: 0\r\n\r\n",
+    b"GET /member/2 HTTP/1.1\r\n\r\n",
+];
+
+/// A run of `serve`: the device call, the call of the door and that of the output that fail, and how it ends. Calls are
+/// numbered from 1, and device calls from the first of `init`; 0 means none.
+static RUNS: [((u64, u64, u64), u8, &str); 6] = [
+    ((0, 0, 0), 0, "201 1\n200 2\n410 2\n410 2\n410 2\n404 2\n"),
+    ((0, 1, 0), 7, "door fault\n"),
+    ((0, 4, 0), 7, "201 1\n200 2\ndoor fault\n"),
+    ((0, 0, 3), 8, "201 1\n200 2\n"),
+    ((0, 4, 2), 7, "201 1\n"),
+    ((21, 0, 0), 4, "500 0\ndisk fault\n"),
+];
+
+/// Returns a door at which each client comes in.
+fn door_of(rt: &impl Abort, alloc: Global, failing: u64) -> ScriptDoor {
+    let mut links = Many::new(alloc);
+    for bytes in REQUESTS {
+        let bytes = Bytes::of(alloc, bytes).expect(rt, "memory");
+        links
+            .push(ScriptConn::new(alloc, bytes, Many::new(alloc)))
+            .expect(rt, "memory");
+    }
+    ScriptDoor::new(alloc, links, listed(rt, alloc, failing)).expect(rt, "memory")
+}
+
+/// The words of `serve`, one request for each client.
+const SERVE: &[&str] = &["serve", "--listen", "here", "--requests", "6"];
+
+#[test]
+fn prints_a_line_for_each_connection(rt: HostRuntime) {
+    let alloc = rt.alloc();
+    for &((device, door, output), status, printed) in &RUNS {
+        let mut disk = made(&rt, alloc, &[], device);
+        let mut door = door_of(&rt, alloc, door);
+        let given = Run {
+            words: SERVE,
+            failing_write: output,
+            ..APPLY
+        };
+        let end = ended_at(&rt, alloc, &mut disk, &mut door, &given);
+        assert!(rt;
+            end.is(status, printed.as_bytes()),
+            "{device} {output} {status}"
+        );
+    }
+}
