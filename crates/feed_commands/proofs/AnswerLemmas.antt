@@ -1,11 +1,12 @@
 -- Each command has one answer.
-use Rattle.std.proofs.Common.{◌≡◌, inl, inr, ℕ, List, Some, None, sym, ap, ◌∙◌, arith}
+use Rattle.std.proofs.Common.{◌≡◌, inl, inr, ℕ, Bool, true, false, List, Some, None, subst, sym, ap, ◌∙◌, arith}
 use Rattle.atom_grammar.proofs.RefusalLemmas.{one_reading}
 use Rattle.feed_recovery.specs.Stored.{OpensTo, Stored}
 use Rattle.feed_commands.specs.declared.fault.Refusal.TheVariants.{BadDocument}
 use Rattle.feed_commands.specs.declared.status.Status.TheVariants.{Done}
 use Rattle.feed_disk.specs.declared.area.Area.{Area}
-use Rattle.feed_disk.specs.declared.area.Area.TheVariants.{Journal, Sealed}
+use Rattle.feed_disk.specs.declared.area.Area.TheVariants.{Journal, Sealed, Mirror as Mirrored}
+use Rattle.feed_journal.specs.Records.{records}
 use Rattle.feed_recovery.specs.Opening.{OpensInOneWay}
 use Rattle.tool_words.specs.declared.command.Command.{Command}
 use Rattle.tool_words.specs.declared.command.Command.TheVariants.{Init, Apply, Serve, Show, Mirror}
@@ -13,8 +14,12 @@ use Rattle.tool_words.specs.declared.command.Show.TheVariants.{Document, Feed, A
 use Rattle.feed_commands.specs.Answer.{Answer}
 use Rattle.feed_commands.specs.Fault.{refusal_answer}
 use Rattle.feed_commands.specs.Show.{IsShown, IsPast, IsSummary, IsBadDocument, summary}
-use Rattle.feed_commands.specs.Run.{IsOfStore, OneAnswer, stored_answer}
+use Rattle.feed_commands.specs.Outside.{Outside}
+use Rattle.feed_commands.specs.Run.{IsMirrorEnd, IsOfMirror, IsOfStore, OneAnswer, stored_answer}
 use Rattle.feed_commands.specs.Stored.{IsInitAnswer}
+use Rattle.mirror_walk.specs.Holding.{KeptValue}
+use Rattle.mirror_walk.proofs.TakenLemmas.{loaded-once}
+use Rattle.feed_commands.proofs.OneFetchedLemmas.{fetched-once}
 use Rattle.feed_commands.proofs.OneMirroredLemmas.{mirrored-once}
 use Rattle.feed_commands.proofs.PlaceLemmas.{place_once}
 
@@ -56,26 +61,39 @@ stored_once law content stored other p q =
     stored.seals other.seals p q in
     λ i. record { head = same.0 i; history = same.1 i; seals = same.2 i }
 
-of_store_once : OpensInOneWay → (command : Command) (moments : ℕ → ℕ) (input : List ℕ) (content : Area → List ℕ)
-    (one other : Answer) → IsOfStore command moments input content one →
-    IsOfStore command moments input content other → one ≡ other
-of_store_once law command moments input content one other p q = p.is
-    ∙ ap (stored_answer command moments input) (stored_once law content p.stored q.stored p.opens q.opens) ∙ sym q.is
+of_store_once : OpensInOneWay → (command : Command) (outside : Outside) (one other : Answer) →
+    IsOfStore command outside one → IsOfStore command outside other → one ≡ other
+of_store_once law command outside one other p q = p.is
+    ∙ ap (stored_answer command outside) (stored_once law outside.content p.stored q.stored p.opens q.opens) ∙ sym q.is
+
+-- the ends of `mirror` by the documents that were held before
+mirror-end_once : (capacity : ℕ) (base : List ℕ) (fetch : Bool) (kept : List KeptValue) (outside : Outside)
+    (one other : Answer) → IsMirrorEnd capacity base fetch kept outside one →
+    IsMirrorEnd capacity base fetch kept outside other → one ≡ other
+mirror-end_once capacity base true kept outside one other p q =
+    fetched-once capacity base kept outside.answers one other p q
+mirror-end_once capacity base false kept outside one other p q =
+    mirrored-once capacity base kept outside.input one other p q
+
+of_mirror_once : (base : List ℕ) (fetch : Bool) (capacity : ℕ) (outside : Outside) (one other : Answer) →
+    IsOfMirror base fetch capacity outside one → IsOfMirror base fetch capacity outside other → one ≡ other
+of_mirror_once base fetch capacity outside one other p q =
+    let same : q.kept ≡ p.kept = loaded-once base (records (outside.content Mirrored)) q.kept p.kept q.loaded p.loaded in
+    mirror-end_once capacity base fetch p.kept outside one other p.is
+    (subst (λ (ks : List KeptValue). IsMirrorEnd capacity base fetch ks outside other) same q.is)
 
 -- a command has one answer, since the areas of a store open in one way
 pub answer_once : OpensInOneWay → OneAnswer
-answer_once law (Init name window capacity) moments input content one other p q = init_once content one other p q
-answer_once law (Apply None) moments input content one other p q =
-    of_store_once law (Apply None) moments input content one other p q
-answer_once law (Apply (Some window)) moments input content one other p q = sym p ∙ q
-answer_once law (Serve listen requests) moments input content one other p q = absurd p
-answer_once law (Mirror base) moments input content one other p q = mirrored-once base input one other p q
-answer_once law (Show Document) moments input content one other p q = shown_once input one other p q
-answer_once law (Show Feed) moments input content one other p q =
-    of_store_once law (Show Feed) moments input content one other p q
-answer_once law (Show (Archive number)) moments input content one other p q =
-    of_store_once law (Show (Archive number)) moments input content one other p q
-answer_once law (Show (Member number)) moments input content one other p q =
-    of_store_once law (Show (Member number)) moments input content one other p q
-answer_once law (Show Pile) moments input content one other p q =
-    of_store_once law (Show Pile) moments input content one other p q
+answer_once law (Init name window capacity) outside one other p q = init_once outside.content one other p q
+answer_once law (Apply None) outside one other p q = of_store_once law (Apply None) outside one other p q
+answer_once law (Apply (Some window)) outside one other p q = sym p ∙ q
+answer_once law (Serve listen requests) outside one other p q = absurd p
+answer_once law (Mirror base fetch capacity) outside one other p q =
+    of_mirror_once base fetch capacity outside one other p q
+answer_once law (Show Document) outside one other p q = shown_once outside.input one other p q
+answer_once law (Show Feed) outside one other p q = of_store_once law (Show Feed) outside one other p q
+answer_once law (Show (Archive number)) outside one other p q =
+    of_store_once law (Show (Archive number)) outside one other p q
+answer_once law (Show (Member number)) outside one other p q =
+    of_store_once law (Show (Member number)) outside one other p q
+answer_once law (Show Pile) outside one other p q = of_store_once law (Show Pile) outside one other p q

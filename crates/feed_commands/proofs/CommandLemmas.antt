@@ -1,19 +1,20 @@
 -- The answer of a command, by what is said of its own function.
-use Rattle.std.proofs.Common.{ℕ, List}
-use Rattle.feed_disk.specs.declared.area.Area.{Area}
+use Rattle.std.proofs.Common.{ℕ}
 use Rattle.atom_writer.specs.declared.doc.FeedName.{FeedName}
 use Rattle.tool_words.specs.declared.command.Command.TheVariants.{Init, Show}
 use Rattle.tool_words.specs.declared.command.Show.TheVariants.{Document}
 use Rattle.feed_commands.specs.Answer.{Answer}
+use Rattle.feed_commands.specs.Outside.{Outside}
 use Rattle.feed_commands.specs.Run.{IsGiven}
 use Rattle.feed_commands.specs.Show.{IsShown}
 use Rattle.feed_commands.specs.Stored.{IsInitAnswer}
 use Rattle.feed_commands.proofs.AnswerLemmas.{init_once, shown_once}
 
-module _ (moments : ℕ → ℕ) (input : List ℕ) (content : Area → List ℕ) (given : Answer) where
-  pub init-given : (name : FeedName) (window capacity : ℕ) → IsInitAnswer content given →
-      IsGiven (Init name window capacity) moments input content given
-  init-given name window capacity a = record { is = a; due = λ other o. init_once content other given o a }
+module _ (outside : Outside) (given : Answer) where
+  pub init-given : (name : FeedName) (window capacity : ℕ) → IsInitAnswer outside.content given →
+      IsGiven (Init name window capacity) outside given
+  init-given name window capacity a =
+      record { is = a; due = λ other o. init_once outside.content other given o a }
 
-  pub document-given : IsShown input given → IsGiven (Show Document) moments input content given
-  document-given a = record { is = a; due = λ other o. shown_once input other given o a }
+  pub document-given : IsShown outside.input given → IsGiven (Show Document) outside given
+  document-given a = record { is = a; due = λ other o. shown_once outside.input other given o a }

@@ -3,9 +3,8 @@ use Rattle.std.proofs.Common.{◌≡◌, ℕ, zero, suc, ◌+◌, ◌-◌, ◌<�
 use Rattle.atom_values.specs.Entry.{EntryValue}
 use Rattle.member_rules.specs.Shows.{greatest_member, live_of}
 use Rattle.member_rules.proofs.ShowsLemmas.{live_of-past}
-use Rattle.mirror_walk.specs.Holding.{chain_of}
+use Rattle.mirror_walk.specs.Holding.{KeptValue, chain_of}
 use Rattle.mirror_walk.specs.Listing.{IsLastLive, IsNextLive, entries_up_to, live_at, live_entries, with_entry}
-use Rattle.mirror_walk.specs.declared.held.Kept.{Kept}
 
 -- no entry has one of the next numbers
 pub entries-none : (live : ℕ → Option EntryValue) (n more : ℕ)
@@ -27,7 +26,7 @@ entries-same live n m past_n past_m =
     ∙ entries-none live m n (λ k low high. past_m k low)
 
 -- one more entry
-pub entries-next : (kept : List Kept) (after next : ℕ) (is : IsNextLive kept after next)
+pub entries-next : (kept : List KeptValue) (after next : ℕ) (is : IsNextLive kept after next)
     → entries_up_to (live_at kept) next ≡ entries_up_to (live_at kept) after ++ is.entry ∷ []
 entries-next kept after next is =
     let live = live_at kept in
@@ -38,7 +37,7 @@ entries-next kept after next is =
     ∙ ap (λ (entries : List EntryValue). entries ++ is.entry ∷ [])
     (entries-none live after more (λ k low high. is.first k low (omega (arith, at, high))))
 
-pub entries-last : (kept : List Kept) (after : ℕ) → IsLastLive kept after
+pub entries-last : (kept : List KeptValue) (after : ℕ) → IsLastLive kept after
     → entries_up_to (live_at kept) after ≡ live_entries kept
 unfolding live_entries
 entries-last kept after last =

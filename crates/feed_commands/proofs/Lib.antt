@@ -8,10 +8,14 @@ pub mod CommandLemmas
 pub mod DiskLemmas
 -- `run`
 pub mod EndLemmas
+-- `commands_have_one_answer`: offers one after another have one list of answers
+pub mod AnswersLemmas
 -- `mirror`: the live entries in order of number
 pub mod EntriesLemmas
 -- `history_of`, clauses `refused` and `unrefused`
 pub mod FaultLemmas
+-- `mirror`: a mirror amid the offers of a pile
+pub mod GivingLemmas
 -- `history_of`, clauses `history` and `lawful`
 pub mod HistoryLemmas
 -- `init`
@@ -20,10 +24,16 @@ pub mod InitLemmas
 pub mod LineLemmas
 -- `Lines::next`
 pub mod LinesLemmas
+-- `mirror`: the lines of the live entries
+pub mod ListingLemmas
+-- `mirror`: what is left of the disk
+pub mod LoadedLemmas
 -- the commands on a store: what a crash leaves
 pub mod MomentsLemmas
 -- `mirror`: the offers of a pile, one after another
 pub mod OffersLemmas
+-- `commands_have_one_answer`: a walk of `mirror --fetch` has one answer
+pub mod OneFetchedLemmas
 -- `commands_have_one_answer`: an input of `mirror` has one answer
 pub mod OneMirroredLemmas
 -- `commands_have_one_answer`: bytes are refused at one place
@@ -52,3 +62,17 @@ pub mod StepLemmas
 pub mod StoreLemmas
 -- `summary`
 pub mod SummaryLemmas
+-- `mirror`: what a crash leaves
+pub mod TakingLemmas
+-- `mirror --fetch`: documents that one feed served
+pub mod WalkedReportLemmas
+-- `mirror --fetch`: how a walk ended
+pub mod WalkEndLemmas
+-- `mirror`: the exit statuses of its faults
+pub mod ReportFaultLemmas
+-- `mirror`: how it ends
+pub mod MirrorEndLemmas
+-- `mirror`: the answers that end a report
+pub mod RoomFaultLemmas
+-- `mirror` and `mirror --fetch`
+pub mod MovedLemmas

@@ -1,11 +1,10 @@
--- The input of `mirror` is read in one way, and each offer has one answer.
+-- `mirror` from a pile: the input is read in one way, and has one answer.
 use Rattle.std.proofs.Common.{◌≡◌, ◌⊎◌, inl, inr, ℕ, ◌+◌, ◌-◌, ◌<◌, ◌≤◌, List, [], ◌∷◌, ◌++◌, Option, Some, None, Result}
-use Rattle.std.proofs.Common.{Ok, Err, length, map, refl, sym, ap, subst, ◌∙◌, arith, length-append, append_assoc}
+use Rattle.std.proofs.Common.{Ok, Err, length, map, refl, sym, ap, ap₂, subst, ◌∙◌, arith, length-append, append_assoc}
 use Rattle.std.specs.Prelude.{All, flat_map}
-use Rattle.std.proofs.lemmas.List.{append-nil, append_cancel_left}
+use Rattle.std.proofs.lemmas.List.{append-nil, append_cancel_left, map-append}
 use Rattle.std.proofs.lemmas.List.Concat.{flat_map-append}
 use Rattle.std.proofs.lemmas.List.Elements.{All-head, All-tail}
-use Rattle.atom_grammar.proofs.RefusalLemmas.{one_reading}
 use Rattle.doc_source.specs.Laws.{HasRead, read_text}
 use Rattle.doc_source.specs.Pile.{IsAnswer as IsPileAnswer, IsOfBytes, IsOffer, head_at, offer_text, pile_head}
 use Rattle.doc_source.specs.declared.fault.PileFault.{PileFault}
@@ -15,20 +14,19 @@ use Rattle.doc_source.proofs.AnswerLemmas.{one_answer}
 use Rattle.doc_source.proofs.OneReading.{offer_some, offer_unique}
 use Rattle.doc_source.proofs.PileLemmas.{head_later}
 use Rattle.doc_source.proofs.ReaderLemmas.{offer_within}
-use Rattle.mirror_walk.specs.Accept.{Answer as MirrorAnswer, AnswersDocument, AnswersOthers, IsAnswer, accept, after_answer}
-use Rattle.mirror_walk.specs.Accept.{IsKeptOf}
-use Rattle.mirror_walk.specs.Offers.{AreAnswered, Offering}
-use Rattle.mirror_walk.specs.declared.answer.Accepted.{Accepted}
+use Rattle.mirror_walk.specs.Accept.{Answer as MirrorAnswer, IsAnswerWithin}
+use Rattle.mirror_walk.specs.Holding.{KeptValue}
+use Rattle.mirror_walk.specs.Offers.{Offering}
 use Rattle.mirror_walk.specs.declared.answer.Offered.{Offered}
-use Rattle.mirror_walk.specs.declared.answer.Offered.TheVariants as refusals
-use Rattle.mirror_walk.specs.declared.held.Kept.{Kept}
-use Rattle.mirror_walk.proofs.AcceptLemmas.{one-given}
+use Rattle.mirror_walk.specs.declared.answer.Offered.TheVariants.{Full as NoRoom}
 use Rattle.feed_commands.specs.Answer.{Answer}
-use Rattle.feed_commands.specs.Fault.{refusal_answer}
-use Rattle.feed_commands.specs.Mirror.{IsBadPile, IsLongPile, IsMirrored, IsReport, ReadsTo, offering, pile_limit}
-use Rattle.feed_commands.specs.Report.{report_of}
-use Rattle.feed_commands.specs.declared.fault.Refusal.TheVariants.{BadPile}
-use Rattle.feed_commands.proofs.PlaceLemmas.{place_once}
+use Rattle.feed_commands.specs.Fault.{fault_answer, refusal_answer}
+use Rattle.feed_commands.specs.Mirror.{HasAnswered, IsBadPile, IsFilled, IsLongPile, IsMirrored, IsReport, ReadsOffers, ReadsTo}
+use Rattle.feed_commands.specs.Mirror.{offering, pile_limit}
+use Rattle.feed_commands.specs.MirrorFaults.{full_fault}
+use Rattle.feed_commands.specs.Report.{AreAnsweredWithin, report_of}
+use Rattle.feed_commands.specs.declared.fault.Refusal.TheVariants.{BadPile, TooLong}
+use Rattle.feed_commands.proofs.AnswersLemmas.{answer-once, answers-once, full-unanswered}
 
 -- the second list is the first and more
 record Extends (first whole : List Offer) : Type 0 where
@@ -100,10 +98,10 @@ ends-of_bytes (Err piles.SourceFault) ends = absurd ends
 ends-of_bytes (Err piles.NoMemory) ends = absurd ends
 
 -- where a reading ends, no other reading of the pile goes on
-no-more : (pile : List ℕ) (first whole rest : List Offer) (last final : Result (Option Offer) PileFault)
-    → ReadsTo pile first last → ReadsTo pile whole final → Ends last → whole ≡ first ++ rest → rest ≡ []
-no-more pile first whole [] last final p q ends e = refl
-no-more pile first whole (offer ∷ rest) last final p q ends e =
+no-more : (pile : List ℕ) (first whole rest : List Offer) (last : Result (Option Offer) PileFault)
+    → ReadsTo pile first last → ReadsOffers pile whole → Ends last → whole ≡ first ++ rest → rest ≡ []
+no-more pile first whole [] last p q ends e = refl
+no-more pile first whole (offer ∷ rest) last p q ends e =
     let text = head_at p.used ++ offer_text offer in
     let more = flat_map offer_text rest in
     let is = All-middle first rest offer (subst (All IsOffer) e q.read.are) in
@@ -138,11 +136,16 @@ same-end pile offers last final p q ends_p ends_q =
     (subst (λ (n : ℕ). IsPileAnswer n pile_limit q.bytes final) used q.answer)) (ends-of_bytes last ends_p)
     (ends-of_bytes final ends_q)
 
-extended : (pile : List ℕ) (first whole : List Offer) (last final : Result (Option Offer) PileFault)
-    → ReadsTo pile first last → ReadsTo pile whole final → Ends last → Extends first whole → whole ≡ first
-extended pile first whole last final p q ends more =
+-- the offers that a whole reading has
+offers-of : (pile : List ℕ) (offers : List Offer) (last : Result (Option Offer) PileFault) → ReadsTo pile offers last
+    → ReadsOffers pile offers
+offers-of pile offers last p = record { used = p.used; bytes = p.bytes; read = p.read; within = p.within }
+
+extended : (pile : List ℕ) (first whole : List Offer) (last : Result (Option Offer) PileFault)
+    → ReadsTo pile first last → ReadsOffers pile whole → Ends last → Extends first whole → whole ≡ first
+extended pile first whole last p q ends more =
     more.split
-    ∙ ap (λ (rest : List Offer). first ++ rest) (no-more pile first whole more.rest last final p q ends more.split)
+    ∙ ap (λ (rest : List Offer). first ++ rest) (no-more pile first whole more.rest last p q ends more.split)
     ∙ append-nil first
 
 -- a pile is read in one way
@@ -151,109 +154,183 @@ reads-once : (pile : List ℕ) (one other : List Offer) (last final : Result (Op
 reads-once pile one other last final p q ends_p ends_q =
     let same : other ≡ one =
     elim (both-read one other p.bytes q.bytes p.read.are q.read.are (sym p.read.whole ∙ q.read.whole)) [
-      | inl more ↦ extended pile one other last final p q ends_p more
-      | inr more ↦ sym (extended pile other one final last q p ends_q more)
+      | inl more ↦ extended pile one other last p (offers-of pile other final q) ends_p more
+      | inr more ↦ sym (extended pile other one final q (offers-of pile one last p) ends_q more)
     ] in
     (same, sym (same-end pile one last final p (subst (λ (os : List Offer). ReadsTo pile os final) same q) ends_p ends_q))
 
--- the answer to a document, or the refusal of bytes that are no document
-record IsRefusedBytes (kept : List Kept) (bytes : List ℕ) (answer : MirrorAnswer) (left : List Kept) : Type 0 where
-  at : ℕ
-  is : answer ≡ Err (refusals.NotADocument at)
-  others : AnswersOthers kept bytes at left
+-- an end at which the pile was read whole, as far as it can be
+abbrev end_answer : List ℕ → List Offer → List MirrorAnswer → List KeptValue → Result (Option Offer) PileFault → Answer
+end_answer base offers answers left (Ok found) = report_of base (map offering offers) answers left
+end_answer base offers answers left (Err (piles.BadPile at)) = refusal_answer (BadPile at)
+end_answer base offers answers left (Err (piles.TooLong limit)) = refusal_answer TooLong
+end_answer base offers answers left (Err piles.SourceFault) = refusal_answer TooLong
+end_answer base offers answers left (Err piles.NoMemory) = refusal_answer TooLong
 
-answered-as : (base : List ℕ) (kept : List Kept) (address bytes : List ℕ) (answer : MirrorAnswer) (left : List Kept)
-    → IsAnswer base kept address bytes answer left
-    → AnswersDocument base kept address bytes answer left ⊎ IsRefusedBytes kept bytes answer left
-answered-as base kept address bytes (Ok accepted) left is = inl is
-answered-as base kept address bytes (Err (refusals.NotADocument at)) left is =
-    inr (record { at = at; is = refl; others = is })
-answered-as base kept address bytes (Err (refusals.WrongAddress says)) left is = inl is
-answered-as base kept address bytes (Err (refusals.WrongFeed held given)) left is = inl is
-answered-as base kept address bytes (Err (refusals.Conflict at held given)) left is = inl is
-answered-as base kept address bytes (Err (refusals.Break last first)) left is = inl is
-answered-as base kept address bytes (Err refusals.NoMemory) left is = absurd is
+record IsWhole (capacity : ℕ) (base : List ℕ) (kept : List KeptValue) (input : List ℕ) (given : Answer)
+    : Type 0 where
+  offers : List Offer
+  last : Result (Option Offer) PileFault
+  read : ReadsTo input offers last
+  ends : Ends last
+  left : List KeptValue
+  has : HasAnswered capacity base kept offers left
+  is : given ≡ end_answer base offers has.answers left last
 
--- an offer has one answer, after which one list of documents is held
-answer-once : (base : List ℕ) (kept : List Kept) (address bytes : List ℕ) (one other : MirrorAnswer)
-    (left more : List Kept) → IsAnswer base kept address bytes one left → IsAnswer base kept address bytes other more
-    → (other ≡ one) × (more ≡ left)
-answer-once base kept address bytes one other left more p q =
-    elim (answered-as base kept address bytes one left p) [
-      | inl d ↦ elim (answered-as base kept address bytes other more q) [
-        | inl e ↦
-            let document = one_reading e.given.document d.given.document e.read.is_doc d.read.is_doc
-            (sym e.read.text ∙ d.read.text) in
-            let given = one-given bytes e.given.document e.given.digest d.given e.read.digest d.read document in
-            let same : other ≡ one =
-            e.first_fit ∙ ap (accept base kept address) given ∙ sym d.first_fit in (
-              same,
-              e.left_over ∙ ap (λ (g : Kept). after_answer kept g other) given
-                  ∙ ap (after_answer kept d.given) same ∙ sym d.left_over,
-            )
-        | inr e ↦ absurd (e.others.no_document d.given.document d.read.is_doc d.read.text)
+-- the ends of a pile, by whether an offer filled the area
+whole-of : (capacity : ℕ) (base : List ℕ) (kept : List KeptValue) (input : List ℕ) (given : Answer)
+    → IsMirrored capacity base kept input given
+    → IsWhole capacity base kept input given ⊎ IsFilled capacity base kept input given
+whole-of capacity base kept input given (inl p) = inl record {
+  offers = p.offers;
+  last = Ok None;
+  read = p.read;
+  ends = tt;
+  left = p.left;
+  has = p.has;
+  is = p.is;
+}
+whole-of capacity base kept input given (inr (inl p)) = inr p
+whole-of capacity base kept input given (inr (inr (inl p))) = inl record {
+  offers = p.offers;
+  last = Err (piles.BadPile p.at);
+  read = p.read;
+  ends = tt;
+  left = p.left;
+  has = p.has;
+  is = p.is;
+}
+whole-of capacity base kept input given (inr (inr (inr p))) = inl record {
+  offers = p.offers;
+  last = Err (piles.TooLong pile_limit);
+  read = p.read;
+  ends = tt;
+  left = p.left;
+  has = p.has;
+  is = p.is;
+}
+
+-- the last one of a list
+record HasLast (xs : List Offer) : Type 0 where
+  front : List Offer
+  last : Offer
+  split : xs ≡ front ++ last ∷ []
+
+has-last : (x : Offer) (xs : List Offer) → HasLast (x ∷ xs)
+has-last x [] = record { front = []; last = x; split = refl }
+has-last x (y ∷ ys) =
+    let more = has-last y ys in
+    record { front = x ∷ more.front; last = more.last; split = ap (λ (zs : List Offer). x ∷ zs) more.split }
+
+snoc-same : (xs ys : List Offer) (x y : Offer) → xs ++ x ∷ [] ≡ ys ++ y ∷ [] → (xs ≡ ys) × (x ≡ y)
+snoc-same [] [] x y e = (refl, let same : x ≡ y = cc in same)
+snoc-same [] (b ∷ []) x y e = absurd (let none : ◌≡◌ {A = List Offer} [] (y ∷ []) = cc in cc)
+snoc-same [] (b ∷ c ∷ ys) x y e = absurd (let none : [] ≡ c ∷ ys ++ y ∷ [] = cc in cc)
+snoc-same (a ∷ []) [] x y e = absurd (let none : ◌≡◌ {A = List Offer} (x ∷ []) [] = cc in cc)
+snoc-same (a ∷ c ∷ xs) [] x y e = absurd (let none : c ∷ xs ++ x ∷ [] ≡ [] = cc in cc)
+snoc-same (a ∷ xs) (b ∷ ys) x y e =
+    let head : a ≡ b = cc in
+    let tail : xs ++ x ∷ [] ≡ ys ++ y ∷ [] = cc in
+    let more = snoc-same xs ys x y tail in
+    ((λ i. head i ∷ more.0 i), more.1)
+
+module _ (capacity : ℕ) (base : List ℕ) (kept : List KeptValue) (input : List ℕ) where
+  whole-once : (one other : Answer) → IsWhole capacity base kept input one → IsWhole capacity base kept input other
+      → one ≡ other
+  whole-once one other p q =
+      let read = reads-once input p.offers q.offers p.last q.last p.read q.read p.ends q.ends in
+      let same = answers-once capacity base kept (map offering p.offers) p.has.answers q.has.answers p.left q.left
+      p.has.answered
+      (subst (λ (os : List Offer). AreAnsweredWithin capacity base kept (map offering os) q.has.answers q.left) read.0
+      q.has.answered) in
+      p.is
+      ∙ ap₂ (λ (os : List Offer) (last : Result (Option Offer) PileFault).
+      end_answer base os p.has.answers p.left last) (sym read.0) (sym read.1)
+      ∙ ap₂ (λ (answers : List MirrorAnswer) (left : List KeptValue). end_answer base q.offers answers left q.last)
+      (sym same.0) (sym same.1)
+      ∙ sym q.is
+
+  -- an offer that fills the area isn't among offers that were all answered
+  not-among : (given : Answer) (f : IsFilled capacity base kept input given) (whole rest : List Offer)
+      (left : List KeptValue) → HasAnswered capacity base kept whole left → whole ≡ f.offers ++ f.offer ∷ rest → ⊥
+  not-among given f whole rest left has e =
+      full-unanswered capacity base kept (map offering f.offers) (offering f.offer) (map offering rest) f.has.answers
+      has.answers f.left left f.size f.needed f.has.answered f.full
+      (subst (λ (os : List Offering). AreAnsweredWithin capacity base kept os has.answers left)
+      (ap (map offering) e ∙ map-append offering f.offers (f.offer ∷ rest)) has.answered)
+
+  filled-whole : (one other : Answer) → IsFilled capacity base kept input one
+      → IsWhole capacity base kept input other → ⊥
+  filled-whole one other f w =
+      let upto = f.offers ++ f.offer ∷ [] in
+      elim (both-read upto w.offers f.read.bytes w.read.bytes f.read.read.are w.read.read.are
+      (sym f.read.read.whole ∙ w.read.read.whole)) [
+        | inl more ↦ not-among one f w.offers more.rest w.left w.has
+            (more.split ∙ append_assoc f.offers (f.offer ∷ []) more.rest)
+        | inr more ↦ not-among one f w.offers [] w.left w.has
+            (sym (extended input w.offers upto w.last w.read f.read w.ends more))
       ]
-      | inr d ↦ elim (answered-as base kept address bytes other more q) [
-        | inl e ↦ absurd (d.others.no_document e.given.document e.read.is_doc e.read.text)
-        | inr e ↦ (
-          e.is
-              ∙ ap (λ (at : ℕ). Err (refusals.NotADocument at)) (place_once bytes e.at d.at e.others.place d.others.place)
-              ∙ sym d.is,
-          e.others.left_over ∙ sym d.others.left_over,
-        )
+
+  filled-longer : (one other : Answer) (p : IsFilled capacity base kept input one)
+      (q : IsFilled capacity base kept input other)
+      → Extends (p.offers ++ p.offer ∷ []) (q.offers ++ q.offer ∷ [])
+      → q.offers ++ q.offer ∷ [] ≡ p.offers ++ p.offer ∷ []
+  filled-longer one other p q more = go more.rest more.split
+    where
+      go : (rest : List Offer) → q.offers ++ q.offer ∷ [] ≡ (p.offers ++ p.offer ∷ []) ++ rest
+          → q.offers ++ q.offer ∷ [] ≡ p.offers ++ p.offer ∷ []
+      go [] e = e ∙ append-nil (p.offers ++ p.offer ∷ [])
+      go (r ∷ rest) e =
+          let last = has-last r rest in
+          let split : q.offers ++ q.offer ∷ [] ≡ ((p.offers ++ p.offer ∷ []) ++ last.front) ++ last.last ∷ [] =
+          e ∙ ap (λ (zs : List Offer). (p.offers ++ p.offer ∷ []) ++ zs) last.split
+          ∙ sym (append_assoc (p.offers ++ p.offer ∷ []) last.front (last.last ∷ [])) in
+          let same = snoc-same q.offers ((p.offers ++ p.offer ∷ []) ++ last.front) q.offer last.last split in
+          absurd (not-among one p q.offers last.front q.left q.has
+          (same.0 ∙ append_assoc p.offers (p.offer ∷ []) last.front))
+
+  filled-same : (one other : Answer) (p : IsFilled capacity base kept input one)
+      (q : IsFilled capacity base kept input other) → q.offers ++ q.offer ∷ [] ≡ p.offers ++ p.offer ∷ []
+      → one ≡ other
+  filled-same one other p q e =
+      let same = snoc-same q.offers p.offers q.offer p.offer e in
+      let held = answers-once capacity base kept (map offering p.offers) p.has.answers q.has.answers p.left q.left
+      p.has.answered
+      (subst (λ (os : List Offer). AreAnsweredWithin capacity base kept (map offering os) q.has.answers q.left) same.0
+      q.has.answered) in
+      let full : IsAnswerWithin capacity base p.left p.offer.address p.offer.bytes
+      (Err (NoRoom q.size q.needed capacity)) p.left =
+      subst (λ (ks : List KeptValue). IsAnswerWithin capacity base ks p.offer.address p.offer.bytes
+      (Err (NoRoom q.size q.needed capacity)) ks) held.1
+      (subst (λ (o : Offer). IsAnswerWithin capacity base q.left o.address o.bytes
+      (Err (NoRoom q.size q.needed capacity)) q.left) same.1 q.full) in
+      let answer = answer-once capacity base p.left p.offer.address p.offer.bytes (Err (NoRoom p.size p.needed capacity))
+      (Err (NoRoom q.size q.needed capacity)) p.left p.left p.full full in
+      let size : q.size ≡ p.size = let a = answer.0 in cc in
+      let needed : q.needed ≡ p.needed = let a = answer.0 in cc in
+      p.is ∙ ap₂ (λ (s n : ℕ). fault_answer (full_fault s n capacity)) (sym size) (sym needed) ∙ sym q.is
+
+  filled-once : (one other : Answer) → IsFilled capacity base kept input one
+      → IsFilled capacity base kept input other → one ≡ other
+  filled-once one other p q =
+      filled-same one other p q
+      (elim (both-read (p.offers ++ p.offer ∷ []) (q.offers ++ q.offer ∷ []) p.read.bytes q.read.bytes p.read.read.are
+      q.read.read.are (sym p.read.read.whole ∙ q.read.read.whole)) [
+        | inl more ↦ filled-longer one other p q more
+        | inr more ↦ sym (filled-longer other one q p more)
+      ])
+
+  -- the input of `mirror` has one answer, by the documents held before
+  pub mirrored-once : (one other : Answer) → IsMirrored capacity base kept input one
+      → IsMirrored capacity base kept input other → one ≡ other
+  mirrored-once one other p q =
+      elim (whole-of capacity base kept input one p) [
+        | inl a ↦ elim (whole-of capacity base kept input other q) [
+          | inl b ↦ whole-once one other a b
+          | inr b ↦ absurd (filled-whole other one b a)
+        ]
+        | inr a ↦ elim (whole-of capacity base kept input other q) [
+          | inl b ↦ absurd (filled-whole one other a b)
+          | inr b ↦ filled-once one other a b
+        ]
       ]
-    ]
-
-answers-once : (base : List ℕ) (kept : List Kept) (offers : List Offering) (one other : List MirrorAnswer)
-    (left more : List Kept) → AreAnswered base kept offers one left → AreAnswered base kept offers other more
-    → (other ≡ one) × (more ≡ left)
-answers-once base kept [] [] [] left more p q = (refl, q ∙ sym p)
-answers-once base kept [] [] (b ∷ other) left more p q = absurd q
-answers-once base kept [] (a ∷ one) other left more p q = absurd p
-answers-once base kept (offer ∷ offers) [] other left more p q = absurd p
-answers-once base kept (offer ∷ offers) (a ∷ one) [] left more p q = absurd q
-answers-once base kept (offer ∷ offers) (a ∷ one) (b ∷ other) left more p q =
-    let same = answer-once base kept offer.address offer.bytes a b p.0 q.0 p.1 q.1 in
-    let rest = answers-once base p.0 offers one other left more p.2
-    (subst (λ (ks : List Kept). AreAnswered base ks offers other more) same.1 q.2) in
-    ((λ i. same.0 i ∷ rest.0 i), rest.1)
-
--- two reports are the same
-report-once : (base input : List ℕ) (one other : Answer) → IsReport base input one → IsReport base input other
-    → one ≡ other
-report-once base input one other p q =
-    let offers = reads-once input p.offers q.offers (Ok None) (Ok None) p.read q.read tt tt in
-    let answered = subst (λ (os : List Offer). AreAnswered base [] (map offering os) q.answers q.kept) offers.0
-    q.answered in
-    let same = answers-once base [] (map offering p.offers) p.answers q.answers p.kept q.kept p.answered answered in
-    sym (q.is ∙ (λ i. report_of base (map offering (offers.0 i)) (same.0 i) (same.1 i)) ∙ sym p.is)
-
--- which of the three kinds of answer: their readings end with different answers
-ends-differ : {A : Type 0} (input : List ℕ) (one other : List Offer) (last final : Result (Option Offer) PileFault)
-    → ReadsTo input one last → ReadsTo input other final → Ends last → Ends final → (final ≡ last → ⊥) → A
-ends-differ input one other last final p q ends_p ends_q differ =
-    absurd (differ (reads-once input one other last final p q ends_p ends_q).1)
-
-pub mirrored-once : (base input : List ℕ) (one other : Answer) → IsMirrored base input one
-    → IsMirrored base input other → one ≡ other
-mirrored-once base input one other (inl p) (inl q) = report-once base input one other p q
-mirrored-once base input one other (inl p) (inr (inl q)) =
-    ends-differ input p.offers q.offers (Ok None) (Err (piles.BadPile q.at)) p.read q.read tt tt (λ e. cc)
-mirrored-once base input one other (inl p) (inr (inr q)) =
-    ends-differ input p.offers q.offers (Ok None) (Err (piles.TooLong pile_limit)) p.read q.read tt tt (λ e. cc)
-mirrored-once base input one other (inr (inl p)) (inl q) =
-    ends-differ input p.offers q.offers (Err (piles.BadPile p.at)) (Ok None) p.read q.read tt tt (λ e. cc)
-mirrored-once base input one other (inr (inl p)) (inr (inl q)) =
-    let same = reads-once input p.offers q.offers (Err (piles.BadPile p.at)) (Err (piles.BadPile q.at)) p.read q.read
-    tt tt in
-    let at : q.at ≡ p.at = let e = same.1 in cc in
-    p.is ∙ ap (λ (n : ℕ). refusal_answer (BadPile n)) (sym at) ∙ sym q.is
-mirrored-once base input one other (inr (inl p)) (inr (inr q)) =
-    ends-differ input p.offers q.offers (Err (piles.BadPile p.at)) (Err (piles.TooLong pile_limit)) p.read q.read tt tt
-    (λ e. cc)
-mirrored-once base input one other (inr (inr p)) (inl q) =
-    ends-differ input p.offers q.offers (Err (piles.TooLong pile_limit)) (Ok None) p.read q.read tt tt (λ e. cc)
-mirrored-once base input one other (inr (inr p)) (inr (inl q)) =
-    ends-differ input p.offers q.offers (Err (piles.TooLong pile_limit)) (Err (piles.BadPile q.at)) p.read q.read tt tt
-    (λ e. cc)
-mirrored-once base input one other (inr (inr p)) (inr (inr q)) = p.is ∙ sym q.is

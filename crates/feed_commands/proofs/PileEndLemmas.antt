@@ -11,6 +11,7 @@ use Rattle.feed_commands.specs.declared.status.Status.TheVariants as ends
 use Rattle.feed_commands.specs.Answer.{Prints}
 use Rattle.feed_commands.specs.Fault.{IsRefusal, fault_answer}
 use Rattle.feed_commands.specs.Pile.{EndsCut, MayEndPile, pile_answer, pile_of}
+use Rattle.feed_commands.specs.Outside.{Outside}
 use Rattle.feed_commands.specs.Run.{EndsWith, IsDone, IsStatus}
 use Rattle.feed_commands.specs.Status.{code_of}
 use Rattle.feed_commands.specs.Stored.{IsBadStore}
@@ -25,12 +26,11 @@ failed-by is same =
     let failed : PrintFault → Result (Unit {0}) PrintFault = λ fault. Err fault in
     is ∙ ap failed same
 
-module _ (content : Area → List ℕ) (moments : ℕ → ℕ) (input : List ℕ) (told : Type 0) (before after : SinkState)
-    (ended : ℕ) where
+module _ (outside : Outside) (told : Type 0) (before after : SinkState) (ended : ℕ) where
   -- the pile was printed
-  pub ends-piled : (stored : Stored) → OpensTo content stored → ended ≡ 0
+  pub ends-piled : (stored : Stored) → OpensTo outside.content stored → ended ≡ 0
       → (told → after.taken ≡ before.taken ++ pile_of stored)
-      → EndsWith (Show Pile) moments input content told before after ended
+      → EndsWith (Show Pile) outside told before after ended
   ends-piled stored opens done whole = record {
     answer = pile_answer stored;
     is = inl record { stored = stored; opens = opens; is = refl };
@@ -48,9 +48,9 @@ module _ (content : Area → List ℕ) (moments : ℕ → ℕ) (input : List ℕ
   }
 
   -- the output failed
-  pub ends-unpiled : (stored : Stored) → OpensTo content stored → ended ≡ 8
+  pub ends-unpiled : (stored : Stored) → OpensTo outside.content stored → ended ≡ 8
       → (told → TakesPrefix before after (pile_of stored)) → Rose before.faults after.faults
-      → EndsWith (Show Pile) moments input content told before after ended
+      → EndsWith (Show Pile) outside told before after ended
   ends-unpiled stored opens failed prefix rose = record {
     answer = pile_answer stored;
     is = inl record { stored = stored; opens = opens; is = refl };
@@ -60,9 +60,9 @@ module _ (content : Area → List ℕ) (moments : ℕ → ℕ) (input : List ℕ
   }
 
   -- the content opens to no store
-  pub ends-unopened : (fault : Fault) → IsBadStore content (fault_answer fault)
+  pub ends-unopened : (fault : Fault) → IsBadStore outside.content (fault_answer fault)
       → ended ≡ code_of (fault_answer fault).status → (told → Prints before after (fault_answer fault).printed)
-      → EndsWith (Show Pile) moments input content told before after ended
+      → EndsWith (Show Pile) outside told before after ended
   ends-unopened fault bad is prints = record {
     answer = fault_answer fault;
     is = inr bad;

@@ -1,12 +1,15 @@
 -- What an output took of a text.
 use Rattle.std.proofs.Common.{◌≡◌, ◌⊎◌, inl, inr, ⊎_elim, arith, ℕ, ◌≤◌, List, ◌++◌, Result, Ok, Err, refl, OnOk}
 use Rattle.atom_values.specs.Counts.{HasCause}
+use Rattle.feed_commands.specs.declared.commands.report_fault.ReportFault.{ReportFault}
+use Rattle.feed_commands.specs.declared.commands.report_fault.ReportFault.TheVariants.{Fetch, OtherBase, Other}
 use Rattle.feed_commands.specs.declared.fault.Fault.{Fault}
 use Rattle.feed_commands.specs.declared.fault.Fault.TheVariants.{NoMemory, Input, Disk, BadStore, Full, Refused}
 use Rattle.feed_commands.specs.declared.fault.Refusal.{Refusal}
 use Rattle.doc_source.specs.Outside.{SinkState, TakesPrefix}
 use Rattle.feed_commands.specs.Answer.{Prints}
 use Rattle.feed_commands.specs.Fault.{fault_answer, refusal_answer}
+use Rattle.feed_commands.specs.MirrorFaults.{report_answer}
 use Rattle.feed_commands.specs.Run.{IsAlone, alone_line}
 use Rattle.feed_commands.specs.Status.{code_of}
 use Rattle.feed_commands.proofs.EndLemmas.{refusal_code}
@@ -19,18 +22,19 @@ prints-from (Ok x) before after text prefix whole cause = record { prefix = pref
 prints-from (Err e) before after text prefix whole cause =
     record { prefix = prefix; whole = λ none. absurd (none cause.failed) }
 
--- only four statuses have a line of their own
-alone_at : (P : ℕ → Type 0) → P 2 → P 4 → P 5 → P 9 → (n : ℕ) → IsAlone n → P n
-alone_at P p2 p4 p5 p9 n (inl e) = rw e p2
-alone_at P p2 p4 p5 p9 n (inr (inl e)) = rw e p4
-alone_at P p2 p4 p5 p9 n (inr (inr (inl e))) = rw e p5
-alone_at P p2 p4 p5 p9 n (inr (inr (inr e))) = rw e p9
+-- only five statuses have a line of their own
+alone_at : (P : ℕ → Type 0) → P 2 → P 4 → P 5 → P 7 → P 9 → (n : ℕ) → IsAlone n → P n
+alone_at P p2 p4 p5 p7 p9 n (inl e) = rw e p2
+alone_at P p2 p4 p5 p7 p9 n (inr (inl e)) = rw e p4
+alone_at P p2 p4 p5 p7 p9 n (inr (inr (inl e))) = rw e p5
+alone_at P p2 p4 p5 p7 p9 n (inr (inr (inr (inl e)))) = rw e p7
+alone_at P p2 p4 p5 p7 p9 n (inr (inr (inr (inr e)))) = rw e p9
 
 no_alone : (n : ℕ) → (n ≡ 6) ⊎ (10 ≤ n) → IsAlone n → ⊥
 no_alone n far alone = alone_at (λ k. (k ≡ 6) ⊎ (10 ≤ k) → ⊥)
     (⊎_elim (λ e. omega (arith, e)) (λ e. omega (arith, e))) (⊎_elim (λ e. omega (arith, e)) (λ e. omega (arith, e)))
     (⊎_elim (λ e. omega (arith, e)) (λ e. omega (arith, e))) (⊎_elim (λ e. omega (arith, e)) (λ e. omega (arith, e)))
-    n alone far
+    (⊎_elim (λ e. omega (arith, e)) (λ e. omega (arith, e))) n alone far
 
 -- no refusal's line is alone
 alone-refusal : {A : Type 0} (refusal : Refusal) → IsAlone (code_of (refusal_answer refusal).status) → A
@@ -46,3 +50,10 @@ alone-fault Disk h = refl
 alone-fault (BadStore bad) h = absurd (no_alone 6 (inl refl) h)
 alone-fault (Full area size needed capacity) h = absurd (no_alone 11 (inr (omega arith)) h)
 alone-fault (Refused refusal) h = alone-refusal refusal h
+
+-- the same of a fault by which `mirror` makes no report
+pub alone-report : (fault : ReportFault) → IsAlone (code_of (report_answer fault).status)
+    → alone_line (code_of (report_answer fault).status) ≡ (report_answer fault).printed
+alone-report Fetch h = refl
+alone-report (OtherBase base) h = absurd (no_alone 12 (inr (omega arith)) h)
+alone-report (Other fault) h = alone-fault fault h

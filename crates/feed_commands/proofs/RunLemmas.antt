@@ -1,6 +1,5 @@
 -- How a run ends, by how its command ended.
-use Rattle.std.proofs.Common.{◌≡◌, ◌⊎◌, inl, inr, ⊎_elim, ℕ, List, ◌++◌, Result, Ok, Err, IfOk, refl, sym, ◌∙◌, ap, subst, arith}
-use Rattle.feed_disk.specs.declared.area.Area.{Area}
+use Rattle.std.proofs.Common.{◌≡◌, ◌⊎◌, inl, inr, ⊎_elim, ℕ, Bool, List, ◌++◌, Result, Ok, Err, IfOk, refl, sym, ◌∙◌, ap, subst, arith}
 use Rattle.tool_words.specs.Words.{IsCommandOf}
 use Rattle.tool_words.specs.declared.command.Command.{Command}
 use Rattle.tool_words.specs.declared.fault.WordsFault.{WordsFault}
@@ -12,11 +11,25 @@ use Rattle.feed_commands.specs.declared.status.Status.TheVariants as ends
 use Rattle.feed_commands.specs.Answer.{Prints}
 use Rattle.feed_commands.specs.Fault.{fault_answer}
 use Rattle.doc_source.specs.Outside.{SinkState}
-use Rattle.feed_commands.specs.Run.{EndsWith, IsDone, IsGiven, IsStatus}
-use Rattle.feed_commands.specs.Mirror.{MayEndMirror}
+use Rattle.feed_commands.specs.FetchEnds.{MayEndFetched}
+use Rattle.feed_commands.specs.MirrorEnds.{MayEndMirror}
+use Rattle.feed_commands.specs.Outside.{Outside}
+use Rattle.feed_commands.specs.Run.{EndsWith, IsDone, IsGiven, IsSeen, IsSeenUnfetched, IsStatus}
 use Rattle.feed_commands.specs.Status.{code_of}
 use Rattle.feed_commands.proofs.EndLemmas.{no_done}
 use Rattle.feed_commands.proofs.ServeLemmas.{IsServeCode}
+
+-- a command that is seen with its source is seen without one, if it asks none
+pub seen-unfetched : (command : Command) (disk_told clock_told input_told fetch_told : Type 0)
+    → IsSeen command disk_told clock_told input_told fetch_told
+    → IsSeenUnfetched command disk_told clock_told input_told
+seen-unfetched command disk_told clock_told input_told fetch_told seen = record {
+  answering = seen.answering;
+  disk = seen.disk;
+  clock = seen.clock;
+  input = seen.input;
+  fetch = λ _. tt;
+}
 
 -- what holds of the command that was read holds of each command of the words
 pub read_all : (words : List (List ℕ)) (result : Result Command WordsFault) (read : Command)
@@ -29,12 +42,11 @@ read_all words result read P is only p = λ command of_words. ⊎_elim
     (λ (e : result ≡ Err NoMemory). let other : Ok read ≡ Err NoMemory = sym is ∙ e in cc)
     (only command of_words)
 
-module _ (command : Command) (moments : ℕ → ℕ) (input : List ℕ) (content : Area → List ℕ) (told : Type 0)
-    (before after : SinkState) where
+module _ (command : Command) (outside : Outside) (told : Type 0) (before after : SinkState) where
   -- the answer was printed
-  pub ends-done : (text : List ℕ) → IsGiven command moments input content (record { status = Done; printed = text }) →
+  pub ends-done : (text : List ℕ) → IsGiven command outside (record { status = Done; printed = text }) →
       (told → Prints before after text) → (told → after.taken ≡ before.taken ++ text) →
-      EndsWith command moments input content told before after 0
+      EndsWith command outside told before after 0
   ends-done text given prints whole = record {
     answer = record { status = Done; printed = text };
     is = given.is;
@@ -45,8 +57,8 @@ module _ (command : Command) (moments : ℕ → ℕ) (input : List ℕ) (content
 
   -- the output failed
   pub ends-unsent : (text : List ℕ) →
-      IsGiven command moments input content (record { status = Done; printed = text }) →
-      (told → Prints before after text) → EndsWith command moments input content told before after 8
+      IsGiven command outside (record { status = Done; printed = text }) →
+      (told → Prints before after text) → EndsWith command outside told before after 8
   ends-unsent text given prints = record {
     answer = record { status = Done; printed = text };
     is = given.is;
@@ -57,9 +69,9 @@ module _ (command : Command) (moments : ℕ → ℕ) (input : List ℕ) (content
 
   -- the line of a refusal was printed
   pub ends-refused : (fault : Fault) (ended : ℕ) → ended ≡ code_of (fault_answer fault).status →
-      IsGiven command moments input content (fault_answer fault) →
+      IsGiven command outside (fault_answer fault) →
       (told → Prints before after (fault_answer fault).printed) →
-      EndsWith command moments input content told before after ended
+      EndsWith command outside told before after ended
   ends-refused fault ended e given prints = record {
     answer = fault_answer fault;
     is = given.is;
@@ -121,18 +133,37 @@ serve-status n (inr (inr (inr (inr (inr e))))) = (ends.OutputFault, e)
 pub mirror-status : (n : ℕ) → MayEndMirror n → IsStatus n
 mirror-status n (inl e) = (ends.Done, e)
 mirror-status n (inr (inl e)) = (ends.Incomplete, e)
-mirror-status n (inr (inr (inl e))) = (ends.NoMemory, e)
-mirror-status n (inr (inr (inr (inl e)))) = (ends.OutputFault, e)
-mirror-status n (inr (inr (inr (inr (inl e))))) = (ends.InputFault, e)
-mirror-status n (inr (inr (inr (inr (inr e))))) = (ends.BadInput, e)
+mirror-status n (inr (inr (inl e))) = (ends.DiskFault, e)
+mirror-status n (inr (inr (inr (inl e)))) = (ends.NoMemory, e)
+mirror-status n (inr (inr (inr (inr (inl e))))) = (ends.BadStore, e)
+mirror-status n (inr (inr (inr (inr (inr (inl e)))))) = (ends.OutputFault, e)
+mirror-status n (inr (inr (inr (inr (inr (inr (inl e))))))) = (ends.InputFault, e)
+mirror-status n (inr (inr (inr (inr (inr (inr (inr (inl e)))))))) = (ends.BadInput, e)
+mirror-status n (inr (inr (inr (inr (inr (inr (inr (inr (inl e))))))))) = (ends.Full, e)
+mirror-status n (inr (inr (inr (inr (inr (inr (inr (inr (inr e))))))))) = (ends.Refused, e)
 
--- the words of `mirror` have one base
-pub same_base : (P : List ℕ → Type 0) (words : List (List ℕ)) (result : Result Command WordsFault) (read : Command)
-    (base : List ℕ) → result ≡ Ok read → read ≡ Mirror base
+pub fetched-status : (n : ℕ) → MayEndFetched n → IsStatus n
+fetched-status n (inl e) = (ends.Done, e)
+fetched-status n (inr (inl e)) = (ends.Incomplete, e)
+fetched-status n (inr (inr (inl e))) = (ends.DiskFault, e)
+fetched-status n (inr (inr (inr (inl e)))) = (ends.NoMemory, e)
+fetched-status n (inr (inr (inr (inr (inl e))))) = (ends.BadStore, e)
+fetched-status n (inr (inr (inr (inr (inr (inl e)))))) = (ends.FetchFault, e)
+fetched-status n (inr (inr (inr (inr (inr (inr (inl e))))))) = (ends.OutputFault, e)
+fetched-status n (inr (inr (inr (inr (inr (inr (inr (inl e)))))))) = (ends.Full, e)
+fetched-status n (inr (inr (inr (inr (inr (inr (inr (inr e)))))))) = (ends.Refused, e)
+
+-- the words of `mirror` have one base and one capacity, and say in one way whether to fetch
+pub same_mirror : (P : List ℕ → Bool → ℕ → Type 0) (words : List (List ℕ)) (result : Result Command WordsFault)
+    (read : Command) (base : List ℕ) (fetch : Bool) (capacity : ℕ) → result ≡ Ok read → read ≡ Mirror base fetch capacity
     → ((command : Command) → IsCommandOf words command → (result ≡ Ok command) ⊎ (result ≡ Err NoMemory))
-    → P base → (other : List ℕ) → IsCommandOf words (Mirror other) → P other
-same_base P words result read base is mirrors only holds other of_words =
-    let same : Mirror base ≡ Mirror other =
-    read_only words result read (Mirror base) is mirrors only (Mirror other) of_words in
-    let equal : base ≡ other = cc in
-    subst P equal holds
+    → P base fetch capacity → (other : List ℕ) (asked : Bool) (limit : ℕ)
+    → IsCommandOf words (Mirror other asked limit) → P other asked limit
+same_mirror P words result read base fetch capacity is mirrors only holds other asked limit of_words =
+    let same : Mirror base fetch capacity ≡ Mirror other asked limit =
+    read_only words result read (Mirror base fetch capacity) is mirrors only (Mirror other asked limit) of_words in
+    let base_is : base ≡ other = cc in
+    let fetch_is : fetch ≡ asked = cc in
+    let capacity_is : capacity ≡ limit = cc in
+    subst (λ (b : List ℕ). P b asked limit) base_is
+    (subst (λ (f : Bool). P base f limit) fetch_is (subst (P base fetch) capacity_is holds))

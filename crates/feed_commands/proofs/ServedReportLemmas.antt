@@ -1,9 +1,10 @@
 -- The report of a mirror to the documents that one feed served.
 use Rattle.std.proofs.Common.{◌≡◌, ◌⊎◌, inl, inr, ℕ, ◌+◌, List, [], ◌∷◌, ◌++◌, Option, None, Some, Ok, Err, All, IsOk}
-use Rattle.std.proofs.Common.{flat_map, length, map, take, refl, sym, ap, ap₂, subst, ◌∙◌, arith}
-use Rattle.std.specs.Prelude.{fold}
-use Rattle.std.proofs.lemmas.List.Elements.{All-contains, All-head, All-tail}
+use Rattle.std.proofs.Common.{flat_map, length, map, take, unwrap_or, refl, sym, ap, ap₂, subst, ◌∙◌, arith, length-append}
+use Rattle.std.specs.Prelude.{count_by, fold}
+use Rattle.std.proofs.lemmas.List.Elements.{All-append, All-contains, All-head, All-tail}
 use Rattle.atom_values.specs.Entry.{EntryValue}
+use Rattle.chain_links.specs.Address.{printed}
 use Rattle.chain_links.specs.declared.address.Address.{Address}
 use Rattle.chain_links.specs.declared.address.Address.TheVariants.{Archive, Feed, Member}
 use Rattle.doc_source.specs.declared.offer.Offer.{Offer}
@@ -19,22 +20,24 @@ use Rattle.member_rules.proofs.ServedLemmas.{prefix-lawful}
 use Rattle.member_rules.proofs.ShowsLemmas.{live_of-past}
 use Rattle.member_rules.proofs.StateLemmas.{AreMembers-of}
 use Rattle.mirror_walk.specs.Accept.{Answer as MirrorAnswer}
-use Rattle.mirror_walk.specs.Holding.{best_of, chain_of, first_missing}
+use Rattle.mirror_walk.specs.Holding.{KeptValue, best_of, chain_of, first_missing}
 use Rattle.mirror_walk.specs.Laws.{IsMissingOf, ShowsBest, ShowsServed, ShowsVersion}
 use Rattle.mirror_walk.specs.Listing.{entries_up_to, live_at, live_entries, outcome_of}
-use Rattle.mirror_walk.specs.Offers.{AreAnswered, AreServed, IsOffered, Offering}
+use Rattle.mirror_walk.specs.Loaded.{IsLoadedOf}
+use Rattle.mirror_walk.specs.Offers.{AreAnswered, AreServed, AreTakenOf, IsOffered, Offering}
 use Rattle.mirror_walk.specs.declared.answer.Accepted.TheVariants.{Taken, Known, Stale}
 use Rattle.mirror_walk.specs.declared.answer.Outcome.{Outcome}
-use Rattle.mirror_walk.specs.declared.held.Kept.{Kept}
 use Rattle.mirror_walk.proofs.MirrorLemmas.{law-of_mirror}
 use Rattle.mirror_walk.proofs.OutcomeLemmas.{outcome-complete, outcome-missing}
 use Rattle.feed_commands.specs.Answer.{Answer}
-use Rattle.feed_commands.specs.Mirror.{IsPileOf, IsReport, IsServedReport, MissesArchive, MissesFeed, ShowsEntries}
-use Rattle.feed_commands.specs.Mirror.{entries_after, offering, pile_limit}
-use Rattle.feed_commands.specs.Report.{complete_line, counted, counts_line, counts_of, ending, no_counts, refused_lines}
-use Rattle.feed_commands.specs.Report.{report_of, status_of}
+use Rattle.feed_commands.specs.Mirror.{IsReport, offering, pile_limit}
+use Rattle.feed_commands.specs.Report.{AreAnsweredWithin, complete_line, counted, counts_line, counts_of, ending, no_counts}
+use Rattle.feed_commands.specs.Report.{refused_lines, report_of, status_of}
+use Rattle.feed_commands.specs.Served.{IsPileOf, IsServedReport, MissesArchive, MissesFeed, ShowsEntries, entries_after}
+use Rattle.feed_commands.specs.Served.{own_offers}
 use Rattle.feed_commands.specs.Show.{entry_line}
 use Rattle.feed_commands.specs.declared.commands.report.Counts.{Counts}
+use Rattle.feed_commands.proofs.AnswersLemmas.{answers-plain}
 use Rattle.feed_commands.proofs.EntriesLemmas.{entries-same}
 
 -- nothing was refused
@@ -65,8 +68,8 @@ counts-accepted (Ok Stale ∷ answers) before accepted =
 counts-accepted (Err refusal ∷ answers) before accepted =
     let ok = All-head IsOk (Err refusal) answers accepted in absurd (cc)
 
-answers-length : (base : List ℕ) (start : List Kept) (offers : List Offering) (answers : List MirrorAnswer)
-    (kept : List Kept) → AreAnswered base start offers answers kept → length answers ≡ length offers
+answers-length : (base : List ℕ) (start : List KeptValue) (offers : List Offering) (answers : List MirrorAnswer)
+    (kept : List KeptValue) → AreAnswered base start offers answers kept → length answers ≡ length offers
 answers-length base start [] [] kept is = refl
 answers-length base start [] (answer ∷ answers) kept is = absurd is
 answers-length base start (offer ∷ offers) [] kept is = absurd is
@@ -75,7 +78,7 @@ answers-length base start (offer ∷ offers) (answer ∷ answers) kept (next, on
 
 -- the live entries are those of the fold
 
-entries-of_fold : (head : HeadValue) (history : List Op) (version : ℕ) (kept : List Kept) → IsLawful head history
+entries-of_fold : (head : HeadValue) (history : List Op) (version : ℕ) (kept : List KeptValue) → IsLawful head history
     → ShowsVersion head history version (chain_of kept) → live_entries kept ≡ entries_after (take version history)
 unfolding live_entries
 entries-of_fold head history version kept lawful shows =
@@ -88,30 +91,29 @@ entries-of_fold head history version kept lawful shows =
     (λ number above. sym (shows.fold.live number) ∙ live_of-past (chain_of kept) number above)
     (λ number above. (members.none_past number above).0)
 
-module _ (head : HeadValue) (history : List Op) (offers : List Offering) (kept : List Kept)
+-- the report of what is held ends in one of the three ways
+abbrev pub Ends : HeadValue → List Op → List Offering → List KeptValue → Outcome → Type 0
+Ends head history offers kept outcome =
+    let said = ending head.name.base (live_entries kept) outcome in
+    MissesFeed head offers (status_of outcome) said ⊎ MissesArchive head offers (status_of outcome) said
+    ⊎ ShowsEntries head history offers (status_of outcome) said
+
+module _ (head : HeadValue) (history : List Op) (offers : List Offering) (kept : List KeptValue)
     (served : AreServed head history offers) where
-  offered-lawful : (best : Kept) → IsOffered offers best.document → IsLawful head history
+  offered-lawful : (best : KeptValue) → IsOffered offers best.document → IsLawful head history
   offered-lawful best offered =
       let (k, offer, within, there, text) = offered.there in
       (All-contains (λ (o : Offering). Served head history o.address o.bytes) offers offer served
       (k, within, there)).is_lawful
 
-  -- the report of what is held ends in one of the three ways
-  Ends : Outcome → Type 0
-  Ends outcome =
-      let said = ending head.name.base (live_entries kept) outcome in
-      MissesFeed head offers (status_of outcome) said ⊎ MissesArchive head offers (status_of outcome) said
-      ⊎ ShowsEntries head history offers (status_of outcome) said
-
-  ends-best : (best : Kept) → best_of kept ≡ Some best → ShowsBest head history offers kept best
+  ends-best : (best : KeptValue) → best_of kept ≡ Some best → ShowsBest head history offers kept best
       → (missing : Option Address) → first_missing kept ≡ missing
-      → IsMissingOf head.name.base offers best.document.prev missing → Ends (outcome_of kept)
-  unfolding Ends
+      → IsMissingOf head.name.base offers best.document.prev missing → Ends head history offers kept (outcome_of kept)
   ends-best best is shows None none all =
       let version = best.document.span.last in
       let shown = shows.live none in
       let entries = entries-of_fold head history version kept (offered-lawful best shows.newest.offered) shown in
-      subst Ends (sym (outcome-complete kept best is none)) (inr (inr (record {
+      subst (Ends head history offers kept) (sym (outcome-complete kept best is none)) (inr (inr (record {
         best = best.document;
         newest = shows.newest;
         all = all;
@@ -122,7 +124,7 @@ module _ (head : HeadValue) (history : List Op) (offers : List Offering) (kept :
       })))
   ends-best best is shows (Some Feed) missing first = absurd first
   ends-best best is shows (Some (Archive number)) missing first =
-      subst Ends (sym (outcome-missing kept (Archive number) missing)) (inr (inl (record {
+      subst (Ends head history offers kept) (sym (outcome-missing kept (Archive number) missing)) (inr (inl (record {
         best = best.document;
         newest = shows.newest;
         number = number;
@@ -132,11 +134,10 @@ module _ (head : HeadValue) (history : List Op) (offers : List Offering) (kept :
       })))
   ends-best best is shows (Some (Member number)) missing first = absurd first
 
-  ends-served : (best : Option Kept) → best_of kept ≡ best → ShowsServed head history offers kept best
-      → Ends (outcome_of kept)
-  unfolding Ends
+  ends-served : (best : Option KeptValue) → best_of kept ≡ best → ShowsServed head history offers kept best
+      → Ends head history offers kept (outcome_of kept)
   ends-served None is shows =
-      subst Ends (sym (outcome-missing kept Feed shows.missing)) (inl (record {
+      subst (Ends head history offers kept) (sym (outcome-missing kept Feed shows.missing)) (inl (record {
         none_offered = shows.none_offered;
         ends = refl;
         prints = refl;
@@ -144,36 +145,81 @@ module _ (head : HeadValue) (history : List Op) (offers : List Offering) (kept :
   ends-served (Some best) is shows =
       ends-best best is shows (first_missing kept) refl shows.missing
 
-report-served : (head : HeadValue) (history : List Op) (offers : List Offering) (answers : List MirrorAnswer)
-    (kept : List Kept) → AreServed head history offers → AreAnswered head.name.base [] offers answers kept
-    → IsServedReport head history offers (report_of head.name.base offers answers kept)
-unfolding report_of Ends
-report-served head history offers answers kept served answered =
-    let mirrors = law-of_mirror head history offers answers kept served answered in
-    let counts = counts-accepted answers no_counts mirrors.accepted in
-    let said = ending head.name.base (live_entries kept) (outcome_of kept) in
-    record {
-      counts = counts_of answers;
-      none_refused = counts.0;
-      all = omega (arith, counts.1, answers-length head.name.base [] offers answers kept answered);
-      ending = said;
-      is = ap (λ (lines : List ℕ). lines ++ counts_line (counts_of answers) ++ said)
-          (refused_lines-none offers answers mirrors.accepted);
-      ends = ends-served head history offers kept served (best_of kept) refl mirrors.shows;
-    }
+-- the documents that were held, and then others
+pub answered-append : (base : List ℕ) (offers more : List Offering) (answers others : List MirrorAnswer)
+    (kept middle left : List KeptValue) → AreAnswered base kept offers answers middle
+    → AreAnswered base middle more others left → AreAnswered base kept (offers ++ more) (answers ++ others) left
+answered-append base [] more [] others kept middle left first second =
+    subst (λ (l : List KeptValue). AreAnswered base l more others left) first second
+answered-append base [] more (answer ∷ answers) others kept middle left first second = absurd first
+answered-append base (offer ∷ offers) more [] others kept middle left first second = absurd first
+answered-append base (offer ∷ offers) more (answer ∷ answers) others kept middle left (next, one, rest) second =
+    (next, one, answered-append base offers more answers others next middle left rest second)
 
-pub served-report : (base input : List ℕ) (given : Answer) (head : HeadValue) (history : List Op)
-    (offers : List Offer) → IsReport base input given → base ≡ head.name.base → IsPileOf offers input
-    → AreServed head history (map offering offers) → IsServedReport head history (map offering offers) given
-served-report base input given head history offers report same pile served =
-    let read = report.read.read in
-    let whole = at_the_end input report.offers report.read.used pile_limit report.read.bytes read report.read.answer in
-    let all : report.offers ≡ offers = one_reading report.offers offers read.are pile.are (sym whole ∙ pile.whole) in
-    let answered = subst (λ (b : List ℕ). AreAnswered b [] (map offering report.offers) report.answers report.kept) same
-    report.answered in
-    let answered_all = subst (λ (os : List Offer). AreAnswered head.name.base [] (map offering os) report.answers
-    report.kept) all answered in
-    let is = report.is
-    ∙ ap₂ (λ (b : List ℕ) (os : List Offer). report_of b (map offering os) report.answers report.kept) same all in
-    subst (IsServedReport head history (map offering offers)) (sym is)
-    (report-served head history (map offering offers) report.answers report.kept served answered_all)
+All-behind : (first rest : List MirrorAnswer) → All IsOk (first ++ rest) → All IsOk rest
+All-behind [] rest all = all
+All-behind (answer ∷ first) rest all = All-behind first rest (All-tail IsOk answer (first ++ rest) all)
+
+All-served : (head : HeadValue) (history : List Op) (first rest : List Offering) → AreServed head history first
+    → AreServed head history rest → AreServed head history (first ++ rest)
+All-served head history first rest p q =
+    All-append (λ (offer : Offering). Served head history offer.address offer.bytes) first rest p q
+
+module _ (head : HeadValue) (history : List Op) (held : List KeptValue) (payloads : List (List ℕ))
+    (loaded : IsLoadedOf head.name.base payloads held) (own : AreServed head history (own_offers held)) where
+  -- what the report ends with, and that nothing was refused
+  pub served-all : (offers : List Offering) (answers : List MirrorAnswer) (kept : List KeptValue)
+      → AreServed head history offers → AreAnswered head.name.base held offers answers kept
+      → All IsOk answers × Ends head history (own_offers held ++ offers) kept (outcome_of kept)
+  served-all offers answers kept served answered =
+      let all = All-served head history (own_offers held) offers own served in
+      let mirrors = law-of_mirror head history (own_offers held ++ offers) (map (λ _. Ok Taken) held ++ answers) kept all
+      (answered-append head.name.base (own_offers held) offers (map (λ _. Ok Taken) held) answers [] held kept loaded.taken
+      answered) in (
+        All-behind (map (λ _. Ok Taken) held) answers mirrors.accepted,
+        ends-served head history (own_offers held ++ offers) kept all (best_of kept) refl mirrors.shows,
+      )
+
+  -- what the report of documents ends with that were taken behind those that were held
+  pub ends-taken : (offers : List Offering) (kept : List KeptValue) → AreServed head history offers
+      → AreTakenOf head.name.base (own_offers held ++ offers) kept
+      → Ends head history (own_offers held ++ offers) kept (outcome_of kept)
+  ends-taken offers kept served taken =
+      let all = All-served head history (own_offers held) offers own served in
+      let mirrors = law-of_mirror head history (own_offers held ++ offers) taken.answers kept all taken.answered in
+      ends-served head history (own_offers held ++ offers) kept all (best_of kept) refl mirrors.shows
+
+  report-served : (offers : List Offering) (answers : List MirrorAnswer) (kept : List KeptValue)
+      → AreServed head history offers → AreAnswered head.name.base held offers answers kept
+      → IsServedReport head history held offers (report_of head.name.base offers answers kept)
+  unfolding report_of
+  report-served offers answers kept served answered =
+      let mirrors = served-all offers answers kept served answered in
+      let counts = counts-accepted answers no_counts mirrors.0 in
+      let said = ending head.name.base (live_entries kept) (outcome_of kept) in
+      record {
+        counts = counts_of answers;
+        none_refused = counts.0;
+        all = omega (arith, counts.1, answers-length head.name.base held offers answers kept answered);
+        ending = said;
+        is = ap (λ (lines : List ℕ). lines ++ counts_line (counts_of answers) ++ said)
+            (refused_lines-none offers answers mirrors.0);
+        ends = mirrors.1;
+      }
+
+  pub served-report : (capacity : ℕ) (input : List ℕ) (given : Answer) (offers : List Offer)
+      → IsReport capacity head.name.base held input given → IsPileOf offers input
+      → AreServed head history (map offering offers)
+      → IsServedReport head history held (map offering offers) given
+  served-report capacity input given offers report pile served =
+      let read = report.read.read in
+      let whole = at_the_end input report.offers report.read.used pile_limit report.read.bytes read report.read.answer in
+      let all : report.offers ≡ offers = one_reading report.offers offers read.are pile.are (sym whole ∙ pile.whole) in
+      let answered = answers-plain capacity head.name.base held (map offering report.offers) report.has.answers
+      report.left report.has.answered in
+      let answered_all = subst (λ (os : List Offer). AreAnswered head.name.base held (map offering os) report.has.answers
+      report.left) all answered in
+      let is = report.is
+      ∙ ap (λ (os : List Offer). report_of head.name.base (map offering os) report.has.answers report.left) all in
+      subst (IsServedReport head history held (map offering offers)) (sym is)
+      (report-served (map offering offers) report.has.answers report.left served answered_all)

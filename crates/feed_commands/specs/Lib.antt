@@ -1,4 +1,5 @@
 pub mod Status
+pub mod Outside
 pub mod Answer
 pub mod Line
 pub mod Lines
@@ -9,8 +10,16 @@ pub mod Apply
 pub mod Stored
 pub mod Pile
 pub mod Show
+pub mod MirrorFaults
+pub mod Reporting
 pub mod Report
 pub mod Mirror
+pub mod Walked
+pub mod Served
+pub mod MirrorCrash
+pub mod MirrorEnds
+pub mod FetchEnds
+pub mod Mirroring
 pub mod Run
 pub mod Crash
 pub mod Loaded

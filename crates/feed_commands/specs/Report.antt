@@ -1,23 +1,28 @@
--- The report of `mirror`: its lines, and what an offer adds to it.
-use Rattle.std.specs.Prelude.{◌≡◌, ℕ, ◌+◌, List, [], ◌∷◌, ◌++◌, Ok, Err, codes, decimal, flat_map, fold}
+-- The report of `mirror`: its lines, what an offer adds to it, and the report of a walk.
+use Rattle.std.specs.Prelude.{◌≡◌, ℕ, ◌+◌, List, [], ◌∷◌, ◌++◌, Option, None, Some, Ok, Err, codes, decimal, flat_map, fold}
 use Rattle.atom_values.specs.Entry.{EntryValue}
 use Rattle.chain_links.specs.Address.{printed}
 use Rattle.chain_links.specs.declared.address.Address.{Address}
 use Rattle.mirror_walk.specs.declared.answer.Accepted.TheVariants.{Taken, Known, Stale}
 use Rattle.mirror_walk.specs.declared.answer.Offered.{Offered}
 use Rattle.mirror_walk.specs.declared.answer.Offered.TheVariants.{NotADocument, WrongAddress, WrongFeed, Conflict}
-use Rattle.mirror_walk.specs.declared.answer.Offered.TheVariants.{Break, NoMemory}
+use Rattle.mirror_walk.specs.declared.answer.Offered.TheVariants.{Break, Full, DiskFault, NoMemory}
 use Rattle.mirror_walk.specs.declared.answer.Outcome.{Outcome}
 use Rattle.mirror_walk.specs.declared.answer.Outcome.TheVariants.{Complete, Missing}
-use Rattle.mirror_walk.specs.declared.held.Kept.{Kept}
-use Rattle.mirror_walk.specs.Accept.{Answer as MirrorAnswer}
+use Rattle.mirror_walk.specs.declared.walk.Refusal.{Refusal}
+use Rattle.mirror_walk.specs.declared.walk.Walked.{Walked}
+use Rattle.mirror_walk.specs.Accept.{Answer as MirrorAnswer, IsAnswerWithin, IsForRoom}
+use Rattle.mirror_walk.specs.Holding.{KeptValue}
 use Rattle.mirror_walk.specs.Listing.{live_entries, outcome_of}
-use Rattle.mirror_walk.specs.Offers.{AreAnswered, Offering}
+use Rattle.mirror_walk.specs.Offers.{Offering}
 use Rattle.feed_commands.specs.declared.commands.report.Counts.{Counts}
 use Rattle.feed_commands.specs.declared.commands.report.Report.{Report}
+use Rattle.feed_commands.specs.declared.fault.Fault.{Fault}
+use Rattle.feed_commands.specs.declared.fault.Fault.TheVariants as faults
 use Rattle.feed_commands.specs.declared.status.Status.{Status}
 use Rattle.feed_commands.specs.declared.status.Status.TheVariants.{Done, Incomplete}
 use Rattle.feed_commands.specs.Answer.{Answer}
+use Rattle.feed_commands.specs.MirrorFaults.{full_fault}
 use Rattle.feed_commands.specs.Show.{entry_line}
 
 -- the name of a refusal: that of its variant
@@ -27,6 +32,8 @@ refusal_name (WrongAddress says) = codes "WrongAddress"
 refusal_name (WrongFeed kept given) = codes "WrongFeed"
 refusal_name (Conflict address kept given) = codes "Conflict"
 refusal_name (Break last first) = codes "Break"
+refusal_name (Full size needed capacity) = codes "Full"
+refusal_name DiskFault = codes "DiskFault"
 refusal_name NoMemory = codes "NoMemory"
 
 -- the line of an offer, if it was refused; the address is printed as it was given
@@ -78,11 +85,59 @@ abbrev pub status_of : Outcome → Status
 status_of (Missing address) = Incomplete
 status_of (Complete version live) = Done
 
+-- An answer that the report has: it isn't for want of room or memory, and no device call failed.
+abbrev pub IsReportable : MirrorAnswer → Type 0
+IsReportable (Ok accepted) = Unit {0}
+IsReportable (Err refusal) = ¬ IsForRoom refusal
+
+-- the fault by which an answer that the report hasn't ends it
+abbrev pub room_fault : MirrorAnswer → Option Fault
+room_fault (Err (Full size needed capacity)) = Some (full_fault size needed capacity)
+room_fault (Err DiskFault) = Some faults.Disk
+room_fault (Err NoMemory) = Some faults.NoMemory
+room_fault _ = None
+
+-- A mirror that holds `kept`, and whose area has this capacity, answers the offers in order with these answers. There is
+-- room for each document that it takes. It holds `left` afterwards.
+abbrev pub AreAnsweredWithin : ℕ → List ℕ → List KeptValue → List Offering → List MirrorAnswer → List KeptValue → Type 0
+AreAnsweredWithin capacity base kept [] [] left = left ≡ kept
+AreAnsweredWithin capacity base kept [] (answer ∷ answers) left = ⊥
+AreAnsweredWithin capacity base kept (offer ∷ offers) [] left = ⊥
+AreAnsweredWithin capacity base kept (offer ∷ offers) (answer ∷ answers) left =
+    IsReportable answer × ((next : List KeptValue)
+    × IsAnswerWithin capacity base kept offer.address offer.bytes answer next
+    × AreAnsweredWithin capacity base next offers answers left)
+
 -- the report of a mirror that gave these answers to the offers, and holds `kept`
-unfoldable pub report_of : List ℕ → List Offering → List MirrorAnswer → List Kept → Answer
+unfoldable pub report_of : List ℕ → List Offering → List MirrorAnswer → List KeptValue → Answer
 report_of base offers answers kept = record {
   status = status_of (outcome_of kept);
   printed = refused_lines offers answers ++ counts_line (counts_of answers)
+      ++ ending base (live_entries kept) (outcome_of kept);
+}
+
+-- the line of the document at which a walk ended, if the mirror refused it
+abbrev pub walk_line : List ℕ → Option Refusal → List ℕ
+walk_line base None = []
+walk_line base (Some refusal) = refused_line (printed base refusal.address) (Err refusal.why)
+
+abbrev pub refused_count : Option Refusal → ℕ
+refused_count None = 0
+refused_count (Some refusal) = 1
+
+abbrev pub walk_counts : Walked → Counts
+walk_counts walked = record {
+  taken = walked.taken;
+  known = walked.known;
+  stale = walked.stale;
+  refused = refused_count walked.refused;
+}
+
+-- the report of a mirror that went this walk, and holds `kept`
+unfoldable pub walk_report : List ℕ → Walked → List KeptValue → Answer
+walk_report base walked kept = record {
+  status = status_of (outcome_of kept);
+  printed = walk_line base walked.refused ++ counts_line (walk_counts walked)
       ++ ending base (live_entries kept) (outcome_of kept);
 }
 
@@ -91,9 +146,10 @@ pub record HasAdded (before after : Report) (address : List ℕ) (answer : Mirro
   pub text : after.text.items ≡ before.text.items ++ refused_line address answer
   pub counts : after.counts ≡ counted before.counts answer
 
--- the report so far, of a mirror with this base to which these documents were offered and which holds `kept`
-pub record Reports (base : List ℕ) (offers : List Offering) (kept : List Kept) (report : Report) : Type 0 where
+-- the report so far, of a mirror that held `kept` and holds `left` after these offers
+pub record Reports (capacity : ℕ) (base : List ℕ) (kept : List KeptValue) (offers : List Offering)
+    (left : List KeptValue) (report : Report) : Type 0 where
   pub answers : List MirrorAnswer
-  pub answered : AreAnswered base [] offers answers kept
+  pub answered : AreAnsweredWithin capacity base kept offers answers left
   pub text : report.text.items ≡ refused_lines offers answers
   pub counts : report.counts ≡ counts_of answers

@@ -2,8 +2,8 @@
 use Rattle.std.specs.Prelude.{ℕ}
 use Rattle.feed_commands.specs.declared.status.Status.{Status}
 use Rattle.feed_commands.specs.declared.status.Status.TheVariants.{Done, Usage, Incomplete, DiskFault, NoMemory, BadStore}
-use Rattle.feed_commands.specs.declared.status.Status.TheVariants.{DoorFault, OutputFault, InputFault, BadInput, Full}
-use Rattle.feed_commands.specs.declared.status.Status.TheVariants.{Refused}
+use Rattle.feed_commands.specs.declared.status.Status.TheVariants.{DoorFault, FetchFault, OutputFault, InputFault, BadInput}
+use Rattle.feed_commands.specs.declared.status.Status.TheVariants.{Full, Refused}
 
 -- the exit status of each way to end
 abbrev pub code_of : Status → ℕ
@@ -14,6 +14,7 @@ code_of DiskFault = 4
 code_of NoMemory = 5
 code_of BadStore = 6
 code_of DoorFault = 7
+code_of FetchFault = 7
 code_of OutputFault = 8
 code_of InputFault = 9
 code_of BadInput = 10

@@ -1,22 +1,21 @@
-ghost use Rattle.std.specs.Prelude.{◌≡◌, ◌≢◌, ◌⊎◌, ℕ, ◌≤◌, List, [], None, Err, map, string_bytes, IfOk, IfErr, IsOk};
+ghost use Rattle.std.specs.Prelude.{◌≡◌, ◌≢◌, ◌⊎◌, ℕ, ◌≤◌, List, [], None, Err, map, string_bytes, true, false, IfOk, IfErr, IsOk};
 ghost use Rattle.atom_values.specs.Counts.{Rose};
 ghost use Rattle.atom_writer.specs.declared.doc.FeedName.{FeedName};
 ghost use Rattle.feed_disk.specs.Moments.{LeavesAlone};
 ghost use Rattle.feed_disk.specs.declared.area.Area.TheVariants.{Mirror};
 ghost use Rattle.feed_commands.specs.declared.status.Status.TheVariants as status;
 ghost use Rattle.feed_commands.specs.Answer.{Answer, Prints};
-ghost use Rattle.doc_source.specs.declared.offer.Offer.{Offer as OfferValue};
-ghost use Rattle.member_rules.specs.Head.{HeadValue};
-ghost use Rattle.member_rules.specs.declared.operation.Op.{Op};
-ghost use Rattle.mirror_walk.specs.Offers.{AreServed};
+ghost use Rattle.doc_source.specs.Fetch.{FetchState};
 ghost use Rattle.feed_recovery.specs.Settled.{LeavesStores};
 ghost use Rattle.feed_recovery.specs.Stored.{OpensTo, Stored};
 ghost use Rattle.feed_commands.specs.Crash.{AddsNothing, AppliesSafely, MakesStoreAt, OpensToApplied};
 ghost use Rattle.feed_commands.specs.Fault.{fault_answer, HasAnswer, IsRefusal};
 ghost use Rattle.feed_commands.specs.Run.{HasRange, IsDueAnswer, IsGiven, IsSeen, IsUnrefusedBy, IsStatus, IsAnswered};
-ghost use Rattle.feed_commands.specs.Mirror.{EndsServed, IsPileOf, IsReported, offering};
+ghost use Rattle.feed_commands.specs.Mirroring.{EndsFetching, EndsMirroring};
+ghost use Rattle.feed_commands.specs.Outside.{outside_of};
 ghost use Rattle.feed_commands.specs.Pile.{EndsCut};
-ghost use Rattle.feed_commands.specs.Run.{EndsWith, IsAtOnce, IsComplete, IsAlone, IsDone, IsTextual, PrintsAtOnce, ServesNot, alone_line};
+ghost use Rattle.feed_commands.specs.Run.{EndsWith, IsAtOnce, IsComplete, IsAlone, IsDone, IsTextual, PrintsAtOnce, alone_line};
+ghost use Rattle.feed_commands.specs.Run.{FetchesNot, IsSeenUnfetched, MirrorsNot, ServesNot};
 ghost use Rattle.feed_commands.specs.Serve.{EndsServing, IsServedWhole};
 ghost use Rattle.feed_commands.specs.Status.{code_of};
 ghost use Rattle.tool_words.specs.Words.{IsCommandOf};
@@ -26,6 +25,7 @@ ghost use Rattle.tool_words.specs.declared.command.Command.TheVariants.{Mirror a
 ghost use Rattle.tool_words.specs.declared.command.Show.TheVariants.{Pile};
 
 use crate::commands::apply::apply;
+use crate::commands::fetched::mirror_fetched;
 use crate::commands::init::init;
 use crate::commands::mirror::mirror;
 use crate::commands::pile::show_pile;
@@ -35,7 +35,7 @@ use crate::commands::store;
 use crate::fault::Fault;
 use crate::status::Status;
 use atom_values::{Failed, Many};
-use doc_source::{Sink, Source, write_all};
+use doc_source::{Fetch, Sink, Source, write_all};
 use document_server::{Clock, Door, Line};
 use feed_disk::Disk;
 use std::alloc::Global;
@@ -59,15 +59,17 @@ pub struct Ended {
 /// - `show` reads the input as one document and prints its summary. `show feed`, `show archive J` and `show member N`
 ///   print a document of the store, and `show pile` the subscription document and all archives as a pile.
 /// - `serve` serves the feed of the store at an address, one connection after the other, and then prints a line for each.
-/// - `mirror` mirrors the feed below a base address from the pile that is the input, and prints a report.
+/// - `mirror` mirrors the feed below a base address into the mirror's area of the disk, and prints a report. The documents
+///   come from the pile that is the input, or from the source with `--fetch`.
 ///
 /// At any other end the line of that end is printed. A failure to print that line changes no status.
-pub fn run<D: Disk, C: Clock, L: Door, I: Source, O: Sink>(
+pub fn run<D: Disk, C: Clock, L: Door, F: Fetch, I: Source, O: Sink>(
     alloc: Global,
     words: &[String],
     disk: &mut D,
     clock: &mut C,
     door: &mut L,
+    fetch: &mut F,
     input: &mut I,
     output: &mut O,
 ) -> Ended
@@ -80,8 +82,9 @@ pub fn run<D: Disk, C: Clock, L: Door, I: Source, O: Sink>(
 
     // If contracts can see all that the command's answer depends on: status and output are those of the answer.
     ensures answered { (command : CommandValue) → IsCommandOf (map string_bytes words.now) command
-        → IsSeen command D.told C.told I.told → IsAnswered result.status
-        → EndsWith command (C.coming clock.old) (I.state input.old).left (D.state disk.old).content O.told
+        → IsSeen command D.told C.told I.told F.told → IsAnswered result.status
+        → EndsWith command
+        (outside_of (C.coming clock.old) (I.state input.old) (D.state disk.old) (F.state fetch.old)) O.told
         (O.state output.old) (O.state output.new) result.status }
 
     // The other ends print their line, which says nothing of the input and of the store.
@@ -107,21 +110,22 @@ pub fn run<D: Disk, C: Clock, L: Door, I: Source, O: Sink>(
     ensures output_whole { IsDone result.status
         → (O.state output.new).faults ≡ (O.state output.old).faults }
     ensures first_fault { (command : CommandValue) → IsCommandOf (map string_bytes words.now) command
-        → IsSeen command D.told C.told I.told → result.status ≡ code_of status.InputFault
+        → IsSeen command D.told C.told I.told F.told → result.status ≡ code_of status.InputFault
         → IsUnrefusedBy command (C.coming clock.old) (D.state disk.old).content
         (I.state input.old) (I.state input.new) }
 
     // With a command's words and no fault, the exit status is the answer's, or memory ran out. A store that opens has
-    // an answer.
+    // an answer, and so has a mirror that is loaded.
     ensures complete { (command : CommandValue) → IsCommandOf (map string_bytes words.now) command
-        → IsSeen command D.told C.told I.told → (given : Answer)
-        → IsDueAnswer command (C.coming clock.old) (I.state input.old).left (D.state disk.old).content given
-        → IsComplete (D.state disk.old).faults (D.state disk.new).faults (I.state input.old) (I.state input.new)
-        (O.state output.old) (O.state output.new) result.status given.status }
+        → IsSeen command D.told C.told I.told F.told → (given : Answer)
+        → IsDueAnswer command
+        (outside_of (C.coming clock.old) (I.state input.old) (D.state disk.old) (F.state fetch.old)) given
+        → IsComplete (D.state disk.old) (D.state disk.new) (F.state fetch.old) (F.state fetch.new)
+        (I.state input.old) (I.state input.new) (O.state output.old) (O.state output.new) result.status given.status }
 
-    // A crash within the command, or after it: the commands that add no operation leave what a crash could leave
-    // before, `init` leaves an unused disk as it is or with the new store, and `apply` leaves the history before, with
-    // some of the lines' operations, and with all of them at its end. No command reaches the mirror's area.
+    // A crash within the command, or after it: the commands that add no operation leave what a crash could leave of a
+    // store before, `init` leaves an unused disk as it is or with the new store, and `apply` leaves the history before,
+    // with some of the lines' operations, and with all of them at its end. `mirror` alone reaches the mirror's area.
     ensures safe { (command : CommandValue) → IsCommandOf (map string_bytes words.now) command
         → AddsNothing command → D.told → LeavesStores (D.state disk.old) (D.state disk.new) }
     ensures made { (name : FeedName) (window capacity : ℕ)
@@ -134,7 +138,8 @@ pub fn run<D: Disk, C: Clock, L: Door, I: Source, O: Sink>(
     ensures opens { IsCommandOf (map string_bytes words.now) (Apply None) → D.told → C.told → I.told
         → IsAnswered result.status
         → OpensToApplied (D.state disk.old) (D.state disk.new) (C.coming clock.old) (I.state input.old).left }
-    ensures mirror { LeavesAlone (D.state disk.old) (D.state disk.new) Mirror }
+    ensures mirror { MirrorsNot (map string_bytes words.now)
+        → LeavesAlone (D.state disk.old) (D.state disk.new) Mirror }
 
     // `serve`: the session over the connections that the door gave, its lines, and what a crash leaves. No other command
     // uses the door.
@@ -150,17 +155,27 @@ pub fn run<D: Disk, C: Clock, L: Door, I: Source, O: Sink>(
         (O.state output.old) (O.state output.new) result.status }
     ensures no_lines { ServesNot (map string_bytes words.now) → result.lines.items ≡ [] }
     ensures no_door { ServesNot (map string_bytes words.now) → door.new ≡ door.old }
-    ensures door_fault { result.status ≡ code_of status.DoorFault
+    ensures door_fault { FetchesNot (map string_bytes words.now) → result.status ≡ code_of status.DoorFault
         → Rose (L.state door.old).faults (L.state door.new).faults }
     ensures no_hidden_door_fault { result.status ≢ code_of status.DoorFault
         → (L.state door.new).faults ≡ (L.state door.old).faults }
-    // `mirror`: the report of documents that one feed served.
-    ensures mirrored { (base : List ℕ) → IsCommandOf (map string_bytes words.now) (MirrorOf base) → I.told
-        → (head : HeadValue) (history : List Op) (offers : List OfferValue)
-        → base ≡ head.name.base → IsPileOf offers (I.state input.old).left
-        → AreServed head history (map offering offers) → IsReported result.status
-        → EndsServed head history (map offering offers) O.told (O.state output.old) (O.state output.new)
-        result.status }
+
+    // `mirror`: what a crash leaves of its area, and the report of documents that one feed served.
+    ensures mirrors { (base : List ℕ) (capacity : ℕ)
+        → IsCommandOf (map string_bytes words.now) (MirrorOf base false capacity) → D.told → I.told
+        → EndsMirroring capacity base (D.state disk.old) (D.state disk.new) (I.state input.old).left O.told
+        (O.state output.old) (O.state output.new) result.status }
+
+    // `mirror --fetch`: the addresses that it asks, and the same. No other command uses the source.
+    ensures fetches { (base : List ℕ) (capacity : ℕ)
+        → IsCommandOf (map string_bytes words.now) (MirrorOf base true capacity) → D.told → F.told
+        → EndsFetching capacity base (D.state disk.old) (D.state disk.new) (F.state fetch.old) (F.state fetch.new)
+        O.told (O.state output.old) (O.state output.new) result.status }
+    ensures no_fetch { FetchesNot (map string_bytes words.now) → fetch.new ≡ fetch.old }
+    ensures fetch_fault { ServesNot (map string_bytes words.now) → result.status ≡ code_of status.FetchFault
+        → Rose (F.state fetch.old).faults (F.state fetch.new).faults }
+    ensures no_hidden_fetch_fault { result.status ≢ code_of status.FetchFault
+        → (F.state fetch.new).faults ≡ (F.state fetch.old).faults }
 {
     let command = match read_words(alloc, words) {
         Ok(command) => command,
@@ -176,7 +191,16 @@ pub fn run<D: Disk, C: Clock, L: Door, I: Source, O: Sink>(
             serve(alloc, listen.slice(), requests, disk, clock, door, output)
         }
         Command::Show(Show::Pile) => show_pile(alloc, disk, output),
-        Command::Mirror { base } => mirror(alloc, &base, input, output),
+        Command::Mirror {
+            base,
+            fetch: false,
+            capacity,
+        } => mirror(alloc, &base, capacity, disk, input, output),
+        Command::Mirror {
+            base,
+            fetch: true,
+            capacity,
+        } => mirror_fetched(alloc, &base, capacity, disk, fetch, output),
         command => match answer(alloc, command, disk, clock, input) {
             Ok(text) => match write_all(output, text.as_slice()) {
                 Ok(()) => end_as(alloc, Status::Done),
@@ -224,16 +248,18 @@ fn answer<D: Disk, C: Clock, I: Source>(
     requires range { HasRange command }
     requires prints { IsAtOnce command }
     requires text { IsTextual command }
-    ensures answer { IfOk result (λ written. IsSeen command D.told C.told I.told
-        → IsGiven command (C.coming clock.old) (I.state input.old).left (D.state disk.old).content
+    ensures answer { (source : FetchState)
+        → IfOk result (λ written. IsSeenUnfetched command D.told C.told I.told
+        → IsGiven command (outside_of (C.coming clock.old) (I.state input.old) (D.state disk.old) source)
         record { status = status.Done; printed = written.items }) }
-    ensures refused { IfErr result (λ fault. IsRefusal fault → IsSeen command D.told C.told I.told
-        → IsGiven command (C.coming clock.old) (I.state input.old).left (D.state disk.old).content
+    ensures refused { (source : FetchState)
+        → IfErr result (λ fault. IsRefusal fault → IsSeenUnfetched command D.told C.told I.told
+        → IsGiven command (outside_of (C.coming clock.old) (I.state input.old) (D.state disk.old) source)
         (fault_answer fault)) }
     ensures disk { result ≡ Err Fault.Disk → Rose (D.state disk.old).faults (D.state disk.new).faults }
     ensures disk_faults { result ≢ Err Fault.Disk → (D.state disk.new).faults ≡ (D.state disk.old).faults }
     ensures input { result ≡ Err Fault.Input → Rose (I.state input.old).faults (I.state input.new).faults }
-    ensures unrefused { result ≡ Err Fault.Input → IsSeen command D.told C.told I.told
+    ensures unrefused { result ≡ Err Fault.Input → IsSeenUnfetched command D.told C.told I.told
         → IsUnrefusedBy command (C.coming clock.old) (D.state disk.old).content
         (I.state input.old) (I.state input.new) }
     ensures faults { result ≢ Err Fault.Input → (I.state input.new).faults ≡ (I.state input.old).faults }

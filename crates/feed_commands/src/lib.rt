@@ -1,5 +1,5 @@
-//! The commands of `feed_tool`: all that the program does, over a disk, a clock, a door, an input and an output that
-//! the caller lends.
+//! The commands of `feed_tool`: all that the program does, over a disk, a clock, a door, a source of documents, an input
+//! and an output that the caller lends.
 //!
 //! Begin with [`run`], which reads the words and runs their command. For every input, clock and failure its contract says
 //! which exit status the program ends with and which bytes it prints. A test calls it as the program does, with objects
@@ -9,16 +9,17 @@
 //! let mut disk = MemoryDisk::new(alloc, journal, sealed, mirror, Many::new(alloc));
 //! let mut clock = SetClock::new(moments);
 //! let mut door = ScriptDoor::new(alloc, Many::new(alloc), Many::new(alloc))?;
+//! let mut fetch = PileFetch::new(alloc, Many::new(alloc), Many::new(alloc));
 //! let mut input = ListSource::new(Bytes::of(alloc, b"add Hello\n")?, Many::new(alloc));
 //! let mut output = ListSink::new(alloc, Many::new(alloc));
-//! let ended = run(alloc, &words, &mut disk, &mut clock, &mut door, &mut input, &mut output);
+//! let ended = run(alloc, &words, &mut disk, &mut clock, &mut door, &mut fetch, &mut input, &mut output);
 //! assert_eq!(rt; ended.status, 0);
 //! ```
 //!
 //! The commands are in `commands`. A command has one answer to an input, and the law in `laws.rt` says so.
 //!
-//! Stands on `document_server` for the server, on `doc_source` for piles, the input and the output, on `mirror_walk` for
-//! the mirror, on `archive_sealer` and `atom_grammar` for the documents, and on the crates below them.
+//! Stands on `document_server` for the server, on `doc_source` for piles, the source, the input and the output, on
+//! `mirror_walk` for the mirror, on `archive_sealer` and `atom_grammar` for the documents, and on the crates below them.
 #![tactic(auto)]
 
 mod commands;

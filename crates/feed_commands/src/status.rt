@@ -14,10 +14,12 @@ pub enum Status {
     DiskFault,
     /// Memory ran out: 5.
     NoMemory,
-    /// The disk has no store that opens, or has one already: 6.
+    /// The disk has no store or no mirror that opens, or has a store already: 6.
     BadStore,
     /// A call on the door failed: 7.
     DoorFault,
+    /// A call on the source of documents failed: 7, as for the door. No command uses both.
+    FetchFault,
     /// A call on the output failed: 8.
     OutputFault,
     /// A call on the input failed: 9.
@@ -26,7 +28,7 @@ pub enum Status {
     BadInput,
     /// An area of the store has no room: 11.
     Full,
-    /// The rules of the feed refuse a line of the input, or the store has no such document: 12.
+    /// The rules of the feed refuse a line of the input, the store has no such document, or the mirror has another base: 12.
     Refused,
 }
 
@@ -42,7 +44,7 @@ impl Status {
             Status::DiskFault => 4,
             Status::NoMemory => 5,
             Status::BadStore => 6,
-            Status::DoorFault => 7,
+            Status::DoorFault | Status::FetchFault => 7,
             Status::OutputFault => 8,
             Status::InputFault => 9,
             Status::BadInput => 10,

@@ -1,8 +1,8 @@
 //! The program `feed_tool`: one command for each thing that a feed needs.
 //!
 //! `feed_commands::run` does all the work, and its contract says which exit status the program ends with and which bytes
-//! it prints. `main` lends it the words of the command line, the files of the folder, and the clock, the input, the output
-//! and the TCP of the system.
+//! it prints. `main` lends it the words of the command line, the files of the folder, the documents of HTTP servers, and the
+//! clock, the input, the output and the TCP of the system.
 //!
 //! `outside` has these as thin adapters. The traits that they implement are in the crates below, with objects in memory for
 //! tests.
@@ -16,6 +16,7 @@ mod words;
 use crate::outside::system::{InputSource, OutputSink, SystemClock};
 use crate::outside::tcp::TcpDoor;
 use crate::words::given_words;
+use doc_source::HttpFetch;
 use feed_commands::{Fault, end_with, run};
 use feed_disk::FileDisk;
 use std::io;
@@ -23,7 +24,8 @@ use std::process::ExitCode;
 
 fn main(rt: HostRuntime) -> ExitCode {
     let mut clock = SystemClock { runtime: &rt };
-    let mut door = TcpDoor::new(&rt);
+    let mut door = TcpDoor::new(rt.alloc(), &rt);
+    let mut fetch = HttpFetch::new(&rt);
     let mut input = InputSource {
         reader: rt.reader(),
         faults: 0,
@@ -39,6 +41,7 @@ fn main(rt: HostRuntime) -> ExitCode {
             &mut disk,
             &mut clock,
             &mut door,
+            &mut fetch,
             &mut input,
             &mut output,
         ),

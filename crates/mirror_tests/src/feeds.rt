@@ -1,13 +1,16 @@
 //! Feeds for the other modules, and the documents that they serve.
 
 ghost use Rattle.std.specs.Prelude.{◌≤◌, length};
+ghost use Rattle.doc_source.specs.Pile.{offer_limit};
 ghost use Rattle.member_rules.specs.Head.{title_limit};
 
 use archive_sealer::{archive, full_windows, subscription};
-use atom_values::{AtomText, Draft, Entry, Stamp};
+use atom_grammar::MAX_DOCUMENT;
+use atom_values::{AtomText, Bytes, Draft, Entry, Stamp};
 use atom_writer::{Doc, FeedName, write_doc};
 use chain_links::Base;
 use deleted_entries::FeedId;
+use doc_source::Offer;
 use member_rules::{Head, Op};
 use std::alloc::Global;
 use std::process::Abort;
@@ -45,16 +48,17 @@ pub fn name(rt: &impl Abort, alloc: Global, base_text: &str, id: &str) -> FeedNa
     }
 }
 
-/// The head of a feed with windows of this many operations.
-pub fn head(rt: &impl Abort, alloc: Global, window: u32) -> Head {
+/// The identifier of the feeds, unless another is given.
+pub const ID: &str = "6d1f0c5a-93be-4c27-8d10-2b7f9e4a5c36";
+
+/// The identifier of another feed.
+pub const OTHER_ID: &str = "7e2f0c5a-93be-4c27-8d10-2b7f9e4a5c36";
+
+/// The head of a feed with this identifier and windows of this many operations.
+pub fn head(rt: &impl Abort, alloc: Global, id: &str, window: u32) -> Head {
     assert!(rt; (1..=100).contains(&window));
     Head {
-        name: name(
-            rt,
-            alloc,
-            "http://feed.example/",
-            "6d1f0c5a-93be-4c27-8d10-2b7f9e4a5c36",
-        ),
+        name: name(rt, alloc, "http://feed.example/", id),
         window,
         capacity: 4_096,
         created: Stamp::new(0).expect(rt, "a timestamp"),
@@ -72,6 +76,11 @@ pub fn entry(rt: &impl Abort, alloc: Global, number: u32, title: &[u8], moment: 
 /// A feed with windows of four operations. Each operation makes a member with one of these letters, of which
 /// up to 100 count, as its title.
 pub fn letters(rt: &impl Abort, alloc: Global, titles: &[u8]) -> Feed {
+    letters_of(rt, alloc, ID, titles)
+}
+
+/// The same with this identifier.
+pub fn letters_of(rt: &impl Abort, alloc: Global, id: &str, titles: &[u8]) -> Feed {
     let mut history = Vec::new(alloc);
     for at in 0..titles.len().min(100) {
         let number = at as u32 + 1;
@@ -80,7 +89,7 @@ pub fn letters(rt: &impl Abort, alloc: Global, titles: &[u8]) -> Feed {
         history.push(Op::Add(made)).expect(rt, "memory");
     }
     Feed {
-        head: head(rt, alloc, 4),
+        head: head(rt, alloc, id, 4),
         history,
     }
 }
@@ -112,4 +121,27 @@ pub fn address(rt: &impl Abort, alloc: Global, given: Given) -> String {
         Given::Archive(number) => format!(in alloc; "http://feed.example/archive/{number}"),
     };
     text.expect(rt, "memory")
+}
+
+/// The offer of a document that the feed serves.
+pub fn offer_of(rt: &impl Abort, alloc: Global, feed: &Feed, given: Given) -> Offer
+    ensures { length result.bytes ≤ offer_limit }
+{
+    let bytes = bytes(rt, alloc, feed, given);
+    assert!(rt; bytes.len() <= MAX_DOCUMENT);
+    let address = address(rt, alloc, given);
+    Offer {
+        address: Bytes::of(alloc, address.as_bytes()).expect(rt, "memory"),
+        bytes: Bytes::from_vec(bytes),
+    }
+}
+
+/// The offers of documents that the feed serves.
+pub fn offers_of(rt: &impl Abort, alloc: Global, feed: &Feed, all: &[Given]) -> Vec<Offer> {
+    let mut offers = Vec::new(alloc);
+    for given in all {
+        let offer = offer_of(rt, alloc, feed, *given);
+        offers.push(offer).expect(rt, "memory");
+    }
+    offers
 }

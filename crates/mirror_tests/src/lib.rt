@@ -4,11 +4,21 @@
 #![tactic(auto)]
 
 #[cfg(test)]
+mod chains;
+#[cfg(test)]
+mod courses;
+#[cfg(test)]
+mod crashes;
+#[cfg(test)]
+mod disks;
+#[cfg(test)]
 mod faults;
 #[cfg(test)]
 mod feeds;
 #[cfg(test)]
 mod fetches;
+#[cfg(test)]
+mod logs;
 #[cfg(test)]
 mod mirrors;
 #[cfg(test)]

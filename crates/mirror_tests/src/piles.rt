@@ -1,17 +1,22 @@
 //! Piles of documents of a history of 200 operations, in any order, with losses and repeats: a mirror shows
 //! the plain fold.
 
-ghost use Rattle.std.specs.Prelude.{◌≤◌, length};
+ghost use Rattle.std.specs.Prelude.{◌≡◌, ◌≤◌, false, length};
+ghost use Rattle.mirror_walk.specs.Mirror.{StandsFor, is_spent};
 
-use crate::feeds::{Feed, Given, address, base, bytes, entry, head};
+use crate::courses::read_entries;
+use crate::disks::{CAPACITY, disk_of};
+use crate::feeds::{Feed, Given, ID, address, bytes, entry, head};
+use crate::mirrors::load;
 use archive_sealer::sealed_windows;
 use atom_grammar::MAX_DOCUMENT;
-use atom_values::Stamp;
+use atom_values::{Entry, Stamp};
 use atom_writer::{FeedName, write_member};
 use chain_links::Address;
 use deleted_entries::Tombstone;
+use feed_disk::Disk;
 use member_rules::{Op, Removal, State, plain_count, plain_live_count, plain_state};
-use mirror_walk::{Accepted, Held, Outcome};
+use mirror_walk::{Accepted, Mirror, Outcome};
 use std::alloc::Global;
 use std::process::Abort;
 
@@ -54,7 +59,7 @@ fn generated(rt: &impl Abort, alloc: Global, window: u32) -> Feed {
         history.push(operation).expect(rt, "memory");
     }
     Feed {
-        head: head(rt, alloc, window),
+        head: head(rt, alloc, ID, window),
         history,
     }
 }
@@ -128,20 +133,20 @@ fn covered<'a>(rt: &impl Abort, feed: &'a Feed, version: u32) -> &'a [Op]
     &history[..version as usize]
 }
 
-/// The member documents of the live entries that the mirror shows, and of up to one more.
-fn shown(rt: &impl Abort, alloc: Global, held: &mut Held, name: &FeedName) -> Vec<u8> {
+/// The member documents of the live entries that the mirror of a disk shows.
+fn shown<D: Disk>(rt: &impl Abort, alloc: Global, disk: &mut D, name: &FeedName) -> Vec<u8> {
+    let mut entries = Vec::new(alloc);
+    let mut mirror = load(rt, alloc, disk, CAPACITY);
+    read_entries(rt, &mut mirror, disk, &mut entries).expect(rt, "a device call");
+    written(rt, alloc, &entries, name)
+}
+
+/// The member documents of these entries.
+fn written(rt: &impl Abort, alloc: Global, entries: &[Entry], name: &FeedName) -> Vec<u8> {
     let mut all = Vec::new(alloc);
-    if let Ok(Outcome::Complete { live, .. }) = held.outcome() {
-        let mut after = 0;
-        for _ in 0..=live {
-            let Some(number) = held.next_live(after) else {
-                break;
-            };
-            let entry = held.entry(number).expect(rt, "memory");
-            let text = write_member(alloc, name, &entry).expect(rt, "memory");
-            all.extend_from_slice(text.as_slice()).expect(rt, "memory");
-            after = number;
-        }
+    for entry in entries {
+        let text = write_member(alloc, name, entry).expect(rt, "memory");
+        all.extend_from_slice(text.as_slice()).expect(rt, "memory");
     }
     all
 }
@@ -173,10 +178,58 @@ fn draw(seed: u64, sealed: u32) -> Given {
     }
 }
 
-/// Offers drawn documents to a new mirror, and compares each answer, each outcome, and the entries at the
-/// end. Returns whether the mirror was complete at the end.
-fn expect(rt: &impl Abort, alloc: Global, feed: &Feed, sealed: u32, round: u64) -> bool {
-    let mut held = Held::new(alloc, base(rt, alloc, "http://feed.example/"));
+/// The answer to a document that isn't refused.
+fn accepted<D: Disk>(
+    rt: &impl Abort,
+    mirror: &mut Mirror,
+    disk: &mut D,
+    address: &[u8],
+    bytes: &[u8],
+) -> Accepted
+    requires unspent { is_spent mirror.old ≡ false }
+    requires stands { D.told → StandsFor (D.state disk.old) mirror.old }
+    ensures unspent { is_spent mirror.new ≡ false }
+    ensures stands { D.told → StandsFor (D.state disk.new) mirror.new }
+{
+    assert!(rt; bytes.len() <= MAX_DOCUMENT);
+    mirror.offer(disk, address, bytes).expect(rt, "an answer")
+}
+
+/// Offers a drawn document to a mirror, and compares the answer and the outcome.
+fn offer_drawn<D: Disk>(
+    rt: &impl Abort,
+    alloc: Global,
+    mirror: &mut Mirror,
+    disk: &mut D,
+    feed: &Feed,
+    given: Given,
+    drawn: &mut Drawn,
+)
+    requires unspent { is_spent mirror.old ≡ false }
+    requires stands { D.told → StandsFor (D.state disk.old) mirror.old }
+    ensures unspent { is_spent mirror.new ≡ false }
+    ensures stands { D.told → StandsFor (D.state disk.new) mirror.new }
+{
+    let bytes = bytes(rt, alloc, feed, given);
+    assert!(rt; bytes.len() <= MAX_DOCUMENT);
+    let address = address(rt, alloc, given);
+    let answer = mirror.offer(disk, address.as_bytes(), &bytes);
+    assert!(rt; answer == Ok(drawn.note(given)), "{given:?}");
+    assert!(rt;
+        mirror.outcome() == Ok(drawn.outcome(rt, feed)),
+        "{given:?}"
+    );
+}
+
+/// Offers drawn documents to the mirror of a disk. Returns those that were drawn.
+fn offer_all<D: Disk>(
+    rt: &impl Abort,
+    alloc: Global,
+    disk: &mut D,
+    (feed, sealed): (&Feed, u32),
+    round: u64,
+) -> Drawn {
+    let mut mirror = load(rt, alloc, disk, CAPACITY);
     let mut drawn = Drawn {
         archives: [false; 64],
         version: None,
@@ -190,22 +243,35 @@ fn expect(rt: &impl Abort, alloc: Global, feed: &Feed, sealed: u32, round: u64) 
     for _ in 0..draws {
         seed = next(seed);
         let given = draw(seed, sealed);
-        let bytes = bytes(rt, alloc, feed, given);
-        assert!(rt; bytes.len() <= MAX_DOCUMENT);
-        let address = address(rt, alloc, given);
-        let answer = held.offer(address.as_str().as_bytes(), bytes.as_slice());
-        let expected = drawn.note(given);
-        assert!(rt; answer == Ok(expected), "{given:?}");
-        assert!(rt; held.outcome() == Ok(drawn.outcome(rt, feed)), "{given:?}");
+        offer_drawn(rt, alloc, &mut mirror, disk, feed, given, &mut drawn);
     }
+    drawn
+}
+
+/// Compares the entries that the mirror of a disk shows. Returns whether it is complete.
+fn expect_fold<D: Disk>(
+    rt: &impl Abort,
+    alloc: Global,
+    disk: &mut D,
+    feed: &Feed,
+    drawn: &Drawn,
+) -> bool {
     let Outcome::Complete { version, .. } = drawn.outcome(rt, feed) else {
         return false;
     };
     let name = &feed.head.name;
-    let shown = shown(rt, alloc, &mut held, name);
+    let shown = shown(rt, alloc, disk, name);
     let folded = folded(rt, alloc, covered(rt, feed, version), name);
     assert!(rt; shown.as_slice() == folded.as_slice(), "{version}");
     true
+}
+
+/// Offers drawn documents to a new mirror, and compares each answer and each outcome. Then it compares the
+/// entries of the mirror that is loaded from the same disk. Returns whether the mirror was complete.
+fn expect(rt: &impl Abort, alloc: Global, feed: &Feed, sealed: u32, round: u64) -> bool {
+    let mut disk = disk_of(rt, alloc, b"", 0);
+    let drawn = offer_all(rt, alloc, &mut disk, (feed, sealed), round);
+    expect_fold(rt, alloc, &mut disk, feed, &drawn)
 }
 
 /// Offers this many piles to new mirrors. Returns how many of them were complete at the end.
@@ -223,7 +289,7 @@ fn complete(rt: &impl Abort, alloc: Global, window: u32, piles: u64) -> u64 {
 
 #[test]
 fn a_pile_in_any_order_shows_the_plain_fold(rt: HostRuntime) {
-    for (window, piles) in [(4, 34), (16, 33), (33, 33)] {
+    for (window, piles) in [(4, 8), (16, 6), (33, 6)] {
         let complete = complete(&rt, rt.alloc(), window, piles);
         // Some piles lack a document, and some don't.
         assert!(rt; (1..piles).contains(&complete), "{complete} of {piles}");

@@ -1,12 +1,17 @@
 //! Documents without items: those that a mirror refuses, and those that lead there.
 
-use crate::feeds::{base, name};
-use crate::mirrors::{offer, outcome};
+ghost use Rattle.std.specs.Prelude.{◌≡◌, false};
+ghost use Rattle.mirror_walk.specs.Mirror.{StandsFor, is_spent};
+
+use crate::disks::{CAPACITY, disk_of};
+use crate::feeds::name;
+use crate::mirrors::{load, offer, outcome};
 use Kind::{Archive, Subscription};
 use atom_values::{Many, Stamp};
 use atom_writer::{Doc, Kind, write_doc};
 use chain_links::Span;
-use mirror_walk::Held;
+use feed_disk::Disk;
+use mirror_walk::Mirror;
 use std::alloc::Global;
 use std::process::Abort;
 
@@ -212,18 +217,41 @@ fn document(rt: &impl Abort, alloc: Global, made: &Made) -> Doc {
     doc.expect(rt, "a document")
 }
 
-/// Offers the documents to a new mirror, and compares each answer and outcome.
-fn expect(rt: &impl Abort, alloc: Global, steps: &[Step]) {
-    let mut held = Held::new(alloc, base(rt, alloc, "http://feed.example/"));
-    for (address, made, answer, shown) in steps {
-        let bytes = write_doc(alloc, &document(rt, alloc, made)).expect(rt, "memory");
-        let answered = offer(rt, alloc, &mut held, address, bytes.as_slice());
-        assert!(rt; answered.as_str() == *answer, "{answered}");
-        assert!(rt;
-            outcome(rt, alloc, &mut held).as_str() == *shown,
-            "{answer}"
-        );
+/// Offers a document to the mirror, and compares the answer and the outcome.
+fn expect_step<D: Disk>(
+    rt: &impl Abort,
+    alloc: Global,
+    mirror: &mut Mirror,
+    disk: &mut D,
+    step: &Step,
+)
+    requires unspent { is_spent mirror.old ≡ false }
+    requires stands { D.told → StandsFor (D.state disk.old) mirror.old }
+    ensures unspent { is_spent mirror.new ≡ false }
+    ensures stands { D.told → StandsFor (D.state disk.new) mirror.new }
+{
+    let (address, made, answer, shown) = step;
+    let bytes = write_doc(alloc, &document(rt, alloc, made)).expect(rt, "memory");
+    let answered = offer(rt, alloc, mirror, disk, address.as_bytes(), &bytes);
+    let outcome = outcome(rt, alloc, mirror);
+    assert!(rt;
+        (answered.as_str(), outcome.as_str()) == (*answer, *shown),
+        "{answered} {outcome}"
+    );
+}
+
+/// Offers the documents to the mirror of a disk, and compares each answer and outcome.
+fn follow<D: Disk>(rt: &impl Abort, alloc: Global, disk: &mut D, steps: &[Step]) {
+    let mut mirror = load(rt, alloc, disk, CAPACITY);
+    for step in steps {
+        expect_step(rt, alloc, &mut mirror, disk, step);
     }
+}
+
+/// Does so on an empty disk.
+fn expect(rt: &impl Abort, alloc: Global, steps: &[Step]) {
+    let mut disk = disk_of(rt, alloc, b"", 0);
+    follow(rt, alloc, &mut disk, steps);
 }
 
 #[test]
@@ -236,9 +264,15 @@ fn a_mirror_refuses_documents_that_contradict_its_own(rt: HostRuntime) {
     expect(&rt, rt.alloc(), &NEIGHBOURS);
 }
 
+/// The answer to these bytes.
+fn answer<D: Disk>(rt: &impl Abort, alloc: Global, disk: &mut D, bytes: &[u8]) -> String {
+    let mut mirror = load(rt, alloc, disk, CAPACITY);
+    offer(rt, alloc, &mut mirror, disk, FEED.as_bytes(), bytes)
+}
+
 #[test]
 fn a_mirror_refuses_other_bytes(rt: HostRuntime) {
-    let mut held = Held::new(rt.alloc(), base(&rt, rt.alloc(), "http://feed.example/"));
-    let answered = offer(&rt, rt.alloc(), &mut held, FEED, b"<?xml");
+    let mut disk = disk_of(&rt, rt.alloc(), b"", 0);
+    let answered = answer(&rt, rt.alloc(), &mut disk, b"<?xml");
     assert!(rt; answered.as_str() == "NotADocument 0");
 }

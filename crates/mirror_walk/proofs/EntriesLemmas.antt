@@ -1,28 +1,32 @@
--- The live entries of a list of documents, newest first, after one more document was laid over the map of their places.
-use Rattle.std.proofs.Common.{◌≡◌, ◌≢◌, inl, inr, ℕ, suc, ◌==◌, List, [], ◌∷◌, Option, Some, None, refl, ap, sym}
+-- The live entries of a list of documents, newest first, after one more document was laid over the map of
+-- their places.
+use Rattle.std.proofs.Common.{◌≡◌, ◌≢◌, inl, inr, ℕ, suc, ◌==◌, List, [], ◌∷◌, Option, Some, None, refl, ap}
+use Rattle.std.proofs.Common.{sym}
 use Rattle.std.proofs.Common.{◌∙◌, subst, arith}
-use Rattle.std.specs.Prelude.{All, slice_get}
+use Rattle.std.specs.Prelude.{All, map, slice_get}
 use Rattle.std.specs.BTreeMap.{BTreeMap, get, is_at}
 use Rattle.std.specs.List.{find}
 use Rattle.std.specs.Map.{lookup}
-use Rattle.std.specs.Option.{option_or}
+use Rattle.std.specs.Option.{option_map, option_or}
 use Rattle.std.specs.Ordering.{nat_cmp}
 use Rattle.std.proofs.lemmas.Bool.{cases_eq, eq-eqb, ne_eqb}
 use Rattle.std.proofs.lemmas.List.Concat.{flat_map-cons}
-use Rattle.std.proofs.lemmas.List.Elements.{All-nil, All-cons}
+use Rattle.std.proofs.lemmas.List.Elements.{All-nil, All-cons, All-head, All-tail}
 use Rattle.std.proofs.lemmas.List.Folds.{find-append}
+use Rattle.std.proofs.lemmas.Option.{slice_get-map}
 use Rattle.atom_writer.specs.Doc.{DocValue}
 use Rattle.deleted_entries.specs.Item.{item_number}
 use Rattle.deleted_entries.specs.declared.item.Item.{Item}
-use Rattle.deleted_entries.specs.declared.item.Item.TheVariants.{Kept as KeptItem, Gone}
+use Rattle.deleted_entries.specs.declared.item.Item.TheVariants.{Kept as KeptItem, Gone as GoneItem}
 use Rattle.member_rules.specs.Shows.{all_items, entry_of, live_of}
 use Rattle.mirror_walk.specs.declared.held.EntryPlace.{EntryPlace}
-use Rattle.mirror_walk.specs.declared.held.Kept.{Kept}
+use Rattle.mirror_walk.specs.Holding.{KeptValue}
 use Rattle.mirror_walk.specs.Index.{HasEntries, LaysOver, ListsEntry, entry_place}
+use Rattle.mirror_walk.specs.Marks.{mark_of, marked_number, marks_of}
 
 -- the first item of a member, or none
 
-find-place : (number : ℕ) (items : List Item) (item : Item)
+pub find-place : (number : ℕ) (items : List Item) (item : Item)
     → find (λ item. item_number item == number) items ≡ Some item
     → (at : ℕ) × (slice_get items at ≡ Some item) × (item_number item ≡ number)
 find-place number [] item e = absurd (grind arith)
@@ -71,32 +75,55 @@ unfolding live_of
 live_of-none document older number none = live_of-more document older number
     ∙ ap (λ o. entry_of (option_or o (find (λ item. item_number item == number) (all_items older)))) none
 
-pub HasEntries-none : (kept : List Kept) (live : BTreeMap ℕ EntryPlace) → live.entries ≡ []
+pub HasEntries-none : (kept : List KeptValue) (live : BTreeMap ℕ EntryPlace) → live.entries ≡ []
     → HasEntries kept [] live
 unfolding live_of
 HasEntries-none kept live empty number =
     subst (λ es. ListsEntry kept (lookup (is_at (nat_cmp number)) es) None) (sym empty) tt
 
-pub HasEntries-more : (kept : List Kept) (document : ℕ) (given : Kept) (older : List DocValue)
+marked_number-of : (item : Item) → marked_number (mark_of item) ≡ item_number item
+marked_number-of (KeptItem entry) = refl
+marked_number-of (GoneItem tombstone) = refl
+
+pub marked_numbers-of : (items : List Item) → map marked_number (map mark_of items) ≡ map item_number items
+marked_numbers-of [] = refl
+marked_numbers-of (item ∷ items) =
+    (λ i. marked_number-of item i ∷ marked_numbers-of items i)
+
+-- no mark has a number that no item has
+others-marked : (number : ℕ) (items : List Item) → All (λ item. item_number item ≢ number) items
+    → All (λ mark. marked_number mark ≢ number) (map mark_of items)
+others-marked number [] all = All-nil (λ mark. marked_number mark ≢ number)
+others-marked number (item ∷ items) all =
+    All-cons (λ mark. marked_number mark ≢ number) (mark_of item) (map mark_of items)
+    (λ same. All-head (λ (i : Item). item_number i ≢ number) item items all
+    (sym (marked_number-of item) ∙ same))
+    (others-marked number items (All-tail (λ (i : Item). item_number i ≢ number) item items all))
+
+pub HasEntries-more : (kept : List KeptValue) (document : ℕ) (given : KeptValue) (older : List DocValue)
     (old new : BTreeMap ℕ EntryPlace) → slice_get kept document ≡ Some given
-    → LaysOver document given.document.items old new → HasEntries kept older old
+    → LaysOver document (marks_of given.document) old new → HasEntries kept older old
     → HasEntries kept (given.document ∷ older) new
 HasEntries-more kept document given older old new there laid entries number =
     split (find (λ item. item_number item == number) given.document.items) refl
   where
     listed : (at : ℕ) (item : Item) → slice_get given.document.items at ≡ Some item
-        → ListsEntry kept (entry_place document at item) (entry_of (Some item))
+        → ListsEntry kept (entry_place document at (mark_of item)) (entry_of (Some item))
     listed at (KeptItem entry) found = record { document = given; there = there; item = found }
-    listed at (Gone tombstone) found = tt
+    listed at (GoneItem tombstone) found = tt
 
     split : (found : Option Item) → find (λ item. item_number item == number) given.document.items ≡ found
         → ListsEntry kept (get nat_cmp new number) (live_of (given.document ∷ older) number)
-    split None none = rw (
-      laid.others number (find-none number given.document.items none),
-      live_of-none given.document older number none,
-    ) (entries number)
+    split None none =
+        let free = find-none number given.document.items none in
+        rw (
+          laid.others number (others-marked number given.document.items free),
+          live_of-none given.document older number none,
+        ) (entries number)
     split (Some item) found =
         let place = find-place number given.document.items item found in
-        let named = subst (λ k. get nat_cmp new k ≡ entry_place document place.0 item) place.2
-        (laid.named place.0 item place.1) in
+        let marked : slice_get (marks_of given.document) place.0 ≡ Some (mark_of item) =
+        slice_get-map mark_of given.document.items place.0 ∙ ap (option_map mark_of) place.1 in
+        let named = subst (λ k. get nat_cmp new k ≡ entry_place document place.0 (mark_of item))
+        (marked_number-of item ∙ place.2) (laid.named place.0 (mark_of item) marked) in
         rw (named, live_of-some given.document older number item found) (listed place.0 item place.1)

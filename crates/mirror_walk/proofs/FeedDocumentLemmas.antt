@@ -11,19 +11,22 @@ use Rattle.member_rules.specs.declared.operation.Op.{Op}
 use Rattle.member_rules.specs.Head.{HeadValue, IsHead}
 use Rattle.member_rules.specs.History.{IsLawful}
 use Rattle.member_rules.specs.Windows.{windows_of}
-use Rattle.member_rules.specs.Documents.{name_of, document_of, archive_of, subscription_of, archive, subscription}
+use Rattle.member_rules.specs.Documents.{name_of, document_of, archive_of, subscription_of, archive}
+use Rattle.member_rules.specs.Documents.{subscription}
 use Rattle.member_rules.specs.Served.{Served, ServesFeed, ServesArchive}
 use Rattle.member_rules.proofs.CutLemmas.{IsCut-open, ends-within, full-cut, windows-cut, windows-sealed}
 use Rattle.member_rules.proofs.DocumentRulesLemmas.{archive-is_doc, subscription-is_doc}
 use Rattle.member_rules.proofs.ServedLemmas.{archive-stays, prefix-lawful}
 
 -- archive `number` of the history, where it is sealed
-pub record IsArchiveOf (head : HeadValue) (history : List Op) (number : ℕ) (document : DocValue) : Type 0 where
+pub record IsArchiveOf (head : HeadValue) (history : List Op) (number : ℕ) (document : DocValue)
+    : Type 0 where
   pub of_sealed : (1 ≤ number) × (number ≤ (windows_of head history).sealed)
   pub same : document ≡ archive head history number
 
 -- the subscription document after the first `version` operations
-pub record IsVersionOf (head : HeadValue) (history : List Op) (version : ℕ) (document : DocValue) : Type 0 where
+pub record IsVersionOf (head : HeadValue) (history : List Op) (version : ℕ) (document : DocValue)
+    : Type 0 where
   pub past : version ≤ length history
   pub same : document ≡ subscription head (take version history)
 
@@ -46,7 +49,8 @@ pub record IsReading (head : HeadValue) (history : List Op) (address bytes : Lis
   pub id : document.name.id ≡ head.name.id
 
 pub archive-of : (head : HeadValue) (history : List Op) (document : DocValue) (number : ℕ)
-    → document.kind ≡ Sealed number → IsOfFeed head history document → IsArchiveOf head history number document
+    → document.kind ≡ Sealed number → IsOfFeed head history document
+    → IsArchiveOf head history number document
 archive-of head history document number e h = subst (IsOfKind head history document) e h
 
 pub version-of : (head : HeadValue) (history : List Op) (document : DocValue) → document.kind ≡ Subscription
@@ -55,7 +59,8 @@ version-of head history document e h = subst (IsOfKind head history document) e 
 
 -- served bytes
 
-feed-reading : (head : HeadValue) (history : List Op) (address bytes : List ℕ) → IsHead head → IsLawful head history
+feed-reading : (head : HeadValue) (history : List Op) (address bytes : List ℕ) → IsHead head
+    → IsLawful head history
     → (served : ServesFeed head history address bytes)
     → IsReading head history address bytes (subscription head (take served.version history))
 unfolding subscription subscription_of document_of name_of
@@ -75,16 +80,19 @@ feed-reading head history address bytes is_head lawful served =
       id = refl;
     }
 
-archive-reading : (head : HeadValue) (history : List Op) (address bytes : List ℕ) → IsHead head → IsLawful head history
+archive-reading : (head : HeadValue) (history : List Op) (address bytes : List ℕ) → IsHead head
+    → IsLawful head history
     → (served : ServesArchive head history address bytes)
     → IsReading head history address bytes (archive head history served.number)
 unfolding archive archive_of document_of name_of
 archive-reading head history address bytes is_head lawful served =
     let full = (windows-sealed head history is_head).full in
-    let cut = full-cut head history served.number is_head.limits.window (omega (arith, served.of_sealed.1, full)) in
+    let cut = full-cut head history served.number is_head.limits.window
+    (omega (arith, served.of_sealed.1, full)) in
     record {
       of_feed = record { of_sealed = served.of_sealed; same = refl };
-      is_doc = archive-is_doc (windows_of head history).ends served.number head history served.number is_head lawful
+      is_doc = archive-is_doc (windows_of head history).ends served.number head history served.number is_head
+          lawful
           cut served.of_sealed.0 (omega arith);
       there = served.there;
       text = served.text;
@@ -93,7 +101,8 @@ archive-reading head history address bytes is_head lawful served =
     }
 
 pub served-reading : (head : HeadValue) (history : List Op) (address bytes : List ℕ)
-    → Served head history address bytes → (document : DocValue) × IsReading head history address bytes document
+    → Served head history address bytes → (document : DocValue) × IsReading head history address bytes
+    document
 served-reading head history address bytes served = elim served.served [
   | inl feed ↦ (
     subscription head (take feed.version history),
@@ -106,11 +115,6 @@ served-reading head history address bytes served = elim served.served [
 ]
 
 -- the parts of a document
-
-pub archive-kind : (head : HeadValue) (history : List Op) (number : ℕ)
-    → (archive head history number).kind ≡ Sealed number
-unfolding archive archive_of document_of
-archive-kind head history number = refl
 
 archive-first : (head : HeadValue) (history : List Op) (number : ℕ)
     → (archive head history number).span.first ≡ (windows_of head history).ends (number - 1) + 1
@@ -129,7 +133,8 @@ archive-last head history number is_head sealed =
     (ends-within windows.ends windows.sealed (length history) cut number sealed)
 
 subscription-first : (head : HeadValue) (history : List Op)
-    → (subscription head history).span.first ≡ (windows_of head history).ends (windows_of head history).sealed + 1
+    → (subscription head history).span.first
+    ≡ (windows_of head history).ends (windows_of head history).sealed + 1
 unfolding subscription subscription_of document_of
 subscription-first head history = refl
 
@@ -139,7 +144,8 @@ unfolding subscription subscription_of document_of
 subscription-prev head history = refl
 
 -- an archive of the first operations is that of all of them
-pub archive-past : (head : HeadValue) (history : List Op) (version number : ℕ) → IsHead head → version ≤ length history
+pub archive-past : (head : HeadValue) (history : List Op) (version number : ℕ) → IsHead head
+    → version ≤ length history
     → number ≤ (windows_of head (take version history)).sealed
     → archive head (take version history) number ≡ archive head history number
 archive-past head history version number is_head past sealed =
@@ -148,14 +154,16 @@ archive-past head history version number is_head past sealed =
 
 -- which documents adjoin
 
-pub archives-adjoin : (head : HeadValue) (history : List Op) (number : ℕ) (older newer : DocValue) → IsHead head
+pub archives-adjoin : (head : HeadValue) (history : List Op) (number : ℕ) (older newer : DocValue)
+    → IsHead head
     → IsArchiveOf head history number older → IsArchiveOf head history (number + 1) newer
     → older.span.last + 1 ≡ newer.span.first
 archives-adjoin head history number older newer is_head is_older is_newer =
     let windows = windows_of head history in
     let below : number + 1 - 1 ≡ number = omega arith in
     let last : older.span.last ≡ windows.ends number =
-    ap (λ (d : DocValue). d.span.last) is_older.same ∙ archive-last head history number is_head is_older.of_sealed.1 in
+    ap (λ (d : DocValue). d.span.last) is_older.same
+    ∙ archive-last head history number is_head is_older.of_sealed.1 in
     let first : newer.span.first ≡ windows.ends number + 1 =
     ap (λ (d : DocValue). d.span.first) is_newer.same ∙ archive-first head history (number + 1)
     ∙ ap (λ (n : ℕ). windows.ends n + 1) below in

@@ -1,3 +1,19 @@
+-- serves `Mirror::walk` and `walks_ask_for_nothing_twice`: what is held after an accepted document
+pub mod NewLemmas
+-- serves `Mirror::walk` and `walks_ask_for_nothing_twice`: answers within the capacity of the area
+pub mod RoomLemmas
+-- serves `walks_ask_for_nothing_twice`: the addresses of a walk
+pub mod WalkLemmas
+-- serves `Mirror::walk`: a walk so far, and how it goes on
+pub mod WalkRunLemmas
+-- serves `Mirror::walk`: one visit of a walk, and how visits join
+pub mod VisitLemmas
+-- serves `Mirror::visit`
+pub mod VisitAnswerLemmas
+-- serves `Mirror::visit_all`
+pub mod VisitsLemmas
+-- serves `Mirror::walk`, `served`, and its callers: what is held after a walk
+pub mod WalkServedLemmas
 -- serves `served_documents_show_the_fold`: the documents that one feed serves
 pub mod FeedDocumentLemmas
 -- serves `served_documents_show_the_fold`: which of the held documents are found
@@ -6,29 +22,47 @@ pub mod FoundLemmas
 pub mod AcceptedLemmas
 -- serves `served_documents_show_the_fold`: the answers to all offers, and what is held afterwards
 pub mod OfferedLemmas
--- serves `served_documents_show_the_fold`, and the clauses `served` of `Held::offer` and `Held::outcome`
+-- serves `served_documents_show_the_fold`, and the clauses `served` of `Mirror::offer` and `Mirror::outcome`
 pub mod MirrorLemmas
--- serves `Held::outcome`: the items of a document in `list_items`
+-- serves `Mirror::outcome`: the items of a document in `list_items`
 pub mod ListedItemsLemmas
--- serves `Held::outcome`: the live entries in `live_entries`
+-- serves `Mirror::outcome`: the live entries in `live_entries`
 pub mod EntriesLemmas
--- serves `Held::outcome`: the number of live entries
+-- serves `Mirror::outcome`: the number of live entries
 pub mod ListedCountLemmas
--- serves `Held::outcome`: what is missing
+-- serves `Mirror::outcome`: what is missing
 pub mod OutcomeLemmas
--- serves `Held::next_live` and `Held::entry`
+-- serves `Mirror::next_live`
 pub mod NextLiveLemmas
--- serves `Held::offer`: what is held once one more document is held
+-- serves `Mirror::offer`: what is held once one more document is held
 pub mod PushLemmas
--- serves `Held::wanted` and `Held::offer`: the greatest number of an archive that isn't held
+-- serves `Mirror::wanted` and `Mirror::offer`: the greatest number of an archive that isn't held
 pub mod GapLemmas
--- serves `Held::wanted`
+-- serves `Mirror::wanted`
 pub mod MissingLemmas
--- serves `Held::offer`: what is kept beside the documents once one more document is held
+-- serves `Mirror::offer`: what is kept beside the documents once one more document is held
 pub mod IndexLemmas
--- serves `Held::offer`, `answer` and `first_fit`
+-- serves `Mirror::offer`, `answer` and `first_fit`
 pub mod AcceptLemmas
--- serves `Held::offer`, `answer`: the numbers of an archive
+-- serves `Mirror::offer`, `answer`: the numbers of an archive
 pub mod NumberLemmas
--- serves `Held::offer`, `answer`: a document's own address
+-- serves `Mirror::offer`, `answer`: a document's own address
 pub mod AddressLemmas
+-- serves `Mirror::load` and `Mirror::offer`: documents that are taken one after another
+pub mod TakenLemmas
+-- serves `Mirror::load`: why no mirror is loaded
+pub mod LoadLemmas
+-- serves `Mirror`: the size of its log
+pub mod SizeLemmas
+-- serves `Mirror::offer`: `answer`, `first_fit` and `served`
+pub mod WithinLemmas
+-- serves `Mirror::offer`: `moments` and `rests`
+pub mod StepLemmas
+-- serves `Mirror::load`: its steps, one after another
+pub mod ReadingLemmas
+-- serves `Mirror::load`: the first document
+pub mod FirstLemmas
+-- serves `Mirror::offer`: what the checks found
+pub mod CheckedLemmas
+-- serves `Mirror::entry`: the documents that are read back
+pub mod RereadLemmas

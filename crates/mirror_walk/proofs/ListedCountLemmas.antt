@@ -1,5 +1,6 @@
 -- How many live entries a map lists.
-use Rattle.std.proofs.Common.{◌≡◌, ◌≢◌, inl, inr, ℕ, zero, suc, ◌+◌, ◌-◌, ◌^◌, ◌<◌, ◌≤◌, Bool, true, false, if◌then◌else◌}
+use Rattle.std.proofs.Common.{◌≡◌, ◌≢◌, inl, inr, ℕ, zero, suc, ◌+◌, ◌-◌, ◌^◌, ◌<◌, ◌≤◌, Bool, true, false}
+use Rattle.std.proofs.Common.{if◌then◌else◌}
 use Rattle.std.proofs.Common.{List, [], ◌∷◌, length, Option, Some, None, refl, ap, sym, ◌∙◌, arith}
 use Rattle.std.specs.Prelude.{IsSome, is_some, ◌||◌}
 use Rattle.std.specs.BTreeMap.{BTreeMap, get, keys, btree_map_len, IsOrdered}
@@ -18,7 +19,7 @@ use Rattle.member_rules.specs.Fold.{count_up_to}
 use Rattle.member_rules.specs.Shows.{live_of, live_count_of, greatest_member}
 use Rattle.member_rules.proofs.ShowsLemmas.{live_of-past}
 use Rattle.mirror_walk.specs.declared.held.EntryPlace.{EntryPlace}
-use Rattle.mirror_walk.specs.declared.held.Kept.{Kept}
+use Rattle.mirror_walk.specs.Holding.{KeptValue}
 use Rattle.mirror_walk.specs.Index.{AreMembers, HasEntries, ListsEntry}
 
 -- numbers with a value, up to a bound
@@ -56,7 +57,8 @@ above live zero number l = tt
 above live (suc n) number l = split (is_some (live (suc n))) (above live n number (omega arith))
   where
     split : (b : Bool) → AllByRecursion (λ other. same number other ≡ false) (numbers live n)
-        → AllByRecursion (λ other. same number other ≡ false) (if b then suc n ∷ numbers live n else numbers live n)
+        → AllByRecursion (λ other. same number other ≡ false)
+        (if b then suc n ∷ numbers live n else numbers live n)
     split true h = (apart number (suc n) (omega arith), h)
     split false h = h
 
@@ -104,7 +106,8 @@ some live (suc n) number on low high = elim (cases_eq number (suc n)) [
     split false h = h
 
 -- the map has a value at the same numbers, from 1 up to n
-pub count-of_map : {X : Type 0} (live : ℕ → Option EntryValue) (m : BTreeMap ℕ X) (n : ℕ) → IsOrdered nat_cmp m
+pub count-of_map : {X : Type 0} (live : ℕ → Option EntryValue) (m : BTreeMap ℕ X) (n : ℕ)
+    → IsOrdered nat_cmp m
     → ((number : ℕ) → is_some (get nat_cmp m number) ≡ is_some (live number))
     → ((number : ℕ) → is_some (live number) ≡ true → (1 ≤ number) × (number ≤ n))
     → btree_map_len m ≡ count_up_to live n
@@ -124,7 +127,8 @@ count-of_map live m n ordered agrees between =
 
 -- the entries of documents
 
-abbrev agrees : (kept : List Kept) (place : Option EntryPlace) (entry : Option EntryValue) → ListsEntry kept place entry
+abbrev agrees : (kept : List KeptValue) (place : Option EntryPlace) (entry : Option EntryValue)
+    → ListsEntry kept place entry
     → is_some place ≡ is_some entry
 agrees kept None None h = refl
 agrees kept None (Some entry) h = absurd h
@@ -135,14 +139,15 @@ some_from : {A : Type 0} (o : Option A) → is_some o ≡ true → IsSome o
 some_from None e = absurd (false≢true e)
 some_from (Some x) e = refl
 
-members_of : (kept : List Kept) (documents : List DocValue) (live : BTreeMap ℕ EntryPlace) → AreMembers live
+members_of : (kept : List KeptValue) (documents : List DocValue) (live : BTreeMap ℕ EntryPlace)
+    → AreMembers live
     → HasEntries kept documents live → (number : ℕ) → is_some (live_of documents number) ≡ true
     → (1 ≤ number) × (number < 2 ^ 32)
 members_of kept documents live members entries number on =
     members number (some_from (get nat_cmp live number)
     (agrees kept (get nat_cmp live number) (live_of documents number) (entries number) ∙ on))
 
-pub len-live_count : (kept : List Kept) (documents : List DocValue) (live : BTreeMap ℕ EntryPlace)
+pub len-live_count : (kept : List KeptValue) (documents : List DocValue) (live : BTreeMap ℕ EntryPlace)
     → IsOrdered nat_cmp live → AreMembers live → HasEntries kept documents live
     → btree_map_len live ≡ live_count_of documents
 unfolding live_count_of
@@ -167,7 +172,7 @@ count-le live (suc n) = split (is_some (live (suc n))) (count-le live n)
     split true h = omega arith
     split false h = omega arith
 
-len-le : (kept : List Kept) (documents : List DocValue) (live : BTreeMap ℕ EntryPlace) (n : ℕ)
+len-le : (kept : List KeptValue) (documents : List DocValue) (live : BTreeMap ℕ EntryPlace) (n : ℕ)
     → IsOrdered nat_cmp live → n + 1 ≡ 2 ^ 32 → AreMembers live → HasEntries kept documents live
     → btree_map_len live ≤ n
 len-le kept documents live n ordered bound members entries =
@@ -177,7 +182,8 @@ len-le kept documents live n ordered bound members entries =
     omega (arith, count-le (live_of documents) n)
 
 -- a map has at most one entry for each number of a member
-pub len-lt : (kept : List Kept) (documents : List DocValue) (live : BTreeMap ℕ EntryPlace) → IsOrdered nat_cmp live
+pub len-lt : (kept : List KeptValue) (documents : List DocValue) (live : BTreeMap ℕ EntryPlace)
+    → IsOrdered nat_cmp live
     → AreMembers live → HasEntries kept documents live → btree_map_len live < 2 ^ 32
 len-lt kept documents live ordered members entries =
     omega (arith, len-le kept documents live (2 ^ 32 - 1) ordered refl members entries)

@@ -1,6 +1,8 @@
 -- The law of a mirror: it shows the documents that one feed served.
-use Rattle.std.proofs.Common.{◌≡◌, ◌⊎◌, inl, inr, ℕ, ◌<◌, ◌≤◌, ◌^◌, List, [], ◌∷◌, Any, Contains, Option, Some, None}
-use Rattle.std.proofs.Common.{IsSome, IsTrue, Ok, Err, IsOk, OnErr, option_map, take, refl, ap, ap₂, sym, subst}
+use Rattle.std.proofs.Common.{◌≡◌, ℕ, ◌<◌, ◌≤◌, ◌^◌, List, [], ◌∷◌, Any, Contains, Option}
+use Rattle.std.proofs.Common.{Some, None}
+use Rattle.std.proofs.Common.{IsSome, IsTrue, IsOk, option_map, take, refl, ap, ap₂, sym}
+use Rattle.std.proofs.Common.{subst}
 use Rattle.std.proofs.Common.{◌∙◌, arith}
 use Rattle.std.proofs.lemmas.Bool.Decides.{nat_tests}
 use Rattle.std.proofs.lemmas.List.Elements.{All-contains}
@@ -21,18 +23,21 @@ use Rattle.member_rules.specs.Chain.{ShowsTheFold, chain, down_from, chain_of as
 use Rattle.member_rules.specs.Served.{Served}
 use Rattle.member_rules.proofs.LawLemmas.{law-of_chain}
 use Rattle.member_rules.proofs.ServedLemmas.{prefix-lawful}
-use Rattle.mirror_walk.specs.declared.answer.Offered.TheVariants.{NoMemory}
-use Rattle.mirror_walk.specs.declared.held.Kept.{Kept}
 use Rattle.mirror_walk.specs.Accept.{Answer, IsAnswer}
-use Rattle.mirror_walk.specs.Holding.{archive_at, archives_from, best_of, chain_of, first_missing, gap_from}
-use Rattle.mirror_walk.specs.Offers.{Offering, AreAnswered, AreServed, AreTakenOf, IsArchiveOffered, IsOffered}
-use Rattle.mirror_walk.specs.Laws.{IsMissingOf, LawOfTheMirror, ShowsBest, ShowsNone, ShowsServed, ShowsVersion}
+use Rattle.mirror_walk.specs.Holding.{KeptValue, archive_at, archives_from, best_of, chain_of, first_missing}
+use Rattle.mirror_walk.specs.Holding.{gap_from}
+use Rattle.mirror_walk.specs.Offers.{Offering, AreAnswered, AreServed, AreTakenOf, IsArchiveOffered}
+use Rattle.mirror_walk.specs.Offers.{IsOffered}
+use Rattle.mirror_walk.specs.Laws.{IsMissingOf, LawOfTheMirror, ShowsBest, ShowsNone, ShowsServed}
+use Rattle.mirror_walk.specs.Laws.{ShowsVersion}
 use Rattle.mirror_walk.proofs.AcceptedLemmas.{IsHeldOf}
 use Rattle.mirror_walk.proofs.FeedDocumentLemmas.{IsVersionOf, archive-of, archive-past}
 use Rattle.mirror_walk.proofs.FeedDocumentLemmas.{served-reading, subscription-prev, version-of}
-use Rattle.mirror_walk.proofs.FoundLemmas.{Covers, archive_at-holds, archives_from-whole, best_of-holds, gap-none}
-use Rattle.mirror_walk.proofs.FoundLemmas.{gap-some}
-use Rattle.mirror_walk.proofs.OfferedLemmas.{IsOfferOf, Mirrors, answer-mirrored, offers-mirrored, same-reading}
+use Rattle.mirror_walk.proofs.FoundLemmas.{Covers, archive_at-holds, archives_from-whole, best_of-holds}
+use Rattle.mirror_walk.proofs.GapLemmas.{gap-found, gap-none}
+use Rattle.mirror_walk.proofs.OfferedLemmas.{IsOfferOf, Mirrors, answer-mirrored, offers-mirrored}
+use Rattle.mirror_walk.proofs.OfferedLemmas.{same-reading}
+use Rattle.mirror_walk.proofs.OutcomeLemmas.{chain_of-best}
 
 -- what was offered
 
@@ -47,50 +52,59 @@ document-offered head history offers document served offered =
     let (k, offer, within, there, e) = offered.there in
     let is_served = served-at head history offers offer served (k, within, there) in
     let found = served-reading head history offer.address offer.bytes is_served in
-    let same = same-reading head history offer.address offer.bytes found.0 document found.1 offered.is_doc e in
+    let same = same-reading head history offer.address offer.bytes found.0 document found.1 offered.is_doc e
+    in
     (k, offer, within, there, subst (λ (d : DocValue). IsOfferOf head history d offer) same found.1)
 
-archive-offered : (head : HeadValue) (history : List Op) (offers : List Offering) (document : DocValue) (number : ℕ)
+archive-offered : (head : HeadValue) (history : List Op) (offers : List Offering) (document : DocValue)
+    (number : ℕ)
     → document.kind ≡ Sealed number → Any (IsOfferOf head history document) offers
     → IsArchiveOffered head.name.base offers number
 archive-offered head history offers document number e (k, offer, within, there, reading) =
-    (k, offer, within, there, reading.there ∙ ap (λ (kind : Kind). printed head.name.base (own_address kind)) e)
+    let at = reading.there ∙ ap (λ (kind : Kind). printed head.name.base (own_address kind)) e in
+    (k, offer, within, there, at)
 
 -- a document at the address of an archive is that archive
 
-placed-address : (kind : Kind) (span : Span) (prev : ℕ) → IsTrue (is_placed kind span prev)
+pub placed-address : (kind : Kind) (span : Span) (prev : ℕ) → IsTrue (is_placed kind span prev)
     → IsAddress (own_address kind)
 placed-address Subscription span prev placed = tt
 placed-address (Sealed number) span prev placed = grind (arith, nat_tests)
 
-address-archive : (kind : Kind) (number : ℕ) → own_address kind ≡ Archive number → kind ≡ Sealed number
+pub address-archive : (kind : Kind) (number : ℕ) → own_address kind ≡ Archive number → kind ≡ Sealed number
 address-archive Subscription number e = cc
 address-archive (Sealed other) number e = cc
 
-archive-there : (base : List ℕ) (document : DocValue) (number : ℕ) → IsDoc document → 1 ≤ number → number < 2 ^ 32
+archive-there : (base : List ℕ) (document : DocValue) (number : ℕ) → IsDoc document → 1 ≤ number
+    → number < 2 ^ 32
     → printed base (own_address document.kind) ≡ printed base (Archive number) → document.kind ≡ Sealed number
 archive-there base document number is_doc one small e =
     address-archive document.kind number (same_address base (own_address document.kind) (Archive number)
     (placed-address document.kind document.span document.prev is_doc.rules.placed) (one, small) e)
 
-module _ (head : HeadValue) (history : List Op) (offers : List Offering) (kept : List Kept)
+module _ (head : HeadValue) (history : List Op) (offers : List Offering) (kept : List KeptValue)
     (served : AreServed head history offers) (mirrors : Mirrors head history offers kept) where
-  archive-covered : (number : ℕ) → 1 ≤ number → number < 2 ^ 32 → IsArchiveOffered head.name.base offers number
+  archive-covered : (number : ℕ) → 1 ≤ number → number < 2 ^ 32
+      → IsArchiveOffered head.name.base offers number
       → IsSome (archive_at kept number)
   archive-covered number one small (k, offer, within, there, at) =
       let is_served = served-at head history offers offer served (k, within, there) in
       let found = served-reading head history offer.address offer.bytes is_served in
-      let kind = archive-there head.name.base found.0 number found.1.is_doc one small (sym found.1.there ∙ at) in
+      let kind = archive-there head.name.base found.0 number found.1.is_doc one small (sym found.1.there ∙ at)
+      in
       subst (Covers kept found.0.span.last) kind
       (mirrors.covered found.0 (k, offer, within, there, found.1))
 
-  held-offered : (number : ℕ) → IsSome (archive_at kept number) → IsArchiveOffered head.name.base offers number
+  held-offered : (number : ℕ) → IsSome (archive_at kept number)
+      → IsArchiveOffered head.name.base offers number
   held-offered number = go (archive_at kept number) refl
     where
-      go : (o : Option Kept) → archive_at kept number ≡ o → IsSome o → IsArchiveOffered head.name.base offers number
+      go : (o : Option KeptValue) → archive_at kept number ≡ o → IsSome o
+          → IsArchiveOffered head.name.base offers number
       go None e some = absurd (cc)
       go (Some held) e some =
-          let found = archive_at-holds (λ (k : Kept). Any (IsOfferOf head history k.document) offers) kept number held
+          let found = archive_at-holds (λ (k : KeptValue). Any (IsOfferOf head history k.document) offers)
+          kept number held
           mirrors.offered e in
           archive-offered head history offers held.document number found.1 found.0
 
@@ -98,20 +112,23 @@ module _ (head : HeadValue) (history : List Op) (offers : List Offering) (kept :
 
   missing-of : (prev : ℕ) → prev < 2 ^ 32 → (gap : Option ℕ) → gap_from kept prev ≡ gap
       → IsMissingOf head.name.base offers prev (option_map Archive gap)
-  missing-of prev small None e = λ number one within. held-offered number (gap-none kept prev e number one within)
+  missing-of prev small None e = λ number one within. held-offered number
+      (gap-none kept prev e number one within)
   missing-of prev small (Some at) e =
-      let gap = gap-some kept prev at e in
+      let gap = gap-found kept prev at e in
       record {
-        needed = gap.within;
-        not_offered = λ offered. gap.missing (archive-covered at gap.within.0 (omega (arith, gap.within.1)) offered);
-        greatest = λ other above within. held-offered other (gap.above other above within);
+        needed = (gap.one, gap.within);
+        not_offered = λ offered.
+            let some = archive-covered at gap.one (omega (arith, gap.within)) offered in
+            absurd (cc (gap.free, some));
+        greatest = λ other above within. held-offered other (gap.held other above within);
       }
 
   first_missing-none : best_of kept ≡ None → first_missing kept ≡ Some Feed
   unfolding first_missing
   first_missing-none e = rw e refl
 
-  first_missing-best : (best : Kept) → best_of kept ≡ Some best
+  first_missing-best : (best : KeptValue) → best_of kept ≡ Some best
       → first_missing kept ≡ option_map Archive (gap_from kept best.document.prev)
   unfolding first_missing
   first_missing-best best e = rw e refl
@@ -119,7 +136,8 @@ module _ (head : HeadValue) (history : List Op) (offers : List Offering) (kept :
   shows-none : best_of kept ≡ None → ShowsNone offers kept
   shows-none e = record {
     none_offered = λ document offered is_kind.
-        let covers = mirrors.covered document (document-offered head history offers document served offered) in
+        let covers = mirrors.covered document (document-offered head history offers document served offered)
+        in
         let some : Covers kept document.span.last Subscription =
         subst (Covers kept document.span.last) is_kind covers in
         rw e at some;
@@ -133,23 +151,19 @@ module _ (head : HeadValue) (history : List Op) (offers : List Offering) (kept :
   unfolding chain cut_chain subscription archive
   chain-documents operations = refl
 
-  chain_of-best : (best : Kept) → best_of kept ≡ Some best
-      → chain_of kept ≡ best.document ∷ archives_from kept best.document.prev
-  unfolding chain_of
-  chain_of-best best e = rw e refl
-
   archive-held : (number : ℕ) → IsSome (archive_at kept number)
-      → option_map (λ (k : Kept). k.document) (archive_at kept number) ≡ Some (archive head history number)
+      → option_map (λ (k : KeptValue). k.document) (archive_at kept number) ≡ Some
+      (archive head history number)
   archive-held number = go (archive_at kept number) refl
     where
-      go : (o : Option Kept) → archive_at kept number ≡ o → IsSome o
-          → option_map (λ (k : Kept). k.document) o ≡ Some (archive head history number)
+      go : (o : Option KeptValue) → archive_at kept number ≡ o → IsSome o
+          → option_map (λ (k : KeptValue). k.document) o ≡ Some (archive head history number)
       go None e some = absurd (cc)
       go (Some held) e some =
           let found = archive_at-holds (IsHeldOf head history) kept number held mirrors.held e in
           ap Some (archive-of head history held.document number found.1 found.0.of_feed).same
 
-  whole-chain : (best : Kept) (version : ℕ) → IsHead head → best_of kept ≡ Some best
+  whole-chain : (best : KeptValue) (version : ℕ) → IsHead head → best_of kept ≡ Some best
       → IsVersionOf head history version best.document
       → ((number : ℕ) → 1 ≤ number → number ≤ best.document.prev → IsSome (archive_at kept number))
       → chain_of kept ≡ chain head (take version history)
@@ -160,10 +174,10 @@ module _ (head : HeadValue) (history : List Op) (offers : List Offering) (kept :
       ap (λ (d : DocValue). d.prev) is_version.same ∙ subscription-prev head past in
       let older : archives_from kept best.document.prev ≡ down_from (archive head past) best.document.prev =
       archives_from-whole kept (archive head past) best.document.prev (λ number one within.
+      let is_sealed : number ≤ sealed = omega (arith, prev, within) in
       archive-held number (held number one within)
-      ∙ ap Some (sym (archive-past head history version number is_head is_version.past (omega (arith, prev, within)))))
-      in
-      chain_of-best best e
+      ∙ ap Some (sym (archive-past head history version number is_head is_version.past is_sealed))) in
+      chain_of-best kept best e
       ∙ ap₂ (λ (newest : DocValue) (others : List DocValue). newest ∷ others) is_version.same
       (older ∙ ap (down_from (archive head past)) prev)
       ∙ sym (chain-documents past)
@@ -172,7 +186,7 @@ module _ (head : HeadValue) (history : List Op) (offers : List Offering) (kept :
   option_map-none None e = refl
   option_map-none (Some number) e = absurd (cc)
 
-  shows-version : (best : Kept) → IsHead head → IsLawful head history → best_of kept ≡ Some best
+  shows-version : (best : KeptValue) → IsHead head → IsLawful head history → best_of kept ≡ Some best
       → gap_from kept best.document.prev ≡ None
       → ShowsVersion head history best.document.span.last (chain_of kept)
   shows-version best is_head lawful e none =
@@ -190,19 +204,21 @@ module _ (head : HeadValue) (history : List Op) (offers : List Offering) (kept :
 
   -- what is held with a best subscription document
 
-  best-offered : (best : Kept) → best_of kept ≡ Some best
+  best-offered : (best : KeptValue) → best_of kept ≡ Some best
       → Any (IsOfferOf head history best.document) offers × (best.document.kind ≡ Subscription)
   best-offered best e =
-      best_of-holds (λ (k : Kept). Any (IsOfferOf head history k.document) offers) kept best mirrors.offered e
+      best_of-holds (λ (k : KeptValue). Any (IsOfferOf head history k.document) offers) kept best
+      mirrors.offered e
 
-  best-greatest : (best : Kept) → best_of kept ≡ Some best → (document : DocValue) → IsOffered offers document
+  best-greatest : (best : KeptValue) → best_of kept ≡ Some best → (document : DocValue)
+      → IsOffered offers document
       → document.kind ≡ Subscription → document.span.last ≤ best.document.span.last
   best-greatest best e document offered is_kind =
       let covers = subst (Covers kept document.span.last) is_kind
       (mirrors.covered document (document-offered head history offers document served offered)) in
       rw e at covers
 
-  shows-best : (best : Kept) → best_of kept ≡ Some best → ShowsBest head history offers kept best
+  shows-best : (best : KeptValue) → best_of kept ≡ Some best → ShowsBest head history offers kept best
   shows-best best e =
       let offered = best-offered best e in
       let (k, offer, within, there, reading) = offered.0 in
@@ -224,7 +240,7 @@ module _ (head : HeadValue) (history : List Op) (offers : List Offering) (kept :
   mirrors-shows : ShowsServed head history offers kept (best_of kept)
   mirrors-shows = go (best_of kept) refl
     where
-      go : (best : Option Kept) → best_of kept ≡ best → ShowsServed head history offers kept best
+      go : (best : Option KeptValue) → best_of kept ≡ best → ShowsServed head history offers kept best
       go None e = shows-none e
       go (Some best) e = shows-best best e
 
@@ -235,46 +251,30 @@ law-of_mirror head history offers answers kept served answered =
 
 -- the clauses `served`
 
-taken-mirrored : (base : List ℕ) (kept : List Kept) (head : HeadValue) (history : List Op) (offers : List Offering)
+pub taken-mirrored : (base : List ℕ) (kept : List KeptValue) (head : HeadValue) (history : List Op)
+    (offers : List Offering)
     → base ≡ head.name.base → AreServed head history offers → AreTakenOf base offers kept
     → Mirrors head history offers kept
 taken-mirrored base kept head history offers same served taken =
     (offers-mirrored head history offers taken.answers kept served
     (subst (λ (b : List ℕ). AreAnswered b [] offers taken.answers kept) same taken.answered)).1
 
--- `Held::outcome`: what is held of documents that one feed served
-pub taken_are_shown : (base : List ℕ) (kept : List Kept) (head : HeadValue) (history : List Op) (offers : List Offering)
+-- `Mirror::outcome`: what is held of documents that one feed served
+pub taken_are_shown : (base : List ℕ) (kept : List KeptValue) (head : HeadValue) (history : List Op)
+    (offers : List Offering)
     → base ≡ head.name.base → AreServed head history offers → AreTakenOf base offers kept
     → ShowsServed head history offers kept (best_of kept)
 taken_are_shown base kept head history offers same served taken =
-    mirrors-shows head history offers kept served (taken-mirrored base kept head history offers same served taken)
+    mirrors-shows head history offers kept served (taken-mirrored base kept head history offers same served
+    taken)
 
 -- each answer to one more document that the feed served is `Ok`
-pub served_is_accepted : (base : List ℕ) (kept : List Kept) (address bytes : List ℕ) (answer : Answer)
-    (left : List Kept) → IsAnswer base kept address bytes answer left
+pub served_is_accepted : (base : List ℕ) (kept : List KeptValue) (address bytes : List ℕ) (answer : Answer)
+    (left : List KeptValue) → IsAnswer base kept address bytes answer left
     → (head : HeadValue) (history : List Op) (offers : List Offering) → base ≡ head.name.base
-    → AreServed head history offers → AreTakenOf base offers kept → Served head history address bytes → IsOk answer
+    → AreServed head history offers → AreTakenOf base offers kept → Served head history address bytes
+    → IsOk answer
 served_is_accepted base kept address bytes answer left is_answer head history offers same served taken there =
     (answer-mirrored head history offers kept left (record { address = address; bytes = bytes }) answer
     (taken-mirrored base kept head history offers same served taken) there
     (subst (λ (b : List ℕ). IsAnswer b kept address bytes answer left) same is_answer)).0
-
-ok-refuses_nothing : (answer : Answer) → IsOk answer → OnErr answer (answer ≡ Err NoMemory)
-ok-refuses_nothing (Ok accepted) is_ok = tt
-ok-refuses_nothing (Err refusal) is_ok = cc
-
-memory-refuses : (answer : Answer) → answer ≡ Err NoMemory → OnErr answer (answer ≡ Err NoMemory)
-memory-refuses (Ok accepted) e = tt
-memory-refuses (Err refusal) e = e
-
--- `Held::offer`: the clause `served` from the clause `answer`
-pub offer_served : (base : List ℕ) (kept : List Kept) (address bytes : List ℕ) (answer : Answer) (left : List Kept)
-    → (answer ≡ Err NoMemory) ⊎ IsAnswer base kept address bytes answer left
-    → (head : HeadValue) (history : List Op) (offers : List Offering) → base ≡ head.name.base
-    → AreServed head history offers → AreTakenOf base offers kept → Served head history address bytes
-    → OnErr answer (answer ≡ Err NoMemory)
-offer_served base kept address bytes answer left (inl spent) head history offers same served taken there =
-    memory-refuses answer spent
-offer_served base kept address bytes answer left (inr is_answer) head history offers same served taken there =
-    ok-refuses_nothing answer
-    (served_is_accepted base kept address bytes answer left is_answer head history offers same served taken there)

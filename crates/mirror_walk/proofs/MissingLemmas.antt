@@ -3,31 +3,32 @@ use Rattle.std.proofs.Common.{◌≡◌, ◌≢◌, ℕ, ◌<◌, ◌≤◌, Lis
 use Rattle.std.specs.Prelude.{IsSome, option_map, unwrap_or}
 use Rattle.chain_links.specs.declared.address.Address.TheVariants.{Feed, Archive}
 use Rattle.mirror_walk.specs.declared.held.Best.{Best}
-use Rattle.mirror_walk.specs.declared.held.Kept.{Kept}
-use Rattle.mirror_walk.specs.Holding.{archive_at, best_of, first_missing, gap_from, missing_after}
+use Rattle.mirror_walk.specs.Holding.{KeptValue, archive_at, best_of, first_missing, gap_from, missing_after}
 use Rattle.mirror_walk.specs.Index.{HasBest}
 use Rattle.mirror_walk.proofs.GapLemmas.{gap-above, gap-zero}
 
-pub missing-feed : (kept : List Kept) → HasBest kept None (best_of kept) → first_missing kept ≡ Some Feed
+pub missing-feed : (kept : List KeptValue) → HasBest kept None (best_of kept) → first_missing kept ≡ Some Feed
 unfolding first_missing
 missing-feed kept is = of (best_of kept) is
   where
-    of : (found : Option Kept) → HasBest kept None found → missing_after kept found ≡ Some Feed
+    of : (found : Option KeptValue) → HasBest kept None found → missing_after kept found ≡ Some Feed
     of None is = refl
     of (Some k) is = absurd is
 
-pub missing-nothing : (kept : List Kept) (best : Best) → HasBest kept (Some best) (best_of kept) → best.missing ≡ 0
+pub missing-nothing : (kept : List KeptValue) (best : Best) → HasBest kept (Some best) (best_of kept)
+    → best.missing ≡ 0
     → first_missing kept ≡ None
 unfolding first_missing
 missing-nothing kept best is none = of (best_of kept) is
   where
-    of : (found : Option Kept) → HasBest kept (Some best) found → missing_after kept found ≡ None
+    of : (found : Option KeptValue) → HasBest kept (Some best) found → missing_after kept found ≡ None
     of None is = absurd is
     of (Some k) is =
         let prev = k.document.prev in
         ap (option_map Archive) (gap-zero kept prev (gap_from kept prev) refl (sym is.missing ∙ none))
 
-pub missing-archive : (kept : List Kept) (best : Best) → HasBest kept (Some best) (best_of kept) → best.missing ≢ 0
+pub missing-archive : (kept : List KeptValue) (best : Best) → HasBest kept (Some best) (best_of kept)
+    → best.missing ≢ 0
     → first_missing kept ≡ Some (Archive best.missing)
 unfolding first_missing
 missing-archive kept best is some = of (best_of kept) is
@@ -37,12 +38,14 @@ missing-archive kept best is some = of (best_of kept) is
     numbered None is = absurd (some is)
     numbered (Some number) is = ap (λ (n : ℕ). Some (Archive n)) (sym is)
 
-    of : (found : Option Kept) → HasBest kept (Some best) found → missing_after kept found ≡ Some (Archive best.missing)
+    of : (found : Option KeptValue) → HasBest kept (Some best) found
+        → missing_after kept found ≡ Some (Archive best.missing)
     of None is = absurd is
     of (Some k) is = numbered (gap_from kept k.document.prev) is.missing
 
 -- the archives that the best subscription document needs are held above the first missing one
-pub held-above : (kept : List Kept) (best : Best) (found : Kept) → HasBest kept (Some best) (best_of kept)
+pub held-above : (kept : List KeptValue) (best : Best) (found : KeptValue)
+    → HasBest kept (Some best) (best_of kept)
     → best_of kept ≡ Some found → (n : ℕ) → best.missing < n → n ≤ found.document.prev
     → IsSome (archive_at kept n)
 held-above kept best found is at n more within =

@@ -11,17 +11,17 @@ use Rattle.std.specs.Ordering.{MatchOrdering, nat_cmp}
 use Rattle.std.proofs.lemmas.Map.Keys.{le_from_not_gt}
 use Rattle.atom_values.specs.Entry.{EntryValue}
 use Rattle.mirror_walk.specs.declared.held.EntryPlace.{EntryPlace}
-use Rattle.mirror_walk.specs.declared.held.Kept.{Kept}
-use Rattle.mirror_walk.specs.Holding.{chain_of}
+use Rattle.mirror_walk.specs.Holding.{KeptValue, chain_of}
 use Rattle.mirror_walk.specs.Index.{HasEntries, HasEntryAt, ListsEntry}
 use Rattle.mirror_walk.specs.Listing.{IsNextLive, live_at}
 
-entry_listed : (kept : List Kept) (place : EntryPlace) (entry : Option EntryValue)
-    → ListsEntry kept (Some place) entry → (found : EntryValue) × (entry ≡ Some found) × HasEntryAt kept place found
+entry_listed : (kept : List KeptValue) (place : EntryPlace) (entry : Option EntryValue)
+    → ListsEntry kept (Some place) entry → (found : EntryValue) × (entry ≡ Some found) × HasEntryAt kept place
+    found
 entry_listed kept place None h = absurd h
 entry_listed kept place (Some entry) h = (entry, refl, h)
 
-place_listed : (kept : List Kept) (place : Option EntryPlace) (entry : Option EntryValue)
+place_listed : (kept : List KeptValue) (place : Option EntryPlace) (entry : Option EntryValue)
     → ListsEntry kept place entry → IsSome entry → IsSome place
 place_listed kept None None h some = some
 place_listed kept None (Some entry) h some = absurd h
@@ -33,9 +33,11 @@ is_less a b l = sym (nat_cmp_is a b Less l)
 less_from : (a b : ℕ) → nat_cmp a b ≡ Less → a < b
 less_from a b e = subst (λ order. MatchOrdering order (a < b) (a ≡ b) (b < a)) e (ranks a b)
 
-pub IsNextLive-range : (kept : List Kept) (live : BTreeMap ℕ EntryPlace) (after number : ℕ) (place : EntryPlace)
+pub IsNextLive-range : (kept : List KeptValue) (live : BTreeMap ℕ EntryPlace) (after number : ℕ)
+    (place : EntryPlace)
     (rest : List (ℕ × EntryPlace)) → HasEntries kept (chain_of kept) live
-    → IsRangeOf nat_cmp (Excluded after) Unbounded live ((number, place) ∷ rest) → IsNextLive kept after number
+    → IsRangeOf nat_cmp (Excluded after) Unbounded live ((number, place) ∷ rest)
+    → IsNextLive kept after number
 IsNextLive-range kept live after number place rest entries range =
     let found = entry_listed kept place (live_at kept number)
     (subst (λ p. ListsEntry kept p (live_at kept number)) range.1.1 (entries number)) in
@@ -46,7 +48,8 @@ IsNextLive-range kept live after number place rest entries range =
       first = λ other later before. split other later before (live_at kept other) refl;
     }
   where
-    split : (other : ℕ) → after < other → other < number → (entry : Option EntryValue) → live_at kept other ≡ entry
+    split : (other : ℕ) → after < other → other < number → (entry : Option EntryValue)
+        → live_at kept other ≡ entry
         → entry ≡ None
     split other later before None is = refl
     split other later before (Some entry) is =

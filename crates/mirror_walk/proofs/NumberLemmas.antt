@@ -12,7 +12,8 @@ pub record HasNumbers (number prev : ℕ) : Type 0 where
   pub most : number ≤ archive_limit
   pub before : prev ≡ number - 1
 
-pub archive-numbers : (document : DocValue) (number : ℕ) → KeepsRules document → document.kind ≡ Archive number
+pub archive-numbers : (document : DocValue) (number : ℕ) → KeepsRules document
+    → document.kind ≡ Archive number
     → HasNumbers number document.prev
 archive-numbers document number keeps kind =
     placed number document.span document.prev

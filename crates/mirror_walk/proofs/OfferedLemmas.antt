@@ -1,5 +1,6 @@
 -- A mirror that was offered documents of one feed, one after another: it refused none, and covers each.
-use Rattle.std.proofs.Common.{◌≡◌, ◌⊎◌, inl, inr, ℕ, List, [], ◌∷◌, ◌++◌, All, Any, Ok, Err, IsOk, refl, ap, sym}
+use Rattle.std.proofs.Common.{◌≡◌, ◌⊎◌, inl, inr, ℕ, List, [], ◌∷◌, ◌++◌, All, Any, Ok, Err, IsOk, refl, ap}
+use Rattle.std.proofs.Common.{sym}
 use Rattle.std.proofs.Common.{subst, ◌∙◌, append_assoc, append-nil, arith}
 use Rattle.std.proofs.lemmas.List.Elements.{All-nil, All-cons, All-head, All-tail, All-push, All-weaker}
 use Rattle.std.proofs.lemmas.List.Elements.{Contains-append_left, Contains-push_cases}
@@ -14,9 +15,10 @@ use Rattle.member_rules.specs.declared.operation.Op.{Op}
 use Rattle.member_rules.specs.Head.{HeadValue}
 use Rattle.member_rules.specs.Served.{Served}
 use Rattle.mirror_walk.specs.declared.answer.Accepted.TheVariants.{Taken, Known, Stale}
-use Rattle.mirror_walk.specs.declared.answer.Offered.TheVariants.{NotADocument, WrongAddress, WrongFeed, Conflict}
-use Rattle.mirror_walk.specs.declared.answer.Offered.TheVariants.{Break, NoMemory}
-use Rattle.mirror_walk.specs.declared.held.Kept.{Kept}
+use Rattle.mirror_walk.specs.declared.answer.Offered.TheVariants.{NotADocument, WrongAddress, WrongFeed}
+use Rattle.mirror_walk.specs.declared.answer.Offered.TheVariants.{Conflict}
+use Rattle.mirror_walk.specs.declared.answer.Offered.TheVariants.{Break, Full, DiskFault, NoMemory}
+use Rattle.mirror_walk.specs.Holding.{KeptValue}
 use Rattle.mirror_walk.specs.Accept.{Answer, AnswersDocument, IsAnswer, after_answer}
 use Rattle.mirror_walk.specs.Offers.{Offering, AreAnswered, AreServed}
 use Rattle.mirror_walk.proofs.AcceptedLemmas.{Accepts, IsHeldOf, accept-accepts}
@@ -28,7 +30,8 @@ abbrev pub IsOfferOf : HeadValue → List Op → DocValue → Offering → Type 
 IsOfferOf head history document offer = IsReading head history offer.address offer.bytes document
 
 -- each held document was offered, and each offered one is held or older than the best one
-pub record Mirrors (head : HeadValue) (history : List Op) (offers : List Offering) (kept : List Kept) : Type 0 where
+pub record Mirrors (head : HeadValue) (history : List Op) (offers : List Offering) (kept : List KeptValue)
+    : Type 0 where
   pub held : All (IsHeldOf head history) kept
   pub offered : All (λ k. Any (IsOfferOf head history k.document) offers) kept
   pub covered : (document : DocValue) → Any (IsOfferOf head history document) offers
@@ -51,23 +54,26 @@ pub same-reading : (head : HeadValue) (history : List Op) (address bytes : List 
 same-reading head history address bytes one other reading is_doc e =
     one_reading one other reading.is_doc is_doc (sym reading.text ∙ e)
 
-module _ (head : HeadValue) (history : List Op) (offers : List Offering) (kept : List Kept)
-    (mirrors : Mirrors head history offers kept) (offer : Offering) (given : Kept)
+module _ (head : HeadValue) (history : List Op) (offers : List Offering) (kept : List KeptValue)
+    (mirrors : Mirrors head history offers kept) (offer : Offering) (given : KeptValue)
     (reading : IsOfferOf head history given.document offer) where
-  covered-more : (left : List Kept) → ((last : ℕ) (kind : Kind) → Covers kept last kind → Covers left last kind)
+  covered-more : (left : List KeptValue) → ((last : ℕ) (kind : Kind) → Covers kept last kind → Covers left
+      last kind)
       → Covers left given.document.span.last given.document.kind → (document : DocValue)
-      → Any (IsOfferOf head history document) (offers ++ offer ∷ []) → Covers left document.span.last document.kind
+      → Any (IsOfferOf head history document) (offers ++ offer ∷ [])
+      → Covers left document.span.last document.kind
   covered-more left keeps covers document some =
       elim (any-cases (IsOfferOf head history document) offers offer some) [
         | inl before ↦ keeps document.span.last document.kind (mirrors.covered document before)
         | inr here ↦ subst (λ (d : DocValue). Covers left d.span.last d.kind)
-            (same-reading head history offer.address offer.bytes given.document document reading here.is_doc here.text)
+            (same-reading head history offer.address offer.bytes given.document document reading here.is_doc
+            here.text)
             covers
       ]
 
   offered-more : All (λ k. Any (IsOfferOf head history k.document) (offers ++ offer ∷ [])) kept
-  offered-more = All-weaker (λ (k : Kept). Any (IsOfferOf head history k.document) offers)
-      (λ (k : Kept). Any (IsOfferOf head history k.document) (offers ++ offer ∷ []))
+  offered-more = All-weaker (λ (k : KeptValue). Any (IsOfferOf head history k.document) offers)
+      (λ (k : KeptValue). Any (IsOfferOf head history k.document) (offers ++ offer ∷ []))
       (λ k some. any-left (IsOfferOf head history k.document) offers offer some) kept mirrors.offered
 
   mirrors-same : Covers kept given.document.span.last given.document.kind
@@ -78,10 +84,12 @@ module _ (head : HeadValue) (history : List Op) (offers : List Offering) (kept :
     covered = covered-more kept (λ last kind h. h) covers;
   }
 
-  mirrors-taken : IsHeldOf head history given → Mirrors head history (offers ++ offer ∷ []) (kept ++ given ∷ [])
+  mirrors-taken : IsHeldOf head history given → Mirrors head history (offers ++ offer ∷ [])
+      (kept ++ given ∷ [])
   mirrors-taken is_given = record {
     held = All-push (IsHeldOf head history) kept given mirrors.held is_given;
-    offered = All-push (λ (k : Kept). Any (IsOfferOf head history k.document) (offers ++ offer ∷ [])) kept given
+    offered = All-push (λ (k : KeptValue). Any (IsOfferOf head history k.document) (offers ++ offer ∷ []))
+        kept given
         offered-more (Any-push (IsOfferOf head history given.document) offers offer reading);
     covered = covered-more (kept ++ given ∷ []) (covers-push kept given)
         (covers-given kept given given.document.kind refl);
@@ -96,7 +104,8 @@ module _ (head : HeadValue) (history : List Op) (offers : List Offering) (kept :
 
 -- one more offer
 
-pub document-mirrored : (head : HeadValue) (history : List Op) (offers : List Offering) (kept left : List Kept)
+pub document-mirrored : (head : HeadValue) (history : List Op) (offers : List Offering)
+    (kept left : List KeptValue)
     (offer : Offering) (answer : Answer) → Mirrors head history offers kept
     → Served head history offer.address offer.bytes
     → AnswersDocument head.name.base kept offer.address offer.bytes answer left
@@ -104,7 +113,8 @@ pub document-mirrored : (head : HeadValue) (history : List Op) (offers : List Of
 document-mirrored head history offers kept left offer answer mirrors served answers =
     let given = answers.given in
     let found = served-reading head history offer.address offer.bytes served in
-    let same = same-reading head history offer.address offer.bytes found.0 given.document found.1 answers.read.is_doc
+    let same = same-reading head history offer.address offer.bytes found.0 given.document found.1
+    answers.read.is_doc
     answers.read.text in
     let reading = subst (λ (d : DocValue). IsOfferOf head history d offer) same found.1 in
     let is_given : IsHeldOf head history given = record {
@@ -120,7 +130,8 @@ document-mirrored head history offers kept left offer answer mirrors served answ
     let after = mirrors-after head history offers kept mirrors offer given reading answer is_given accepts in
     (after.0, subst (Mirrors head history (offers ++ offer ∷ [])) (sym answers.left_over) after.1)
 
-pub answer-mirrored : (head : HeadValue) (history : List Op) (offers : List Offering) (kept left : List Kept)
+pub answer-mirrored : (head : HeadValue) (history : List Op) (offers : List Offering)
+    (kept left : List KeptValue)
     (offer : Offering) (answer : Answer) → Mirrors head history offers kept
     → Served head history offer.address offer.bytes
     → IsAnswer head.name.base kept offer.address offer.bytes answer left
@@ -135,15 +146,21 @@ answer-mirrored head history offers kept left offer (Err (WrongAddress says)) mi
     document-mirrored head history offers kept left offer (Err (WrongAddress says)) mirrors served answers
 answer-mirrored head history offers kept left offer (Err (WrongFeed one other)) mirrors served answers =
     document-mirrored head history offers kept left offer (Err (WrongFeed one other)) mirrors served answers
-answer-mirrored head history offers kept left offer (Err (Conflict address one other)) mirrors served answers =
-    document-mirrored head history offers kept left offer (Err (Conflict address one other)) mirrors served answers
+answer-mirrored head history offers kept left offer (Err (Conflict at one other)) mirrors served answers =
+    document-mirrored head history offers kept left offer (Err (Conflict at one other)) mirrors served answers
+answer-mirrored head history offers kept left offer (Err (Full size needed capacity)) mirrors served answers =
+    document-mirrored head history offers kept left offer (Err (Full size needed capacity)) mirrors served
+    answers
+answer-mirrored head history offers kept left offer (Err DiskFault) mirrors served answers =
+    document-mirrored head history offers kept left offer (Err DiskFault) mirrors served answers
 answer-mirrored head history offers kept left offer (Err (Break last first)) mirrors served answers =
     document-mirrored head history offers kept left offer (Err (Break last first)) mirrors served answers
 
 -- all offers, one after another
 
-answers-mirrored : (head : HeadValue) (history : List Op) (past offers : List Offering) (answers : List Answer)
-    (kept left : List Kept) → Mirrors head history past kept → AreServed head history offers
+answers-mirrored : (head : HeadValue) (history : List Op) (past offers : List Offering)
+    (answers : List Answer)
+    (kept left : List KeptValue) → Mirrors head history past kept → AreServed head history offers
     → AreAnswered head.name.base kept offers answers left
     → All IsOk answers × Mirrors head history (past ++ offers) left
 answers-mirrored head history past [] [] kept left mirrors served answered = (
@@ -153,25 +170,30 @@ answers-mirrored head history past [] [] kept left mirrors served answered = (
 )
 answers-mirrored head history past [] (answer ∷ answers) kept left mirrors served answered = absurd answered
 answers-mirrored head history past (offer ∷ offers) [] kept left mirrors served answered = absurd answered
-answers-mirrored head history past (offer ∷ offers) (answer ∷ answers) kept left mirrors served (next, one, others) =
+answers-mirrored head history past (offer ∷ offers) (answer ∷ answers) kept left mirrors served
+    (next, one, others)
+    =
     let P = λ (o : Offering). Served head history o.address o.bytes in
-    let first = answer-mirrored head history past kept next offer answer mirrors (All-head P offer offers served) one in
+    let first = answer-mirrored head history past kept next offer answer mirrors
+    (All-head P offer offers served) one in
     let rest = answers-mirrored head history (past ++ offer ∷ []) offers answers next left first.1
     (All-tail P offer offers served) others in (
       All-cons IsOk answer answers first.0 rest.0,
-      subst (λ (offers : List Offering). Mirrors head history offers left) (append_assoc past (offer ∷ []) offers)
+      subst (λ (offers : List Offering). Mirrors head history offers left)
+          (append_assoc past (offer ∷ []) offers)
           rest.1,
     )
 
 mirrors-none : (head : HeadValue) (history : List Op) → Mirrors head history [] []
 mirrors-none head history = record {
   held = All-nil (IsHeldOf head history);
-  offered = All-nil (λ (k : Kept). Any (IsOfferOf head history k.document) []);
+  offered = All-nil (λ (k : KeptValue). Any (IsOfferOf head history k.document) []);
   covered = λ document some. absurd (omega (arith, some.2));
 }
 
 pub offers-mirrored : (head : HeadValue) (history : List Op) (offers : List Offering) (answers : List Answer)
-    (kept : List Kept) → AreServed head history offers → AreAnswered head.name.base [] offers answers kept
+    (kept : List KeptValue) → AreServed head history offers
+    → AreAnswered head.name.base [] offers answers kept
     → All IsOk answers × Mirrors head history offers kept
 offers-mirrored head history offers answers kept served answered =
     answers-mirrored head history [] offers answers [] kept (mirrors-none head history) served answered

@@ -4,62 +4,63 @@ use Rattle.std.proofs.Common.{◌∙◌, subst, arith}
 use Rattle.std.specs.Prelude.{option_map, slice_get}
 use Rattle.std.specs.BTreeMap.{BTreeMap}
 use Rattle.std.specs.List.{cons_option}
-use Rattle.std.proofs.lemmas.Option.{MatchOption-at_none, MatchOption-at_some, same_Some}
+use Rattle.std.proofs.lemmas.Option.{MatchOption-at_some, same_Some}
 use Rattle.chain_links.specs.declared.address.Address.{Address}
 use Rattle.member_rules.specs.Shows.{live_count_of}
 use Rattle.mirror_walk.specs.declared.answer.Outcome.TheVariants.{Complete, Missing}
 use Rattle.mirror_walk.specs.declared.held.Best.{Best}
 use Rattle.mirror_walk.specs.declared.held.EntryPlace.{EntryPlace}
-use Rattle.mirror_walk.specs.declared.held.Kept.{Kept}
-use Rattle.mirror_walk.specs.Holding.{HeldValue, archive_at, archives_from, best_of, chain_from, chain_of, first_missing}
-use Rattle.mirror_walk.specs.Holding.{missing_after}
+use Rattle.mirror_walk.specs.Holding.{HeldValue, KeptValue, archive_at, archives_from, best_of, chain_from}
+use Rattle.mirror_walk.specs.Holding.{chain_of, first_missing, missing_after}
 use Rattle.mirror_walk.specs.Index.{HasBest, HasPlace, IsBestOf, IsIndexed, IsPlaceOf}
 use Rattle.mirror_walk.specs.Listing.{outcome_by, outcome_of}
 
 -- the index, at the documents of the view
-pub indexed : (inside : List Kept) (v : HeldValue) (archives : BTreeMap ℕ ℕ) (best : Option Best)
+pub indexed : (inside : List KeptValue) (v : HeldValue) (archives : BTreeMap ℕ ℕ) (best : Option Best)
     (live : Option (BTreeMap ℕ EntryPlace)) → inside ≡ v.kept → IsIndexed inside archives best live
     → IsIndexed v.kept archives best live
 indexed inside v archives best live same there = subst (λ kept. IsIndexed kept archives best live) same there
 
 -- the chain
 
-pub archives_from-held : (kept : List Kept) (number : ℕ) (found : Kept) → archive_at kept (number + 1) ≡ Some found
+pub archives_from-held : (kept : List KeptValue) (number : ℕ) (found : KeptValue)
+    → archive_at kept (number + 1) ≡ Some found
     → archives_from kept (number + 1) ≡ found.document ∷ archives_from kept number
 unfolding archives_from
 archives_from-held kept number found e =
     ap (archives_from kept) (add-one number)
-    ∙ ap (λ o. cons_option (option_map (λ (k : Kept). k.document) o) (archives_from kept number))
+    ∙ ap (λ o. cons_option (option_map (λ (k : KeptValue). k.document) o) (archives_from kept number))
     (ap (archive_at kept) (sym (add-one number)) ∙ e)
 
-pub archives_from-not_held : (kept : List Kept) (number : ℕ) → archive_at kept (number + 1) ≡ None
+pub archives_from-not_held : (kept : List KeptValue) (number : ℕ) → archive_at kept (number + 1) ≡ None
     → archives_from kept (number + 1) ≡ archives_from kept number
 unfolding archives_from
 archives_from-not_held kept number e =
     ap (archives_from kept) (add-one number)
-    ∙ ap (λ o. cons_option (option_map (λ (k : Kept). k.document) o) (archives_from kept number))
+    ∙ ap (λ o. cons_option (option_map (λ (k : KeptValue). k.document) o) (archives_from kept number))
     (ap (archive_at kept) (sym (add-one number)) ∙ e)
 
-pub chain_of-none : (kept : List Kept) → best_of kept ≡ None → chain_of kept ≡ []
+pub chain_of-none : (kept : List KeptValue) → best_of kept ≡ None → chain_of kept ≡ []
 unfolding chain_of
 chain_of-none kept e = ap (chain_from kept) e
 
-pub chain_of-best : (kept : List Kept) (best : Kept) → best_of kept ≡ Some best
+pub chain_of-best : (kept : List KeptValue) (best : KeptValue) → best_of kept ≡ Some best
     → chain_of kept ≡ best.document ∷ archives_from kept best.document.prev
 unfolding chain_of
 chain_of-best kept best e = ap (chain_from kept) e
 
 -- the index of the best subscription document
 
-pub best_of-none : (kept : List Kept) (place : Option Best) (found : Option Kept) → HasBest kept place found
+pub best_of-none : (kept : List KeptValue) (place : Option Best) (found : Option KeptValue)
+    → HasBest kept place found
     → place ≡ None → found ≡ None
 best_of-none kept None None there is = refl
 best_of-none kept None (Some document) there is = absurd there
 best_of-none kept (Some best) found there is = absurd (grind arith)
 
-pub best_of-some : (kept : List Kept) (place : Option Best) (best : Best) (found : Option Kept)
+pub best_of-some : (kept : List KeptValue) (place : Option Best) (best : Best) (found : Option KeptValue)
     → HasBest kept place found → place ≡ Some best
-    → (document : Kept) × (found ≡ Some document) × IsBestOf kept best document
+    → (document : KeptValue) × (found ≡ Some document) × IsBestOf kept best document
 best_of-some kept None best found there is = absurd (grind arith)
 best_of-some kept (Some other) best None there is = absurd there
 best_of-some kept (Some other) best (Some document) there is =
@@ -67,40 +68,37 @@ best_of-some kept (Some other) best (Some document) there is =
 
 -- the indexes of the archives
 
-pub place_of : (kept : List Kept) (at : ℕ) (found : Option Kept) → IsPlaceOf kept at found
-    → (document : Kept) × (found ≡ Some document) × (slice_get kept at ≡ Some document)
+pub place_of : (kept : List KeptValue) (at : ℕ) (found : Option KeptValue) → IsPlaceOf kept at found
+    → (document : KeptValue) × (found ≡ Some document) × (slice_get kept at ≡ Some document)
 place_of kept at None place = absurd (grind (arith, place.some))
 place_of kept at (Some document) place = (document, refl, place.there)
 
-pub archive-held : (kept : List Kept) (place : Option ℕ) (found : Option Kept) (at : ℕ) → HasPlace kept place found
-    → place ≡ Some at → (document : Kept) × (found ≡ Some document) × (slice_get kept at ≡ Some document)
+pub archive-held : (kept : List KeptValue) (place : Option ℕ) (found : Option KeptValue) (at : ℕ)
+    → HasPlace kept place found
+    → place ≡ Some at → (document : KeptValue) × (found ≡ Some document) × (slice_get kept at ≡ Some document)
 archive-held kept place found at there is =
     place_of kept at found (MatchOption-at_some (found ≡ None) (λ i. IsPlaceOf kept i found) at is there)
 
-pub archive-not_held : (kept : List Kept) (place : Option ℕ) (found : Option Kept) → HasPlace kept place found
-    → place ≡ None → found ≡ None
-archive-not_held kept place found there is =
-    MatchOption-at_none (found ≡ None) (λ i. IsPlaceOf kept i found) is there
-
 -- the outcome
 
-pub best-of_whole : (kept : List Kept) → first_missing kept ≡ None
-    → (best : Kept) × (best_of kept ≡ Some best)
+pub best-of_whole : (kept : List KeptValue) → first_missing kept ≡ None
+    → (best : KeptValue) × (best_of kept ≡ Some best)
 unfolding first_missing
 best-of_whole kept whole = split (best_of kept) refl whole
   where
-    split : (best : Option Kept) → best_of kept ≡ best → missing_after kept best ≡ None
-        → (found : Kept) × (best_of kept ≡ Some found)
+    split : (best : Option KeptValue) → best_of kept ≡ best → missing_after kept best ≡ None
+        → (found : KeptValue) × (best_of kept ≡ Some found)
     split None is none = absurd (grind arith)
     split (Some best) is none = (best, is)
 
-pub outcome-missing : (kept : List Kept) (address : Address) → first_missing kept ≡ Some address
+pub outcome-missing : (kept : List KeptValue) (address : Address) → first_missing kept ≡ Some address
     → outcome_of kept ≡ Missing address
 unfolding outcome_of
 outcome-missing kept address e = ap (outcome_by kept (best_of kept)) e
 
-pub outcome-complete : (kept : List Kept) (best : Kept) → best_of kept ≡ Some best → first_missing kept ≡ None
+pub outcome-complete : (kept : List KeptValue) (best : KeptValue) → best_of kept ≡ Some best
+    → first_missing kept ≡ None
     → outcome_of kept ≡ Complete best.document.span.last (live_count_of (chain_of kept))
 unfolding outcome_of
 outcome-complete kept best e none =
-    ap (outcome_by kept (best_of kept)) none ∙ ap (λ (found : Option Kept). outcome_by kept found None) e
+    ap (outcome_by kept (best_of kept)) none ∙ ap (λ (found : Option KeptValue). outcome_by kept found None) e

@@ -3,9 +3,10 @@ use Rattle.std.specs.Prelude.{◌≡◌, List, Option, Some, None, Result, Ok, E
 use Rattle.atom_writer.specs.Doc.{DocValue}
 use Rattle.mirror_walk.specs.declared.answer.Accepted.{Accepted}
 use Rattle.mirror_walk.specs.declared.answer.Offered.{Offered}
-use Rattle.mirror_walk.specs.declared.answer.Offered.TheVariants.{NotADocument, WrongAddress, WrongFeed, Conflict}
-use Rattle.mirror_walk.specs.declared.answer.Offered.TheVariants.{Break, NoMemory}
-use Rattle.mirror_walk.specs.declared.held.Kept.{Kept}
+use Rattle.mirror_walk.specs.declared.answer.Offered.TheVariants.{NotADocument, WrongAddress, WrongFeed}
+use Rattle.mirror_walk.specs.declared.answer.Offered.TheVariants.{Conflict}
+use Rattle.mirror_walk.specs.declared.answer.Offered.TheVariants.{Break, Full, DiskFault, NoMemory}
+use Rattle.mirror_walk.specs.Holding.{KeptValue}
 use Rattle.mirror_walk.specs.Accept.{Answer, counterpart, stale}
 
 -- the refusal is the answer that fits, unless memory ran out
@@ -15,6 +16,8 @@ Refuses answer (NotADocument at) = answer ≡ Some (Err (NotADocument at))
 Refuses answer (WrongAddress says) = answer ≡ Some (Err (WrongAddress says))
 Refuses answer (WrongFeed kept given) = answer ≡ Some (Err (WrongFeed kept given))
 Refuses answer (Conflict address kept given) = answer ≡ Some (Err (Conflict address kept given))
+Refuses answer (Full size needed capacity) = answer ≡ Some (Err (Full size needed capacity))
+Refuses answer DiskFault = answer ≡ Some (Err DiskFault)
 Refuses answer (Break last first) = answer ≡ Some (Err (Break last first))
 
 -- the check passes if no answer fits, and else refuses
@@ -29,6 +32,6 @@ Compares answer (Ok (Some accepted)) = answer ≡ Some (Ok accepted)
 Compares answer (Err refusal) = Refuses answer refusal
 
 -- no document is held in the place of this one, and it isn't stale
-pub record IsNew (kept : List Kept) (document : DocValue) : Type 0 where
+pub record IsNew (kept : List KeptValue) (document : DocValue) : Type 0 where
   pub counterpart : counterpart kept document ≡ None
   pub stale : stale kept document ≡ None

@@ -1,4 +1,5 @@
--- What a mirror shows of documents that one feed served, whatever came in which order, was lost or came twice.
+-- What a mirror shows of documents that one feed served, whatever came in which order, was lost or came
+-- twice.
 use Rattle.std.specs.Prelude.{◌≡◌, ℕ, ◌<◌, ◌≤◌, List, [], Option, Some, None, All, IsOk, take, length}
 use Rattle.atom_writer.specs.Doc.{DocValue}
 use Rattle.atom_writer.specs.declared.doc.Kind.TheVariants.{Subscription}
@@ -7,9 +8,8 @@ use Rattle.chain_links.specs.declared.address.Address.TheVariants.{Feed, Archive
 use Rattle.member_rules.specs.declared.operation.Op.{Op}
 use Rattle.member_rules.specs.Head.{HeadValue}
 use Rattle.member_rules.specs.Chain.{chain, ShowsTheFold}
-use Rattle.mirror_walk.specs.declared.held.Kept.{Kept}
 use Rattle.mirror_walk.specs.Accept.{Answer}
-use Rattle.mirror_walk.specs.Holding.{best_of, chain_of, first_missing}
+use Rattle.mirror_walk.specs.Holding.{KeptValue, best_of, chain_of, first_missing}
 use Rattle.mirror_walk.specs.Offers.{Offering, AreAnswered, AreServed, IsOffered, IsArchiveOffered}
 
 -- no subscription document was offered
@@ -25,7 +25,8 @@ pub record IsNewest (offers : List Offering) (best : DocValue) : Type 0 where
 
 -- each archive from `prev` down to 1 was offered
 abbrev pub AreAllOffered : List ℕ → List Offering → ℕ → Type 0
-AreAllOffered base offers prev = (number : ℕ) → 1 ≤ number → number ≤ prev → IsArchiveOffered base offers number
+AreAllOffered base offers prev = (number : ℕ) → 1 ≤ number → number ≤ prev
+    → IsArchiveOffered base offers number
 
 -- the greatest number from `prev` down to 1 of an archive that was not offered
 pub record IsFirstNotOffered (base : List ℕ) (offers : List Offering) (prev number : ℕ) : Type 0 where
@@ -41,34 +42,38 @@ IsMissingOf base offers prev (Some (Archive number)) = IsFirstNotOffered base of
 IsMissingOf base offers prev (Some (Member number)) = ⊥
 
 -- the documents are the chain of the first `version` operations, and show the live entries after those
-pub record ShowsVersion (head : HeadValue) (history : List Op) (version : ℕ) (documents : List DocValue) : Type 0 where
+pub record ShowsVersion (head : HeadValue) (history : List Op) (version : ℕ) (documents : List DocValue)
+    : Type 0 where
   pub past : version ≤ length history
   pub whole_chain : documents ≡ chain head (take version history)
   pub fold : ShowsTheFold documents (take version history)
 
 -- what is held without and with a best subscription document
-pub record ShowsBest (head : HeadValue) (history : List Op) (offers : List Offering) (kept : List Kept) (best : Kept)
+pub record ShowsBest (head : HeadValue) (history : List Op) (offers : List Offering) (kept : List KeptValue)
+    (best : KeptValue)
     : Type 0 where
   pub newest : IsNewest offers best.document
   pub missing : IsMissingOf head.name.base offers best.document.prev (first_missing kept)
   pub live : first_missing kept ≡ None → ShowsVersion head history best.document.span.last (chain_of kept)
 
-pub record ShowsNone (offers : List Offering) (kept : List Kept) : Type 0 where
+pub record ShowsNone (offers : List Offering) (kept : List KeptValue) : Type 0 where
   pub none_offered : IsWithoutNewest offers
   pub missing : first_missing kept ≡ Some Feed
 
-abbrev pub ShowsServed : HeadValue → List Op → List Offering → List Kept → Option Kept → Type 0
+abbrev pub ShowsServed : HeadValue → List Op → List Offering → List KeptValue → Option KeptValue → Type 0
 ShowsServed head history offers kept None = ShowsNone offers kept
 ShowsServed head history offers kept (Some best) = ShowsBest head history offers kept best
 
 -- no offer is refused, and what is held is as much of the feed as was offered
-pub record MirrorsServed (head : HeadValue) (history : List Op) (offers : List Offering) (answers : List Answer)
-    (kept : List Kept) : Type 0 where
+pub record MirrorsServed (head : HeadValue) (history : List Op) (offers : List Offering)
+    (answers : List Answer)
+    (kept : List KeptValue) : Type 0 where
   pub accepted : All IsOk answers
   pub shows : ShowsServed head history offers kept (best_of kept)
 
 -- The law of a mirror: for every head and history by which all that was offered was served.
 abbrev pub LawOfTheMirror : Type 0
 LawOfTheMirror = (head : HeadValue) (history : List Op) (offers : List Offering) (answers : List Answer)
-    (kept : List Kept) → AreServed head history offers → AreAnswered head.name.base [] offers answers kept
+    (kept : List KeptValue) → AreServed head history offers
+    → AreAnswered head.name.base [] offers answers kept
     → MirrorsServed head history offers answers kept

@@ -1,7 +1,15 @@
 pub mod Holding
+pub mod Marks
 pub mod Accept
 pub mod Checks
 pub mod Offers
 pub mod Listing
 pub mod Index
 pub mod Laws
+pub mod Loaded
+pub mod Loading
+pub mod Mirror
+pub mod Taking
+pub mod Rereading
+pub mod Walk
+pub mod Visit

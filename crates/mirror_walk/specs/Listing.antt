@@ -1,16 +1,16 @@
 -- What a mirror's documents show, and its live entries in order of number.
-use Rattle.std.specs.Prelude.{◌≡◌, ℕ, zero, suc, ◌<◌, List, [], ◌∷◌, ◌++◌, Option, Some, None, Bool, true, false}
+use Rattle.std.specs.Prelude.{◌≡◌, ℕ, zero, suc, ◌<◌, List, [], ◌∷◌, ◌++◌, Option, Some, None, Bool, true}
+use Rattle.std.specs.Prelude.{false}
 use Rattle.atom_values.specs.Entry.{EntryValue}
 use Rattle.chain_links.specs.Address.{IsAddress}
 use Rattle.chain_links.specs.declared.address.Address.{Address}
 use Rattle.member_rules.specs.Shows.{greatest_member, live_of, live_count_of}
 use Rattle.mirror_walk.specs.declared.answer.Outcome.{Outcome}
 use Rattle.mirror_walk.specs.declared.answer.Outcome.TheVariants.{Complete, Missing}
-use Rattle.mirror_walk.specs.declared.held.Kept.{Kept}
-use Rattle.mirror_walk.specs.Holding.{best_of, chain_of, first_missing}
+use Rattle.mirror_walk.specs.Holding.{KeptValue, best_of, chain_of, first_missing}
 
 -- the live entries, by the members' numbers
-abbrev pub live_at : List Kept → ℕ → Option EntryValue
+abbrev pub live_at : List KeptValue → ℕ → Option EntryValue
 live_at kept number = live_of (chain_of kept) number
 
 -- the entries behind others, if there is one more
@@ -24,17 +24,17 @@ entries_up_to live zero = []
 entries_up_to live (suc number) = with_entry (entries_up_to live number) (live (suc number))
 
 -- the live entries, in order of number
-unfoldable pub live_entries : List Kept → List EntryValue
+unfoldable pub live_entries : List KeptValue → List EntryValue
 live_entries kept = entries_up_to (live_at kept) (greatest_member (chain_of kept))
 
 -- what the documents show, where nothing but `missing` is missing
-abbrev pub outcome_by : List Kept → Option Kept → Option Address → Outcome
+abbrev pub outcome_by : List KeptValue → Option KeptValue → Option Address → Outcome
 outcome_by kept best (Some missing) = Missing missing
 outcome_by kept None None = Complete 0 0
 outcome_by kept (Some best) None = Complete best.document.span.last (live_count_of (chain_of kept))
 
 -- the first missing document, or else the best document's `last` and the number of live entries
-unfoldable pub outcome_of : List Kept → Outcome
+unfoldable pub outcome_of : List KeptValue → Outcome
 outcome_of kept = outcome_by kept (best_of kept) (first_missing kept)
 
 -- a document that is missing has an address
@@ -47,11 +47,11 @@ is_complete (Complete _ _) = true
 is_complete (Missing _) = false
 
 -- no member with a number after this one is live
-abbrev pub IsLastLive : List Kept → ℕ → Type 0
+abbrev pub IsLastLive : List KeptValue → ℕ → Type 0
 IsLastLive kept after = (number : ℕ) → after < number → live_at kept number ≡ None
 
 -- the member is live, and no live member's number is between
-pub record IsNextLive (kept : List Kept) (after next : ℕ) : Type 0 where
+pub record IsNextLive (kept : List KeptValue) (after next : ℕ) : Type 0 where
   pub later : after < next
   pub entry : EntryValue
   pub live : live_at kept next ≡ Some entry

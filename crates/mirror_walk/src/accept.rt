@@ -1,31 +1,25 @@
-ghost use Rattle.std.specs.Prelude.{◌≡◌, ◌≢◌, ◌⊎◌, ◌≤◌, ◌<◌, ◌++◌, ℕ, List, [], ◌∷◌, Err, Ok, OnOk, OnErr};
+ghost use Rattle.std.specs.Prelude.{◌≡◌, ◌≢◌, ◌⊎◌, ◌≤◌, ◌<◌, ◌++◌, ℕ, [], ◌∷◌, false, Err, Ok, OnOk, OnErr};
 ghost use Rattle.std.specs.Prelude.{IsSome, MatchResult, None, Some, is_some, length, option_map};
 ghost use Rattle.std.specs.Prelude.{option_copied, slice_get, unwrap_or};
-ghost use Rattle.member_rules.specs.Head.{HeadValue};
-ghost use Rattle.member_rules.specs.Served.{Served};
-ghost use Rattle.member_rules.specs.declared.operation.Op.{Op};
-ghost use Rattle.mirror_walk.specs.Accept.{IsAnswer, IsKeptOf, accept, break_of, break_after, broken};
+ghost use Rattle.mirror_walk.specs.Accept.{accept, break_of, break_after, broken};
 ghost use Rattle.mirror_walk.specs.Accept.{conflict, counterpart, first_of, known, stale};
 ghost use Rattle.mirror_walk.specs.Accept.{wrong_address, wrong_feed};
 ghost use Rattle.mirror_walk.specs.Checks.{Checks, Compares, IsNew};
 ghost use Rattle.mirror_walk.specs.Holding.{archive_at, gap_from};
 ghost use Rattle.mirror_walk.specs.Index.{HasBestAfter};
-ghost use Rattle.mirror_walk.specs.Offers.{AreServed, AreTakenOf, Offering};
-ghost use Rattle.mirror_walk.specs.declared.held.Kept.{Kept};
 
 use crate::answer::{Accepted, Offered};
-use crate::held::{Best, Held, Kept};
-use atom_grammar::{MAX_DOCUMENT, read_doc};
+use crate::held::{Best, Held};
+use crate::kept::Kept;
 use atom_values::{Bytes, NoMemory};
-use atom_writer::{Doc, Kind};
+use atom_writer::Kind;
 use deleted_entries::FeedId;
-use sha2::{Digest, Sha256};
 
 /// `Break` unless the span of `newer` begins right after that of `older` ends.
-fn check_spans(older: &Doc, newer: &Doc) -> Result<(), Offered>
-    ensures { Checks (break_of older.now newer.now) result }
+fn check_spans(older: &Kept, newer: &Kept) -> Result<(), Offered>
+    ensures { Checks (break_of older.now.document newer.now.document) result }
 {
-    let (older_last, newer_first) = (older.span.last, newer.span.first);
+    let (older_last, newer_first) = (older.span().last, newer.span().first);
     if u64::from(older_last) + 1 == u64::from(newer_first) {
         Ok(())
     } else {
@@ -37,76 +31,30 @@ fn check_spans(older: &Doc, newer: &Doc) -> Result<(), Offered>
 }
 
 impl Held {
-    /// Offers the mirror a document: bytes that were found at an address. Returns whether the mirror took it.
-    ///
-    /// The answer is the first of these that fits:
-    ///
-    /// - `NotADocument` if the bytes are the text of no document.
-    /// - `WrongAddress` if the document's own address isn't `address`, or has another base than the mirror.
-    /// - `WrongFeed` if a document is held and has another feed identifier.
-    /// - `Known` if the archive, or the best subscription document with the same `last`, is held with the
-    ///   same digest.
-    /// - `Stale` if the document is a subscription document with a lower `last` than the best one.
-    /// - `Conflict` if the archive, or the best subscription document with the same `last`, is held with
-    ///   another digest.
-    /// - `Break` if a held neighbour in the chain doesn't adjoin the document. The neighbours of an archive
-    ///   are, in the order in which they are looked at, the archives before and after it and the best
-    ///   subscription document if that comes right after it. The neighbour of a subscription document is the
-    ///   archive before it.
-    /// - `Taken`, which is the only answer that changes what is held.
-    ///
-    /// `NoMemory` may come in place of any answer. Reads the bytes once, and digests them once.
-    pub fn offer(&mut self, address: &[u8], bytes: &[u8]) -> Result<Accepted, Offered>
-        requires { length bytes.now ≤ MAX_DOCUMENT }
-        // The answer, and what is held afterwards, unless memory runs out.
-        ensures answer { (result ≡ Err Offered.NoMemory)
-            ⊎ IsAnswer self.old.base self.old.kept address.now bytes.now result self.new.kept }
-        // A document gets the first answer that fits it, unless memory runs out.
-        ensures first_fit { (given : Kept) → IsKeptOf bytes.now given
-            → (result ≡ accept self.old.base self.old.kept address.now given)
-            ⊎ (result ≡ Err Offered.NoMemory) }
-        ensures unchanged { result ≢ Ok Accepted.Taken → self.new ≡ self.old }
-        ensures base { self.new.base ≡ self.old.base }
-        // Where one feed served all that was offered, nothing is refused.
-        ensures served { (head : HeadValue) (history : List Op) (offers : List Offering)
-            → self.old.base ≡ head.name.base → AreServed head history offers
-            → AreTakenOf self.old.base offers self.old.kept
-            → Served head history address.now bytes.now → OnErr result (result ≡ Err Offered.NoMemory) }
-    {
-        let document = read_doc(self.alloc, bytes)?;
-        let digest = Sha256::digest(bytes);
-        let given = Kept { document, digest };
-        if let Some(answer) = self.check(address, &given)? {
-            return Ok(answer);
-        }
-        self.take(given)?;
-        Ok(Accepted::Taken)
-    }
-
     /// Checks a document that was offered under this address: `Known`, `Stale` or a refusal. `None` if the
     /// mirror is to take it.
-    fn check(&self, address: &[u8], given: &Kept) -> Result<Option<Accepted>, Offered>
+    pub(crate) fn check(&self, address: &[u8], given: &Kept) -> Result<Option<Accepted>, Offered>
         ensures first_fit { let answer = accept self.now.base self.now.kept address.now given.now in
             MatchResult result (λ found. answer ≡ Ok (unwrap_or found Accepted.Taken))
             (λ refusal. (refusal ≡ Offered.NoMemory) ⊎ (answer ≡ Err refusal)) }
         ensures new { result ≡ Ok None → IsNew self.now.kept given.now.document }
         ensures not_taken { result ≢ Ok (Some Accepted.Taken) }
     {
-        self.check_address(address, &given.document)?;
-        self.check_feed(&given.document)?;
+        self.check_address(address, given)?;
+        self.check_feed(given)?;
         if let Some(answer) = self.compare(given)? {
             return Ok(Some(answer));
         }
-        self.check_neighbours(&given.document)?;
+        self.check_neighbours(given)?;
         Ok(None)
     }
 
     /// `WrongAddress` unless the document's own address is the one given and has the mirror's base.
-    fn check_address(&self, address: &[u8], document: &Doc) -> Result<(), Offered>
-        ensures { Checks (wrong_address self.now.base address.now document.now) result }
+    fn check_address(&self, address: &[u8], given: &Kept) -> Result<(), Offered>
+        ensures { Checks (wrong_address self.now.base address.now given.now.document) result }
     {
-        let base = &document.name.base;
-        let own = document.kind.address();
+        let base = &given.name().base;
+        let own = given.kind().address();
         if base.text() == self.base.text() && self.base.read(address) == Some(own) {
             return Ok(());
         }
@@ -120,32 +68,31 @@ impl Held {
     fn feed(&self) -> Option<FeedId>
         ensures { result ≡ option_map (λ first. first.document.name.id) (slice_get self.now.kept 0) }
     {
-        Some(self.kept.first()?.document.name.id)
+        Some(self.kept.first()?.id())
     }
 
     /// `WrongFeed` if a document of another feed is held.
     #[tactic(auto, unfolding(crate::specs::Accept::wrong_feed))]
-    fn check_feed(&self, document: &Doc) -> Result<(), Offered>
-        ensures { Checks (wrong_feed self.now.kept document.now) result }
+    fn check_feed(&self, given: &Kept) -> Result<(), Offered>
+        ensures { Checks (wrong_feed self.now.kept given.now.document) result }
     {
-        let given = document.name.id;
+        let given = given.id();
         match self.feed() {
             Some(kept) if kept != given => Err(Offered::WrongFeed { kept, given }),
             _ => Ok(()),
         }
     }
 
-    /// The held document that stands in this one's place: the archive of the same number, or the best
-    /// subscription document if it has the same `last`.
+    /// The held archive with the same number, or the best subscription document if it has the same `last`.
     #[tactic(auto, unfolding(crate::specs::Accept::counterpart))]
-    fn counterpart(&self, document: &Doc) -> Option<&Kept>
-        ensures { option_copied result ≡ counterpart self.now.kept document.now }
+    fn counterpart(&self, given: &Kept) -> Option<&Kept>
+        ensures { option_copied result ≡ counterpart self.now.kept given.now.document }
     {
-        match document.kind {
+        match given.kind() {
             Kind::Archive(number) => self.archive(number),
             Kind::Subscription => {
                 let best = self.best_kept()?;
-                if best.document.span.last == document.span.last {
+                if best.span().last == given.span().last {
                     Some(best)
                 } else {
                     None
@@ -156,17 +103,17 @@ impl Held {
 
     /// Whether the document is a subscription document with a lower `last` than the best one.
     #[tactic(auto, unfolding(crate::specs::Accept::stale))]
-    fn is_stale(&self, document: &Doc) -> bool
-        ensures { result ≡ is_some (stale self.now.kept document.now) }
+    fn is_stale(&self, given: &Kept) -> bool
+        ensures { result ≡ is_some (stale self.now.kept given.now.document) }
     {
-        match (document.kind, self.best_kept()) {
-            (Kind::Subscription, Some(best)) => document.span.last < best.document.span.last,
+        match (given.kind(), self.best_kept()) {
+            (Kind::Subscription, Some(best)) => given.span().last < best.span().last,
             _ => false,
         }
     }
 
-    /// Compares the document with the held one in its place: `Known`, `Stale` or `Conflict`, and `None` if
-    /// none of them fits.
+    /// Compares the document with its counterpart: `Known`, `Stale` or `Conflict`. `None` if none of them
+    /// fits.
     #[tactic(auto, unfolding(crate::specs::Accept::counterpart, crate::specs::Accept::known, crate::specs::Accept::stale, crate::specs::Accept::conflict))]
     fn compare(&self, given: &Kept) -> Result<Option<Accepted>, Offered>
         ensures answer { let kept = self.now.kept in Compares (first_of (known kept given.now
@@ -174,34 +121,32 @@ impl Held {
         ensures new { result ≡ Ok None → IsNew self.now.kept given.now.document }
         ensures not_taken { result ≢ Ok (Some Accepted.Taken) }
     {
-        match self.counterpart(&given.document) {
-            Some(kept) if kept.digest == given.digest => Ok(Some(Accepted::Known)),
+        match self.counterpart(given) {
+            Some(kept) if kept.digest() == given.digest() => Ok(Some(Accepted::Known)),
             Some(kept) => Err(Offered::Conflict {
-                address: given.document.kind.address(),
-                kept: kept.digest,
-                given: given.digest,
+                address: given.kind().address(),
+                kept: kept.digest(),
+                given: given.digest(),
             }),
-            None if self.is_stale(&given.document) => Ok(Some(Accepted::Stale)),
+            None if self.is_stale(given) => Ok(Some(Accepted::Stale)),
             None => Ok(None),
         }
     }
 
     /// `Break` if a held neighbour of the document doesn't adjoin it.
     #[tactic(auto, unfolding(crate::specs::Accept::broken, crate::specs::Accept::break_before, crate::specs::Accept::best_after))]
-    fn check_neighbours(&self, document: &Doc) -> Result<(), Offered>
-        ensures { Checks (broken self.now.kept document.now) result }
+    fn check_neighbours(&self, given: &Kept) -> Result<(), Offered>
+        ensures { Checks (broken self.now.kept given.now.document) result }
     {
-        match document.kind {
-            Kind::Subscription => self.check_before(document.prev, document),
+        match given.kind() {
+            Kind::Subscription => self.check_before(given.prev(), given),
             Kind::Archive(number) => {
-                self.check_before(document.prev, document)?;
+                self.check_before(given.prev(), given)?;
                 if let Some(newer) = self.archive(number + 1) {
-                    check_spans(document, &newer.document)?;
+                    check_spans(given, newer)?;
                 }
                 match self.best_kept() {
-                    Some(best) if best.document.prev == number => {
-                        check_spans(document, &best.document)
-                    }
+                    Some(best) if best.prev() == number => check_spans(given, best),
                     _ => Ok(()),
                 }
             }
@@ -210,26 +155,27 @@ impl Held {
 
     /// `Break` if the archive of this number is held and doesn't end right before the document begins.
     #[tactic(auto, unfolding(crate::specs::Accept::break_after))]
-    fn check_before(&self, number: u32, document: &Doc) -> Result<(), Offered>
-        ensures { Checks (break_after document.now (archive_at self.now.kept number)) result }
+    fn check_before(&self, number: u32, given: &Kept) -> Result<(), Offered>
+        ensures { Checks (break_after given.now.document (archive_at self.now.kept number)) result }
     {
         match self.archive(number) {
-            Some(older) => check_spans(&older.document, document),
+            Some(older) => check_spans(older, given),
             None => Ok(()),
         }
     }
 
     /// Holds a new document. `NoMemory` leaves all as it was.
-    fn take(&mut self, given: Kept) -> Result<(), NoMemory>
+    pub(crate) fn take(&mut self, given: Kept) -> Result<(), NoMemory>
         requires { IsNew self.old.kept given.document }
         ensures kept { OnOk result (self.new.kept ≡ self.old.kept ++ given ∷ []) }
+        ensures unlisted { OnOk result (self.new.listed ≡ false) }
         ensures base { self.new.base ≡ self.old.base }
         ensures err { OnErr result (self.new ≡ self.old) }
     {
         self.kept.reserve(1)?;
         let at = self.kept.len();
-        let best = self.best_with(at, &given.document);
-        if let Kind::Archive(number) = given.document.kind {
+        let best = self.best_with(at, &given);
+        if let Kind::Archive(number) = given.kind() {
             self.archives.insert(number, at)?;
         }
         self.best = best;
@@ -238,16 +184,16 @@ impl Held {
         Ok(())
     }
 
-    /// The best subscription document once this new document is held. `at` will be its index among those
-    /// taken.
-    fn best_with(&self, at: usize, document: &Doc) -> Option<Best>
-        requires new { IsNew self.now.kept document.now }
+    /// The best subscription document once this new document is held. `at` will be the new document's index
+    /// among those taken.
+    fn best_with(&self, at: usize, given: &Kept) -> Option<Best>
+        requires new { IsNew self.now.kept given.now.document }
         requires end { at ≡ length self.now.kept }
-        ensures { HasBestAfter self.now.kept document.now result }
+        ensures { HasBestAfter self.now.kept given.now.document result }
     {
-        match document.kind {
+        match given.kind() {
             Kind::Subscription => {
-                let missing = self.first_missing(document.prev);
+                let missing = self.first_missing(given.prev());
                 Some(Best { at, missing })
             }
             Kind::Archive(number) => {
@@ -284,8 +230,8 @@ impl Held {
         ensures passed { (n : ℕ) → result < n → n ≤ number → IsSome (archive_at self.now.kept n) }
     {
         match (self.best, self.best_kept()) {
-            (Some(Best { missing, .. }), Some(best))
-                if missing < number && number <= best.document.prev => { missing }
+            (Some(Best { missing, .. }), Some(best)) if missing < number && number <= best.prev() =>
+                { missing }
             _ => number - 1,
         }
     }

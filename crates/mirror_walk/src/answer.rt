@@ -2,39 +2,40 @@ use atom_grammar::ReadFault;
 use atom_values::{Bytes, NoMemory};
 use chain_links::Address;
 use deleted_entries::FeedId;
+use feed_journal::DiskFault;
 use std::error::Error;
 use std::fmt;
 
-/// What an offered document was to a mirror that didn't refuse it.
+/// The answer of a mirror to an offered document that it doesn't refuse.
 #[derive(Clone, Copy, Debug, PartialEq, Eq)]
 pub enum Accepted {
-    /// The document was new, and is held from now on.
+    /// The document was new. The mirror holds it from now on.
     Taken,
-    /// The document is held already.
+    /// The mirror held the document already. Nothing changed.
     Known,
-    /// The best subscription document is newer than this one, so nothing changed.
+    /// The best subscription document held is newer than this one. Nothing changed.
     Stale,
 }
 
-/// Why a mirror refused an offered document. Nothing changed.
+/// Why a mirror didn't take an offered document. Any variant but `DiskFault` leaves the mirror as it was.
 #[derive(Debug, PartialEq, Eq, Drop)]
 pub enum Offered {
-    /// The bytes are no document. The first piece that can't stand there begins at offset `at`.
+    /// The bytes are the text of no document. The first wrong piece begins at offset `at`.
     NotADocument {
         at: usize,
     },
-    /// The document's own address, `says`, isn't the one that it was offered under, or has another base than
-    /// the mirror.
+    /// The document states another address than the one it was offered under, or an address outside the
+    /// mirror's base. `says` is the address that it states.
     WrongAddress {
         says: Bytes,
     },
-    /// The document is of the feed `given`, and the documents held are of the feed `kept`.
+    /// The document belongs to the feed `given`, and the documents held belong to the feed `kept`.
     WrongFeed {
         kept: FeedId,
         given: FeedId,
     },
-    /// Other bytes are held of the archive with this number, or of the best subscription document with the
-    /// same `last`. `kept` and `given` are the two SHA-256 digests.
+    /// The mirror holds other bytes of the archive with this number, or of the subscription document with the
+    /// same `last`. `kept` and `given` are the SHA-256 digests of the bytes held and of those offered.
     Conflict {
         address: Address,
         kept: [u8; 32],
@@ -46,6 +47,15 @@ pub enum Offered {
         older_last: u32,
         newer_first: u32,
     },
+    /// The mirror's area has `size` bytes, and no room for the document's `needed` bytes within its
+    /// `capacity`.
+    Full {
+        size: u64,
+        needed: u64,
+        capacity: u64,
+    },
+    /// A device call failed. The mirror is spent: drop it and load it again.
+    DiskFault,
     /// Out of memory.
     NoMemory,
 }
@@ -66,6 +76,15 @@ impl fmt::Display for Offered {
                 f,
                 "operation {newer_first} doesn't come right after operation {older_last}"
             ),
+            Offered::Full {
+                size,
+                needed,
+                capacity,
+            } => write!(
+                f,
+                "{size} bytes have no room for {needed} within {capacity}"
+            ),
+            Offered::DiskFault => write!(f, "disk fault"),
             Offered::NoMemory => write!(f, "out of memory"),
         }
     }
@@ -84,6 +103,17 @@ impl From<NoMemory> for Offered {
     }
 }
 
+impl From<DiskFault> for Offered {
+    ghost use Rattle.std.specs.Prelude.{◌≡◌};
+    ghost use Rattle.mirror_walk.specs.declared.answer.Offered.TheVariants.{DiskFault as OfferFailed};
+
+    ghost from_gives = { λ _ refusal. refusal ≡ OfferFailed };
+
+    fn from(_fault: DiskFault) -> Offered {
+        Offered::DiskFault
+    }
+}
+
 impl From<ReadFault> for Offered {
     ghost use Rattle.mirror_walk.specs.Accept.{IsOfRead};
 
@@ -97,7 +127,7 @@ impl From<ReadFault> for Offered {
     }
 }
 
-/// What a mirror's documents show.
+/// The state of a mirror: whether a document is missing, and what the documents show if none is.
 #[derive(Clone, Copy, Debug, PartialEq, Eq)]
 pub enum Outcome {
     /// No document is missing. `version` is the number of operations that the best subscription document ends

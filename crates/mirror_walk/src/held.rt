@@ -4,18 +4,12 @@ ghost use Rattle.chain_links.specs.declared.address.Address.{Address};
 ghost use Rattle.member_rules.specs.Chain.{place_of};
 ghost use Rattle.mirror_walk.specs.Holding.{archive_at, best_of, digest_at, first_missing, name_of_best};
 
-use atom_writer::{Doc, FeedName};
+use crate::kept::Kept;
+use atom_writer::FeedName;
 use chain_links::{Address, Base, Place};
 use std::alloc::Global;
 use std::collections::BTreeMap;
 use std::marker::Model;
-
-/// A document that a mirror took, and the SHA-256 digest of its bytes.
-#[derive(Debug, Drop)]
-pub(crate) struct Kept {
-    pub(crate) document: Doc,
-    pub(crate) digest: [u8; 32],
-}
 
 /// The best subscription document: its index among the documents taken, and the greatest archive that it
 /// needs and that isn't held, or 0.
@@ -32,13 +26,14 @@ pub(crate) struct EntryPlace {
     pub(crate) item: usize,
 }
 
-/// A mirror of one feed, in memory: the documents that it took of those offered to it.
+/// The state of a mirror of one feed: the documents that it took of those offered to it.
 ///
 /// Contracts see the base, the documents taken with their digests, in order, and whether the live entries are
-/// listed. Beside the documents the mirror keeps where each archive and the best subscription document is, so
-/// that an offer looks at no other document.
+/// listed. Memory holds no entry of a document, only the parts that the checks of later offers need. The
+/// index of each archive and of the best subscription document is kept too, so that an offer looks at no
+/// other document.
 #[derive(Drop)]
-pub struct Held {
+pub(crate) struct Held {
     pub(crate) alloc: Global,
     pub(crate) base: Base,
     pub(crate) kept: Vec<Kept>,
@@ -63,7 +58,7 @@ impl Model for Held {
 
 impl Held {
     /// A mirror of the feed below this base that holds no document. Takes no memory.
-    pub fn new(alloc: Global, base: Base) -> Held
+    pub(crate) fn new(alloc: Global, base: Base) -> Held
         ensures base { result.base ≡ base }
         ensures empty { result.kept ≡ [] }
         ensures unlisted { result.listed ≡ false }
@@ -94,23 +89,23 @@ impl Held {
 
     /// The place of the best subscription document in the chain. `None` if no subscription document is held.
     /// Takes no memory.
-    pub fn best(&self) -> Option<Place>
+    pub(crate) fn best(&self) -> Option<Place>
         ensures { result ≡ option_map (λ kept. place_of kept.document) (best_of self.now.kept) }
     {
-        Some(self.best_kept()?.document.place())
+        Some(self.best_kept()?.place())
     }
 
     /// The feed's name as the best subscription document states it. `None` if no subscription document is
     /// held.
-    pub fn name(&self) -> Option<&FeedName>
+    pub(crate) fn name(&self) -> Option<&FeedName>
         ensures { option_copied result ≡ name_of_best self.now.kept }
     {
-        Some(&self.best_kept()?.document.name)
+        Some(self.best_kept()?.name())
     }
 
     /// The SHA-256 digest of the bytes of the best subscription document for `Feed`, and of the held archive
     /// for an archive. `None` for a document that isn't held, and for a member. Takes no memory.
-    pub fn digest(&self, address: Address) -> Option<[u8; 32]>
+    pub(crate) fn digest(&self, address: Address) -> Option<[u8; 32]>
         ensures { result ≡ digest_at self.now.kept address }
     {
         let kept = match address {
@@ -118,14 +113,14 @@ impl Held {
             Address::Archive(number) => self.archive(number)?,
             Address::Member(_) => return None,
         };
-        Some(kept.digest)
+        Some(kept.digest())
     }
 
     /// The first missing document: the subscription document if none is held, else the greatest archive that
     /// the best one needs, from its `prev` down to 1, and that isn't held. `None` if none is missing.
     ///
     /// Takes no memory, and the same time however many documents are held.
-    pub fn wanted(&self) -> Option<Address>
+    pub(crate) fn wanted(&self) -> Option<Address>
         ensures missing { result ≡ first_missing self.now.kept }
         ensures address { IfSome result IsAddress }
     {

@@ -1,6 +1,7 @@
 ghost use Rattle.mirror_walk.specs.Laws.{LawOfTheMirror};
+ghost use Rattle.mirror_walk.specs.Walk.{WalksAskOnce};
 
-// The function of this file does nothing. It exists for its contract, which is a law over the definitions of
+// The functions of this file do nothing. Each exists for its contract, which is a law over the definitions of
 // specs/.
 
 /// The law of a mirror. Let all documents offered be served by one feed after some of its operations, in any
@@ -10,4 +11,10 @@ ghost use Rattle.mirror_walk.specs.Laws.{LawOfTheMirror};
 /// entries.
 pub fn served_documents_show_the_fold()
     ensures { LawOfTheMirror }
+{}
+
+/// The law of a walk. It asks for the feed's document once, and then for archives that the mirror doesn't
+/// hold, newest first and each once.
+pub fn walks_ask_for_nothing_twice()
+    ensures { WalksAskOnce }
 {}

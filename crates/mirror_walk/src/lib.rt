@@ -1,34 +1,51 @@
-//! A mirror of a feed: it takes the documents of a chain (RFC 5005 section 4) in any order, says which one is
-//! missing, and shows the live entries once none is.
+//! A mirror of a feed: it takes the documents of a chain (RFC 5005 section 4) in any order and keeps them on
+//! a disk, says which one is missing, and shows the live entries once none is.
 //!
-//! Begin with [`Held::new`], and offer each document that was found with [`Held::offer`]:
+//! Begin with [`Mirror::load`], and offer each document that was found with [`Mirror::offer`]:
 //!
 //! ```
-//! let mut held = Held::new(alloc, base);
+//! let mut mirror = Mirror::load(alloc, &mut disk, base, capacity)?;
 //! for (address, bytes) in documents {
-//!     held.offer(address, bytes)?;
+//!     mirror.offer(&mut disk, address, bytes)?;
 //! }
-//! match held.outcome()? {
+//! match mirror.outcome()? {
 //!     Outcome::Complete { version, live } => println!(rt; "{live} entries at version {version}")?,
 //!     Outcome::Missing { address } => println!(rt; "no {address:?} yet")?,
 //! }
 //! ```
 //!
-//! A document is held only if it is canonical, lies at its own address below the mirror's base, belongs to
+//! A document is taken only if it is canonical, lies at its own address below the mirror's base, belongs to
 //! the same feed as the others and adjoins its neighbours in the chain. `specs/Accept.antt` defines the
 //! answer to each offer. If all documents were served by one feed, none is refused, and a complete mirror
 //! shows the feed's entries as they were at the newest version offered: the law in `laws.rt` says so.
 //!
-//! Stands on `atom_grammar`, which reads the documents, on `member_rules` for the law of the chain, and on
-//! `sha2`.
+//! The texts of the documents taken are the payloads of the mirror area, in order. A crash at any moment of
+//! an offer leaves the documents held before, or those and the new one. In memory are only the parts of each
+//! document that the checks need, and [`Mirror::entry`] reads a document back.
+//!
+//! [`Mirror::walk`] asks a source of documents for those that are missing, newest first, and for none twice.
+//!
+//! Stands on `atom_grammar`, which reads the documents, on `member_rules` for the law of the chain, on
+//! `feed_journal` for the log of the area, on `doc_source` for the trait of a source, and on `sha2`.
 #![tactic(auto)]
 
 mod accept;
 mod answer;
+mod entry;
 mod held;
+mod kept;
 mod laws;
 mod live;
+mod load;
+mod mark;
+mod mirror;
+mod mirror_fault;
+mod offer;
+mod origin;
+mod walk;
 
 pub use answer::{Accepted, Offered, Outcome};
-pub use held::Held;
-pub use laws::served_documents_show_the_fold;
+pub use laws::{served_documents_show_the_fold, walks_ask_for_nothing_twice};
+pub use mirror::Mirror;
+pub use mirror_fault::MirrorFault;
+pub use walk::{Refusal, WalkFault, Walked};

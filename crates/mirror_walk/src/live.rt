@@ -1,5 +1,5 @@
-ghost use Rattle.std.specs.Prelude.{◌≡◌, ◌≤◌, ◌<◌, ◌^◌, List, IsTrue, IsSome, IfOk, IfSome, OnOk, OnErr, None, Some};
-ghost use Rattle.std.specs.Prelude.{◌∷◌, length, map, nat_eq, slice_get};
+ghost use Rattle.std.specs.Prelude.{◌≡◌, ◌<◌, ◌^◌, ◌∷◌, List, IsTrue, IsSome, IfOk, IfSome, OnOk, OnErr};
+ghost use Rattle.std.specs.Prelude.{None, Some, length, map, nat_eq, slice_get};
 ghost use Rattle.std.specs.BTreeMap.{Updates};
 ghost use Rattle.std.specs.Ordering.{nat_cmp};
 ghost use Rattle.member_rules.specs.Head.{HeadValue};
@@ -7,18 +7,18 @@ ghost use Rattle.member_rules.specs.declared.operation.Op.{Op};
 ghost use Rattle.member_rules.specs.Shows.{live_count_of};
 ghost use Rattle.std.specs.List.{IsDistinct};
 ghost use Rattle.atom_writer.specs.Doc.{DocValue};
-ghost use Rattle.deleted_entries.specs.Item.{item_number};
-ghost use Rattle.mirror_walk.specs.Holding.{best_of, chain_of, first_missing};
-ghost use Rattle.mirror_walk.specs.Index.{AreMembers, HasEntries, LaysOver, entry_place};
+ghost use Rattle.mirror_walk.specs.Holding.{KeptValue, best_of, chain_of, first_missing};
+ghost use Rattle.mirror_walk.specs.Index.{AreMembers, HasEntries, HasEntryAt, LaysOver, entry_place};
 ghost use Rattle.mirror_walk.specs.Laws.{ShowsServed};
 ghost use Rattle.mirror_walk.specs.Offers.{AreServed, AreTakenOf, Offering};
-ghost use Rattle.mirror_walk.specs.declared.held.Kept.{Kept};
-ghost use Rattle.mirror_walk.specs.Listing.{HasAddress, IsLastLive, IsNextLive, is_complete, live_at, outcome_of};
+ghost use Rattle.mirror_walk.specs.Marks.{AreFromOne, marked_number};
+ghost use Rattle.mirror_walk.specs.Listing.{HasAddress, IsLastLive, IsNextLive, is_complete, live_at};
+ghost use Rattle.mirror_walk.specs.Listing.{outcome_of};
 
 use crate::answer::Outcome;
 use crate::held::{EntryPlace, Held};
-use atom_values::{Copies, Entry, NoMemory};
-use deleted_entries::Item;
+use crate::mark::ItemMark;
+use atom_values::NoMemory;
 use std::collections::BTreeMap;
 use std::ops::Bound;
 
@@ -27,18 +27,18 @@ fn list_item(
     live: &mut BTreeMap<u32, EntryPlace>,
     document: usize,
     at: usize,
-    item: &Item,
+    item: ItemMark,
 ) -> Result<(), NoMemory>
     ensures updates { OnOk result
-        (Updates nat_cmp live.old live.new (item_number item.now) (entry_place document at item.now)) }
-    ensures member { (1 ≤ item_number item.now) × (item_number item.now < 2 ^ 32) }
+        (Updates nat_cmp live.old live.new (marked_number item) (entry_place document at item)) }
+    ensures small { marked_number item < 2 ^ 32 }
 {
     let number = item.number();
     match item {
-        Item::Kept(_) => {
+        ItemMark::Live(_) => {
             live.insert(number, EntryPlace { document, item: at })?;
         }
-        Item::Gone(_) => {
+        ItemMark::Gone(_) => {
             live.remove(&number);
         }
     }
@@ -49,14 +49,15 @@ fn list_item(
 fn list_items(
     live: &mut BTreeMap<u32, EntryPlace>,
     document: usize,
-    items: &[Item],
+    items: &[ItemMark],
 ) -> Result<(), NoMemory>
-    requires { IsDistinct nat_eq (map item_number items.now) }
+    requires distinct { IsDistinct nat_eq (map marked_number items.now) }
+    requires from_one { AreFromOne items.now }
     ensures items { OnOk result (LaysOver document items.now live.old live.new) }
     ensures members { OnOk result (AreMembers live.old → AreMembers live.new) }
 {
     for (at, item) in items.iter().enumerate() {
-        list_item(live, document, at, item)?;
+        list_item(live, document, at, *item)?;
     }
     Ok(())
 }
@@ -65,10 +66,10 @@ impl Held {
     /// What the documents show: the first missing document, as `wanted` returns it, or else the version and
     /// the number of live entries. Archives that the best subscription document doesn't need are not used.
     ///
-    /// If none is missing, the live entries are listed afterwards, for `next_live` and `entry`. The first
-    /// call after a document was taken makes the list, in one pass over the items of the needed documents.
-    /// `NoMemory` if there is no memory for it.
-    pub fn outcome(&mut self) -> Result<Outcome, NoMemory>
+    /// If none is missing, the live entries are listed afterwards, for `next_live` and `entry_place`. The
+    /// first call after a document was taken makes the list, in one pass over the items of the needed
+    /// documents. `NoMemory` if there is no memory for it.
+    pub(crate) fn outcome(&mut self) -> Result<Outcome, NoMemory>
         ensures outcome { IfOk result (λ outcome. outcome ≡ outcome_of self.old.kept) }
         ensures address { IfOk result HasAddress }
         ensures listed { IfOk result (λ outcome. IsTrue (is_complete outcome) → IsTrue self.new.listed) }
@@ -86,7 +87,7 @@ impl Held {
         }
         self.list()?;
         Ok(Outcome::Complete {
-            version: self.best_kept().unwrap().document.span.last,
+            version: self.best_kept().unwrap().span().last,
             live: self.live_count(),
         })
     }
@@ -114,8 +115,8 @@ impl Held {
         self.live.as_ref().unwrap().len() as u32
     }
 
-    /// The live entries that the best subscription document and the archives that it needs show, as far as they
-    /// are held.
+    /// The live entries that the best subscription document and the archives that it needs show, as far as
+    /// they are held.
     fn live_entries(&self) -> Result<BTreeMap<u32, EntryPlace>, NoMemory>
         ensures entries { IfOk result (HasEntries self.now.kept (chain_of self.now.kept)) }
         ensures members { IfOk result AreMembers }
@@ -124,8 +125,8 @@ impl Held {
         let Some(best) = self.best else {
             return Ok(live);
         };
-        let newest = &self.kept[best.at].document;
-        for before in 0..newest.prev {
+        let prev = self.kept[best.at].prev();
+        for before in 0..prev {
             if let Some(at) = self.archives.get(&(before + 1)) {
                 self.list_document(*at, &mut live)?;
             }
@@ -137,18 +138,17 @@ impl Held {
     /// Lists the items of the document with this index over those of older documents.
     fn list_document(&self, at: usize, live: &mut BTreeMap<u32, EntryPlace>) -> Result<(), NoMemory>
         requires { at < length self.now.kept }
-        ensures entries { OnOk result ((found : Kept) (older : List DocValue) → slice_get self.now.kept at ≡ Some found
-            → HasEntries self.now.kept older live.old
+        ensures entries { OnOk result ((found : KeptValue) (older : List DocValue)
+            → slice_get self.now.kept at ≡ Some found → HasEntries self.now.kept older live.old
             → HasEntries self.now.kept (found.document ∷ older) live.new) }
         ensures members { OnOk result (AreMembers live.old → AreMembers live.new) }
     {
-        let document = &self.kept[at].document;
-        list_items(live, at, document.items.as_slice())
+        list_items(live, at, self.kept[at].items())
     }
 
     /// The least number after this one of a live member. `None` if there is none. `outcome` has listed the
     /// live entries, and no document was taken since. Takes no memory.
-    pub fn next_live(&self, after: u32) -> Option<u32>
+    pub(crate) fn next_live(&self, after: u32) -> Option<u32>
         requires { IsTrue self.now.listed }
         ensures found { IfSome result (IsNextLive self.now.kept after) }
         ensures last { result ≡ None → IsLastLive self.now.kept after }
@@ -160,18 +160,13 @@ impl Held {
         Some(*number)
     }
 
-    /// A copy of the entry of a live member. `outcome` has listed the live entries, and no document was taken
-    /// since. `NoMemory` if there is no memory for the copy.
-    pub fn entry(&self, number: u32) -> Result<Entry, NoMemory>
+    /// The place of a live member's entry. `outcome` has listed the live entries, and no document was taken
+    /// since. Takes no memory.
+    pub(crate) fn entry_place(&self, number: u32) -> EntryPlace
         requires listed { IsTrue self.now.listed }
         requires live { IsSome (live_at self.now.kept number) }
-        ensures { IfOk result (λ entry. live_at self.now.kept number ≡ Some entry) }
+        ensures { IfSome (live_at self.now.kept number) (HasEntryAt self.now.kept result) }
     {
-        let place = self.live.as_ref().unwrap().get(&number).unwrap();
-        let document = &self.kept[place.document].document;
-        match &document.items.as_slice()[place.item] {
-            Item::Kept(entry) => entry.copy(self.alloc),
-            Item::Gone(_) => unreachable!(),
-        }
+        *self.live.as_ref().unwrap().get(&number).unwrap()
     }
 }

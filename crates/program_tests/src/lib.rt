@@ -10,6 +10,8 @@ mod documents;
 #[cfg(test)]
 mod faults;
 #[cfg(test)]
+mod fetches;
+#[cfg(test)]
 mod mirror;
 #[cfg(test)]
 mod pile;

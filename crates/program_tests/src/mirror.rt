@@ -1,7 +1,7 @@
 //! `mirror` of the pile of a store on a disk in memory, and of other inputs.
 
 use crate::pile::{filled, pile_of};
-use crate::runs::{APPLY, Run, expect_end, ran};
+use crate::runs::{APPLY, End, Run, empty_disk, expect_end, mirror_disk, ran};
 use crate::store::made;
 use feed_disk::Disk;
 use std::alloc::Global;
@@ -35,7 +35,7 @@ static OFFERED: [(&[usize], u8, &str); 5] = [
 const ENTRIES: &str =
     "entry 1 2023-11-14T22:13:20.001Z a\nentry 2 2023-11-14T22:13:20.002Z b\nentry 3 2023-11-14T22:13:20.003Z c\nentry 4 2023-11-14T22:13:20.004Z d\nentry 5 2023-11-14T22:13:20.005Z e\nentry 6 2023-11-14T22:13:20.006Z f\nentry 7 2023-11-14T22:13:20.007Z g\nentry 8 2023-11-14T22:13:20.008Z h\nentry 9 2023-11-14T22:13:20.009Z i\nentry 10 2023-11-14T22:13:20.010Z j\nentry 11 2023-11-14T22:13:20.011Z k\nentry 12 2023-11-14T22:13:20.012Z l\nentry 13 2023-11-14T22:13:20.013Z m\n";
 
-/// Mirrors these documents of a store, and compares the report.
+/// Mirrors these documents of a store on an empty disk, and compares the report.
 fn expect_report<D: Disk>(
     rt: &impl Abort,
     alloc: Global,
@@ -45,9 +45,13 @@ fn expect_report<D: Disk>(
     report: &str,
 ) {
     let pile = pile_of(rt, alloc, disk, documents);
-    let end = ran(rt, alloc, disk, MIRROR, pile.as_slice());
     let expected = report.replace(alloc, '*', ENTRIES).expect(rt, "memory");
-    assert!(rt; end.is(status, expected.as_bytes()), "{documents:?}");
+    let given = Run {
+        words: MIRROR,
+        input: pile.as_slice(),
+        ..APPLY
+    };
+    expect_end(rt, alloc, &given, status, expected.as_bytes());
 }
 
 #[test]
@@ -74,8 +78,140 @@ fn of_an_empty_store_is_complete(rt: HostRuntime) {
     let mut disk = made(&rt, alloc, &[], 0);
     expect_report(&rt, alloc, &mut disk, &[0], 0, EMPTY);
     let pile = pile_of(&rt, alloc, &mut disk, &[0]);
-    let end = ran(&rt, alloc, &mut disk, OTHER, pile.as_slice());
-    assert!(rt; end.is(3, REFUSED));
+    let refused = ran(&rt, alloc, &mut disk, OTHER, pile.as_slice());
+    assert!(rt; refused.is(3, REFUSED));
+    let taken = ran(&rt, alloc, &mut disk, MIRROR, pile.as_slice());
+    assert!(rt; taken.is(0, EMPTY.as_bytes()));
+    let other = ran(&rt, alloc, &mut disk, OTHER, b"pile 1\n");
+    assert!(rt; other.is(12, b"other base http://feed.example/\n"));
+}
+
+/// A mirror whose area may have 4,096 bytes.
+const SMALL: &[&str] = &[
+    "mirror",
+    "--base",
+    "http://feed.example/",
+    "--report",
+    "--capacity",
+    "4096",
+];
+
+/// The runs of mirrors on one disk, one after the other: the words, the documents that are offered, the status and what
+/// is printed. `*` stands for the lines of all entries. An empty pile is offered if there are no documents.
+static RUNS: [(&[&str], &[usize], u8, &str); 10] = [
+    (
+        MIRROR,
+        &[],
+        3,
+        "offers 0 0 0 0\nmissing http://feed.example/feed\n",
+    ),
+    // The subscription document has 821 bytes, archive 3 has 1,712 and archive 1 has 1,644.
+    (SMALL, &[0, 1, 3], 11, "full mirror 2544 1649 4096\n"),
+    (
+        SMALL,
+        &[],
+        3,
+        "offers 0 0 0 0\nmissing http://feed.example/archive/2\n",
+    ),
+    (
+        MIRROR,
+        &[0, 1, 3],
+        3,
+        "offers 1 2 0 0\nmissing http://feed.example/archive/2\n",
+    ),
+    (OTHER, &[], 12, "other base http://feed.example/\n"),
+    (MIRROR, &[2], 0, "offers 1 0 0 0\n*complete 13 13\n"),
+    (MIRROR, &[], 0, "offers 0 0 0 0\n*complete 13 13\n"),
+    (SMALL, &[0, 1, 2, 3], 0, "offers 0 4 0 0\n*complete 13 13\n"),
+    (OTHER, &[0], 12, "other base http://feed.example/\n"),
+    (MIRROR, &[3, 0], 0, "offers 0 2 0 0\n*complete 13 13\n"),
+];
+
+/// Runs a mirror on its disk with these documents of a store, and compares how it ends.
+fn expect_run<M: Disk, D: Disk>(
+    rt: &impl Abort,
+    alloc: Global,
+    mirror: &mut M,
+    store: &mut D,
+    (words, documents, status, printed): (&[&str], &[usize], u8, &str),
+) {
+    let pile = pile_of(rt, alloc, store, documents);
+    let end = ran(rt, alloc, mirror, words, pile.as_slice());
+    let expected = printed.replace(alloc, '*', ENTRIES).expect(rt, "memory");
+    assert!(rt;
+        end.is(status, expected.as_bytes()),
+        "{words:?} {documents:?}"
+    );
+}
+
+#[test]
+fn keeps_what_it_took(rt: HostRuntime) {
+    let alloc = rt.alloc();
+    let mut store = filled(&rt, alloc, 0);
+    let mut mirror = empty_disk(&rt, alloc, 0);
+    for &run_of in &RUNS {
+        expect_run(&rt, alloc, &mut mirror, &mut store, run_of);
+    }
+}
+
+/// Returns which of two runs of a mirror of this pile ends by the failing device call, if the third run is complete.
+fn letter_of(rt: &impl Abort, alloc: Global, failing: u64, pile: &[u8]) -> u8 {
+    let mut disk = empty_disk(rt, alloc, failing);
+    let first = ran(rt, alloc, &mut disk, MIRROR, pile);
+    let second = ran(rt, alloc, &mut disk, MIRROR, pile);
+    let third = ran(rt, alloc, &mut disk, MIRROR, pile);
+    match (first.status, second.status, third.status) {
+        (4, 0, 0) if first.is(4, b"disk fault\n") => b'1',
+        (0, 4, 0) if second.is(4, b"disk fault\n") => b'2',
+        _ => b'!',
+    }
+}
+
+#[test]
+fn each_device_call_may_fail(rt: HostRuntime) {
+    let alloc = rt.alloc();
+    let mut store = filled(&rt, alloc, 0);
+    let pile = pile_of(&rt, alloc, &mut store, &[0, 1, 2, 3]);
+    let mut letters = Vec::new(alloc);
+    for call in 1..=38 {
+        let letter = letter_of(&rt, alloc, call, pile.as_slice());
+        letters.push(letter).expect(&rt, "memory");
+    }
+    letters.dedup();
+    assert!(rt; letters.as_slice() == b"12".as_slice());
+}
+
+/// A frame of a log.
+fn push_frame(rt: &impl Abort, area: &mut Vec<u8>, payload: &[u8]) {
+    let length = u32::try_from(payload.len()).expect(rt, "a short payload");
+    area.push(1).expect(rt, "memory");
+    area.extend_from_slice(&length.to_be_bytes())
+        .expect(rt, "memory");
+    area.extend_from_slice(payload).expect(rt, "memory");
+}
+
+/// Runs a mirror on an area of these payloads, with an empty pile.
+fn ran_on(rt: &impl Abort, alloc: Global, payloads: &[&[u8]]) -> End {
+    let mut area = Vec::new(alloc);
+    for payload in payloads {
+        push_frame(rt, &mut area, payload);
+    }
+    area.push(0).expect(rt, "memory");
+    let mut disk = mirror_disk(rt, alloc, area.as_slice());
+    ran(rt, alloc, &mut disk, MIRROR, b"pile 1\n")
+}
+
+#[test]
+fn names_the_bad_payload(rt: HostRuntime) {
+    let alloc = rt.alloc();
+    let mut store = filled(&rt, alloc, 0);
+    let feed = ran(&rt, alloc, &mut store, &["show", "feed"], b"").printed;
+    assert!(rt; ran_on(&rt, alloc, &[b"x"]).is(6, b"bad store mirror 0 0\n"));
+    // A document that is held already isn't taken again. The offset is its length.
+    let twice: [&[u8]; 2] = [feed.as_slice(), feed.as_slice()];
+    assert!(rt; ran_on(&rt, alloc, &twice).is(6, b"bad store mirror 1 821\n"));
+    let once: [&[u8]; 2] = [feed.as_slice(), b""];
+    assert!(rt; ran_on(&rt, alloc, &once).is(6, b"bad store mirror 1 0\n"));
 }
 
 /// The last lines of a mirror that took nothing.

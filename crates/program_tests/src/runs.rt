@@ -4,7 +4,7 @@
 //! the clock, the input and the output of a run. The functions that make a disk are few, and all others borrow it.
 
 use atom_values::{Bytes, Many};
-use doc_source::{ListSink, ListSource};
+use doc_source::{Fetch, ListSink, ListSource, PileFetch};
 use document_server::{Door, ScriptDoor, SetClock};
 use feed_commands::run;
 use feed_disk::{Disk, MemoryDisk};
@@ -77,6 +77,17 @@ fn bytes_of(rt: &impl Abort, alloc: Global, bytes: &[u8]) -> Bytes {
     Bytes::of(alloc, bytes).expect(rt, "memory")
 }
 
+/// A disk whose mirror's area has these bytes.
+pub fn mirror_disk(rt: &impl Abort, alloc: Global, area: &[u8]) -> MemoryDisk {
+    MemoryDisk::new(
+        alloc,
+        bytes_of(rt, alloc, b""),
+        bytes_of(rt, alloc, b""),
+        bytes_of(rt, alloc, area),
+        Many::new(alloc),
+    )
+}
+
 /// An empty disk, one of whose calls fails. They are numbered from 1; 0 means none.
 pub fn empty_disk(rt: &impl Abort, alloc: Global, failing: u64) -> MemoryDisk {
     MemoryDisk::new(
@@ -88,12 +99,13 @@ pub fn empty_disk(rt: &impl Abort, alloc: Global, failing: u64) -> MemoryDisk {
     )
 }
 
-/// Runs the program at a door.
-pub fn ended_at<D: Disk, L: Door>(
+/// Runs the program at a door, with a source of documents.
+pub fn ended_at<D: Disk, L: Door, F: Fetch>(
     rt: &impl Abort,
     alloc: Global,
     disk: &mut D,
     door: &mut L,
+    fetch: &mut F,
     given: &Run,
 ) -> End {
     let words = words_of(rt, alloc, given.words);
@@ -107,6 +119,7 @@ pub fn ended_at<D: Disk, L: Door>(
         disk,
         &mut clock,
         door,
+        fetch,
         &mut input,
         &mut output,
     );
@@ -116,10 +129,27 @@ pub fn ended_at<D: Disk, L: Door>(
     }
 }
 
-/// Runs the program at a door at which nobody comes in.
-pub fn ended<D: Disk>(rt: &impl Abort, alloc: Global, disk: &mut D, given: &Run) -> End {
+/// Runs the program at a door at which nobody comes in, with a source of documents.
+pub fn fetched<D: Disk, F: Fetch>(
+    rt: &impl Abort,
+    alloc: Global,
+    disk: &mut D,
+    fetch: &mut F,
+    given: &Run,
+) -> End {
     let mut door = ScriptDoor::new(alloc, Many::new(alloc), Many::new(alloc)).expect(rt, "memory");
-    ended_at(rt, alloc, disk, &mut door, given)
+    ended_at(rt, alloc, disk, &mut door, fetch, given)
+}
+
+/// A source without documents.
+pub fn no_documents(alloc: Global) -> PileFetch {
+    PileFetch::new(alloc, Many::new(alloc), Many::new(alloc))
+}
+
+/// Runs the program at a door at which nobody comes in, with a source without documents.
+pub fn ended<D: Disk>(rt: &impl Abort, alloc: Global, disk: &mut D, given: &Run) -> End {
+    let mut fetch = no_documents(alloc);
+    fetched(rt, alloc, disk, &mut fetch, given)
 }
 
 /// Runs a command with the clock at `NOW`.

@@ -1,6 +1,6 @@
 //! `serve` on a store on a disk in memory, with connections in memory.
 
-use crate::runs::{APPLY, Run, ended_at, listed};
+use crate::runs::{APPLY, Run, ended_at, listed, no_documents};
 use crate::store::made;
 use atom_values::{Bytes, Many};
 use document_server::ScriptDoor;
@@ -50,12 +50,13 @@ fn prints_a_line_for_each_connection(rt: HostRuntime) {
     for &((device, door, output), status, printed) in &RUNS {
         let mut disk = made(&rt, alloc, &[], device);
         let mut door = door_of(&rt, alloc, door);
+        let mut fetch = no_documents(alloc);
         let given = Run {
             words: SERVE,
             failing_write: output,
             ..APPLY
         };
-        let end = ended_at(&rt, alloc, &mut disk, &mut door, &given);
+        let end = ended_at(&rt, alloc, &mut disk, &mut door, &mut fetch, &given);
         assert!(rt;
             end.is(status, printed.as_bytes()),
             "{device} {output} {status}"

@@ -16,7 +16,7 @@ static NEEDED: [(&str, &str); 4] = [
 
 /// Each row has words, separated by single spaces, and what they are read as. `*` means all options that `init` needs,
 /// `*title` only the title, and so on. `_` means a space within a word.
-static ROWS: [(&str, &str); 146] = [
+static ROWS: [(&str, &str); 163] = [
     ("apply", "apply"),
     ("apply 1", "apply 1"),
     ("apply 100", "apply 100"),
@@ -168,11 +168,37 @@ static ROWS: [(&str, &str); 146] = [
     ("serve --listen a --requests 5 --window 4", "usage"),
     ("serve --listen a --requests 5 *title", "usage"),
     ("serve *", "usage"),
-    ("mirror *base --report", "mirror /"),
-    ("mirror --report *base", "mirror /"),
+    ("mirror *base --report", "mirror / 1073741824"),
+    ("mirror --report *base", "mirror / 1073741824"),
+    ("mirror *base --report --fetch", "mirror / fetch 1073741824"),
+    (
+        "mirror --fetch *base --report --capacity 4096",
+        "mirror / fetch 4096",
+    ),
+    (
+        "mirror --capacity=68719476736 --report *base",
+        "mirror / 68719476736",
+    ),
+    ("mirror *base --report --capacity 0004096", "mirror / 4096"),
+    ("mirror *base --fetch", "usage"),
+    ("mirror *base --fetch --capacity 4096", "usage"),
+    ("mirror *base --report --fetch --fetch", "usage"),
+    ("mirror *base --report --fetch=yes", "usage"),
+    ("mirror *base --report --fetch yes", "usage"),
+    ("mirror *base --report --capacity 4095", "usage"),
+    ("mirror *base --report --capacity 68719476737", "usage"),
+    ("mirror *base --report --capacity", "usage"),
+    ("mirror *base --report --capacity=", "usage"),
+    (
+        "mirror *base --report --capacity 4096 --capacity 4096",
+        "usage",
+    ),
+    ("mirror --fetch --report", "usage"),
+    ("init * --fetch", "usage"),
+    ("show --fetch", "usage"),
     (
         "mirror --base=http://feed.example:8080/a/ --report",
-        "mirror :8080/a/",
+        "mirror :8080/a/ 1073741824",
     ),
     ("mirror", "usage"),
     ("mirror *base", "usage"),
@@ -267,9 +293,14 @@ fn reading(rt: &impl Abort, alloc: Global, words: &[String]) -> Result<String, F
             let listen = str::from_utf8(listen.slice())?;
             format!(in alloc; "serve {listen} {requests}")?
         }
-        Command::Mirror { base } => {
+        Command::Mirror {
+            base,
+            fetch,
+            capacity,
+        } => {
             let base = base_of(base.text())?;
-            format!(in alloc; "mirror {base}")?
+            let fetch = if fetch { "fetch " } else { "" };
+            format!(in alloc; "mirror {base} {fetch}{capacity}")?
         }
         Command::Init {
             name,

@@ -1,6 +1,6 @@
 -- The words of a command by their first word.
 use Rattle.std.proofs.Common.{◌≡◌, ◌⊎◌, ℕ, List, ◌∷◌, Option, Result, Ok, Err, IfOk}
-use Rattle.std.proofs.Common.{codes, bytes_eq, false, refl, sym, ◌∙◌, subst}
+use Rattle.std.proofs.Common.{codes, bytes_eq, Bool, false, refl, sym, ◌∙◌, subst}
 use Rattle.std.proofs.lemmas.Bool.{true≢false}
 use Rattle.std.proofs.lemmas.Slice.Eq.{bytes_eq-Decides}
 use Rattle.atom_writer.specs.declared.doc.FeedName.{FeedName}
@@ -28,7 +28,7 @@ module _ (words rest : List (List ℕ)) (r : Result Command WordsFault) where
       absurd (other_first (codes "init") (codes "show") rest behind refl (sym spelt ∙ e))
   init_only spelt only (Serve listen requests) (behind, e, i) =
       absurd (other_first (codes "init") (codes "serve") rest behind refl (sym spelt ∙ e))
-  init_only spelt only (Mirror base) (behind, e, i) =
+  init_only spelt only (Mirror base fetch capacity) (behind, e, i) =
       absurd (other_first (codes "init") (codes "mirror") rest behind refl (sym spelt ∙ e))
 
   pub serve_only : words ≡ codes "serve" ∷ rest →
@@ -43,14 +43,16 @@ module _ (words rest : List (List ℕ)) (r : Result Command WordsFault) where
       absurd (other_first (codes "serve") (codes "apply") rest behind refl (sym spelt ∙ e))
   serve_only spelt only (Show shown) (behind, e, i) =
       absurd (other_first (codes "serve") (codes "show") rest behind refl (sym spelt ∙ e))
-  serve_only spelt only (Mirror base) (behind, e, i) =
+  serve_only spelt only (Mirror base fetch capacity) (behind, e, i) =
       absurd (other_first (codes "serve") (codes "mirror") rest behind refl (sym spelt ∙ e))
 
   pub mirror_only : words ≡ codes "mirror" ∷ rest →
-      ((base : List ℕ) → IsMirror rest base → (r ≡ Ok (Mirror base)) ⊎ (r ≡ Err NoMemory)) →
+      ((base : List ℕ) (fetch : Bool) (capacity : ℕ) → IsMirror rest base fetch capacity →
+      (r ≡ Ok (Mirror base fetch capacity)) ⊎ (r ≡ Err NoMemory)) →
       (command : Command) → IsCommandOf words command → (r ≡ Ok command) ⊎ (r ≡ Err NoMemory)
-  mirror_only spelt only (Mirror base) (behind, e, i) =
-      let same : behind ≡ rest = cc in only base (subst (λ b. IsMirror b base) same i)
+  mirror_only spelt only (Mirror base fetch capacity) (behind, e, i) =
+      let same : behind ≡ rest = cc in
+      only base fetch capacity (subst (λ b. IsMirror b base fetch capacity) same i)
   mirror_only spelt only (Init name window capacity) (behind, e, i) =
       absurd (other_first (codes "mirror") (codes "init") rest behind refl (sym spelt ∙ e))
   mirror_only spelt only (Apply window) (behind, e, i) =

@@ -1,5 +1,5 @@
 -- The words of each command.
-use Rattle.std.specs.Prelude.{◌≡◌, ◌≢◌, ℕ, ◌-◌, ◌≤◌, ◌^◌, List, [], ◌∷◌, Option, Some, None, IsTrue, codes, length}
+use Rattle.std.specs.Prelude.{◌≡◌, ◌≢◌, ℕ, ◌-◌, ◌≤◌, ◌^◌, List, [], ◌∷◌, Option, Some, None, Bool, IsTrue, codes, length}
 use Rattle.uuid.specs.Text.{parsed}
 use Rattle.atom_values.specs.XmlText.{IsAtomText}
 use Rattle.atom_writer.specs.declared.doc.FeedName.{FeedName}
@@ -50,10 +50,10 @@ abbrev pub serve_options : List (List ℕ)
 serve_options = codes "listen" ∷ codes "requests" ∷ []
 
 abbrev pub mirror_options : List (List ℕ)
-mirror_options = codes "base" ∷ []
+mirror_options = codes "base" ∷ codes "capacity" ∷ []
 
 abbrev pub mirror_flags : List (List ℕ)
-mirror_flags = codes "report" ∷ []
+mirror_flags = codes "fetch" ∷ codes "report" ∷ []
 
 -- the value is this number in the range, or is left out and the number is the default
 abbrev pub IsNumberOr : ℕ → ℕ → ℕ → Option (List ℕ) → ℕ → Type 0
@@ -133,11 +133,14 @@ pub record IsServe (words : List (List ℕ)) (listen : List ℕ) (requests : ℕ
   pub is_requests : IsRequests (value_of (codes "requests") options) requests
 
 -- the words after `mirror`
-pub record IsMirror (words : List (List ℕ)) (base : List ℕ) : Type 0 where
+pub record IsMirror (words : List (List ℕ)) (base : List ℕ) (fetch : Bool) (capacity : ℕ) : Type 0 where
   pub options : List Given
   pub are_options : AreOptions mirror_options mirror_flags words options
   pub is_base : IsBaseText (value_of (codes "base") options) base
+  pub is_fetch : is_given (codes "fetch") options ≡ fetch
   pub is_report : IsTrue (is_given (codes "report") options)
+  pub is_capacity :
+      IsNumberOr default_capacity capacity_floor capacity_limit (value_of (codes "capacity") options) capacity
 
 abbrev pub IsCommandOf : List (List ℕ) → Command → Type 0
 IsCommandOf words (Init name window capacity) =
@@ -148,5 +151,5 @@ IsCommandOf words (Show shown) =
     (rest : List (List ℕ)) × (words ≡ codes "show" ∷ rest) × IsShow rest shown
 IsCommandOf words (Serve listen requests) =
     (rest : List (List ℕ)) × (words ≡ codes "serve" ∷ rest) × IsServe rest listen requests
-IsCommandOf words (Mirror base) =
-    (rest : List (List ℕ)) × (words ≡ codes "mirror" ∷ rest) × IsMirror rest base
+IsCommandOf words (Mirror base fetch capacity) =
+    (rest : List (List ℕ)) × (words ≡ codes "mirror" ∷ rest) × IsMirror rest base fetch capacity

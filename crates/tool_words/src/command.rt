@@ -27,9 +27,13 @@ pub enum Command {
         listen: Bytes,
         requests: u32,
     },
-    /// `mirror`: mirrors the feed below a base address from the pile that is the input, and prints a report.
+    /// `mirror`: mirrors the feed below a base address, and prints a report. Its documents come from the server if `fetch`,
+    /// and else from the pile that is the input. The mirror's area has at most `capacity` bytes, which are from 4,096 to
+    /// 68,719,476,736.
     Mirror {
         base: Base,
+        fetch: bool,
+        capacity: u64,
     },
 }
 

@@ -2,10 +2,11 @@ ghost use Rattle.std.specs.Prelude.{◌≡◌, ◌⊎◌, ℕ, List, Some, codes
 ghost use Rattle.atom_writer.specs.declared.doc.FeedName.{FeedName as NameValue};
 ghost use Rattle.tool_words.specs.Options.{value_of};
 ghost use Rattle.tool_words.specs.Reading.{option_of};
-ghost use Rattle.tool_words.specs.Words.{IsFeedIdText, IsInit, IsNamed, IsNameText, IsNumberOr, window_limit, default_window, capacity_floor, capacity_limit, default_capacity};
+ghost use Rattle.tool_words.specs.Words.{IsFeedIdText, IsInit, IsNamed, IsNameText, IsNumberOr, window_limit, default_window};
 ghost use Rattle.tool_words.specs.declared.command.Command.{Command as CommandValue};
 
 use crate::base::base;
+use crate::capacity::capacity;
 use crate::command::{Command, WINDOW_LIMIT};
 use crate::fault::WordsFault;
 use crate::number::number;
@@ -20,13 +21,6 @@ static INIT_OPTIONS: [&str; 6] = ["base", "uuid", "title", "author", "window", "
 
 /// How many operations a window has where the words don't say.
 const DEFAULT_WINDOW: u32 = 10;
-
-/// How many bytes an area may be limited to, at least and at most, and where the words don't say.
-const CAPACITY_FLOOR: u64 = 4_096;
-
-const CAPACITY_LIMIT: u64 = 68_719_476_736;
-
-const DEFAULT_CAPACITY: u64 = 1_073_741_824;
 
 /// How many bytes a feed's title and its author may have.
 const NAME_LIMIT: usize = 1_024;
@@ -83,21 +77,6 @@ fn window(options: &[Given<'_>]) -> Result<u32, WordsFault>
             let window = number(word.as_bytes(), 1, WINDOW_LIMIT).ok_or(WordsFault::Usage)?;
             Ok(window as u32)
         }
-    }
-}
-
-/// The capacity that the options give, or the default.
-fn capacity(options: &[Given<'_>]) -> Result<u64, WordsFault>
-    ensures found { IfOk result (IsNumberOr default_capacity capacity_floor capacity_limit
-        (value_of (codes "capacity") (map option_of options.now))) }
-    ensures only { (n : ℕ) → IsNumberOr default_capacity capacity_floor capacity_limit
-        (value_of (codes "capacity") (map option_of options.now)) n → result ≡ Ok n }
-{
-    match value_of(options, "capacity") {
-        None => Ok(DEFAULT_CAPACITY),
-        Some(word) => number(word.as_bytes(), CAPACITY_FLOOR, CAPACITY_LIMIT).ok_or(
-            WordsFault::Usage,
-        ),
     }
 }
 

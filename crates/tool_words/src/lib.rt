@@ -8,19 +8,21 @@
 //!     Ok(Command::Show(shown)) => ..,
 //!     Ok(Command::Init { name, window, capacity }) => ..,
 //!     Ok(Command::Serve { listen, requests }) => ..,
-//!     Ok(Command::Mirror { base }) => ..,
+//!     Ok(Command::Mirror { base, fetch, capacity }) => ..,
 //!     Err(WordsFault::Usage) => println!(rt; "usage: ..")?,
 //!     Err(WordsFault::NoMemory) => ..,
 //! }
 //! ```
 //!
 //! The first word is the command's name. Options are `--name value` or `--name=value`, in any order, each at most once.
-//! A flag is `--name` without a value. A value isn't empty and doesn't begin with `-`. A number is decimal digits, and may have leading zeros.
+//! A flag is `--name` without a value. A value isn't empty and doesn't begin with `-`. A number is decimal digits, and may
+//! have leading zeros.
 //!
 //! Stands on `atom_writer` for the name of a feed, and on the crates below it.
 #![tactic(auto)]
 
 mod base;
+mod capacity;
 mod command;
 mod fault;
 mod init;

@@ -1,29 +1,44 @@
-ghost use Rattle.std.specs.Prelude.{◌≡◌, ◌≢◌, ◌⊎◌, ◌++◌, ℕ, List, [], None, Err, Ok, IfOk, IfErr, OnOk, map};
+ghost use Rattle.std.specs.Prelude.{◌≡◌, ◌≢◌, ◌⊎◌, ◌≤◌, ◌++◌, ℕ, List, [], None, Err, Ok, IfOk, IfErr, IsOk, OnOk, false, map};
 ghost use Rattle.atom_values.specs.Counts.{Rose};
+ghost use Rattle.doc_source.specs.Fetch.{FetchState};
 ghost use Rattle.doc_source.specs.declared.offer.Offer.{Offer as OfferValue};
-ghost use Rattle.feed_disk.specs.declared.area.Area.{Area as AreaValue};
 ghost use Rattle.feed_commands.specs.declared.status.Status.TheVariants as status;
 ghost use Rattle.feed_commands.specs.Answer.{Answer, Prints};
 ghost use Rattle.feed_commands.specs.Fault.{fault_answer, IsRefusal};
-ghost use Rattle.feed_commands.specs.Mirror.{EndsServed, IsMirrored, IsPileOf, IsReport, IsReported, MayEndMirror};
-ghost use Rattle.feed_commands.specs.Mirror.{MayEndReport, ReadsTo, ReadsWithinPile, offering, pile_limit};
+ghost use Rattle.feed_commands.specs.Mirror.{HasAnswered, IsMirrored, IsReport, ReadsTo, ReadsWithinPile};
+ghost use Rattle.feed_commands.specs.Mirror.{offering, pile_limit};
+ghost use Rattle.feed_commands.specs.MirrorCrash.{LeavesMirror, LeavesMirrored};
+ghost use Rattle.feed_commands.specs.MirrorEnds.{GivesOffers, IsLater, IsPileReport, IsPileRefusal, MayEndMirror};
+ghost use Rattle.feed_commands.specs.MirrorEnds.{MayEndOffers, MayEndPileReport};
+ghost use Rattle.feed_commands.specs.Mirroring.{EndsMirroring};
+ghost use Rattle.feed_commands.specs.MirrorFaults.{IsHeldIn, IsReportRefusal, report_answer};
+ghost use Rattle.feed_commands.specs.Outside.{outside_of};
 ghost use Rattle.feed_commands.specs.Report.{Reports, no_counts};
-ghost use Rattle.feed_commands.specs.Run.{EndsWith, IsAlone, IsAnswered, IsDone, alone_line};
+ghost use Rattle.feed_commands.specs.Reporting.{IsUsable, SameMirror};
+ghost use Rattle.feed_commands.specs.Run.{EndsWith, IsAlone, IsAnswered, IsDone, IsMirrorUnrefused, alone_line};
 ghost use Rattle.feed_commands.specs.Status.{code_of};
-ghost use Rattle.member_rules.specs.Head.{HeadValue};
-ghost use Rattle.member_rules.specs.declared.operation.Op.{Op};
-ghost use Rattle.mirror_walk.specs.Offers.{AreServed};
+ghost use Rattle.feed_disk.specs.Moments.{LeavesAlone, NowOnly};
+ghost use Rattle.feed_disk.specs.declared.area.Area.{Area as AreaValue};
+ghost use Rattle.feed_disk.specs.declared.area.Area.TheVariants.{Mirror as MirrorArea};
+ghost use Rattle.feed_journal.specs.Limits.{area_limit};
+ghost use Rattle.feed_journal.specs.Records.{IsWhole};
+ghost use Rattle.feed_recovery.specs.Settled.{LeavesStores};
+ghost use Rattle.mirror_walk.specs.Holding.{KeptValue, payloads_of};
+ghost use Rattle.mirror_walk.specs.Loaded.{IsLoadedOf};
 ghost use Rattle.tool_words.specs.declared.command.Command.TheVariants.{Mirror as MirrorOf};
 
 use crate::commands::lines::INPUT_LIMIT;
 use crate::commands::report::Report;
-use crate::dispatch::{Ended, end_as, end_with};
+use crate::commands::report_fault::ReportFault;
+use crate::dispatch::{Ended, end_as};
 use crate::fault::{Fault, Refusal};
 use crate::status::Status;
 use atom_values::{Copies, Failed};
 use chain_links::Base;
 use doc_source::{PileFault, PileReader, Sink, Source, write_all};
-use mirror_walk::Held;
+use feed_disk::Disk;
+use feed_journal::begun_images_are_whole;
+use mirror_walk::Mirror;
 use std::alloc::Global;
 
 impl From<PileFault> for Fault {
@@ -42,21 +57,29 @@ impl From<PileFault> for Fault {
     }
 }
 
-/// Mirrors the feed below a base address from the pile that is the input, and prints the report. Each document of the
-/// pile is in memory until it was offered, and then if the mirror took it.
-pub fn mirror<I: Source, O: Sink>(
+/// Mirrors the feed below a base address from the pile that is the input, into the mirror's area of the disk, and prints
+/// the report. Each document of the pile is in memory until it was offered.
+pub fn mirror<D: Disk, I: Source, O: Sink>(
     alloc: Global,
     base: &Base,
+    capacity: u64,
+    disk: &mut D,
     input: &mut I,
     output: &mut O,
 ) -> Ended
+    requires { capacity ≤ area_limit }
     ensures lines { result.lines.items ≡ [] }
     ensures statuses { MayEndMirror result.status }
-    ensures answered { I.told → IsAnswered result.status → (moments : ℕ → ℕ) (content : AreaValue → List ℕ)
-        → EndsWith (MirrorOf base.now) moments (I.state input.old).left content O.told
+    ensures answered { D.told → I.told → IsAnswered result.status → (moments : ℕ → ℕ) (source : FetchState)
+        → EndsWith (MirrorOf base.now false capacity)
+        (outside_of moments (I.state input.old) (D.state disk.old) source) O.told
         (O.state output.old) (O.state output.new) result.status }
     ensures alone { O.told → IsAlone result.status
         → Prints (O.state output.old) (O.state output.new) (alone_line result.status) }
+    ensures disk_fault { result.status ≡ code_of status.DiskFault
+        → Rose (D.state disk.old).faults (D.state disk.new).faults }
+    ensures no_hidden_disk_fault { result.status ≢ code_of status.DiskFault
+        → (D.state disk.new).faults ≡ (D.state disk.old).faults }
     ensures input_fault { result.status ≡ code_of status.InputFault
         → Rose (I.state input.old).faults (I.state input.new).faults }
     ensures no_hidden_fault { result.status ≢ code_of status.InputFault
@@ -65,26 +88,28 @@ pub fn mirror<I: Source, O: Sink>(
         → Rose (O.state output.old).faults (O.state output.new).faults }
     ensures output_whole { IsDone result.status
         → (O.state output.new).faults ≡ (O.state output.old).faults }
-    ensures first_fault { I.told → result.status ≡ code_of status.InputFault
-        → ReadsWithinPile (I.state input.old) (I.state input.new) }
-    ensures complete { I.told → (given : Answer) → IsMirrored base.now (I.state input.old).left given
+    ensures first_fault { D.told → I.told → result.status ≡ code_of status.InputFault
+        → IsMirrorUnrefused base.now capacity (D.state disk.old).content
+        (I.state input.old) (I.state input.new) }
+    ensures complete { D.told → I.told → (kept : List KeptValue) (given : Answer)
+        → IsHeldIn base.now (D.state disk.old).content kept
+        → IsMirrored capacity base.now kept (I.state input.old).left given
+        → ¬ Rose (D.state disk.old).faults (D.state disk.new).faults
         → ¬ Rose (I.state input.old).faults (I.state input.new).faults
         → ¬ Rose (O.state output.old).faults (O.state output.new).faults
         → (result.status ≡ code_of given.status) ⊎ (result.status ≡ code_of status.NoMemory) }
-    ensures mirrored { I.told → (head : HeadValue) (history : List Op) (offers : List OfferValue)
-        → base.now ≡ head.name.base → IsPileOf offers (I.state input.old).left
-        → AreServed head history (map offering offers) → IsReported result.status
-        → EndsServed head history (map offering offers) O.told (O.state output.old) (O.state output.new)
-        result.status }
+    ensures mirrors { D.told → I.told → EndsMirroring capacity base.now (D.state disk.old) (D.state disk.new)
+        (I.state input.old).left O.told (O.state output.old) (O.state output.new) result.status }
+    ensures safe { D.told → LeavesStores (D.state disk.old) (D.state disk.new) }
 {
-    match report(alloc, base, input) {
+    match report(alloc, base, capacity, disk, input) {
         Ok(printed) => end_printed(alloc, output, printed),
-        Err(fault) => end_with(alloc, output, fault),
+        Err(fault) => end_unreported(alloc, output, &fault),
     }
 }
 
 /// Prints what a command prints at its defined end, in one call of the output unless the output takes only a part of it.
-fn end_printed<O: Sink>(alloc: Global, output: &mut O, printed: Printed) -> Ended
+pub(crate) fn end_printed<O: Sink>(alloc: Global, output: &mut O, printed: Printed) -> Ended
     requires { IsDone (code_of printed.status) }
     ensures lines { result.lines.items ≡ [] }
     ensures ends { (result.status ≡ code_of printed.status) ⊎ (result.status ≡ code_of status.OutputFault) }
@@ -102,31 +127,137 @@ fn end_printed<O: Sink>(alloc: Global, output: &mut O, printed: Printed) -> Ende
     }
 }
 
-/// What `mirror` prints, and the status with which it ends.
-#[derive(Debug, Drop)]
-struct Printed {
-    status: Status,
-    text: Vec<u8>,
+/// Prints the line of a fault, in one call of the output unless the output takes only a part of it.
+pub(crate) fn end_unreported<O: Sink>(alloc: Global, output: &mut O, fault: &ReportFault) -> Ended
+    ensures lines { result.lines.items ≡ [] }
+    ensures status { result.status ≡ code_of (report_answer fault.now).status }
+    ensures prints { O.told → Prints (O.state output.old) (O.state output.new) (report_answer fault.now).printed }
+    ensures faults { (O.state output.old).faults ≤ (O.state output.new).faults }
+{
+    // The status tells of the first fault, so it doesn't depend on whether its line could be printed.
+    let _ = write_all(output, fault.line().as_slice());
+    end_as(alloc, fault.status())
 }
 
-/// Offers the documents of the pile that is the input to a new mirror, and returns the report.
-fn report<I: Source>(alloc: Global, base: &Base, input: &mut I) -> Result<Printed, Fault>
-    ensures report { IfOk result (λ printed. I.told → IsReport base.now (I.state input.old).left
+/// What `mirror` prints, and the status with which it ends.
+#[derive(Debug, Drop)]
+pub(crate) struct Printed {
+    pub(crate) status: Status,
+    pub(crate) text: Vec<u8>,
+}
+
+/// Loads the mirror, offers it the documents of the pile that is the input, and returns the report.
+fn report<D: Disk, I: Source>(
+    alloc: Global,
+    base: &Base,
+    capacity: u64,
+    disk: &mut D,
+    input: &mut I,
+) -> Result<Printed, ReportFault>
+    requires { capacity ≤ area_limit }
+    ensures report { IfOk result (λ printed. D.told → I.told
+        → IsPileReport capacity base.now (D.state disk.old).content (I.state input.old).left
         record { status = printed.status; printed = printed.text.items }) }
-    ensures refused { IfErr result (λ fault. IsRefusal fault → I.told
-        → IsMirrored base.now (I.state input.old).left (fault_answer fault)) }
+    ensures refused { IfErr result (λ fault. IsReportRefusal fault → D.told → I.told
+        → IsPileRefusal capacity base.now (D.state disk.old).content (I.state input.old).left
+        (report_answer fault)) }
     ensures ends { IfOk result (λ printed. IsDone (code_of printed.status)) }
-    ensures own { IfErr result MayEndReport }
+    ensures own { IfErr result MayEndPileReport }
+    ensures disk { result ≡ Err (ReportFault.Other Fault.Disk)
+        → Rose (D.state disk.old).faults (D.state disk.new).faults }
+    ensures disk_faults { result ≢ Err (ReportFault.Other Fault.Disk)
+        → (D.state disk.new).faults ≡ (D.state disk.old).faults }
+    ensures input { result ≡ Err (ReportFault.Other Fault.Input)
+        → Rose (I.state input.old).faults (I.state input.new).faults }
+    ensures within { result ≡ Err (ReportFault.Other Fault.Input) → D.told → I.told
+        → IsMirrorUnrefused base.now capacity (D.state disk.old).content
+        (I.state input.old) (I.state input.new) }
+    ensures faults { result ≢ Err (ReportFault.Other Fault.Input)
+        → (I.state input.new).faults ≡ (I.state input.old).faults }
+    ensures others { (a : AreaValue) → a ≢ MirrorArea
+        → LeavesAlone (D.state disk.old) (D.state disk.new) a }
+    ensures kept { D.told → I.told → NowOnly (D.state disk.old) MirrorArea IsWhole
+        → LeavesMirror (D.state disk.old) (D.state disk.new) (IsLater result)
+        (LeavesMirrored capacity base.now (I.state input.old).left (D.state disk.old) (D.state disk.new)
+        (result ≡ Err (ReportFault.Other Fault.Disk)) (IsOk result)) }
+{
+    let mirror = Mirror::load(alloc, disk, base.copy(alloc)?, capacity)?;
+    Ok(report_loaded(alloc, base, mirror, disk, input)?)
+}
+
+/// Offers the documents to a mirror that was loaded, and drops it. It is a function of its own, because the proof drops a
+/// mirror field by field.
+fn report_loaded<D: Disk, I: Source>(
+    alloc: Global,
+    base: &Base,
+    mut mirror: Mirror,
+    disk: &mut D,
+    input: &mut I,
+) -> Result<Printed, Fault>
+    requires base { base.now ≡ mirror.base }
+    requires usable { IsUsable D.told (D.state disk.old) mirror }
+    requires loaded { IsLoadedOf mirror.base (payloads_of mirror.kept) mirror.kept }
+    ensures report { IfOk result (λ printed. D.told → I.told
+        → IsReport mirror.capacity mirror.base mirror.kept (I.state input.old).left
+        record { status = printed.status; printed = printed.text.items }) }
+    ensures refused { IfErr result (λ fault. IsRefusal fault → D.told → I.told
+        → IsMirrored mirror.capacity mirror.base mirror.kept (I.state input.old).left
+        (fault_answer fault)) }
+    ensures ends { IfOk result (λ printed. IsDone (code_of printed.status)) }
+    ensures own { IfErr result MayEndOffers }
+    ensures gives { GivesOffers mirror.capacity mirror.base mirror.kept (I.state input.old).left
+        I.told D.told (D.state disk.old) (D.state disk.new) (result ≡ Err Fault.Disk) (IsOk result) }
+    ensures others { (a : AreaValue) → a ≢ MirrorArea
+        → LeavesAlone (D.state disk.old) (D.state disk.new) a }
+    ensures disk { result ≡ Err Fault.Disk → Rose (D.state disk.old).faults (D.state disk.new).faults }
+    ensures disk_faults { result ≢ Err Fault.Disk
+        → (D.state disk.new).faults ≡ (D.state disk.old).faults }
     ensures input { result ≡ Err Fault.Input → Rose (I.state input.old).faults (I.state input.new).faults }
     ensures within { result ≡ Err Fault.Input → I.told
-        → ReadsWithinPile (I.state input.old) (I.state input.new) }
+        → ReadsWithinPile mirror.capacity mirror.base mirror.kept
+        (I.state input.old) (I.state input.new) }
     ensures faults { result ≢ Err Fault.Input → (I.state input.new).faults ≡ (I.state input.old).faults }
 {
+    report_offers(alloc, base, &mut mirror, disk, input)
+}
+
+/// Offers the documents of the pile that is the input to a mirror that was loaded, and returns the report.
+fn report_offers<D: Disk, I: Source>(
+    alloc: Global,
+    base: &Base,
+    mirror: &mut Mirror,
+    disk: &mut D,
+    input: &mut I,
+) -> Result<Printed, Fault>
+    requires base { base.now ≡ mirror.old.base }
+    requires usable { IsUsable D.told (D.state disk.old) mirror.old }
+    requires loaded { IsLoadedOf mirror.old.base (payloads_of mirror.old.kept) mirror.old.kept }
+    ensures report { IfOk result (λ printed. D.told → I.told
+        → IsReport mirror.old.capacity mirror.old.base mirror.old.kept (I.state input.old).left
+        record { status = printed.status; printed = printed.text.items }) }
+    ensures refused { IfErr result (λ fault. IsRefusal fault → D.told → I.told
+        → IsMirrored mirror.old.capacity mirror.old.base mirror.old.kept (I.state input.old).left
+        (fault_answer fault)) }
+    ensures ends { IfOk result (λ printed. IsDone (code_of printed.status)) }
+    ensures own { IfErr result MayEndOffers }
+    ensures gives { GivesOffers mirror.old.capacity mirror.old.base mirror.old.kept (I.state input.old).left
+        I.told D.told (D.state disk.old) (D.state disk.new) (result ≡ Err Fault.Disk) (IsOk result) }
+    ensures others { (a : AreaValue) → a ≢ MirrorArea
+        → LeavesAlone (D.state disk.old) (D.state disk.new) a }
+    ensures disk { result ≡ Err Fault.Disk → Rose (D.state disk.old).faults (D.state disk.new).faults }
+    ensures disk_faults { result ≢ Err Fault.Disk
+        → (D.state disk.new).faults ≡ (D.state disk.old).faults }
+    ensures input { result ≡ Err Fault.Input → Rose (I.state input.old).faults (I.state input.new).faults }
+    ensures within { result ≡ Err Fault.Input → I.told
+        → ReadsWithinPile mirror.old.capacity mirror.old.base mirror.old.kept
+        (I.state input.old) (I.state input.new) }
+    ensures faults { result ≢ Err Fault.Input → (I.state input.new).faults ≡ (I.state input.old).faults }
+{
+    begun_images_are_whole();
     let mut reader = PileReader::new(alloc, INPUT_LIMIT)?;
-    let mut held = Held::new(alloc, base.copy(alloc)?);
     let mut report = Report::new(alloc);
-    offer_all(&mut report, &mut held, &mut reader, input)?;
-    let status = report.end(base, &mut held)?;
+    offer_all(&mut report, mirror, disk, &mut reader, input)?;
+    let status = report.end(base, mirror, disk)?;
     Ok(Printed {
         status,
         text: report.text,
@@ -134,29 +265,43 @@ fn report<I: Source>(alloc: Global, base: &Base, input: &mut I) -> Result<Printe
 }
 
 /// Offers the documents of the pile to the mirror, and adds the answers to the report.
-fn offer_all<I: Source>(
+fn offer_all<D: Disk, I: Source>(
     report: &mut Report,
-    held: &mut Held,
+    mirror: &mut Mirror,
+    disk: &mut D,
     reader: &mut PileReader,
     input: &mut I,
 ) -> Result<(), Fault>
     requires report { (report.old.text.items ≡ []) × (report.old.counts ≡ no_counts) }
-    requires held { held.old.kept ≡ [] }
+    requires usable { IsUsable D.told (D.state disk.old) mirror.old }
+    requires loaded { IsLoadedOf mirror.old.base (payloads_of mirror.old.kept) mirror.old.kept }
     requires reader { reader.old ≡ record { ahead = []; used = 0; limit = pile_limit; refusal = None } }
     ensures offers { OnOk result ((offers : List OfferValue)
         × (I.told → ReadsTo (I.state input.old).left offers (Ok None))
-        × Reports held.old.base (map offering offers) held.new.kept report.new) }
-    ensures base { held.new.base ≡ held.old.base }
+        × Reports mirror.old.capacity mirror.old.base mirror.old.kept (map offering offers) mirror.new.kept
+        report.new) }
+    ensures same { SameMirror mirror.old mirror.new }
+    ensures usable { result ≢ Err Fault.Disk → IsUsable D.told (D.state disk.new) mirror.new }
     ensures refused { IfErr result (λ fault. IsRefusal fault → I.told
-        → IsMirrored held.old.base (I.state input.old).left (fault_answer fault)) }
+        → IsMirrored mirror.old.capacity mirror.old.base mirror.old.kept (I.state input.old).left
+        (fault_answer fault)) }
+    ensures own { IfErr result MayEndOffers }
+    ensures gives { GivesOffers mirror.old.capacity mirror.old.base mirror.old.kept (I.state input.old).left
+        I.told D.told (D.state disk.old) (D.state disk.new) (result ≡ Err Fault.Disk) (IsOk result) }
+    ensures others { (a : AreaValue) → a ≢ MirrorArea
+        → LeavesAlone (D.state disk.old) (D.state disk.new) a }
+    ensures disk { result ≡ Err Fault.Disk → Rose (D.state disk.old).faults (D.state disk.new).faults }
+    ensures disk_faults { result ≢ Err Fault.Disk
+        → (D.state disk.new).faults ≡ (D.state disk.old).faults }
     ensures input { result ≡ Err Fault.Input → Rose (I.state input.old).faults (I.state input.new).faults }
     ensures within { result ≡ Err Fault.Input → I.told
-        → ReadsWithinPile (I.state input.old) (I.state input.new) }
-    ensures own { IfErr result MayEndReport }
+        → ReadsWithinPile mirror.old.capacity mirror.old.base mirror.old.kept
+        (I.state input.old) (I.state input.new) }
     ensures faults { result ≢ Err Fault.Input → (I.state input.new).faults ≡ (I.state input.old).faults }
 {
+    begun_images_are_whole();
     while let Some(offer) = reader.next(input)? {
-        report.offer(held, offer.address.slice(), offer.bytes.slice())?;
+        report.offer(mirror, disk, offer.address.slice(), offer.bytes.slice())?;
     }
     Ok(())
 }

@@ -1,6 +1,7 @@
 ghost use Rattle.std.specs.Prelude.{◌≡◌, ◌≢◌, ◌⊎◌, ◌++◌, ℕ, List, [], false, Ok, Err, IfOk, IfErr, OnOk};
 ghost use Rattle.atom_values.specs.Counts.{HasCause, Rose};
-ghost use Rattle.doc_source.specs.Outside.{TakesPrefix};
+ghost use Rattle.doc_source.specs.Fetch.{FetchState};
+ghost use Rattle.doc_source.specs.Outside.{SourceState, TakesPrefix};
 ghost use Rattle.doc_source.specs.Pile.{offer_text};
 ghost use Rattle.doc_source.specs.declared.offer.Offer.{Offer as OfferValue};
 ghost use Rattle.feed_disk.specs.Moments.{LeavesAlone};
@@ -13,6 +14,7 @@ ghost use Rattle.feed_recovery.specs.Stored.{OpensTo, Stored, stored_of};
 ghost use Rattle.feed_commands.specs.declared.fault.Fault.{Fault as FaultValue};
 ghost use Rattle.feed_commands.specs.declared.status.Status.TheVariants as status;
 ghost use Rattle.feed_commands.specs.Fault.{fault_answer, IsRefusal};
+ghost use Rattle.feed_commands.specs.Outside.{outside_of};
 ghost use Rattle.feed_commands.specs.Pile.{EndsCut, IsFrontOf, MayEndPile, TakesFront, offer_of, offers_of, pile_of};
 ghost use Rattle.feed_commands.specs.Run.{EndsWith, IsAnswered};
 ghost use Rattle.feed_commands.specs.Status.{code_of};
@@ -78,8 +80,9 @@ impl From<LoadFault> for PrintFault {
 /// is printed as soon as it is made, so one document at a time is in memory beside the store. If a fault ends the pile,
 /// the fault's line comes behind the documents that were printed before.
 pub fn show_pile<D: Disk, O: Sink>(alloc: Global, disk: &mut D, output: &mut O) -> Ended
-    ensures answered { D.told → IsAnswered result.status → (moments : ℕ → ℕ) (input : List ℕ)
-        → EndsWith (ShowOf Pile) moments input (D.state disk.old).content O.told
+    ensures answered { D.told → IsAnswered result.status
+        → (moments : ℕ → ℕ) (input : SourceState) (source : FetchState)
+        → EndsWith (ShowOf Pile) (outside_of moments input (D.state disk.old) source) O.told
         (O.state output.old) (O.state output.new) result.status }
     ensures cut { O.told → result.status ≢ code_of status.Done → result.status ≢ code_of status.OutputFault
         → EndsCut (D.state disk.old).content D.told (O.state output.old) (O.state output.new) result.status }

@@ -1,18 +1,31 @@
-ghost use Rattle.std.specs.Prelude.{◌≡◌, ◌≤◌, ◌<◌, ◌+◌, ◌-◌, ◌^◌, ◌++◌, [], IsSome, IsTrue, OnOk, IfOk, Some, codes, flat_map, length};
+ghost use Rattle.std.specs.Prelude.{◌≡◌, ◌≢◌, ◌≤◌, ◌<◌, ◌+◌, ◌-◌, ◌^◌, ◌++◌, ℕ, [], false, Err, IfErr, IfSome, IsErr, IsSome, IsTrue, OnErr, OnOk, IfOk, Some, codes, flat_map, length};
+ghost use Rattle.atom_values.specs.Counts.{Rose};
 ghost use Rattle.atom_values.specs.Entry.{EntryValue};
 ghost use Rattle.chain_links.specs.Address.{IsAddress};
+ghost use Rattle.feed_commands.specs.Fault.{IsRefusal};
+ghost use Rattle.feed_commands.specs.MirrorFaults.{full_fault};
 ghost use Rattle.feed_commands.specs.Report as lines;
-ghost use Rattle.feed_commands.specs.Report.{HasAdded, counts_line, complete_line, missing_line, no_counts, total};
+ghost use Rattle.feed_commands.specs.Report.{HasAdded, IsReportable, counts_line, complete_line, missing_line, no_counts};
+ghost use Rattle.feed_commands.specs.Report.{total, walk_counts, walk_line};
+ghost use Rattle.feed_commands.specs.Reporting.{IsUsable, MayEndOffer, MayEndReading, SameMirror};
 ghost use Rattle.feed_commands.specs.Show.{entry_line};
-ghost use Rattle.mirror_walk.specs.Accept.{Answer as MirrorAnswer, IsAnswer};
+ghost use Rattle.feed_disk.specs.Moments.{AlwaysLeaves, LeavesAlone};
+ghost use Rattle.feed_disk.specs.declared.area.Area.{Area as AreaValue};
+ghost use Rattle.feed_disk.specs.declared.area.Area.TheVariants.{Mirror as MirrorArea};
+ghost use Rattle.mirror_walk.specs.Accept.{Answer as MirrorAnswer, IsAnswerWithin};
 ghost use Rattle.mirror_walk.specs.Listing.{live_at, live_entries, outcome_of};
+ghost use Rattle.mirror_walk.specs.Mirror.{IsAtRest, IsOfferStep};
+ghost use Rattle.mirror_walk.specs.declared.answer.Offered.TheVariants.{Full as NoRoom};
 
 use crate::commands::summary::{push_entry, push_numbered};
+use crate::fault::{BadStore, Fault};
 use crate::status::Status;
 use atom_grammar::MAX_DOCUMENT;
-use atom_values::NoMemory;
+use atom_values::{Entry, NoMemory};
 use chain_links::{Address, Base};
-use mirror_walk::{Accepted, Held, Offered, Outcome};
+use feed_disk::{Area, Disk};
+use feed_journal::LogFault;
+use mirror_walk::{Accepted, Mirror, Offered, Outcome, Refusal, Walked};
 use std::alloc::Global;
 
 /// How many offers got each answer.
@@ -48,48 +61,155 @@ impl Report {
         }
     }
 
-    /// Offers a document to the mirror, and adds the answer.
-    pub fn offer(&mut self, held: &mut Held, address: &[u8], bytes: &[u8]) -> Result<(), NoMemory>
+    /// The report of a walk.
+    pub fn of_walk(alloc: Global, base: &Base, walked: &Walked) -> Result<Report, NoMemory>
+        requires { IfSome walked.now.refused (λ refusal. IsAddress refusal.address) }
+        ensures text { IfOk result (λ report. report.text.items ≡ walk_line base.now walked.now.refused) }
+        ensures counts { IfOk result (λ report. report.counts ≡ walk_counts walked.now) }
+    {
+        let mut report = Report::new(alloc);
+        report.counts.taken = walked.taken;
+        report.counts.known = walked.known;
+        report.counts.stale = walked.stale;
+        if let Some(refusal) = &walked.refused {
+            report.counts.refused = 1;
+            report.push_refusal(alloc, base, refusal)?;
+        }
+        Ok(report)
+    }
+
+    /// Adds the line of the document at which a walk ended.
+    fn push_refusal(
+        &mut self,
+        alloc: Global,
+        base: &Base,
+        refusal: &Refusal,
+    ) -> Result<(), NoMemory>
+        requires { IsAddress refusal.now.address }
+        ensures text { OnOk result (self.new.text.items
+            ≡ self.old.text.items ++ walk_line base.now (Some refusal.now)) }
+        ensures counts { self.new.counts ≡ self.old.counts }
+    {
+        let address = base.print(alloc, refusal.address)?;
+        push_refused(
+            &mut self.text,
+            address.as_slice(),
+            refusal_name(&refusal.why),
+        )
+    }
+
+    /// Offers a document to the mirror, and adds the answer. Errors: `Full`, `Disk` and `NoMemory`, by which the
+    /// report ends.
+    pub fn offer<D: Disk>(
+        &mut self,
+        mirror: &mut Mirror,
+        disk: &mut D,
+        address: &[u8],
+        bytes: &[u8],
+    ) -> Result<(), Fault>
+        requires usable { IsUsable D.told (D.state disk.old) mirror.old }
         requires short { length bytes.now ≤ MAX_DOCUMENT }
         requires few { total self.old.counts < 2 ^ 32 - 1 }
-        ensures answer { OnOk result ((answer : MirrorAnswer)
-            × IsAnswer held.old.base held.old.kept address.now bytes.now answer held.new.kept
+        ensures answer { OnOk result ((answer : MirrorAnswer) × IsReportable answer
+            × IsAnswerWithin mirror.old.capacity mirror.old.base mirror.old.kept address.now bytes.now answer
+            mirror.new.kept
             × HasAdded self.old self.new address.now answer) }
-        ensures base { held.new.base ≡ held.old.base }
+        ensures full { (size needed capacity : ℕ) → result ≡ Err (full_fault size needed capacity)
+            → IsAnswerWithin mirror.old.capacity mirror.old.base mirror.old.kept address.now bytes.now
+            (Err (NoRoom size needed capacity)) mirror.old.kept }
+        ensures own { IfErr result MayEndOffer }
+        ensures unmoved { IfErr result (λ fault. fault ≢ Fault.Disk
+            → (mirror.new.kept ≡ mirror.old.kept) × (disk.new ≡ disk.old)) }
+        ensures same { SameMirror mirror.old mirror.new }
+        ensures usable { result ≢ Err Fault.Disk → IsUsable D.told (D.state disk.new) mirror.new }
+        ensures moments { D.told → IsAtRest (D.state disk.old) mirror.old.kept
+            → AlwaysLeaves (D.state disk.old) (D.state disk.new) MirrorArea
+            (IsOfferStep mirror.old address.now bytes.now) }
+        ensures rests { result ≢ Err Fault.Disk → D.told → IsAtRest (D.state disk.old) mirror.old.kept
+            → IsAtRest (D.state disk.new) mirror.new.kept }
+        ensures others { (a : AreaValue) → a ≢ MirrorArea → LeavesAlone (D.state disk.old) (D.state disk.new) a }
+        ensures disk { result ≡ Err Fault.Disk → Rose (D.state disk.old).faults (D.state disk.new).faults }
+        ensures disk_faults { result ≢ Err Fault.Disk → (D.state disk.new).faults ≡ (D.state disk.old).faults }
     {
-        match held.offer(address, bytes) {
+        let answer = mirror.offer(disk, address, bytes);
+        if let Some(fault) = room_fault(&answer) {
+            return Err(fault);
+        }
+        Ok(self.add(address, &answer)?)
+    }
+
+    /// Adds the answer to an offer.
+    fn add(&mut self, address: &[u8], answer: &Result<Accepted, Offered>) -> Result<(), NoMemory>
+        requires { total self.old.counts < 2 ^ 32 - 1 }
+        ensures added { OnOk result (HasAdded self.old self.new address.now answer.now) }
+        ensures memory { OnErr result (IsErr answer.now) }
+    {
+        match answer {
             Ok(Accepted::Taken) => self.counts.taken += 1,
             Ok(Accepted::Known) => self.counts.known += 1,
             Ok(Accepted::Stale) => self.counts.stale += 1,
-            Err(Offered::NoMemory) => return Err(NoMemory),
             Err(refusal) => {
                 self.counts.refused += 1;
-                push_refused(&mut self.text, address, refusal_name(&refusal))?;
+                push_refused(&mut self.text, address, refusal_name(refusal))?;
             }
         }
         Ok(())
     }
 
     /// Adds the counts, and what the mirror shows: the missing document alone, or the live entries and the version.
-    /// Returns the status with which `mirror` ends.
-    pub fn end(&mut self, base: &Base, held: &mut Held) -> Result<Status, NoMemory>
-        requires { base.now ≡ held.old.base }
-        ensures status { IfOk result (λ status. status ≡ lines.status_of (outcome_of held.old.kept)) }
-        ensures text { OnOk result (self.new.text.items ≡ self.old.text.items ++ counts_line self.old.counts
-            ++ lines.ending base.now (live_entries held.old.kept) (outcome_of held.old.kept)) }
+    /// Returns the status with which `mirror` ends. It reads the entries back from the disk.
+    pub fn end<D: Disk>(
+        &mut self,
+        base: &Base,
+        mirror: &mut Mirror,
+        disk: &mut D,
+    ) -> Result<Status, Fault>
+        requires usable { IsUsable D.told (D.state disk.old) mirror.old }
+        ensures status { IfOk result (λ status. status ≡ lines.status_of (outcome_of mirror.old.kept)) }
+        ensures text { OnOk result (D.told → self.new.text.items
+            ≡ self.old.text.items ++ counts_line self.old.counts
+            ++ lines.ending base.now (live_entries mirror.old.kept) (outcome_of mirror.old.kept)) }
+        ensures own { IfErr result MayEndReading }
+        ensures never { IfErr result (λ fault. D.told → ¬ IsRefusal fault) }
+        ensures areas { (a : AreaValue) → LeavesAlone (D.state disk.old) (D.state disk.new) a }
+        ensures disk { result ≡ Err Fault.Disk → Rose (D.state disk.old).faults (D.state disk.new).faults }
+        ensures disk_faults { result ≢ Err Fault.Disk → (D.state disk.new).faults ≡ (D.state disk.old).faults }
     {
         push_counts(&mut self.text, self.counts)?;
-        match held.outcome()? {
+        match mirror.outcome()? {
             Outcome::Missing { address } => {
                 push_missing(&mut self.text, base, address)?;
                 Ok(Status::Incomplete)
             }
             Outcome::Complete { version, live } => {
-                push_entries(&mut self.text, held)?;
+                push_entries(&mut self.text, mirror, disk)?;
                 push_complete(&mut self.text, version, live)?;
                 Ok(Status::Done)
             }
         }
+    }
+}
+
+/// The fault by which an answer ends the report, if it has its cause in the mirror's area, its disk or the memory.
+fn room_fault(answer: &Result<Accepted, Offered>) -> Option<Fault>
+    ensures { result ≡ lines.room_fault answer.now }
+{
+    match answer {
+        Err(
+            Offered::Full {
+                size,
+                needed,
+                capacity,
+            },
+        ) => Some(Fault::Full {
+            area: Area::Mirror,
+            size: *size,
+            needed: *needed,
+            capacity: *capacity,
+        }),
+        Err(Offered::DiskFault) => Some(Fault::Disk),
+        Err(Offered::NoMemory) => Some(Fault::NoMemory),
+        _ => None,
     }
 }
 
@@ -103,6 +223,8 @@ fn refusal_name(refusal: &Offered) -> &'static [u8]
         Offered::WrongFeed { .. } => b"WrongFeed",
         Offered::Conflict { .. } => b"Conflict",
         Offered::Break { .. } => b"Break",
+        Offered::Full { .. } => b"Full",
+        Offered::DiskFault => b"DiskFault",
         Offered::NoMemory => b"NoMemory",
     }
 }
@@ -142,28 +264,50 @@ fn push_missing(out: &mut Vec<u8>, base: &Base, address: Address) -> Result<(), 
 }
 
 /// Adds a line for each live entry, in order of number.
-fn push_entries(out: &mut Vec<u8>, held: &Held) -> Result<(), NoMemory>
-    requires { IsTrue held.now.listed }
-    ensures { OnOk result (out.new.items
-        ≡ out.old.items ++ flat_map entry_line (live_entries held.now.kept)) }
+fn push_entries<D: Disk>(out: &mut Vec<u8>, mirror: &mut Mirror, disk: &mut D) -> Result<(), Fault>
+    requires listed { IsTrue mirror.old.listed }
+    requires usable { IsUsable D.told (D.state disk.old) mirror.old }
+    ensures entries { OnOk result (D.told → out.new.items
+        ≡ out.old.items ++ flat_map entry_line (live_entries mirror.old.kept)) }
+    ensures own { IfErr result MayEndReading }
+    ensures never { IfErr result (λ fault. D.told → ¬ IsRefusal fault) }
+    ensures areas { (a : AreaValue) → LeavesAlone (D.state disk.old) (D.state disk.new) a }
+    ensures disk { result ≡ Err Fault.Disk → Rose (D.state disk.old).faults (D.state disk.new).faults }
+    ensures disk_faults { result ≢ Err Fault.Disk → (D.state disk.new).faults ≡ (D.state disk.old).faults }
 {
     let mut after = 0;
-    while let Some(number) = held.next_live(after) {
-        push_live(out, held, number)?;
+    while let Some(number) = mirror.next_live(after) {
+        let entry = live_entry(mirror, disk, number)?;
+        push_entry(out, &entry)?;
         after = number;
     }
     Ok(())
 }
 
-/// Adds the line of a live entry.
-fn push_live(out: &mut Vec<u8>, held: &Held, number: u32) -> Result<(), NoMemory>
-    requires listed { IsTrue held.now.listed }
-    requires live { IsSome (live_at held.now.kept number) }
-    ensures { OnOk result ((entry : EntryValue) → live_at held.now.kept number ≡ Some entry
-        → out.new.items ≡ out.old.items ++ entry_line entry) }
+/// Reads a live entry back.
+fn live_entry<D: Disk>(mirror: &mut Mirror, disk: &mut D, number: u32) -> Result<Entry, Fault>
+    requires listed { IsTrue mirror.old.listed }
+    requires live { IsSome (live_at mirror.old.kept number) }
+    requires usable { IsUsable D.told (D.state disk.old) mirror.old }
+    ensures entry { IfOk result (λ entry. D.told → live_at mirror.old.kept number ≡ Some entry) }
+    ensures kept { result ≢ Err Fault.Disk → mirror.new.kept ≡ mirror.old.kept }
+    ensures listed { result ≢ Err Fault.Disk → IsTrue mirror.new.listed }
+    ensures usable { result ≢ Err Fault.Disk → IsUsable D.told (D.state disk.new) mirror.new }
+    ensures own { IfErr result MayEndReading }
+    ensures never { IfErr result (λ fault. D.told → ¬ IsRefusal fault) }
+    ensures areas { (a : AreaValue) → LeavesAlone (D.state disk.old) (D.state disk.new) a }
+    ensures disk { result ≡ Err Fault.Disk → Rose (D.state disk.old).faults (D.state disk.new).faults }
+    ensures disk_faults { result ≢ Err Fault.Disk → (D.state disk.new).faults ≡ (D.state disk.old).faults }
 {
-    let entry = held.entry(number)?;
-    push_entry(out, &entry)
+    match mirror.entry(disk, number) {
+        Ok(entry) => Ok(entry),
+        Err(LogFault::DiskFault) => Err(Fault::Disk),
+        Err(LogFault::Changed { index }) => Err(Fault::BadStore(BadStore::Changed {
+            area: Area::Mirror,
+            index,
+        })),
+        Err(LogFault::NoMemory) => Err(Fault::NoMemory),
+    }
 }
 
 /// Adds the line of a complete mirror.

@@ -58,7 +58,7 @@ fn expect_reply(rt: &impl Abort, mut client: TcpStream) {
 #[test]
 fn serves_clients(rt: HostRuntime) {
     let disk = empty_disk(&rt, rt.alloc());
-    let mut door = TcpDoor::new(&rt);
+    let mut door = TcpDoor::new(rt.alloc(), &rt);
     door.listen(b"127.0.0.1:0").expect(&rt, "a port");
     let address = door.address().expect(&rt, "an address");
     // The second client sends more than is read.
@@ -67,4 +67,20 @@ fn serves_clients(rt: HostRuntime) {
         answer_next(&rt, &mut door, &disk);
         expect_reply(&rt, client);
     }
+}
+
+#[test]
+fn serves_a_client_while_another_is_silent(rt: HostRuntime) {
+    let disk = empty_disk(&rt, rt.alloc());
+    let mut door = TcpDoor::new(rt.alloc(), &rt);
+    door.listen(b"127.0.0.1:0").expect(&rt, "a port");
+    let address = door.address().expect(&rt, "an address");
+    let mut silent = TcpStream::connect(&rt, address).expect(&rt, "a connection");
+    let client = client_of(&rt, address, 0);
+    answer_next(&rt, &mut door, &disk);
+    expect_reply(&rt, client);
+    silent.write_all(b"seek").expect(&rt, "a sent request");
+    silent.shutdown(Shutdown::Write).expect(&rt, "an end");
+    answer_next(&rt, &mut door, &disk);
+    expect_reply(&rt, silent);
 }

@@ -3,19 +3,19 @@ use Rattle.feed_commands.proofs.CommandLemmas.{init-given, document-given}
 use Rattle.feed_commands.proofs.dispatch.answer.Goals as goal
 
 pub returns-in-Init-clause-answer : goal.returns-in-Init-clause-answer
-returns-in-Init-clause-answer g c = rw c.in-Init.is (IfOk-weaker c.init.result _ _
-    (λ written given seen. init-given _ _ _ _ c.in-Init.name c.in-Init.window c.in-Init.capacity
+returns-in-Init-clause-answer g c = λ source. rw c.in-Init.is (IfOk-weaker c.init.result _ _
+    (λ written given seen. init-given _ _ c.in-Init.name c.in-Init.window c.in-Init.capacity
     (given (seen.disk tt))) c.init.ensures.answer)
 
 pub returns-in-Init-clause-refused : goal.returns-in-Init-clause-refused
-returns-in-Init-clause-refused g c = rw c.in-Init.is (IfErr-weaker c.init.result _ _
-    (λ fault given refusal seen. init-given _ _ _ _ c.in-Init.name c.in-Init.window c.in-Init.capacity
+returns-in-Init-clause-refused g c = λ source. rw c.in-Init.is (IfErr-weaker c.init.result _ _
+    (λ fault given refusal seen. init-given _ _ c.in-Init.name c.in-Init.window c.in-Init.capacity
     (given refusal (seen.disk tt))) c.init.ensures.refused)
 
 pub returns-in-Document-clause-answer : goal.returns-in-Document-clause-answer
-returns-in-Document-clause-answer g c = rw (c.in-Show.is, c.in-Document.is) (IfOk-weaker c.show.result _ _
-    (λ written given seen. document-given _ _ _ _ (given (seen.input tt))) c.show.ensures.shown)
+returns-in-Document-clause-answer g c = λ source. rw (c.in-Show.is, c.in-Document.is) (IfOk-weaker c.show.result _ _
+    (λ written given seen. document-given _ _ (given (seen.input tt))) c.show.ensures.shown)
 
 pub returns-in-Document-clause-refused : goal.returns-in-Document-clause-refused
-returns-in-Document-clause-refused g c = rw (c.in-Show.is, c.in-Document.is) (IfErr-weaker c.show.result _ _
-    (λ fault given refusal seen. document-given _ _ _ _ (given refusal (seen.input tt))) c.show.ensures.refused)
+returns-in-Document-clause-refused g c = λ source. rw (c.in-Show.is, c.in-Document.is) (IfErr-weaker c.show.result _ _
+    (λ fault given refusal seen. document-given _ _ (given refusal (seen.input tt))) c.show.ensures.refused)

@@ -1,20 +1,23 @@
-use Rattle.std.proofs.Common.{◌≡◌, ⊎_elim, None, refl, sym, subst, ap, ◌∙◌, arith}
+use Rattle.std.proofs.Common.{◌≡◌, ◌⊎◌, inl, ⊎_elim, ℕ, Bool, None, Err, true, false, refl, sym, subst, ap, ◌∙◌, arith}
 use Rattle.std.proofs.lemmas.Result.{on_ok_weaker}
-use Rattle.tool_words.specs.declared.command.Command.TheVariants.{Init, Apply, Serve, Show}
+use Rattle.tool_words.specs.declared.command.Command.TheVariants.{Init, Apply, Mirror, Serve, Show}
 use Rattle.tool_words.specs.declared.command.Show.TheVariants.{Pile}
 use Rattle.tool_words.specs.declared.command.Command.{Command}
-use Rattle.feed_commands.specs.declared.fault.Fault.TheVariants.{Disk, NoMemory}
+use Rattle.feed_commands.specs.declared.commands.report_fault.ReportFault.TheVariants.{Other}
+use Rattle.feed_commands.specs.declared.fault.Fault.TheVariants.{Disk, Input, NoMemory}
 use Rattle.feed_commands.specs.Answer.{Answer}
 use Rattle.feed_commands.specs.Crash.{AddsNothing}
 use Rattle.feed_commands.specs.Fault.{fault_answer}
+use Rattle.feed_commands.specs.Mirroring.{EndsFetching, EndsMirroring}
 use Rattle.feed_commands.specs.Run.{EndsWith, IsAnswered, IsComplete, IsDueAnswer, IsSeen}
 use Rattle.feed_commands.specs.Status.{code_of}
 use Rattle.feed_commands.proofs.DiskLemmas.{applies-weaker, makes-none, makes-weaker}
 use Rattle.feed_commands.proofs.EndLemmas.{answered-refusal, no_door, no_end, no_output}
+use Rattle.feed_commands.proofs.MirrorEndLemmas.{fault-complete}
 use Rattle.feed_commands.proofs.PileEndLemmas.{cut-at-once, pile-is_status}
 use Rattle.feed_commands.proofs.PrintLemmas.{alone-fault, prints-from}
 use Rattle.feed_commands.proofs.RunLemmas.{ends-done, ends-refused, ends-unsent, no_command, read_all, read_as, read_only, same_requests}
-use Rattle.feed_commands.proofs.RunLemmas.{mirror-status, same_base, serve-status, usage}
+use Rattle.feed_commands.proofs.RunLemmas.{fetched-status, mirror-status, same_mirror, seen-unfetched, serve-status, usage}
 use Rattle.feed_commands.proofs.dispatch.run.Goals as goal
 
 pub returns-in-Err-Usage-clause-made : goal.returns-in-Err-Usage-clause-made
@@ -32,7 +35,8 @@ returns-in-Err-NoMemory-clause-made g c = λ name window capacity of_words told.
 pub returns-in-Ok-write_all-clause-answered : goal.returns-in-Ok-write_all-clause-answered
 returns-in-Ok-write_all-clause-answered g c = read_all _ c.read_words.result c.in-Ok.command _ c.in-Ok.is c.read_words.ensures.only
     (λ seen answered. rw c.end_as-in-Ok-write_all.ensures.status
-    (ends-done c.in-Ok.command _ _ _ _ _ _ c.in-Ok-answer.text.items (c.in-Ok-answer.ensures.answer seen)
+    (ends-done c.in-Ok.command _ _ _ _ c.in-Ok-answer.text.items
+    (c.in-Ok-answer.ensures.answer (g.F.Fetch.state c.args.fetch.now) (seen-unfetched c.in-Ok.command _ _ _ _ seen))
     (λ sink. rw (← c.as_slice.ensures.value) (prints-from c.write_all-in-Ok-answer.result _ _ _
     (c.write_all-in-Ok-answer.ensures.prefix sink)
     (on_ok_weaker c.write_all-in-Ok-answer.result (λ whole. whole sink) c.write_all-in-Ok-answer.ensures.whole)
@@ -58,7 +62,8 @@ returns-in-Ok-write_all-clause-applied g c = λ of_words told.
 pub returns-in-Ok-answer-clause-answered : goal.returns-in-Ok-answer-clause-answered
 returns-in-Ok-answer-clause-answered g c = read_all _ c.read_words.result c.in-Ok.command _ c.in-Ok.is c.read_words.ensures.only
     (λ seen answered. rw c.end_as-in-Err-write_all.ensures.status
-    (ends-unsent c.in-Ok.command _ _ _ _ _ _ c.in-Ok-answer.text.items (c.in-Ok-answer.ensures.answer seen)
+    (ends-unsent c.in-Ok.command _ _ _ _ c.in-Ok-answer.text.items
+    (c.in-Ok-answer.ensures.answer (g.F.Fetch.state c.args.fetch.now) (seen-unfetched c.in-Ok.command _ _ _ _ seen))
     (λ sink. rw (← c.as_slice.ensures.value) (prints-from c.write_all-in-Ok-answer.result _ _ _
     (c.write_all-in-Ok-answer.ensures.prefix sink)
     (on_ok_weaker c.write_all-in-Ok-answer.result (λ whole. whole sink) c.write_all-in-Ok-answer.ensures.whole)
@@ -82,8 +87,10 @@ returns-in-Ok-answer-clause-applied g c = λ of_words told.
 
 pub returns-clause-answered : goal.returns-clause-answered
 returns-clause-answered g c = read_all _ c.read_words.result c.in-Ok.command _ c.in-Ok.is c.read_words.ensures.only
-    (λ seen answered. ends-refused c.in-Ok.command _ _ _ _ _ _ c.in-Err.fault _ c.end_with-in-Err.ensures.status
-    (c.in-Err.ensures.refused (answered-refusal c.in-Err.fault (rw c.end_with-in-Err.ensures.status at answered)) seen)
+    (λ seen answered. ends-refused c.in-Ok.command _ _ _ _ c.in-Err.fault _ c.end_with-in-Err.ensures.status
+    (c.in-Err.ensures.refused (g.F.Fetch.state c.args.fetch.now)
+    (answered-refusal c.in-Err.fault (rw c.end_with-in-Err.ensures.status at answered))
+    (seen-unfetched c.in-Ok.command _ _ _ _ seen))
     c.end_with-in-Err.ensures.prints)
 
 pub returns-clause-alone : goal.returns-clause-alone
@@ -162,7 +169,7 @@ returns-in-Serve-clause-no_door g c = λ others.
     c.read_words.ensures.found))
 
 pub returns-clause-door_fault : goal.returns-clause-door_fault
-returns-clause-door_fault g c = λ is.
+returns-clause-door_fault g c = λ others is.
     absurd (no_door c.in-Err.fault (sym c.end_with-in-Err.ensures.status ∙ is))
 
 pub returns-in-Err-Usage-clause-cut : goal.returns-in-Err-Usage-clause-cut
@@ -191,10 +198,139 @@ returns-in-Ok-write_all-clause-opens g c = λ of_words disk clock source answere
     c.read_words.ensures.only refl (Apply None) of_words)
     disk clock source tt
 
-pub returns-in-Mirror-clause-statuses : goal.returns-in-Mirror-clause-statuses
-returns-in-Mirror-clause-statuses g c = mirror-status c.mirror.result.status c.mirror.ensures.statuses
+pub returns-in-Serve-clause-fetch_fault : goal.returns-in-Serve-clause-fetch_fault
+returns-in-Serve-clause-fetch_fault g c = λ others.
+    absurd (others _ _ (read_as _ c.read_words.result c.in-Ok.command _ c.in-Ok.is c.in-Serve.is
+    c.read_words.ensures.found))
 
-pub returns-in-Mirror-clause-mirrored : goal.returns-in-Mirror-clause-mirrored
-returns-in-Mirror-clause-mirrored g c =
-    same_base _ _ c.read_words.result c.in-Ok.command _ c.in-Ok.is c.in-Mirror.is c.read_words.ensures.only
-    c.mirror.ensures.mirrored
+pub returns-in-Ok-write_all-clause-complete : goal.returns-in-Ok-write_all-clause-complete
+returns-in-Ok-write_all-clause-complete g c = read_all _ c.read_words.result c.in-Ok.command _ c.in-Ok.is
+    c.read_words.ensures.only (λ seen given due. record {
+      ends = λ disk fetch input output.
+          let answered = c.in-Ok-answer.ensures.answer (g.F.Fetch.state c.args.fetch.now)
+          (seen-unfetched c.in-Ok.command _ _ _ _ seen) in
+          inl (c.end_as-in-Ok-write_all.ensures.status
+          ∙ ap (λ (a : Answer). code_of a.status) (sym (answered.due given due)));
+    })
+
+pub returns-clause-complete : goal.returns-clause-complete
+returns-clause-complete g c = read_all _ c.read_words.result c.in-Ok.command _ c.in-Ok.is c.read_words.ensures.only
+    (λ seen given due. record {
+      ends = λ disk fetch input output.
+          let fault = c.in-Err.fault in
+          subst (λ (n : ℕ). (n ≡ code_of given.status) ⊎ (n ≡ 5)) (sym c.end_with-in-Err.ensures.status)
+          (fault-complete (Other fault) given
+          (λ refusal. sym ((c.in-Err.ensures.refused (g.F.Fetch.state c.args.fetch.now) refusal
+          (seen-unfetched c.in-Ok.command _ _ _ _ seen)).due given due))
+          (λ e. let same : fault ≡ Disk = cc in disk (c.answer.ensures.disk (c.in-Err.is ∙ ap Err same)))
+          (λ e. let same : fault ≡ Input = cc in input (c.answer.ensures.input (c.in-Err.is ∙ ap Err same)))
+          (λ e. cc));
+    })
+
+-- `mirror --fetch`
+
+pub returns-in-Mirror-default-true-default-clause-statuses : goal.returns-in-Mirror-default-true-default-clause-statuses
+returns-in-Mirror-default-true-default-clause-statuses g c =
+    fetched-status c.mirror_fetched.result.status c.mirror_fetched.ensures.statuses
+
+pub returns-in-Mirror-default-true-default-clause-complete : goal.returns-in-Mirror-default-true-default-clause-complete
+returns-in-Mirror-default-true-default-clause-complete g c =
+    let arm = c.in-Mirror-default-true-default in
+    let is : c.in-Ok.command ≡ Mirror arm.base true arm.capacity =
+    arm.is ∙ ap (λ (f : Bool). Mirror arm.base f arm.capacity) arm.fetch-test in
+    read_all _ c.read_words.result c.in-Ok.command _ c.in-Ok.is
+    c.read_words.ensures.only (rw is (λ seen given due. record {
+      ends = λ disk fetch input output.
+          c.mirror_fetched.ensures.complete (seen.disk tt) (seen.fetch tt) due.kept given due.loaded due.is disk fetch
+          output;
+    }))
+
+pub returns-in-Mirror-default-true-default-clause-mirror : goal.returns-in-Mirror-default-true-default-clause-mirror
+returns-in-Mirror-default-true-default-clause-mirror g c = λ others.
+    let arm = c.in-Mirror-default-true-default in
+    let is : c.in-Ok.command ≡ Mirror arm.base true arm.capacity =
+    arm.is ∙ ap (λ (f : Bool). Mirror arm.base f arm.capacity) arm.fetch-test in
+    absurd (others _ true _ (read_as _ c.read_words.result c.in-Ok.command _ c.in-Ok.is
+    is c.read_words.ensures.found))
+
+pub returns-in-Mirror-default-true-default-clause-mirrors : goal.returns-in-Mirror-default-true-default-clause-mirrors
+returns-in-Mirror-default-true-default-clause-mirrors g c = λ base capacity of_words.
+    let arm = c.in-Mirror-default-true-default in
+    let is : c.in-Ok.command ≡ Mirror arm.base true arm.capacity =
+    arm.is ∙ ap (λ (f : Bool). Mirror arm.base f arm.capacity) arm.fetch-test in
+    let other : false ≡ true =
+    same_mirror (λ b fetch c. fetch ≡ true) _ c.read_words.result c.in-Ok.command _ true _ c.in-Ok.is
+    is c.read_words.ensures.only refl base false capacity of_words in
+    absurd (cc)
+
+pub returns-in-Mirror-default-true-default-clause-fetches : goal.returns-in-Mirror-default-true-default-clause-fetches
+returns-in-Mirror-default-true-default-clause-fetches g c = λ base capacity of_words.
+    let arm = c.in-Mirror-default-true-default in
+    let is : c.in-Ok.command ≡ Mirror arm.base true arm.capacity =
+    arm.is ∙ ap (λ (f : Bool). Mirror arm.base f arm.capacity) arm.fetch-test in
+    same_mirror (λ b fetch most. g.D.Disk.told → g.F.Fetch.told
+    → EndsFetching most b (g.D.Disk.state c.args.disk.now) (g.D.Disk.state c.mirror_fetched.new.disk)
+    (g.F.Fetch.state c.args.fetch.now) (g.F.Fetch.state c.mirror_fetched.new.fetch) g.O.Sink.told
+    (g.O.Sink.state c.args.output.now) (g.O.Sink.state c.mirror_fetched.new.output) c.mirror_fetched.result.status)
+    _ c.read_words.result c.in-Ok.command _ true _ c.in-Ok.is is
+    c.read_words.ensures.only c.mirror_fetched.ensures.fetches base true capacity of_words
+
+-- `mirror` from a pile
+
+pub returns-in-Mirror-default-false-default-clause-statuses :
+    goal.returns-in-Mirror-default-false-default-clause-statuses
+returns-in-Mirror-default-false-default-clause-statuses g c =
+    mirror-status c.mirror.result.status c.mirror.ensures.statuses
+
+pub returns-in-Mirror-default-false-default-clause-answered :
+    goal.returns-in-Mirror-default-false-default-clause-answered
+returns-in-Mirror-default-false-default-clause-answered g c =
+    let arm = c.in-Mirror-default-false-default in
+    let is : c.in-Ok.command ≡ Mirror arm.base false arm.capacity =
+    arm.is ∙ ap (λ (f : Bool). Mirror arm.base f arm.capacity) arm.fetch-test in
+    read_all _ c.read_words.result c.in-Ok.command _ c.in-Ok.is
+    c.read_words.ensures.only (rw is (λ seen answered.
+    c.mirror.ensures.answered (seen.disk tt) (seen.input tt) answered (g.C.Clock.coming c.args.clock.now)
+    (g.F.Fetch.state c.args.fetch.now)))
+
+pub returns-in-Mirror-default-false-default-clause-complete :
+    goal.returns-in-Mirror-default-false-default-clause-complete
+returns-in-Mirror-default-false-default-clause-complete g c =
+    let arm = c.in-Mirror-default-false-default in
+    let is : c.in-Ok.command ≡ Mirror arm.base false arm.capacity =
+    arm.is ∙ ap (λ (f : Bool). Mirror arm.base f arm.capacity) arm.fetch-test in
+    read_all _ c.read_words.result c.in-Ok.command _ c.in-Ok.is
+    c.read_words.ensures.only (rw is (λ seen given due. record {
+      ends = λ disk fetch input output.
+          c.mirror.ensures.complete (seen.disk tt) (seen.input tt) due.kept given due.loaded due.is disk input output;
+    }))
+
+pub returns-in-Mirror-default-false-default-clause-mirror : goal.returns-in-Mirror-default-false-default-clause-mirror
+returns-in-Mirror-default-false-default-clause-mirror g c = λ others.
+    let arm = c.in-Mirror-default-false-default in
+    let is : c.in-Ok.command ≡ Mirror arm.base false arm.capacity =
+    arm.is ∙ ap (λ (f : Bool). Mirror arm.base f arm.capacity) arm.fetch-test in
+    absurd (others _ false _ (read_as _ c.read_words.result c.in-Ok.command _ c.in-Ok.is
+    is c.read_words.ensures.found))
+
+pub returns-in-Mirror-default-false-default-clause-mirrors : goal.returns-in-Mirror-default-false-default-clause-mirrors
+returns-in-Mirror-default-false-default-clause-mirrors g c = λ base capacity of_words.
+    let arm = c.in-Mirror-default-false-default in
+    let is : c.in-Ok.command ≡ Mirror arm.base false arm.capacity =
+    arm.is ∙ ap (λ (f : Bool). Mirror arm.base f arm.capacity) arm.fetch-test in
+    same_mirror (λ b fetch most. g.D.Disk.told → g.I.Source.told
+    → EndsMirroring most b (g.D.Disk.state c.args.disk.now) (g.D.Disk.state c.mirror.new.disk)
+    (g.I.Source.state c.args.input.now).left g.O.Sink.told (g.O.Sink.state c.args.output.now)
+    (g.O.Sink.state c.mirror.new.output) c.mirror.result.status)
+    _ c.read_words.result c.in-Ok.command _ false _ c.in-Ok.is is
+    c.read_words.ensures.only c.mirror.ensures.mirrors base false capacity of_words
+
+pub returns-in-Mirror-default-false-default-clause-fetches : goal.returns-in-Mirror-default-false-default-clause-fetches
+returns-in-Mirror-default-false-default-clause-fetches g c = λ base capacity of_words.
+    let arm = c.in-Mirror-default-false-default in
+    let is : c.in-Ok.command ≡ Mirror arm.base false arm.capacity =
+    arm.is ∙ ap (λ (f : Bool). Mirror arm.base f arm.capacity) arm.fetch-test in
+    let other : true ≡ false =
+    same_mirror (λ b fetch c. fetch ≡ false) _ c.read_words.result c.in-Ok.command _ false _ c.in-Ok.is
+    is c.read_words.ensures.only refl base true capacity of_words in
+    absurd (cc)

@@ -1,22 +1,32 @@
-use Rattle.std.proofs.Common.{◌≡◌, length, subst, refl, arith}
-use Rattle.std.proofs.lemmas.Option.{slice_get_read}
-use Rattle.mirror_walk.proofs.ListedItemsLemmas.{LaidUpTo, laid-more, LaysOver-laid, AreMembers-more}
+use Rattle.std.proofs.Common.{◌≡◌, ◌≤◌, ◌<◌, ◌^◌, Some, get_or, length, subst, arith}
+use Rattle.std.specs.Prelude.{slice_get}
+use Rattle.std.proofs.lemmas.Option.{slice_get-get_or}
+use Rattle.mirror_walk.specs.declared.mark.ItemMark.TheVariants.{Live}
+use Rattle.mirror_walk.specs.Index.{entry_place}
+use Rattle.mirror_walk.specs.Marks.{marked_number}
+use Rattle.mirror_walk.proofs.ListedItemsLemmas.{AreMembers-more, LaidUpTo, LaysOver-laid, from_one-at}
+use Rattle.mirror_walk.proofs.ListedItemsLemmas.{laid-more}
 use Rattle.mirror_walk.proofs.live.list_items.Goals as goal
 
 pub loop-at-preserved : goal.loop-at-preserved
 loop-at-preserved c =
+    let items = c.args.items.now in
+    let at = c.loop-at.at in
+    let item = get_or items at (Live 0) in
     let updates = c.in_ok-list_item.ensures.updates in
+    let there : slice_get items at ≡ Some item = slice_get-get_or items at (Live 0) (omega arith) in
+    let within : (1 ≤ marked_number item) × (marked_number item < 2 ^ 32) =
+    (from_one-at items at item c.requires.from_one there, c.list_item.ensures.small) in
     record {
-      laid = laid-more c.args.document c.args.items.now c.loop-at.at c.index-items-at.result c.args.live.now c.loop-at.live
-          c.list_item.new.live c.requires
-          (slice_get_read c.args.items.now _ c.loop-at.at c.index-items-at.result refl (omega arith) c.index-items-at.is)
-          c.loop-at.invariant.laid updates;
-      members = λ members. AreMembers-more _ _ c.loop-at.live c.list_item.new.live c.list_item.ensures.member updates
-          (c.loop-at.invariant.members members);
+      laid = laid-more c.args.document items at item c.args.live.now c.loop-at.live c.list_item.new.live
+          c.requires.distinct there c.loop-at.invariant.laid updates;
+      members = λ members. AreMembers-more (marked_number item) (entry_place c.args.document at item)
+          c.loop-at.live c.list_item.new.live within updates (c.loop-at.invariant.members members);
     }
 
 pub returns-clause-items : goal.returns-clause-items
 returns-clause-items c =
     let all : c.loop-at.at ≡ length c.args.items.now = omega arith in
     LaysOver-laid c.args.document c.args.items.now c.args.live.now c.loop-at.live
-    (subst (λ n. LaidUpTo c.args.document c.args.items.now n c.args.live.now c.loop-at.live) all c.loop-at.invariant.laid)
+    (subst (λ n. LaidUpTo c.args.document c.args.items.now n c.args.live.now c.loop-at.live) all
+    c.loop-at.invariant.laid)

@@ -1,70 +1,180 @@
-use Rattle.std.proofs.Common.{◌≡◌, ℕ, ◌+◌, List, ◌++◌, length, Option, Some, None, Result, Ok, Err, refl, sym, ap, subst}
-use Rattle.std.proofs.Common.{◌∙◌, arith}
+use Rattle.std.proofs.Common.{◌≡◌, ℕ, ◌+◌, List, ◌++◌, Err, Ok, Option, Some, None, IsOk, length, ap, refl, sym, subst, arith, ◌∙◌}
 use Rattle.std.specs.Prelude.{IfSome}
 use Rattle.std.proofs.lemmas.Result.{err_from_is_err_and}
 use Rattle.doc_source.specs.Pile.{IsAnswer as IsPileAnswer, IsOffer, refusal_after, unused, used_text}
 use Rattle.doc_source.specs.declared.fault.PileFault.{PileFault}
 use Rattle.doc_source.specs.declared.offer.Offer.{Offer}
-use Rattle.mirror_walk.specs.Accept.{IsAnswer}
-use Rattle.feed_commands.specs.declared.fault.Fault.TheVariants.{Input}
-use Rattle.feed_commands.specs.Mirror.{pile_fault}
+use Rattle.feed_disk.specs.Moments.{AlwaysLeaves}
+use Rattle.feed_disk.specs.declared.area.Area.TheVariants.{Mirror as MirrorArea}
+use Rattle.feed_disk.proofs.MomentLemmas.{alone_joins}
+use Rattle.mirror_walk.specs.Accept.{IsAnswerWithin}
+use Rattle.mirror_walk.specs.Mirror.{IsOfferStep}
+use Rattle.feed_commands.specs.declared.fault.Fault.{Fault}
+use Rattle.feed_commands.specs.declared.fault.Fault.TheVariants.{Disk, Input}
+use Rattle.feed_commands.specs.Fault.{fault_answer}
+use Rattle.feed_commands.specs.Mirror.{IsMirrored, pile_fault}
+use Rattle.feed_commands.specs.MirrorEnds.{GivesOffers}
 use Rattle.feed_commands.specs.Report.{HasAdded}
-use Rattle.feed_commands.proofs.OffersLemmas.{amid-next, input-of_pile, mirrored-fault, within-fault}
+use Rattle.feed_commands.proofs.GivingLemmas.{giving-ends, giving-fault, giving-full, giving-next, giving-start, not-ok}
+use Rattle.feed_commands.proofs.OffersLemmas.{input-of_pile, mirrored-fault, reads-to, within-fault}
+use Rattle.feed_commands.proofs.RoomFaultLemmas.{offered-refused}
 use Rattle.feed_commands.proofs.commands.mirror.offer_all.Goals as goal
+
+pub loop-offer-init : goal.loop-offer-init
+loop-offer-init g c =
+    giving-start g.I.Source.told g.D.Disk.told c.args.mirror.now (g.D.Disk.state c.args.disk.now)
+    (g.I.Source.state c.args.input.now) c.args.reader.now c.args.report.now c.begun_images_are_whole.ensures
+    c.requires.reader c.requires.report.0 c.requires.report.1 c.requires.usable c.requires.loaded
 
 pub returns-in_err-offer-clause-refused : goal.returns-in_err-offer-clause-refused
 returns-in_err-offer-clause-refused g c =
     let p = err_from_is_err_and c.from_residual.result c.from_residual.ensures.1 in
-    let amid = c.loop-offer.invariant.amid in
+    let h = c.loop-offer.invariant in
+    let first = c.args.mirror.now in
     rw (p.1, p.2) (λ refusal told.
-    mirrored-fault g.I.Source.told c.args.held.now.base (g.I.Source.state c.args.input.now).left c.loop-offer.reader
-    (g.I.Source.state c.loop-offer.input) c.loop-offer.held.kept c.loop-offer.report amid c.in_err-offer.field-0.0 told
-    (c.in_err-offer.ensures.answer amid.fresh told) refusal)
+    mirrored-fault g.I.Source.told first.capacity first.base first.kept (g.I.Source.state c.args.input.now).left h.offers
+    c.loop-offer.reader (g.I.Source.state c.loop-offer.input) c.loop-offer.mirror.kept c.loop-offer.report h.amid
+    c.in_err-offer.field-0.0 told (c.in_err-offer.ensures.answer h.amid.fresh told) refusal)
+
+pub returns-in_err-offer-clause-gives : goal.returns-in_err-offer-clause-gives
+returns-in_err-offer-clause-gives g c =
+    let p = err_from_is_err_and c.from_residual.result c.from_residual.ensures.1 in
+    giving-ends g.I.Source.told g.D.Disk.told c.args.mirror.now (g.D.Disk.state c.args.disk.now)
+    (g.I.Source.state c.args.input.now) (g.D.Disk.state c.loop-offer.disk) (g.I.Source.state c.loop-offer.input)
+    c.loop-offer.reader c.loop-offer.mirror c.loop-offer.report _ _ c.begun_images_are_whole.ensures
+    c.loop-offer.invariant
+    (λ whole. absurd (not-ok c.from_residual.result _ p.1 whole))
 
 pub returns-in_err-offer-clause-within : goal.returns-in_err-offer-clause-within
 returns-in_err-offer-clause-within g c = λ is told.
     let p = err_from_is_err_and c.from_residual.result c.from_residual.ensures.1 in
-    let amid = c.loop-offer.invariant.amid in
+    let h = c.loop-offer.invariant in
+    let first = c.args.mirror.now in
     let fault = c.in_err-offer.field-0.0 in
     let input : pile_fault fault ≡ Input = let a = p.1 in let b = p.2 in cc in
     let failed = input-of_pile fault input in
-    let going = c.in_err-offer.ensures.refusal amid.fresh ∙ ap (λ (f : PileFault). refusal_after (Err f)) failed in
-    within-fault g.I.Source.told c.args.held.now.base (g.I.Source.state c.args.input.now).left c.loop-offer.reader
-    (g.I.Source.state c.loop-offer.input) c.loop-offer.held.kept c.loop-offer.report amid c.next.new.self
-    (g.I.Source.state c.args.input.now) (g.I.Source.state c.next.new.source) told refl c.in_err-offer.ensures.limit
-    c.in_err-offer.ensures.bound (omega (arith, c.in_err-offer.ensures.used))
+    let going = c.in_err-offer.ensures.refusal h.amid.fresh ∙ ap (λ (f : PileFault). refusal_after (Err f)) failed in
+    within-fault g.I.Source.told first.capacity first.base first.kept (g.I.Source.state c.args.input.now).left h.offers
+    c.loop-offer.reader (g.I.Source.state c.loop-offer.input) c.loop-offer.mirror.kept c.loop-offer.report h.amid
+    c.next.new.self (g.I.Source.state c.args.input.now) (g.I.Source.state c.next.new.source) told refl
+    c.in_err-offer.ensures.limit c.in_err-offer.ensures.bound (omega (arith, c.in_err-offer.ensures.used))
     (c.in_err-offer.ensures.stays going told)
+
+pub returns-in_err-offer-2-clause-refused : goal.returns-in_err-offer-2-clause-refused
+returns-in_err-offer-2-clause-refused g c =
+    let p = err_from_is_err_and c.from_residual-in_err-offer-2.result c.from_residual-in_err-offer-2.ensures.1 in
+    let h = c.loop-offer.invariant in
+    let fault = c.in_err-offer-2.field-0.0 in
+    rw (p.1, p.2) (λ refusal told.
+    offered-refused (λ (f : Fault). IsMirrored c.args.mirror.now.capacity c.args.mirror.now.base c.args.mirror.now.kept
+    (g.I.Source.state c.args.input.now).left (fault_answer f)) fault c.in_err-offer-2.ensures.own refusal
+    (λ size needed most same.
+    giving-full g.I.Source.told g.D.Disk.told c.args.mirror.now (g.D.Disk.state c.args.disk.now)
+    (g.I.Source.state c.args.input.now)
+    (g.D.Disk.state c.loop-offer.disk)
+    (g.I.Source.state c.loop-offer.input) (g.I.Source.state c.next.new.source) c.loop-offer.reader c.next.new.self
+    c.loop-offer.mirror c.loop-offer.report h c.in-Some.offer
+    (c.in_ok-offer.ensures.used
+    ∙ ap (λ (o : Option Offer). c.loop-offer.reader.used + length (used_text c.loop-offer.reader.used (Ok o)))
+    c.in-Some.is)
+    (λ t. subst (λ (o : Option Offer).
+    IsPileAnswer c.loop-offer.reader.used c.loop-offer.reader.limit (unused c.loop-offer.reader (g.I.Source.state c.loop-offer.input)) (Ok o))
+    c.in-Some.is (c.in_ok-offer.ensures.answer h.amid.fresh t))
+    (λ t. subst (λ (o : Option Offer). unused c.loop-offer.reader (g.I.Source.state c.loop-offer.input)
+    ≡ used_text c.loop-offer.reader.used (Ok o) ++ unused c.next.new.self (g.I.Source.state c.next.new.source))
+    c.in-Some.is (c.in_ok-offer.ensures.stays (c.in_ok-offer.ensures.refusal h.amid.fresh) t))
+    c.in_ok-offer.ensures.limit (omega (arith, c.in_ok-offer.ensures.bound))
+    c.slice.result.now c.slice-in-Some.result.now size needed most c.slice.ensures c.slice-in-Some.ensures
+    (c.in_err-offer-2.ensures.full size needed most (ap Err same)) told))
+
+pub returns-in_err-offer-2-clause-gives : goal.returns-in_err-offer-2-clause-gives
+returns-in_err-offer-2-clause-gives g c =
+    let p = err_from_is_err_and c.from_residual-in_err-offer-2.result c.from_residual-in_err-offer-2.ensures.1 in
+    let h = c.loop-offer.invariant in
+    let fault = c.in_err-offer-2.field-0.0 in
+    giving-fault g.I.Source.told g.D.Disk.told c.args.mirror.now (g.D.Disk.state c.args.disk.now)
+    (g.I.Source.state c.args.input.now)
+    (g.D.Disk.state c.loop-offer.disk)
+    (g.I.Source.state c.loop-offer.input) (g.I.Source.state c.next.new.source) c.loop-offer.reader c.next.new.self
+    c.loop-offer.mirror c.loop-offer.report h c.in-Some.offer
+    (c.in_ok-offer.ensures.used
+    ∙ ap (λ (o : Option Offer). c.loop-offer.reader.used + length (used_text c.loop-offer.reader.used (Ok o)))
+    c.in-Some.is)
+    (λ t. subst (λ (o : Option Offer).
+    IsPileAnswer c.loop-offer.reader.used c.loop-offer.reader.limit (unused c.loop-offer.reader (g.I.Source.state c.loop-offer.input)) (Ok o))
+    c.in-Some.is (c.in_ok-offer.ensures.answer h.amid.fresh t))
+    (λ t. subst (λ (o : Option Offer). unused c.loop-offer.reader (g.I.Source.state c.loop-offer.input)
+    ≡ used_text c.loop-offer.reader.used (Ok o) ++ unused c.next.new.self (g.I.Source.state c.next.new.source))
+    c.in-Some.is (c.in_ok-offer.ensures.stays (c.in_ok-offer.ensures.refusal h.amid.fresh) t))
+    c.in_ok-offer.ensures.limit (omega (arith, c.in_ok-offer.ensures.bound))
+    (g.D.Disk.state c.offer.new.disk) fault _ _ c.in_err-offer-2.ensures.own
+    (λ is. let a = p.1 in let b = p.2 in cc)
+    (not-ok c.from_residual-in_err-offer-2.result _ p.1) c.begun_images_are_whole.ensures
+    (λ told rest.
+    subst (λ (a : List ℕ). AlwaysLeaves (g.D.Disk.state c.loop-offer.disk) (g.D.Disk.state c.offer.new.disk) MirrorArea
+    (IsOfferStep c.loop-offer.mirror a c.in-Some.offer.bytes)) c.slice.ensures
+    (subst (λ (x : List ℕ). AlwaysLeaves (g.D.Disk.state c.loop-offer.disk) (g.D.Disk.state c.offer.new.disk) MirrorArea
+    (IsOfferStep c.loop-offer.mirror c.slice.result.now x)) c.slice-in-Some.ensures
+    (c.offer.ensures.moments told rest)))
+    (λ other given. subst (λ disk. GivesOffers c.args.mirror.now.capacity c.args.mirror.now.base c.args.mirror.now.kept
+    (g.I.Source.state c.args.input.now).left g.I.Source.told g.D.Disk.told (g.D.Disk.state c.args.disk.now)
+    (g.D.Disk.state disk) (c.from_residual-in_err-offer-2.result ≡ Err Disk) (IsOk c.from_residual-in_err-offer-2.result))
+    (sym (c.in_err-offer-2.ensures.unmoved other).1) given)
+
+pub returns-in_err-offer-2-clause-others : goal.returns-in_err-offer-2-clause-others
+returns-in_err-offer-2-clause-others g c = λ a other.
+    alone_joins _ (g.D.Disk.state c.loop-offer.disk) _ a (c.loop-offer.invariant.others a other)
+    (c.in_err-offer-2.ensures.others a other)
 
 pub loop-offer-preserved : goal.loop-offer-preserved
 loop-offer-preserved g c =
-    let amid = c.loop-offer.invariant.amid in
-    let reader = c.loop-offer.reader in
-    let source = g.I.Source.state c.loop-offer.input in
-    let after = c.next.new.self in
-    let rest = g.I.Source.state c.next.new.source in
-    let kept = c.loop-offer.held.kept in
-    let left = c.offer.new.held.kept in
+    let h = c.loop-offer.invariant in
+    let mirror = c.loop-offer.mirror in
+    let left = c.offer.new.mirror in
     let offer = c.in-Some.offer in
     let answered = c.in_ok-offer-2.ensures.answer in
-    let fresh = c.in_ok-offer.ensures.refusal amid.fresh in
-    let next : IsAnswer c.args.held.now.base kept offer.address offer.bytes answered.0 left =
-    subst (λ (b : List ℕ). IsAnswer b kept offer.address offer.bytes answered.0 left) c.loop-offer.invariant.base
-    (subst (λ (a : List ℕ). IsAnswer c.loop-offer.held.base kept a offer.bytes answered.0 left) c.slice.ensures
-    (subst (λ (x : List ℕ). IsAnswer c.loop-offer.held.base kept c.slice.result.now x answered.0 left)
-    c.slice-in-Some.ensures answered.1)) in
-    record {
-      amid = amid-next g.I.Source.told c.args.held.now.base (g.I.Source.state c.args.input.now).left reader after source
-          rest kept left c.loop-offer.report c.offer.new.self offer answered.0 amid fresh c.in_ok-offer.ensures.limit
-          (omega (arith, c.in_ok-offer.ensures.bound))
-          (c.in_ok-offer.ensures.used
-          ∙ ap (λ (o : Option Offer). reader.used + length (used_text reader.used (Ok o))) c.in-Some.is)
-          (subst (λ (o : Option Offer). IfSome o IsOffer) c.in-Some.is c.in_ok-offer.ensures.rules)
-          (λ t. subst (λ (o : Option Offer). IsPileAnswer reader.used reader.limit (unused reader source) (Ok o))
-          c.in-Some.is (c.in_ok-offer.ensures.answer amid.fresh t))
-          (λ t. subst (λ (o : Option Offer). unused reader source ≡ used_text reader.used (Ok o) ++ unused after rest)
-          c.in-Some.is (c.in_ok-offer.ensures.stays fresh t))
-          next
-          (subst (λ (a : List ℕ). HasAdded c.loop-offer.report c.offer.new.self a answered.0) c.slice.ensures answered.2);
-      base = c.in_ok-offer-2.ensures.base ∙ c.loop-offer.invariant.base;
-      faults = c.in_ok-offer.ensures.unfailed (λ e. cc) ∙ c.loop-offer.invariant.faults;
-    }
+    giving-next g.I.Source.told g.D.Disk.told c.args.mirror.now (g.D.Disk.state c.args.disk.now)
+    (g.I.Source.state c.args.input.now)
+    (g.D.Disk.state c.loop-offer.disk)
+    (g.I.Source.state c.loop-offer.input) (g.I.Source.state c.next.new.source) c.loop-offer.reader c.next.new.self
+    c.loop-offer.mirror c.loop-offer.report h c.in-Some.offer
+    (c.in_ok-offer.ensures.used
+    ∙ ap (λ (o : Option Offer). c.loop-offer.reader.used + length (used_text c.loop-offer.reader.used (Ok o)))
+    c.in-Some.is)
+    (λ t. subst (λ (o : Option Offer).
+    IsPileAnswer c.loop-offer.reader.used c.loop-offer.reader.limit (unused c.loop-offer.reader (g.I.Source.state c.loop-offer.input)) (Ok o))
+    c.in-Some.is (c.in_ok-offer.ensures.answer h.amid.fresh t))
+    (λ t. subst (λ (o : Option Offer). unused c.loop-offer.reader (g.I.Source.state c.loop-offer.input)
+    ≡ used_text c.loop-offer.reader.used (Ok o) ++ unused c.next.new.self (g.I.Source.state c.next.new.source))
+    c.in-Some.is (c.in_ok-offer.ensures.stays (c.in_ok-offer.ensures.refusal h.amid.fresh) t))
+    c.in_ok-offer.ensures.limit (omega (arith, c.in_ok-offer.ensures.bound))
+    (g.D.Disk.state c.offer.new.disk) left c.offer.new.self answered.0 (c.in_ok-offer.ensures.refusal h.amid.fresh)
+    (subst (λ (o : Option Offer). IfSome o IsOffer) c.in-Some.is c.in_ok-offer.ensures.rules) answered.1
+    (subst (λ (a : List ℕ). IsAnswerWithin mirror.capacity mirror.base mirror.kept a offer.bytes answered.0 left.kept)
+    c.slice.ensures
+    (subst (λ (x : List ℕ).
+    IsAnswerWithin mirror.capacity mirror.base mirror.kept c.slice.result.now x answered.0 left.kept)
+    c.slice-in-Some.ensures answered.2))
+    (subst (λ (a : List ℕ). HasAdded c.loop-offer.report c.offer.new.self a answered.0) c.slice.ensures answered.3)
+    c.in_ok-offer-2.ensures.same (c.in_ok-offer-2.ensures.usable (λ e. cc))
+    (λ told rest.
+    subst (λ (a : List ℕ). AlwaysLeaves (g.D.Disk.state c.loop-offer.disk) (g.D.Disk.state c.offer.new.disk) MirrorArea
+    (IsOfferStep c.loop-offer.mirror a c.in-Some.offer.bytes)) c.slice.ensures
+    (subst (λ (x : List ℕ). AlwaysLeaves (g.D.Disk.state c.loop-offer.disk) (g.D.Disk.state c.offer.new.disk) MirrorArea
+    (IsOfferStep c.loop-offer.mirror c.slice.result.now x)) c.slice-in-Some.ensures
+    (c.offer.ensures.moments told rest)))
+    (λ told rest. c.in_ok-offer-2.ensures.rests (λ e. cc) told rest) c.in_ok-offer-2.ensures.others
+    (c.in_ok-offer-2.ensures.disk_faults (λ e. cc)) (c.in_ok-offer.ensures.unfailed (λ e. cc))
+
+pub returns-clause-gives : goal.returns-clause-gives
+returns-clause-gives g c =
+    let h = c.loop-offer.invariant in
+    let first = c.args.mirror.now in
+    giving-ends g.I.Source.told g.D.Disk.told c.args.mirror.now (g.D.Disk.state c.args.disk.now)
+    (g.I.Source.state c.args.input.now)
+    (g.D.Disk.state c.loop-offer.disk) (g.I.Source.state c.loop-offer.input) c.loop-offer.reader c.loop-offer.mirror
+    c.loop-offer.report _ _ c.begun_images_are_whole.ensures h
+    (λ whole told. reads-to g.I.Source.told first.capacity first.base first.kept (g.I.Source.state c.args.input.now).left
+    h.offers c.loop-offer.reader (g.I.Source.state c.loop-offer.input) c.loop-offer.mirror.kept c.loop-offer.report h.amid
+    (Ok None) told (subst (λ (o : Option Offer). IsPileAnswer c.loop-offer.reader.used c.loop-offer.reader.limit
+    (unused c.loop-offer.reader (g.I.Source.state c.loop-offer.input)) (Ok o)) c.in_default.is (c.in_ok-offer.ensures.answer h.amid.fresh told)))

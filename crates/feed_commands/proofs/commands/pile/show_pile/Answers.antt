@@ -10,23 +10,23 @@ use Rattle.feed_commands.proofs.PileEndLemmas.{ends-piled, ends-unopened, ends-u
 use Rattle.feed_commands.proofs.commands.pile.show_pile.Goals as goal
 
 pub returns-in-Ok-clause-answered : goal.returns-in-Ok-clause-answered
-returns-in-Ok-clause-answered g c = λ told answered moments input.
+returns-in-Ok-clause-answered g c = λ told answered moments input source.
     let whole = c.in-Ok.ensures.whole told in
-    ends-piled _ moments input g.O.Sink.told _ _ _ whole.0 whole.1 c.end_as.ensures.status whole.2
+    ends-piled _ g.O.Sink.told _ _ _ whole.0 whole.1 c.end_as.ensures.status whole.2
 
 pub returns-in-Err-Output-clause-answered : goal.returns-in-Err-Output-clause-answered
-returns-in-Err-Output-clause-answered g c = λ told answered moments input.
+returns-in-Err-Output-clause-answered g c = λ told answered moments input source.
     let is = failed-by c.in-Err-Output.is c.in-Err-Output.field-0-is in
     let prefix = c.print_pile.ensures.prefix is told in
-    ends-unpiled _ moments input g.O.Sink.told _ _ _ prefix.0 prefix.1 c.end_as-in-Err-Output.ensures.status prefix.2
+    ends-unpiled _ g.O.Sink.told _ _ _ prefix.0 prefix.1 c.end_as-in-Err-Output.ensures.status prefix.2
     (c.print_pile.ensures.output is)
 
 pub returns-in-Err-Other-clause-answered : goal.returns-in-Err-Other-clause-answered
-returns-in-Err-Other-clause-answered g c = λ told answered moments input.
+returns-in-Err-Other-clause-answered g c = λ told answered moments input source.
     let fault = c.in-Err-Other.fault in
     let refused = c.print_pile.ensures.refused fault (failed-by c.in-Err-Other.is c.in-Err-Other.field-0-is)
     (answered-refusal fault (rw c.end_with.ensures.status at answered)) told in
-    ends-unopened _ moments input g.O.Sink.told _ _ _ fault refused.0 c.end_with.ensures.status
+    ends-unopened _ g.O.Sink.told _ _ _ fault refused.0 c.end_with.ensures.status
     (λ sink. subst (λ (sent : SinkState). Prints sent (g.O.Sink.state c.end_with.new.output) (fault_answer fault).printed)
     (ap g.O.Sink.state refused.1) (c.end_with.ensures.prints sink))
 

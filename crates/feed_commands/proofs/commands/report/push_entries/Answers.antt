@@ -1,24 +1,38 @@
-use Rattle.std.proofs.Common.{List, ◌++◌, flat_map, refl, sym, ap, ◌∙◌}
-use Rattle.std.proofs.lemmas.List.{flat_map_more}
-use Rattle.atom_values.specs.Entry.{EntryValue}
-use Rattle.feed_commands.specs.Show.{entry_line}
-use Rattle.mirror_walk.specs.Listing.{entries_up_to, live_at}
-use Rattle.feed_commands.proofs.EntriesLemmas.{entries-last, entries-next}
+use Rattle.std.proofs.Common.{refl}
+use Rattle.feed_disk.proofs.MomentLemmas.{alone_joins}
+use Rattle.feed_commands.proofs.ListingLemmas.{listing-ends, listing-next}
 use Rattle.feed_commands.proofs.commands.report.push_entries.Goals as goal
 
-pub loop-number-preserved : goal.loop-number-preserved
-loop-number-preserved c =
-    let kept = c.args.held.now.kept in
-    let before = c.args.out.now.items in
-    let found = c.in-Some.ensures.found in
-    c.in_ok-push_live.ensures found.entry found.live
-    ∙ ap (λ bytes. bytes ++ entry_line found.entry) c.loop-number.invariant
-    ∙ flat_map_more entry_line before (entries_up_to (live_at kept) c.loop-number.after) found.entry
-    ∙ ap (λ (entries : List EntryValue). before ++ flat_map entry_line entries)
-    (sym (entries-next kept c.loop-number.after c.in-Some.number found))
+pub returns-in_err-entry-clause-areas : goal.returns-in_err-entry-clause-areas
+returns-in_err-entry-clause-areas g c = λ a.
+    alone_joins _ (g.D.Disk.state c.loop-number.disk) _ a (c.loop-number.invariant.areas a) (c.in_err-entry.ensures.areas a)
 
-pub returns : goal.returns
-returns c =
-    c.loop-number.invariant
-    ∙ ap (λ (entries : List EntryValue). c.args.out.now.items ++ flat_map entry_line entries)
-    (entries-last c.args.held.now.kept c.loop-number.after (c.in_default.ensures.last refl))
+pub returns-in_err-push_entry-clause-areas : goal.returns-in_err-push_entry-clause-areas
+returns-in_err-push_entry-clause-areas g c = λ a.
+    alone_joins _ (g.D.Disk.state c.loop-number.disk) _ a (c.loop-number.invariant.areas a) (c.in_ok-entry.ensures.areas a)
+
+pub loop-number-preserved-in_ok-push_entry : goal.loop-number-preserved-in_ok-push_entry
+loop-number-preserved-in_ok-push_entry g c =
+    let h = c.loop-number.invariant in
+    listing-next g.D.Disk.told c.args.mirror.now (g.D.Disk.state c.args.disk.now) c.args.out.now.items
+    (g.D.Disk.state c.loop-number.disk) c.loop-number.mirror c.loop-number.out.items c.loop-number.after h
+    (g.D.Disk.state c.live_entry.new.disk) c.live_entry.new.mirror c.push_entry.new.out.items c.in-Some.number
+    c.in_ok-entry.entry c.in-Some.ensures.found (λ told. c.in_ok-entry.ensures.entry told) c.in_ok-push_entry.ensures
+    (c.in_ok-entry.ensures.kept (λ e. cc)) (c.in_ok-entry.ensures.listed (λ e. cc))
+    (c.in_ok-entry.ensures.usable (λ e. cc)) c.in_ok-entry.ensures.areas (c.in_ok-entry.ensures.disk_faults (λ e. cc))
+
+pub loop-number-preserved : goal.loop-number-preserved
+loop-number-preserved g c =
+    let h = c.loop-number.invariant in
+    listing-next g.D.Disk.told c.args.mirror.now (g.D.Disk.state c.args.disk.now) c.args.out.now.items
+    (g.D.Disk.state c.loop-number.disk) c.loop-number.mirror c.loop-number.out.items c.loop-number.after h
+    (g.D.Disk.state c.live_entry.new.disk) c.live_entry.new.mirror c.push_entry.new.out.items c.in-Some.number
+    c.in_ok-entry.entry c.in-Some.ensures.found (λ told. c.in_ok-entry.ensures.entry told) c.in_ok-push_entry.ensures
+    (c.in_ok-entry.ensures.kept (λ e. cc)) (c.in_ok-entry.ensures.listed (λ e. cc))
+    (c.in_ok-entry.ensures.usable (λ e. cc)) c.in_ok-entry.ensures.areas (c.in_ok-entry.ensures.disk_faults (λ e. cc))
+
+pub returns-clause-entries : goal.returns-clause-entries
+returns-clause-entries g c = λ told.
+    listing-ends g.D.Disk.told c.args.mirror.now (g.D.Disk.state c.args.disk.now) c.args.out.now.items
+    (g.D.Disk.state c.loop-number.disk) c.loop-number.mirror c.loop-number.out.items c.loop-number.after
+    c.loop-number.invariant (c.in_default.ensures.last refl) told

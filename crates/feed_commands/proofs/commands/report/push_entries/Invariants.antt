@@ -1,11 +1,10 @@
-use Rattle.std.proofs.Common.{◌≡◌, ◌-◌, ◌^◌, ◌++◌, flat_map}
-use Rattle.feed_commands.specs.Show.{entry_line}
-use Rattle.mirror_walk.specs.Listing.{entries_up_to, live_at}
+use Rattle.std.proofs.Common.{◌-◌, ◌^◌}
+use Rattle.feed_commands.proofs.ListingLemmas.{IsListing}
 use Rattle.feed_commands.proofs.commands.report.push_entries.Given as goal
 
 abbrev pub invariant-loop-number : goal.invariant-loop-number
-invariant-loop-number l =
-    l.out.items ≡ l.fn.out.items ++ flat_map entry_line (entries_up_to (live_at l.held.kept) l.after)
+invariant-loop-number g l = IsListing g.D.Disk.told l.fn.mirror (g.D.Disk.state l.fn.disk) (g.D.Disk.state l.disk)
+    l.mirror l.fn.out.items l.out.items l.after
 
 abbrev pub decreases-loop-number : goal.decreases-loop-number
-decreases-loop-number l = 2 ^ 32 - l.after
+decreases-loop-number g l = 2 ^ 32 - l.after

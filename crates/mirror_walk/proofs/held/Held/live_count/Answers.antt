@@ -16,7 +16,8 @@ pub overflow_cast-result : goal.overflow_cast-result
 overflow_cast-result c =
     let listed = listing (goal.at.overflow_cast-result c).After-unwrap in
     let kept = c.self.inside.kept.items in
-    let few = len-lt kept (chain_of kept) c.unwrap.result.now c.len.ensures.ordered listed.members listed.entries in
+    let few = len-lt kept (chain_of kept) c.unwrap.result.now c.len.ensures.ordered listed.members
+    listed.entries in
     omega arith
 
 pub returns : goal.returns
@@ -24,5 +25,6 @@ returns c =
     let listed = listing (goal.at.returns c).After-unwrap in
     let kept = c.self.inside.kept.items in
     c.len.ensures.len
-    ∙ len-live_count kept (chain_of kept) c.unwrap.result.now c.len.ensures.ordered listed.members listed.entries
+    ∙ len-live_count kept (chain_of kept) c.unwrap.result.now c.len.ensures.ordered listed.members
+    listed.entries
     ∙ ap (λ (v : HeldValue). live_count_of (chain_of v.kept)) c.self.view_is

@@ -1,14 +1,14 @@
-use Rattle.std.proofs.Common.{◌≡◌, ◌+◌, get_or, ap, sym, ◌∙◌, arith}
+use Rattle.std.proofs.Common.{◌≡◌, ℕ, ◌+◌, Option, is_some, get_or, ap, sym, ◌∙◌, arith}
 use Rattle.std.specs.BTreeMap.{get}
 use Rattle.std.specs.Ordering.{nat_cmp}
 use Rattle.std.proofs.lemmas.Option.{slice_get_within, get_or_from_slice_get}
-use Rattle.atom_writer.specs.Doc.{DocValue}
-use Rattle.mirror_walk.specs.Holding.{HeldValue, archive_at, archives_from, best_of}
-use Rattle.mirror_walk.specs.declared.held.Kept.{Kept}
+use Rattle.mirror_walk.specs.Holding.{HeldValue, KeptValue, archive_at, archives_from, best_of}
 use Rattle.mirror_walk.proofs.EntriesLemmas.{HasEntries-none}
+use Rattle.mirror_walk.proofs.IndexLemmas.{no-place}
 use Rattle.mirror_walk.proofs.ListedItemsLemmas.{AreMembers-none}
-use Rattle.mirror_walk.proofs.OutcomeLemmas.{best_of-none, best_of-some, archive-held, archive-not_held, indexed}
-use Rattle.mirror_walk.proofs.OutcomeLemmas.{archives_from-held, archives_from-not_held, chain_of-best, chain_of-none}
+use Rattle.mirror_walk.proofs.OutcomeLemmas.{best_of-none, best_of-some, archive-held, indexed}
+use Rattle.mirror_walk.proofs.OutcomeLemmas.{archives_from-held, archives_from-not_held, chain_of-best}
+use Rattle.mirror_walk.proofs.OutcomeLemmas.{chain_of-none}
 use Rattle.mirror_walk.proofs.held.Held.live_entries.Goals as goal
 use Rattle.mirror_walk.proofs.held.Held.live_entries.Goals.{in-Some-get+in_ok-list_document, in_default-get}
 
@@ -64,8 +64,8 @@ loop-before-preserved c =
             members = rw w.live-is (w.in_ok-list_document.ensures.members c.loop-before.invariant.members);
           }
       | in_default-get w ↦
-          let none = archive-not_held kept place (archive_at kept (before + 1)) there
-          (sym w.in_default-get.ensures.value) in
+          let none = no-place kept place (archive_at kept (before + 1)) there
+          (ap (λ (o : Option ℕ). is_some o) (sym w.in_default-get.ensures.value)) in
           record {
             entries = rw (archives_from-not_held kept before none, w.live-is) c.loop-before.invariant.entries;
             members = rw w.live-is c.loop-before.invariant.members;
@@ -77,7 +77,8 @@ list_document-requires-2 c =
     let kept = c.args.self.now.kept in
     let inside = ap (λ (v : HeldValue). v.kept) c.self.view_is in
     let index = indexed c.self.inside.kept.items c.args.self.now _ _ _ inside c.self.invariant in
-    let best = best_of-some kept c.self.inside.best c.in-Some.best (best_of kept) index.best_there c.in-Some.is in
+    let best = best_of-some kept c.self.inside.best c.in-Some.best (best_of kept) index.best_there
+    c.in-Some.is in
     slice_get_within kept c.in-Some.best.at best.0 best.2.there
 
 pub returns-clause-entries : goal.returns-clause-entries
@@ -86,12 +87,12 @@ returns-clause-entries c =
     let before = c.loop-before.before in
     let inside = ap (λ (v : HeldValue). v.kept) c.self.view_is in
     let index = indexed c.self.inside.kept.items c.args.self.now _ _ _ inside c.self.invariant in
-    let best = best_of-some kept c.self.inside.best c.in-Some.best (best_of kept) index.best_there c.in-Some.is in
+    let best = best_of-some kept c.self.inside.best c.in-Some.best (best_of kept) index.best_there
+    c.in-Some.is in
     let given = c.index.ensures
     ∙ ap (λ (v : HeldValue). get_or v.kept c.in-Some.best.at c.index.result.now) c.self.view_is
     ∙ get_or_from_slice_get kept c.in-Some.best.at best.0 c.index.result.now best.2.there in
-    let prev : c.newest.inside.prev ≡ best.0.document.prev =
-    ap (λ (d : DocValue). d.prev) c.newest.view_is ∙ ap (λ (k : Kept). k.document.prev) given in
+    let prev = c.prev-prev.ensures ∙ ap (λ (k : KeptValue). k.document.prev) given in
     let all : before ≡ best.0.document.prev = omega arith in
     rw (chain_of-best kept best.0 best.1, ← all) (c.in_ok-list_document-2.ensures.entries best.0
     (archives_from kept before) best.2.there c.loop-before.invariant.entries)

@@ -17,5 +17,6 @@ returns-clause-found c =
     let range = subst (λ range. IsRangeOf nat_cmp (Excluded c.args.after) Unbounded live range)
     c.in_ok-number.ensures.steps (c.range.ensures.in_range tt) in
     subst (λ (v : HeldValue). IsNextLive v.kept c.args.after c.in_ok-number.number.now) c.self.view_is
-    (IsNextLive-range c.self.inside.kept.items live c.args.after c.in_ok-number.number.now c.in_ok-number.field-0-1.now
+    (IsNextLive-range c.self.inside.kept.items live c.args.after c.in_ok-number.number.now
+    c.in_ok-number.field-0-1.now
     c.next.new.self listing.entries range)

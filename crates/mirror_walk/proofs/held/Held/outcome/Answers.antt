@@ -1,14 +1,14 @@
 use Rattle.std.proofs.Common.{◌≡◌, List, Some, ap, sym, ◌∙◌, arith}
 use Rattle.std.specs.Option.{option_copied}
 use Rattle.std.proofs.lemmas.Grind.{common_steps}
+use Rattle.chain_links.specs.declared.place.Span.{Span}
 use Rattle.member_rules.specs.Head.{HeadValue}
 use Rattle.member_rules.specs.Shows.{live_count_of}
 use Rattle.member_rules.specs.declared.operation.Op.{Op}
-use Rattle.mirror_walk.specs.Holding.{HeldValue, best_of, chain_of}
 use Rattle.mirror_walk.specs.Laws.{ShowsServed}
 use Rattle.mirror_walk.specs.Offers.{AreServed, AreTakenOf, Offering}
 use Rattle.mirror_walk.specs.declared.answer.Outcome.TheVariants.{Complete}
-use Rattle.mirror_walk.specs.declared.held.Kept.{Kept}
+use Rattle.mirror_walk.specs.Holding.{HeldValue, best_of, chain_of}
 use Rattle.mirror_walk.proofs.MirrorLemmas.{taken_are_shown}
 use Rattle.mirror_walk.proofs.OutcomeLemmas.{best-of_whole, outcome-complete, outcome-missing}
 use Rattle.mirror_walk.proofs.held.Held.outcome.Goals as goal
@@ -39,8 +39,9 @@ pub returns-clause-outcome : goal.returns-clause-outcome
 returns-clause-outcome c =
     let kept = c.args.self.now.kept in
     let found : best_of kept ≡ Some c.unwrap.result.now =
-    sym (ap best_of c.in_ok-list.ensures.kept) ∙ sym c.best_kept.ensures ∙ ap option_copied c.unwrap.ensures in
-    let version = ap (λ (k : Kept). k.document.span.last) c.behind-best_kept.view_is in
+    sym (ap best_of c.in_ok-list.ensures.kept) ∙ sym c.best_kept.ensures
+    ∙ ap option_copied c.unwrap.ensures in
+    let version = ap (λ (s : Span). s.last) c.span.ensures in
     let count = c.live_count.ensures ∙ ap (λ ks. live_count_of (chain_of ks)) c.in_ok-list.ensures.kept in
     (λ i. Complete (version i) (count i))
     ∙ sym (outcome-complete kept c.unwrap.result.now found (sym c.in_default.ensures.missing))

@@ -9,14 +9,16 @@ use Rattle.mirror_walk.proofs.held.Held.wanted.Goals as goal
 pub returns-in-None-clause-missing : goal.returns-in-None-clause-missing
 returns-in-None-clause-missing c =
     let kept = c.self.inside.kept.items in
-    let best = subst (λ (b : Option Best). HasBest kept b (best_of kept)) c.in-None.is c.self.invariant.best_there in
+    let best = subst (λ (b : Option Best). HasBest kept b (best_of kept)) c.in-None.is
+    c.self.invariant.best_there in
     sym (missing-feed kept best) ∙ ap (λ (h : HeldValue). first_missing h.kept) c.self.view_is
 
 pub returns-in-Some-clause-missing : goal.returns-in-Some-clause-missing
 returns-in-Some-clause-missing c =
     let kept = c.self.inside.kept.items in
     let number = c.in-Some.best.missing in
-    let best = subst (λ (b : Option Best). HasBest kept b (best_of kept)) c.in-Some.is c.self.invariant.best_there in
+    let best = subst (λ (b : Option Best). HasBest kept b (best_of kept)) c.in-Some.is
+    c.self.invariant.best_there in
     elim (cases_eq number 0) [
       | inl none ↦
           c.archive_address.ensures.none none ∙ sym (missing-nothing kept c.in-Some.best best none)

@@ -1,0 +1,268 @@
+-- How `mirror` and `mirror --fetch` end, by their report or by their fault.
+use Rattle.std.proofs.Common.{◌≡◌, ◌≢◌, ◌⊎◌, inl, inr, ⊎_elim, ℕ, List, ◌++◌, Option, Ok, Err, Result, IsOk, refl, sym, ap, subst}
+use Rattle.std.proofs.Common.{◌∙◌, map, arith, true, false}
+use Rattle.doc_source.specs.Outside.{SinkState}
+use Rattle.doc_source.specs.declared.offer.Offer.{Offer}
+use Rattle.feed_disk.specs.Disk.{DiskState}
+use Rattle.feed_disk.specs.declared.area.Area.{Area}
+use Rattle.feed_disk.specs.declared.area.Area.TheVariants.{Mirror as MirrorArea}
+use Rattle.feed_journal.specs.Records.{records}
+use Rattle.member_rules.specs.Head.{HeadValue}
+use Rattle.member_rules.specs.declared.operation.Op.{Op}
+use Rattle.mirror_walk.specs.Holding.{KeptValue}
+use Rattle.mirror_walk.specs.Loaded.{IsLoadedOf, IsMirrorFault}
+use Rattle.mirror_walk.specs.Offers.{AreServed}
+use Rattle.mirror_walk.specs.Walk.{IsServedBy}
+use Rattle.mirror_walk.specs.declared.mirror_fault.MirrorFault.{MirrorFault}
+use Rattle.mirror_walk.specs.declared.mirror_fault.MirrorFault.TheVariants as loads
+use Rattle.mirror_walk.proofs.LoadLemmas.{loads-without}
+use Rattle.mirror_walk.proofs.TakenLemmas.{loaded-once}
+use Rattle.tool_words.specs.declared.command.Command.{Command}
+use Rattle.tool_words.specs.declared.command.Command.TheVariants.{Mirror}
+use Rattle.feed_commands.specs.declared.commands.mirror.Printed.{Printed}
+use Rattle.feed_commands.specs.declared.commands.report_fault.ReportFault.{ReportFault}
+use Rattle.feed_commands.specs.declared.commands.report_fault.ReportFault.TheVariants.{Fetch, OtherBase, Other}
+use Rattle.feed_commands.specs.declared.fault.Fault.TheVariants.{NoMemory, Input, Disk, BadStore, Full, Refused}
+use Rattle.feed_commands.specs.declared.status.Status.{Status}
+use Rattle.feed_commands.specs.declared.status.Status.TheVariants as ends
+use Rattle.feed_commands.specs.Answer.{Answer, Prints}
+use Rattle.feed_commands.specs.FetchEnds.{EndsFetched, IsWalkEnd, IsWalkRefusal, IsWalkedReport, MayEndFetched}
+use Rattle.feed_commands.specs.Mirror.{IsMirrored, IsReport, offering}
+use Rattle.feed_commands.specs.MirrorCrash.{IsAfterLoad, LeavesFetched, LeavesMirror, LeavesMirrored}
+use Rattle.feed_commands.specs.MirrorEnds.{IsLater, IsPileEnd, IsPileRefusal, IsPileReport, MayEndMirror}
+use Rattle.feed_commands.specs.MirrorFaults.{IsBadMirror, IsHeldIn, IsReportRefusal, mirror_fault, report_answer}
+use Rattle.feed_commands.specs.Mirroring.{HoldsServed}
+use Rattle.feed_commands.specs.Outside.{Outside}
+use Rattle.feed_commands.specs.Run.{EndsWith, IsAnswer, IsDone}
+use Rattle.feed_commands.specs.Served.{EndsServed, IsPileOf, IsReported}
+use Rattle.feed_commands.specs.Status.{code_of}
+use Rattle.feed_commands.specs.Walked.{IsFetched, IsWalkReport}
+use Rattle.feed_commands.proofs.LoadedLemmas.{fetched-weaker, leaves-weaker, mirrored-weaker}
+use Rattle.feed_commands.proofs.OneFetchedLemmas.{fetched-once}
+use Rattle.feed_commands.proofs.OneMirroredLemmas.{mirrored-once}
+use Rattle.feed_commands.proofs.ReportFaultLemmas.{after-later, report-no_done, report-unreported}
+use Rattle.feed_commands.proofs.ServedReportLemmas.{served-report}
+use Rattle.feed_commands.proofs.WalkEndLemmas.{refusal-over}
+use Rattle.feed_commands.proofs.WalkedReportLemmas.{walked-report}
+
+-- the exit statuses behind a report
+
+pub printed-mirror : (status : Status) (ended : ℕ) → IsDone (code_of status)
+    → (ended ≡ code_of status) ⊎ (ended ≡ code_of ends.OutputFault) → MayEndMirror ended
+printed-mirror status ended (inl done) (inl is) = inl (is ∙ done)
+printed-mirror status ended (inr done) (inl is) = inr (inl (is ∙ done))
+printed-mirror status ended done (inr is) = inr (inr (inr (inr (inr (inl is)))))
+
+pub printed-fetched : (status : Status) (ended : ℕ) → IsDone (code_of status)
+    → (ended ≡ code_of status) ⊎ (ended ≡ code_of ends.OutputFault) → MayEndFetched ended
+printed-fetched status ended (inl done) (inl is) = inl (is ∙ done)
+printed-fetched status ended (inr done) (inl is) = inr (inl (is ∙ done))
+printed-fetched status ended done (inr is) = inr (inr (inr (inr (inr (inr (inl is))))))
+
+-- such a status is none of a fault
+pub printed-never : (n : ℕ) (status : Status) (ended : ℕ) → (n ≡ 0 → ⊥) → (n ≡ 3 → ⊥) → (n ≡ 8 → ⊥)
+    → IsDone (code_of status) → (ended ≡ code_of status) ⊎ (ended ≡ code_of ends.OutputFault) → ended ≡ n → ⊥
+printed-never n status ended zero three eight (inl done) (inl is) same = zero (sym same ∙ is ∙ done)
+printed-never n status ended zero three eight (inr done) (inl is) same = three (sym same ∙ is ∙ done)
+printed-never n status ended zero three eight done (inr is) same = eight (sym same ∙ is)
+
+done-not_eight : (ended : ℕ) → IsDone ended → ended ≡ 8 → ⊥
+done-not_eight ended (inl e) f = omega (arith, e, f)
+done-not_eight ended (inr e) f = omega (arith, e, f)
+
+module _ (command : Command) (outside : Outside) (told : Type 0) (before after : SinkState) where
+  -- a report was printed
+  pub ends-reported : (answer : Answer) (ended : ℕ) → IsAnswer command outside answer → IsDone (code_of answer.status)
+      → (ended ≡ code_of answer.status) ⊎ (ended ≡ code_of ends.OutputFault)
+      → (told → Prints before after answer.printed)
+      → (ended ≢ code_of ends.OutputFault → told → after.taken ≡ before.taken ++ answer.printed)
+      → EndsWith command outside told before after ended
+  ends-reported answer ended is done status prints whole = record {
+    answer = answer;
+    is = is;
+    status = ⊎_elim (λ e. inl e) (λ e. inr (e, done)) status;
+    prints = prints;
+    whole = λ seen d. whole (done-not_eight ended d) seen;
+  }
+
+  -- the line of a refusal was printed
+  pub ends-unreported : (fault : ReportFault) (ended : ℕ) → ended ≡ code_of (report_answer fault).status
+      → IsAnswer command outside (report_answer fault) → (told → Prints before after (report_answer fault).printed)
+      → EndsWith command outside told before after ended
+  ends-unreported fault ended e is prints = record {
+    answer = report_answer fault;
+    is = is;
+    status = inl e;
+    prints = prints;
+    whole = λ seen done. absurd (report-no_done fault (subst IsDone e done));
+  }
+
+-- an area that loads isn't bad
+pub bad-unheld : (base : List ℕ) (content : Area → List ℕ) (kept : List KeptValue) (given : Answer)
+    → IsHeldIn base content kept → IsBadMirror base content given → ⊥
+bad-unheld base content kept given held bad = of bad.fault bad.refuses
+    (loads-without base (records (content MirrorArea)) kept held bad.fault bad.is)
+  where
+    of : (fault : MirrorFault) → IsReportRefusal (mirror_fault fault)
+        → (fault ≡ loads.DiskFault) ⊎ (fault ≡ loads.NoMemory) → ⊥
+    of (loads.OtherBase other) refuses (inl e) = cc
+    of (loads.OtherBase other) refuses (inr e) = cc
+    of (loads.BadRecord index at) refuses (inl e) = cc
+    of (loads.BadRecord index at) refuses (inr e) = cc
+    of loads.DiskFault refuses is = refuses
+    of loads.NoMemory refuses is = refuses
+
+-- the answers by a pile and by a source are the one answer of what the area loads to
+
+pub pile-same : (capacity : ℕ) (base : List ℕ) (content : Area → List ℕ) (input : List ℕ) (one other : Answer)
+    (kept : List KeptValue) → IsPileEnd capacity base content input one → IsHeldIn base content kept
+    → IsMirrored capacity base kept input other → one ≡ other
+pile-same capacity base content input one other kept p held q =
+    let same = loaded-once base (records (content MirrorArea)) p.kept kept p.loaded held in
+    mirrored-once capacity base kept input one other
+    (subst (λ (ks : List KeptValue). IsMirrored capacity base ks input one) same p.is) q
+
+pub walk-same : (capacity : ℕ) (base : List ℕ) (content : Area → List ℕ) (answers : List ℕ → Option (List ℕ))
+    (one other : Answer) (kept : List KeptValue) → IsWalkEnd capacity base content answers one
+    → IsHeldIn base content kept → IsFetched capacity base kept answers other → one ≡ other
+walk-same capacity base content answers one other kept p held q =
+    let same = loaded-once base (records (content MirrorArea)) p.kept kept p.loaded held in
+    fetched-once capacity base kept answers one other
+    (subst (λ (ks : List KeptValue). IsFetched capacity base ks answers one) same p.is) q
+
+-- without a failed call the status of a fault is that of the answer, or memory ran out
+pub fault-complete : (fault : ReportFault) (given : Answer) → (IsReportRefusal fault → report_answer fault ≡ given)
+    → (fault ≡ Other Disk → ⊥) → (fault ≡ Other Input → ⊥) → (fault ≡ Fetch → ⊥)
+    → (code_of (report_answer fault).status ≡ code_of given.status)
+    ⊎ (code_of (report_answer fault).status ≡ code_of ends.NoMemory)
+fault-complete Fetch given same disk input fetch = absurd (fetch refl)
+fault-complete (OtherBase base) given same disk input fetch = inl (ap (λ (a : Answer). code_of a.status) (same tt))
+fault-complete (Other NoMemory) given same disk input fetch = inr refl
+fault-complete (Other Input) given same disk input fetch = absurd (input refl)
+fault-complete (Other Disk) given same disk input fetch = absurd (disk refl)
+fault-complete (Other (BadStore bad)) given same disk input fetch =
+    inl (ap (λ (a : Answer). code_of a.status) (same tt))
+fault-complete (Other (Full area size needed capacity)) given same disk input fetch =
+    inl (ap (λ (a : Answer). code_of a.status) (same tt))
+fault-complete (Other (Refused refusal)) given same disk input fetch =
+    inl (ap (λ (a : Answer). code_of a.status) (same tt))
+
+pub pile-refused : (capacity : ℕ) (base : List ℕ) (content : Area → List ℕ) (input : List ℕ) (one other : Answer)
+    (kept : List KeptValue) → IsPileRefusal capacity base content input one → IsHeldIn base content kept
+    → IsMirrored capacity base kept input other → one ≡ other
+pile-refused capacity base content input one other kept (inl end) held q =
+    pile-same capacity base content input one other kept end held q
+pile-refused capacity base content input one other kept (inr bad) held q =
+    absurd (bad-unheld base content kept one held bad)
+
+pub walk-refused-same : (capacity : ℕ) (base : List ℕ) (content : Area → List ℕ) (answers : List ℕ → Option (List ℕ))
+    (one other : Answer) (kept : List KeptValue) → IsWalkRefusal capacity base content answers one
+    → IsHeldIn base content kept → IsFetched capacity base kept answers other → one ≡ other
+walk-refused-same capacity base content answers one other kept (inl end) held q =
+    walk-same capacity base content answers one other kept end held q
+walk-refused-same capacity base content answers one other kept (inr bad) held q =
+    absurd (bad-unheld base content kept one held bad)
+
+-- the end by a pile or by a source is an answer of the command
+
+pub pile-answers : (capacity : ℕ) (base : List ℕ) (outside : Outside) (given : Answer)
+    → IsPileRefusal capacity base outside.content outside.input given
+    → IsAnswer (Mirror base false capacity) outside given
+pile-answers capacity base outside given (inl end) =
+    inl record { kept = end.kept; loaded = end.loaded; is = end.is }
+pile-answers capacity base outside given (inr bad) = inr bad
+
+pub walk-answers : (capacity : ℕ) (base : List ℕ) (outside : Outside) (given : Answer)
+    → IsWalkRefusal capacity base outside.content outside.answers given
+    → IsAnswer (Mirror base true capacity) outside given
+walk-answers capacity base outside given (inl end) =
+    inl record { kept = end.kept; loaded = end.loaded; is = end.is }
+walk-answers capacity base outside given (inr bad) = inr bad
+
+-- the report of documents that one feed served
+
+pub pile-served : (capacity : ℕ) (base : List ℕ) (before : DiskState) (input : List ℕ) (answer : Answer)
+    (head : HeadValue) (history : List Op) (kept : List KeptValue) (offers : List Offer) (told : Type 0)
+    (output taken : SinkState) (ended : ℕ) → IsPileReport capacity base before.content input answer
+    → HoldsServed base before head history kept → IsPileOf offers input → AreServed head history (map offering offers)
+    → (ended ≡ code_of answer.status) ⊎ (ended ≡ code_of ends.OutputFault)
+    → (told → Prints output taken answer.printed)
+    → EndsServed head history kept (map offering offers) told output taken ended
+pile-served capacity base before input answer head history kept offers told output taken ended report holds pile served
+    status prints =
+    let payloads = records (before.content MirrorArea) in
+    let same = loaded-once base payloads report.kept kept report.loaded holds.loaded in
+    let loaded = subst (λ (b : List ℕ). IsLoadedOf b payloads kept) holds.base_is holds.loaded in
+    let is = subst (λ (ks : List KeptValue). IsReport capacity head.name.base ks input answer) same
+    (subst (λ (b : List ℕ). IsReport capacity b report.kept input answer) holds.base_is report.is) in
+    record {
+      answer = answer;
+      is = served-report head history kept payloads loaded holds.served capacity input answer offers is pile served;
+      status = status;
+      prints = prints;
+    }
+
+pub walk-served : (capacity : ℕ) (base : List ℕ) (before : DiskState) (answers : List ℕ → Option (List ℕ))
+    (answer : Answer) (head : HeadValue) (history : List Op) (kept : List KeptValue) (told : Type 0)
+    (output taken : SinkState) (ended : ℕ) → IsWalkedReport capacity base before.content answers answer
+    → HoldsServed base before head history kept → IsServedBy head history answers
+    → (ended ≡ code_of answer.status) ⊎ (ended ≡ code_of ends.OutputFault)
+    → (told → Prints output taken answer.printed)
+    → EndsFetched capacity head history kept answers told output taken ended
+walk-served capacity base before answers answer head history kept told output taken ended report holds served status
+    prints =
+    let payloads = records (before.content MirrorArea) in
+    let same = loaded-once base payloads report.kept kept report.loaded holds.loaded in
+    let loaded = subst (λ (b : List ℕ). IsLoadedOf b payloads kept) holds.base_is holds.loaded in
+    let is = subst (λ (ks : List KeptValue). IsWalkReport capacity head.name.base ks answers answer) same
+    (subst (λ (b : List ℕ). IsWalkReport capacity b report.kept answers answer) holds.base_is report.is) in
+    record {
+      asked = is.asked;
+      accepted = is.accepted;
+      left = is.left;
+      ending = is.ending;
+      walks = is.walks;
+      over = refusal-over is.asked is.ending is.walked.refused is.is_walked.refusal;
+      ends = record {
+        answer = answer;
+        is = walked-report head history kept payloads loaded holds.served capacity answers answer is served;
+        status = status;
+        prints = prints;
+      };
+    }
+
+-- what a crash leaves, by the exit status
+
+module _ (before after : DiskState) (ended : ℕ) where
+  pub pile-left : (capacity : ℕ) (base input : List ℕ) (result : Result Printed ReportFault)
+      → LeavesMirror before after (IsLater result)
+      (LeavesMirrored capacity base input before after (result ≡ Err (Other Disk)) (IsOk result))
+      → (IsAfterLoad ended → IsLater result) → (result ≡ Err (Other Disk) → ended ≡ code_of ends.DiskFault)
+      → (IsReported ended → IsOk result)
+      → LeavesMirror before after (IsAfterLoad ended)
+      (LeavesMirrored capacity base input before after (ended ≡ code_of ends.DiskFault) (IsReported ended))
+  pile-left capacity base input result leaves later failed reported =
+      leaves-weaker before after (IsLater result) (IsAfterLoad ended)
+      (LeavesMirrored capacity base input before after (result ≡ Err (Other Disk)) (IsOk result))
+      (LeavesMirrored capacity base input before after (ended ≡ code_of ends.DiskFault) (IsReported ended)) later
+      (mirrored-weaker capacity base input before after (result ≡ Err (Other Disk)) (ended ≡ code_of ends.DiskFault)
+      (IsOk result) (IsReported ended) failed reported) leaves
+
+  pub walk-left : (capacity : ℕ) (base : List ℕ) (answers : List ℕ → Option (List ℕ)) (result : Result Printed ReportFault)
+      → LeavesMirror before after (IsLater result)
+      (LeavesFetched capacity base answers before after (result ≡ Err (Other Disk)) (IsOk result))
+      → (IsAfterLoad ended → IsLater result) → (result ≡ Err (Other Disk) → ended ≡ code_of ends.DiskFault)
+      → (IsReported ended → IsOk result)
+      → LeavesMirror before after (IsAfterLoad ended)
+      (LeavesFetched capacity base answers before after (ended ≡ code_of ends.DiskFault) (IsReported ended))
+  walk-left capacity base answers result leaves later failed reported =
+      leaves-weaker before after (IsLater result) (IsAfterLoad ended)
+      (LeavesFetched capacity base answers before after (result ≡ Err (Other Disk)) (IsOk result))
+      (LeavesFetched capacity base answers before after (ended ≡ code_of ends.DiskFault) (IsReported ended)) later
+      (fetched-weaker capacity base answers before after (result ≡ Err (Other Disk)) (ended ≡ code_of ends.DiskFault)
+      (IsOk result) (IsReported ended) failed reported) leaves
+
+-- the status of the failed disk
+pub disk-code : (fault : ReportFault) (ended : ℕ) → ended ≡ code_of (report_answer fault).status
+    → fault ≡ Other Disk → ended ≡ code_of ends.DiskFault
+disk-code fault ended is same = is ∙ ap (λ (f : ReportFault). code_of (report_answer f).status) same

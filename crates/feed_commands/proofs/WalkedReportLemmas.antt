@@ -1,0 +1,129 @@
+-- The report of a walk over the documents that one feed served.
+use Rattle.std.proofs.Common.{◌≡◌, ◌⊎◌, ℕ, ◌+◌, List, [], ◌∷◌, ◌++◌, Option, None, Some, Ok, Err, All, length, map, take, unwrap_or}
+use Rattle.std.proofs.Common.{refl, sym, ap, subst, ◌∙◌, arith}
+use Rattle.std.specs.Prelude.{Bool, count_by, if◌then◌else◌}
+use Rattle.std.proofs.lemmas.List.Elements.{All-cons, All-nil}
+use Rattle.std.proofs.lemmas.List.Sums.{sum_by-cons}
+use Rattle.chain_links.specs.Address.{printed}
+use Rattle.chain_links.specs.declared.address.Address.{Address}
+use Rattle.chain_links.specs.declared.address.Address.TheVariants.{Feed}
+use Rattle.member_rules.specs.Head.{HeadValue}
+use Rattle.member_rules.specs.Served.{Served}
+use Rattle.member_rules.specs.declared.operation.Op.{Op}
+use Rattle.mirror_walk.specs.Holding.{KeptValue, first_missing}
+use Rattle.mirror_walk.specs.Listing.{live_entries, outcome_of}
+use Rattle.mirror_walk.specs.Loaded.{IsLoadedOf}
+use Rattle.mirror_walk.specs.Offers.{AreServed, AreTakenOf, Offering}
+use Rattle.mirror_walk.specs.Walk.{HasWalked, IsServedBy, WalkEnding, WalkSetting, Walks, accepted_offers, answer_at}
+use Rattle.mirror_walk.specs.Walk.{is_known, is_stale, is_taken}
+use Rattle.mirror_walk.specs.declared.answer.Accepted.{Accepted}
+use Rattle.mirror_walk.specs.declared.answer.Accepted.TheVariants.{Taken, Known, Stale}
+use Rattle.mirror_walk.specs.declared.walk.Refusal.{Refusal}
+use Rattle.mirror_walk.specs.declared.walk.Walked.{Walked}
+use Rattle.mirror_walk.proofs.WalkServedLemmas.{walk-taken, walked-served}
+use Rattle.feed_commands.specs.Answer.{Answer}
+use Rattle.feed_commands.specs.Report.{counts_line, ending, refused_count, walk_counts, walk_line, walk_report}
+use Rattle.feed_commands.specs.Served.{IsServedReport, own_offers}
+use Rattle.feed_commands.specs.Walked.{IsWalkReport, walk_setting}
+use Rattle.feed_commands.proofs.ServedReportLemmas.{ends-taken}
+
+some-bytes : (found : Option (List ℕ)) (bytes : List ℕ) → found ≡ Some bytes → unwrap_or found [] ≡ bytes
+some-bytes None bytes e = cc
+some-bytes (Some other) bytes e = cc
+
+-- the documents that a walk accepted were served
+accepted-served : (head : HeadValue) (history : List Op) (setting : WalkSetting)
+    → IsServedBy head history setting.answers → (asked : List Address) (accepted : List Accepted)
+    (kept left : List KeptValue) (next : Option Address) (ending : WalkEnding)
+    → Walks setting kept next asked accepted left ending
+    → AreServed head history (accepted_offers setting asked accepted)
+accepted-served head history setting served [] [] kept left next ending walks =
+    All-nil (λ (offer : Offering). Served head history offer.address offer.bytes)
+accepted-served head history setting served [] (answer ∷ accepted) kept left next ending walks = absurd walks
+accepted-served head history setting served (address ∷ asked) [] kept left next ending walks =
+    All-nil (λ (offer : Offering). Served head history offer.address offer.bytes)
+accepted-served head history setting served (address ∷ asked) (answer ∷ accepted) kept left next ending
+    (is, (after, answered, walks)) =
+    let there = printed setting.base address in
+    All-cons (λ (offer : Offering). Served head history offer.address offer.bytes) _ _
+    (subst (Served head history there) (sym (some-bytes (answer_at setting address) answered.bytes answered.there))
+    (served there answered.bytes answered.there))
+    (accepted-served head history setting served asked accepted after left (first_missing after) ending walks)
+
+offers-length : (setting : WalkSetting) (asked : List Address) (accepted : List Accepted) (kept left : List KeptValue)
+    (next : Option Address) (ending : WalkEnding) → Walks setting kept next asked accepted left ending
+    → length (accepted_offers setting asked accepted) ≡ length accepted
+offers-length setting [] [] kept left next ending walks = refl
+offers-length setting [] (answer ∷ accepted) kept left next ending walks = absurd walks
+offers-length setting (address ∷ asked) [] kept left next ending walks = refl
+offers-length setting (address ∷ asked) (answer ∷ accepted) kept left next ending (is, (after, answered, walks)) =
+    let more = offers-length setting asked accepted after left (first_missing after) ending walks in omega (arith, more)
+
+abbrev one : Bool → ℕ
+one is = if is then 1 else 0
+
+one-of : (answer : Accepted) → one (is_taken answer) + one (is_known answer) + one (is_stale answer) ≡ 1
+one-of Taken = refl
+one-of Known = refl
+one-of Stale = refl
+
+counts-all : (accepted : List Accepted)
+    → count_by is_taken accepted + count_by is_known accepted + count_by is_stale accepted ≡ length accepted
+counts-all [] = refl
+counts-all (answer ∷ accepted) = omega (
+  arith,
+  counts-all accepted,
+  one-of answer,
+  sum_by-cons (λ a. one (is_taken a)) answer accepted,
+  sum_by-cons (λ a. one (is_known a)) answer accepted,
+  sum_by-cons (λ a. one (is_stale a)) answer accepted,
+)
+
+module _ (head : HeadValue) (history : List Op) (held : List KeptValue) (payloads : List (List ℕ))
+    (loaded : IsLoadedOf head.name.base payloads held) (own : AreServed head history (own_offers held)) where
+  held-taken : AreTakenOf head.name.base (own_offers held) held
+  held-taken = record { answers = map (λ _. Ok Taken) held; answered = loaded.taken }
+
+  pub walked-report : (capacity : ℕ) (answers : List ℕ → Option (List ℕ)) (given : Answer)
+      (report : IsWalkReport capacity head.name.base held answers given) → IsServedBy head history answers
+      → IsServedReport head history held
+      (accepted_offers (walk_setting capacity head.name.base answers) report.asked report.accepted) given
+  unfolding walk_report
+  walked-report capacity answers given report served =
+      let setting = walk_setting capacity head.name.base answers in
+      let walked = report.walked in
+      let went : HasWalked setting held report.left [] (map (printed head.name.base) report.asked) (Ok walked) = record {
+        asked = report.asked;
+        accepted = report.accepted;
+        held = report.left;
+        ending = report.ending;
+        walks = report.walks;
+        addresses = refl;
+        left = λ _. refl;
+        result = report.is_walked;
+      } in
+      let none : walked.refused ≡ None =
+      walked-served setting held report.left [] (map (printed head.name.base) report.asked) walked went head history
+      (own_offers held) refl own held-taken served in
+      let offers = accepted_offers setting report.asked report.accepted in
+      let all = accepted-served head history setting served report.asked report.accepted held report.left (Some Feed)
+      report.ending report.walks in
+      let said = ending head.name.base (live_entries report.left) (outcome_of report.left) in
+      let is = report.is_walked in
+      subst (IsServedReport head history held offers) (sym report.is) (record {
+        counts = walk_counts walked;
+        none_refused = ap refused_count none;
+        all = omega (
+          arith,
+          is.taken,
+          is.known,
+          is.stale,
+          counts-all report.accepted,
+          offers-length setting report.asked report.accepted held report.left (Some Feed) report.ending report.walks,
+        );
+        ending = said;
+        is = ap (λ (r : Option Refusal). walk_line head.name.base r ++ counts_line (walk_counts walked) ++ said) none;
+        ends = ends-taken head history held payloads loaded own offers report.left all
+            (walk-taken setting (own_offers held) report.asked report.accepted held report.left (Some Feed) report.ending
+            held-taken report.walks);
+      })

@@ -1,0 +1,18 @@
+use Rattle.std.proofs.Common.{Err, ap, sym}
+use Rattle.feed_commands.proofs.RoomFaultLemmas.{reportable-not_disk, room-not_disk}
+use Rattle.feed_commands.proofs.commands.report.Report.offer.Goals as goal
+
+pub returns-in-Some-clause-usable : goal.returns-in-Some-clause-usable
+returns-in-Some-clause-usable g c = λ other.
+    let not_disk = room-not_disk c.offer-answer.result c.in-Some.fault (sym c.in-Some.ensures) (λ e. other (ap Err e)) in
+    record { unspent = c.offer-answer.ensures.unspent not_disk; stands = c.offer-answer.ensures.stands not_disk }
+
+pub returns-in_err-add-clause-usable : goal.returns-in_err-add-clause-usable
+returns-in_err-add-clause-usable g c = λ other.
+    let not_disk = reportable-not_disk c.offer-answer.result (sym c.in_default.ensures) in
+    record { unspent = c.offer-answer.ensures.unspent not_disk; stands = c.offer-answer.ensures.stands not_disk }
+
+pub returns-clause-usable : goal.returns-clause-usable
+returns-clause-usable g c = λ other.
+    let not_disk = reportable-not_disk c.offer-answer.result (sym c.in_default.ensures) in
+    record { unspent = c.offer-answer.ensures.unspent not_disk; stands = c.offer-answer.ensures.stands not_disk }

@@ -1,0 +1,94 @@
+-- How `mirror` ends, and the parts of its way there.
+use Rattle.std.specs.Prelude.{◌≡◌, ◌⊎◌, ℕ, List, None, Result, Ok, Err}
+use Rattle.doc_source.specs.declared.offer.Offer.{Offer}
+use Rattle.feed_disk.specs.Disk.{DiskState}
+use Rattle.feed_disk.specs.Moments.{AlwaysLeaves, NowOnly}
+use Rattle.feed_disk.specs.declared.area.Area.{Area}
+use Rattle.feed_disk.specs.declared.area.Area.TheVariants.{Mirror as MirrorArea}
+use Rattle.mirror_walk.specs.Holding.{KeptValue}
+use Rattle.mirror_walk.specs.Mirror.{IsAtRest, LoadsTo}
+use Rattle.feed_commands.specs.declared.commands.report_fault.ReportFault.{ReportFault}
+use Rattle.feed_commands.specs.declared.commands.report_fault.ReportFault.TheVariants.{Fetch, OtherBase, Other}
+use Rattle.feed_commands.specs.declared.fault.BadStore.TheVariants.{BadRecord, Changed}
+use Rattle.feed_commands.specs.declared.fault.Fault.{Fault}
+use Rattle.feed_commands.specs.declared.fault.Fault.TheVariants.{NoMemory, Input, Disk, BadStore, Full, Refused}
+use Rattle.feed_commands.specs.declared.fault.Refusal.TheVariants.{BadPile, TooLong}
+use Rattle.feed_commands.specs.declared.status.Status.TheVariants as ends
+use Rattle.feed_commands.specs.Answer.{Answer}
+use Rattle.feed_commands.specs.Mirror.{HasAnswered, IsMirrored, IsReport, ReadsOffers, ReadsTo}
+use Rattle.feed_commands.specs.MirrorCrash.{IsPileStep}
+use Rattle.feed_commands.specs.MirrorFaults.{IsBadMirror, IsHeldIn}
+use Rattle.feed_commands.specs.Status.{code_of}
+
+-- the exit statuses of `mirror` from a pile
+abbrev pub MayEndMirror : ℕ → Type 0
+MayEndMirror ended =
+    (ended ≡ code_of ends.Done) ⊎ (ended ≡ code_of ends.Incomplete) ⊎ (ended ≡ code_of ends.DiskFault)
+    ⊎ (ended ≡ code_of ends.NoMemory) ⊎ (ended ≡ code_of ends.BadStore) ⊎ (ended ≡ code_of ends.OutputFault)
+    ⊎ (ended ≡ code_of ends.InputFault) ⊎ (ended ≡ code_of ends.BadInput) ⊎ (ended ≡ code_of ends.Full)
+    ⊎ (ended ≡ code_of ends.Refused)
+
+-- the faults by which the offers of a pile may end it
+abbrev pub MayEndOffers : Fault → Type 0
+MayEndOffers NoMemory = Unit {0}
+MayEndOffers Input = Unit {0}
+MayEndOffers Disk = Unit {0}
+MayEndOffers (BadStore (Changed MirrorArea index)) = Unit {0}
+MayEndOffers (Full MirrorArea size needed capacity) = Unit {0}
+MayEndOffers (Refused (BadPile at)) = Unit {0}
+MayEndOffers (Refused TooLong) = Unit {0}
+MayEndOffers _ = ⊥
+
+-- the same, or a fault of the load
+abbrev pub MayEndPileReport : ReportFault → Type 0
+MayEndPileReport Fetch = ⊥
+MayEndPileReport (OtherBase base) = Unit {0}
+MayEndPileReport (Other (BadStore (BadRecord MirrorArea index at))) = Unit {0}
+MayEndPileReport (Other fault) = MayEndOffers fault
+
+-- the area loads to the documents of a mirror, and this is its report of the pile
+pub record IsPileReport (capacity : ℕ) (base : List ℕ) (content : Area → List ℕ) (input : List ℕ) (given : Answer)
+    : Type 0 where
+  pub kept : List KeptValue
+  pub loaded : IsHeldIn base content kept
+  pub is : IsReport capacity base kept input given
+
+-- the area loads to the documents of a mirror, and this is its end by the pile
+pub record IsPileEnd (capacity : ℕ) (base : List ℕ) (content : Area → List ℕ) (input : List ℕ) (given : Answer)
+    : Type 0 where
+  pub kept : List KeptValue
+  pub loaded : IsHeldIn base content kept
+  pub is : IsMirrored capacity base kept input given
+
+abbrev pub IsPileRefusal : ℕ → List ℕ → (Area → List ℕ) → List ℕ → Answer → Type 0
+IsPileRefusal capacity base content input given =
+    IsPileEnd capacity base content input given ⊎ IsBadMirror base content given
+
+-- The offers of a pile that were given to a mirror, up to the end of the pile or to a fault. While they are, a crash leaves
+-- of a disk at rest the documents held after the first few of them.
+pub record GivesOffers (capacity : ℕ) (base : List ℕ) (kept : List KeptValue) (input : List ℕ)
+    (input_told disk_told : Type 0) (before after : DiskState) (failed whole : Type 0) : Type 0 where
+  pub offers : List Offer
+  pub read : input_told → ReadsOffers input offers
+  pub all : whole → input_told → ReadsTo input offers (Ok None)
+  pub images : disk_told → IsAtRest before kept
+      → AlwaysLeaves before after MirrorArea (IsPileStep capacity base kept offers)
+  pub left : List KeptValue
+  pub has : ¬ failed → HasAnswered capacity base kept offers left
+  pub now : ¬ failed → disk_told → IsAtRest before kept → NowOnly after MirrorArea (LoadsTo base left)
+
+-- a fault that comes only after the mirror was loaded
+abbrev pub IsLaterFault : ReportFault → Type 0
+IsLaterFault Fetch = Unit {0}
+IsLaterFault (OtherBase base) = ⊥
+IsLaterFault (Other NoMemory) = ⊥
+IsLaterFault (Other Disk) = ⊥
+IsLaterFault (Other (BadStore bad)) = ⊥
+IsLaterFault (Other Input) = Unit {0}
+IsLaterFault (Other (Full area size needed capacity)) = Unit {0}
+IsLaterFault (Other (Refused refusal)) = Unit {0}
+
+-- a report, or such a fault
+abbrev pub IsLater : {T : Type 0} → Result T ReportFault → Type 0
+IsLater (Ok printed) = Unit {0}
+IsLater (Err fault) = IsLaterFault fault

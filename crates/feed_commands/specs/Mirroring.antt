@@ -1,0 +1,48 @@
+-- What `mirror` promises beside its answer: the images of its area, and its report of documents that one feed served.
+use Rattle.std.specs.Prelude.{◌≡◌, ℕ, List, map}
+use Rattle.doc_source.specs.Fetch.{FetchState}
+use Rattle.doc_source.specs.Outside.{SinkState}
+use Rattle.doc_source.specs.declared.offer.Offer.{Offer}
+use Rattle.feed_disk.specs.Disk.{DiskState}
+use Rattle.feed_disk.specs.Moments.{NowOnly}
+use Rattle.feed_disk.specs.declared.area.Area.TheVariants.{Mirror as MirrorArea}
+use Rattle.feed_journal.specs.Records.{IsWhole}
+use Rattle.member_rules.specs.Head.{HeadValue}
+use Rattle.member_rules.specs.declared.operation.Op.{Op}
+use Rattle.mirror_walk.specs.Holding.{KeptValue}
+use Rattle.mirror_walk.specs.Offers.{AreServed}
+use Rattle.mirror_walk.specs.Walk.{IsServedBy}
+use Rattle.feed_commands.specs.declared.status.Status.TheVariants.{DiskFault}
+use Rattle.feed_commands.specs.FetchEnds.{AsksOf, EndsFetched}
+use Rattle.feed_commands.specs.Mirror.{offering}
+use Rattle.feed_commands.specs.MirrorCrash.{IsAfterLoad, LeavesFetched, LeavesMirror, LeavesMirrored}
+use Rattle.feed_commands.specs.MirrorFaults.{IsHeldIn}
+use Rattle.feed_commands.specs.Served.{EndsServed, IsPileOf, IsReported, own_offers}
+use Rattle.feed_commands.specs.Status.{code_of}
+
+-- the feed with this head served the documents that the mirror holds, as the area loads to them
+pub record HoldsServed (base : List ℕ) (before : DiskState) (head : HeadValue) (history : List Op)
+    (kept : List KeptValue) : Type 0 where
+  pub base_is : base ≡ head.name.base
+  pub loaded : IsHeldIn base before.content kept
+  pub served : AreServed head history (own_offers kept)
+
+-- `mirror` from a pile
+pub record EndsMirroring (capacity : ℕ) (base : List ℕ) (before after : DiskState) (input : List ℕ) (told : Type 0)
+    (output taken : SinkState) (ended : ℕ) : Type 0 where
+  pub kept : NowOnly before MirrorArea IsWhole → LeavesMirror before after (IsAfterLoad ended)
+      (LeavesMirrored capacity base input before after (ended ≡ code_of DiskFault) (IsReported ended))
+  pub mirrored : (head : HeadValue) (history : List Op) (kept : List KeptValue) (offers : List Offer)
+      → HoldsServed base before head history kept → IsPileOf offers input
+      → AreServed head history (map offering offers) → IsReported ended
+      → EndsServed head history kept (map offering offers) told output taken ended
+
+-- `mirror --fetch`
+pub record EndsFetching (capacity : ℕ) (base : List ℕ) (before after : DiskState) (fetch fetched : FetchState)
+    (told : Type 0) (output taken : SinkState) (ended : ℕ) : Type 0 where
+  pub asks : AsksOf capacity base before.content fetch fetched
+  pub kept : NowOnly before MirrorArea IsWhole → LeavesMirror before after (IsAfterLoad ended)
+      (LeavesFetched capacity base fetch.answers before after (ended ≡ code_of DiskFault) (IsReported ended))
+  pub mirrored : (head : HeadValue) (history : List Op) (kept : List KeptValue)
+      → HoldsServed base before head history kept → IsServedBy head history fetch.answers → IsReported ended
+      → EndsFetched capacity head history kept fetch.answers told output taken ended

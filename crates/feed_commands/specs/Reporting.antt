@@ -1,0 +1,32 @@
+-- What a report needs of a mirror and its disk, and the faults by which it may end.
+use Rattle.std.specs.Prelude.{◌≡◌, ℕ, false}
+use Rattle.feed_disk.specs.Disk.{DiskState}
+use Rattle.feed_disk.specs.declared.area.Area.TheVariants.{Mirror}
+use Rattle.mirror_walk.specs.Mirror.{MirrorValue, StandsFor, is_spent}
+use Rattle.feed_commands.specs.declared.fault.BadStore.TheVariants.{Changed}
+use Rattle.feed_commands.specs.declared.fault.Fault.{Fault}
+use Rattle.feed_commands.specs.declared.fault.Fault.TheVariants.{BadStore, Disk, Full, NoMemory}
+
+-- no call of the mirror failed, and it stands for the content of its disk
+pub record IsUsable (told : Type 0) (disk : DiskState) (mirror : MirrorValue) : Type 0 where
+  pub unspent : is_spent mirror ≡ false
+  pub stands : told → StandsFor disk mirror
+
+-- the mirror's base and capacity stay
+pub record SameMirror (before after : MirrorValue) : Type 0 where
+  pub base : after.base ≡ before.base
+  pub capacity : after.capacity ≡ before.capacity
+
+-- the faults by which an offer may end the report
+abbrev pub MayEndOffer : Fault → Type 0
+MayEndOffer NoMemory = Unit {0}
+MayEndOffer Disk = Unit {0}
+MayEndOffer (Full Mirror size needed capacity) = Unit {0}
+MayEndOffer _ = ⊥
+
+-- the faults by which the entries that are read back may end it
+abbrev pub MayEndReading : Fault → Type 0
+MayEndReading NoMemory = Unit {0}
+MayEndReading Disk = Unit {0}
+MayEndReading (BadStore (Changed Mirror index)) = Unit {0}
+MayEndReading _ = ⊥

@@ -1,0 +1,50 @@
+use Rattle.std.proofs.Common.{◌≡◌, ◌⊎◌, ◌<◌, inl, inr, ℕ, List, Result, Ok, Err, length, ap, subst}
+use Rattle.std.specs.Prelude.{IfErr, IfSome, MatchOption}
+use Rattle.atom_values.specs.Entry.{EntryValue}
+use Rattle.feed_journal.specs.declared.fault.LogFault.{LogFault}
+use Rattle.feed_journal.specs.declared.fault.LogFault.TheVariants.{Changed, NoMemory}
+use Rattle.mirror_walk.specs.Holding.{KeptValue}
+use Rattle.mirror_walk.specs.Index.{HasEntryAt}
+use Rattle.mirror_walk.specs.Listing.{live_at}
+use Rattle.mirror_walk.specs.Mirror.{IsHeldAt, MirrorValue}
+use Rattle.mirror_walk.proofs.RereadLemmas.{IsLiveAt, entry-there, live-place, place-within}
+use Rattle.mirror_walk.proofs.mirror.Mirror.entry.Given.{Over}
+use Rattle.mirror_walk.proofs.mirror.Mirror.entry.Goals as goal
+use Rattle.mirror_walk.proofs.mirror.Mirror.entry.Goals.{After-entry_at}
+
+-- the entry of the member, and its place
+live : (g : Over) (c : After-entry_at g) → IsLiveAt c.args.self.now.kept c.args.number
+    c.entry_place-place.result
+live g c = live-place c.args.self.now.kept c.args.number c.entry_place-place.result c.requires.live
+    (subst (λ (m : MirrorValue). IfSome (live_at m.kept c.args.number)
+    (HasEntryAt m.kept c.entry_place-place.result))
+    c.self.view_is c.entry_place-place.ensures)
+
+pub returns-clause-never : goal.returns-clause-never
+returns-clause-never g c = λ tells.
+    let is_live = live g (goal.at.returns-clause-never g c).After-entry_at in
+    let there = c.in_ok-read_back.ensures.there in
+    let same = c.in_ok-read_back.ensures.same (λ is. absurd (cc)) in
+    let stands = c.in_ok-read_back.ensures.stands (λ is. absurd (cc)) tells in
+    let held = subst (λ (l : List KeptValue). MatchOption c.read_back.new.self.reread (Unit {0}) (IsHeldAt l))
+    (ap (λ (m : MirrorValue). m.kept) same) stands.reread in
+    c.entry_at.ensures.never is_live.entry
+    (entry-there c.args.self.now.kept c.args.number c.entry_place-place.result is_live
+    c.read_back.new.self.reread
+    there.reread there.there there.index_is held) is_live.number_is
+
+changed_is : (result : Result EntryValue LogFault) (index other : ℕ)
+    → IfErr result (λ fault. (fault ≡ NoMemory) ⊎ (fault ≡ Changed index)) → result ≡ Err (Changed other)
+    → index ≡ other
+changed_is (Ok entry) index other refused is = absurd (cc)
+changed_is (Err fault) index other (inl spent) is = absurd (cc)
+changed_is (Err fault) index other (inr changed) is = cc
+
+pub returns-clause-changed : goal.returns-clause-changed
+returns-clause-changed g c = λ index changed.
+    let is_live = live g (goal.at.returns-clause-changed g c).After-entry_at in
+    let same = changed_is c.entry_at.result c.entry_place-place.result.document index
+    c.entry_at.ensures.refused
+    changed in
+    subst (λ (n : ℕ). n < length c.args.self.now.kept) same
+    (place-within c.args.self.now.kept c.args.number c.entry_place-place.result is_live)

@@ -1,0 +1,159 @@
+-- One step of a walk: an address is asked, and the document found there is offered to the mirror.
+use Rattle.std.specs.Prelude.{◌≡◌, ◌≢◌, ◌⊎◌, ℕ, ◌+◌, ◌≤◌, min, List, [], ◌∷◌, ◌++◌, length, map, Some, Result}
+use Rattle.std.specs.Prelude.{Ok, Err, IsSome, count_by, false}
+use Rattle.atom_values.specs.Counts.{Rose}
+use Rattle.atom_writer.specs.Doc.{archive_limit}
+use Rattle.chain_links.specs.Address.{printed}
+use Rattle.chain_links.specs.declared.address.Address.{Address}
+use Rattle.chain_links.specs.declared.address.Address.TheVariants.{Feed, Archive, Member}
+use Rattle.doc_source.specs.declared.fetch.GetFault.{GetFault}
+use Rattle.doc_source.specs.declared.fetch.GetFault.TheVariants as gets
+use Rattle.feed_disk.specs.Disk.{DiskState}
+use Rattle.feed_disk.specs.Moments.{LeavesAlone}
+use Rattle.feed_disk.specs.declared.area.Area.{Area}
+use Rattle.feed_disk.specs.declared.area.Area.TheVariants.{Mirror as MirrorArea}
+use Rattle.mirror_walk.specs.declared.answer.Accepted.{Accepted}
+use Rattle.mirror_walk.specs.declared.answer.Accepted.TheVariants.{Taken, Known, Stale}
+use Rattle.mirror_walk.specs.declared.answer.Offered.TheVariants.{Full, DiskFault, NoMemory}
+use Rattle.mirror_walk.specs.declared.walk.Tally.{Tally}
+use Rattle.mirror_walk.specs.declared.walk.Visit.{Visit}
+use Rattle.mirror_walk.specs.declared.walk.Visits.{Visits}
+use Rattle.mirror_walk.specs.declared.walk.Visit.TheVariants as visits
+use Rattle.mirror_walk.specs.declared.walk.WalkFault.{WalkFault}
+use Rattle.mirror_walk.specs.declared.walk.WalkFault.TheVariants as faults
+use Rattle.mirror_walk.specs.Accept.{Answer, IsAnswerWithin}
+use Rattle.mirror_walk.specs.Holding.{KeptValue, best_of, first_missing}
+use Rattle.mirror_walk.specs.Mirror.{IsAtRest, LoadsTo, MirrorValue, StandsFor, is_spent}
+use Rattle.mirror_walk.specs.Walk.{EndsAt, HasRefusal, IsAnswered, WalkEnding, WalkSetting, WalksFromFeed}
+use Rattle.mirror_walk.specs.Walk.{is_known, is_stale, is_taken}
+use Rattle.mirror_walk.specs.Walk.WalkEnding.{not_there, refused, fetch_failed, filled, cut_short}
+
+-- what a mirror's answer to a document that was found is for the walk
+abbrev pub visit_of : Answer → Result Visit WalkFault
+visit_of (Ok accepted) = Ok (visits.Accepted accepted)
+visit_of (Err (Full size needed capacity)) = Err (faults.Full size needed capacity)
+visit_of (Err DiskFault) = Err faults.DiskFault
+visit_of (Err NoMemory) = Err faults.NoMemory
+visit_of (Err refusal) = Ok (visits.Refused refusal)
+
+-- a fault of the source
+abbrev pub get_fault : GetFault → WalkFault
+get_fault gets.Failed = faults.FetchFault
+get_fault gets.NoMemory = faults.NoMemory
+
+-- the result of asking an address, and what is held afterwards; after a failed device call that is
+-- unspecified
+abbrev pub IsVisit : WalkSetting → List KeptValue → Address → List KeptValue → Result Visit WalkFault → Type 0
+IsVisit setting kept address left (Ok (visits.Accepted answer)) = IsAnswered setting kept address (Ok answer)
+    left
+IsVisit setting kept address left (Ok visits.NotThere) = (left ≡ kept) × EndsAt setting kept address not_there
+IsVisit setting kept address left (Ok (visits.Refused why)) = (left ≡ kept) × EndsAt setting kept address
+    (refused why)
+IsVisit setting kept address left (Err faults.FetchFault) = left ≡ kept
+IsVisit setting kept address left (Err (faults.Full size needed capacity)) =
+    (left ≡ kept) × EndsAt setting kept address (filled size needed capacity)
+IsVisit setting kept address left (Err faults.DiskFault) = Unit {0}
+IsVisit setting kept address left (Err faults.NoMemory) = left ≡ kept
+
+-- some bytes were offered under the address, and accepted
+pub record IsAcceptedAt (mirror : MirrorValue) (address : Address) (left : List KeptValue) (answer : Accepted)
+    : Type 0 where
+  pub bytes : List ℕ
+  pub answered : IsAnswerWithin mirror.capacity mirror.base mirror.kept (printed mirror.base address) bytes
+      (Ok answer)
+      left
+
+-- a visit at which a document was accepted; nothing is said of the others
+abbrev pub AcceptsAt : MirrorValue → Address → List KeptValue → Visit → Type 0
+AcceptsAt mirror address left (visits.Accepted answer) = IsAcceptedAt mirror address left answer
+AcceptsAt mirror address left visits.NotThere = Unit {0}
+AcceptsAt mirror address left (visits.Refused why) = Unit {0}
+
+-- the address was asked; if memory ran out, maybe not
+abbrev pub HasAsked : List (List ℕ) → List (List ℕ) → List ℕ → Result Visit WalkFault → Type 0
+HasAsked before after address (Ok _) = after ≡ before ++ address ∷ []
+HasAsked before after address (Err faults.FetchFault) = after ≡ before ++ address ∷ []
+HasAsked before after address (Err (faults.Full size needed capacity)) = after ≡ before ++ address ∷ []
+HasAsked before after address (Err faults.DiskFault) = after ≡ before ++ address ∷ []
+HasAsked before after address (Err faults.NoMemory) = (after ≡ before) ⊎ (after ≡ before ++ address ∷ [])
+
+-- of the mirror the base and the capacity stay, and of the disk all other areas
+pub record KeepsSetting (s t : DiskState) (before after : MirrorValue) : Type 0 where
+  pub base : after.base ≡ before.base
+  pub capacity : after.capacity ≡ before.capacity
+  pub others : (a : Area) → a ≢ MirrorArea → LeavesAlone s t a
+
+-- no device call failed: the mirror is of use, and the disk is at rest again if it was
+pub record StaysSound (told : Type 0) (s t : DiskState) (before after : MirrorValue) : Type 0 where
+  pub unspent : is_spent after ≡ false
+  pub stands : told → StandsFor t after
+  pub rests : told → IsAtRest s before.kept → IsAtRest t after.kept
+
+-- the counts of faults of the disk and of the source: each rose where its fault is the result, and stayed
+-- otherwise
+pub record CountsFaults {T : Type 0} (disk disk' source source' : ℕ) (result : Result T WalkFault) : Type 0
+  where
+    pub disk_later : disk ≤ disk'
+    pub disk_failed : result ≡ Err faults.DiskFault → Rose disk disk'
+    pub disk_worked : result ≢ Err faults.DiskFault → disk' ≡ disk
+    pub source_later : source ≤ source'
+    pub source_failed : result ≡ Err faults.FetchFault → Rose source source'
+    pub source_worked : result ≢ Err faults.FetchFault → source' ≡ source
+
+-- an image that loads to the documents held, or to those after the document at this address was taken
+pub record LoadsToTaken (setting : WalkSetting) (kept : List KeptValue) (address : Address) (image : List ℕ)
+    : Type 0 where
+  pub after : List KeptValue
+  pub taken : IsAnswered setting kept address (Ok Taken) after
+  pub loads : LoadsTo setting.base after image
+
+abbrev pub IsVisitStep : WalkSetting → List KeptValue → Address → List ℕ → Type 0
+IsVisitStep setting kept address image = LoadsTo setting.base kept image ⊎ LoadsToTaken setting kept address
+    image
+
+-- the next address is the feed's at the beginning, and else that of the first missing document
+abbrev pub IsNextOf : List KeptValue → Address → Type 0
+IsNextOf kept next = (next ≡ Feed) ⊎ ((first_missing kept ≡ Some next) × IsSome (best_of kept))
+
+-- how many documents a walk may ask for from its next address on
+abbrev pub asks_left : Address → ℕ
+asks_left Feed = archive_limit + 1
+asks_left (Archive number) = min number archive_limit
+asks_left (Member number) = 0
+
+-- the numbers of a walk's addresses and answers
+abbrev pub tally_of : List Address → List Accepted → Tally
+tally_of asked accepted = record {
+  asked = length asked;
+  taken = count_by is_taken accepted;
+  known = count_by is_known accepted;
+  stale = count_by is_stale accepted;
+}
+
+-- the numbers after one more answer
+abbrev pub counted_answer : Tally → Accepted → Tally
+counted_answer tally Taken = record tally { taken = tally.taken + 1 }
+counted_answer tally Known = record tally { known = tally.known + 1 }
+counted_answer tally Stale = record tally { stale = tally.stale + 1 }
+
+-- the numbers of a walk that ended without a fault, and its refusal
+abbrev pub IsVisitsResult : List Address → List Accepted → WalkEnding → Result Visits WalkFault → Type 0
+IsVisitsResult asked accepted ending (Ok made) =
+    (made.tally ≡ tally_of asked accepted) × HasRefusal asked ending made.refused
+IsVisitsResult asked accepted ending (Err faults.FetchFault) = ending ≡ fetch_failed
+IsVisitsResult asked accepted ending (Err (faults.Full size needed capacity)) = ending ≡ filled size needed
+    capacity
+IsVisitsResult asked accepted ending (Err faults.DiskFault) = ending ≡ cut_short
+IsVisitsResult asked accepted ending (Err faults.NoMemory) = ending ≡ cut_short
+
+-- the walk up to its end, without the outcome
+pub record HasVisited (setting : WalkSetting) (kept now : List KeptValue) (before after : List (List ℕ))
+    (given : Result Visits WalkFault) : Type 0 where
+  pub asked : List Address
+  pub accepted : List Accepted
+  pub held : List KeptValue
+  pub ending : WalkEnding
+  pub walks : WalksFromFeed setting kept asked accepted held ending
+  pub addresses : after ≡ before ++ map (printed setting.base) asked
+  pub left : given ≢ Err faults.DiskFault → now ≡ held
+  pub result : IsVisitsResult asked accepted ending given
