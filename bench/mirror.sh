@@ -1,8 +1,9 @@
 #!/bin/sh
 # Prints the seconds and the peak memory in KiB of `feed_tool mirror --report` on the pile of a store of N operations, which the
-# program makes itself, and on that of half as many. Beside them stand those of `show pile`, which writes the pile, and of
-# `sha256sum` and `wc -l` of the same pile. Store and pile lie in the folder DIR, or else in /dev/shm, where they take no time of
-# a device. Each run is a process of its own, whose start counts.
+# program makes itself, and on that of half as many: by a mirror that holds nothing, and by one that holds all, which loads
+# its own file and gets an empty pile. Beside them stand those of `show pile`, which writes the pile, and of `sha256sum` and
+# `wc -l` of the same bytes. Store, mirror and pile lie in the folder DIR, or else in /dev/shm, where they take no time of a
+# device. Each run is a process of its own, whose start counts.
 # usage: bench/mirror.sh N [DIR]
 count=${1:?usage: bench/mirror.sh N [DIR]}
 top=$(CDPATH='' cd -- "$(dirname -- "$0")/.." && pwd) || exit 1
@@ -29,8 +30,13 @@ for part in 1 2; do
     seq "$half" | sed 's/^/add Advisory number /' | "$tool" apply >/dev/null || exit 1
     "$tool" show pile >pile || exit 1
     measure 'show pile' /dev/null "$tool" show pile
-    measure 'mirror --report' pile "$tool" mirror --base http://feed.example/ --report
+    rm -f mirror
+    measure 'mirror --report' pile "$tool" mirror --base http://feed.example/ --report --capacity 68719476736
     tail -n 1 printed
     measure 'sha256sum' pile sha256sum
     measure 'wc -l' pile wc -l
+    printf 'pile 1\n' >nothing
+    measure 'mirror --report, all held' nothing "$tool" mirror --base http://feed.example/ --report --capacity 68719476736
+    tail -n 1 printed
+    measure 'sha256sum of the mirror' mirror sha256sum
 done

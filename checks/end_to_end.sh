@@ -128,6 +128,11 @@ mkdir "$work/store"
 stored() {
     (cd "$work/store" && "$tool" "$@" <"$work/input" >"$work/output" 2>"$work/errors"; echo $? >"$work/status")
 }
+# the mirror's file lies in a folder of its own
+mirrored() {
+    mkdir -p "$work/mirror"
+    (cd "$work/mirror" && "$tool" mirror "$@" <"$work/input" >"$work/output" 2>"$work/errors"; echo $? >"$work/status")
+}
 # prints the summary of the document that was printed
 summarized() {
     "$tool" show <"$work/output" >"$work/summary" 2>"$work/errors" && cp "$work/summary" "$work/output"
@@ -197,9 +202,9 @@ cp "$work/output" "$work/feed"
 stored show pile
 { echo 'pile 1'; offered feed "$work/feed"; offered archive/1 "$work/archive"; } >"$work/pile"
 masked <"$work/pile" | compare 'show pile' 0
-# a mirror of that pile is complete, and one without the archive names it
+# a mirror of that pile is complete and stays so, and one without the archive names it
 cp "$work/output" "$work/input"
-ran mirror --base http://feed.example/ --report
+mirrored --base http://feed.example/ --report
 compare 'mirror of a pile' 0 <<'TEXT'
 offers 2 0 0 0
 entry 1 NOW a
@@ -209,18 +214,32 @@ entry 4 NOW d
 entry 5 NOW e
 complete 5 5
 TEXT
+echo 'pile 1' >"$work/input"
+mirrored --base http://feed.example/ --report
+compare 'mirror that holds all' 0 <<'TEXT'
+offers 0 0 0 0
+entry 1 NOW a
+entry 2 NOW b
+entry 3 NOW c
+entry 4 NOW d
+entry 5 NOW e
+complete 5 5
+TEXT
+mirrored --base http://other.example/ --report
+echo 'other base http://feed.example/' | compare 'mirror of another base' 12
+rm "$work/mirror/mirror"
 { echo 'pile 1'; offered feed "$work/feed"; offered feed "$work/feed"; offered feed "$work/archive"; } >"$work/input"
-ran mirror --report --base=http://feed.example/
+mirrored --report --base=http://feed.example/
 compare 'mirror without the archive' 3 <<'TEXT'
 refused http://feed.example/feed WrongAddress
 offers 1 1 0 1
 missing http://feed.example/archive/1
 TEXT
 { echo 'pile 1'; offered feed "$work/feed"; echo 'http://feed.example/archive/1 9'; } >"$work/input"
-ran mirror --base http://feed.example/ --report
+mirrored --base http://feed.example/ --report
 echo "bad pile $(($(wc -c <"$work/input") - 32))" | compare 'mirror of a pile that is cut' 10
 : >"$work/input"
-ran mirror --base http://feed.example/
+mirrored --base http://feed.example/
 echo "$usage" | compare 'mirror without --report' 2
 printf 'remove 5\nsubtract\nadd f\n' >"$work/input"
 stored apply
