@@ -1,0 +1,26 @@
+-- serves `Shelf::place`, `Chain::read` and `live_digest`: lists that grow at the end
+pub mod ListLemmas
+-- serves `Offers::add`, `Offers::of` and `Offers::place`: the index of the offers
+pub mod OffersLemmas
+-- serves `Shelf::place` and `Chain::read`: the documents of the lines
+pub mod ChainLemmas
+-- serves the checks of links.rt
+pub mod LinksLemmas
+-- serves `check` and `audit`: the checks in turn, and what is accepted
+pub mod VerdictLemmas
+-- serves `audit`: one verdict for each certificate and pile
+pub mod UniqueLemmas
+-- serves `list_items`: the items of one document
+pub mod ListedItemsLemmas
+-- serves `live_places`: the live entries of the documents
+pub mod EntriesLemmas
+-- serves `check_live`: how many live entries there are
+pub mod LiveCountLemmas
+-- serves `next_live` and `live_digest`: the live entries in order of number
+pub mod NextLiveLemmas
+-- serves `audit`, `served`: documents that one feed served
+pub mod ServedLemmas
+-- serves `live_places` and `live_digest`: the documents from the oldest to the newest
+pub mod DigestLemmas
+-- serves `check`: the result of all checks
+pub mod CheckLemmas

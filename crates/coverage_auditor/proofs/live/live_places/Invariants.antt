@@ -1,0 +1,9 @@
+use Rattle.std.proofs.Common.{◌-◌, drop, length}
+use Rattle.coverage_auditor.specs.LiveList.{AreMembers, HasEntries}
+use Rattle.coverage_auditor.proofs.live.live_places.Given as goal
+
+abbrev pub invariant-loop-older : goal.invariant-loop-older
+invariant-loop-older l = record {
+  entries : HasEntries l.chain (drop (length l.chain - l.older) l.chain) l.live;
+  members : AreMembers l.live;
+}

@@ -1,0 +1,41 @@
+use Rattle.std.proofs.Common.{◌≡◌, List, ℕ, Some, refl, sym, ap, ◌∙◌}
+use Rattle.std.specs.Prelude.{option_copied, option_map}
+use Rattle.atom_writer.specs.declared.doc.FeedName.{FeedName}
+use Rattle.mirror_walk.specs.Holding.{best_of, name_of_best}
+use Rattle.coverage_certificate.specs.Held.{with_digest}
+use Rattle.coverage_certificate.specs.Live.{live_digest_of}
+use Rattle.coverage_certificate.proofs.HeldLemmas.{entries-are, held_made}
+use Rattle.coverage_certificate.proofs.SameLemmas.{made}
+use Rattle.coverage_certificate.proofs.certificate.Certificate.of.Goals as goal
+
+pub returns-clause-certificate : goal.returns-clause-certificate
+returns-clause-certificate g c = λ told.
+    let kept = c.args.mirror.now.kept in
+    let name = c.in_ok-name.name in
+    let place = c.unwrap-best.result in
+    let live = c.in_ok-live.live in
+    let lines = c.in_ok-lines.lines.items in
+    let named : name_of_best kept ≡ Some name = sym c.name.ensures ∙ ap option_copied c.unwrap.ensures
+    ∙ ap (λ (n : FeedName). Some n) (sym c.in_ok-name.ensures.same) in
+    held_made name.base kept (best_of kept) refl place name lines live.count live.digest
+    (sym c.best.ensures ∙ c.unwrap-best.ensures) named c.in_ok-lines.ensures.lines c.in_ok-live.ensures.count
+    ∙ ap (λ (d : List ℕ). Some (made name.id name.base place.span.last lines live.count d))
+    (sym (c.in_ok-live.ensures.digest told ∙ ap (live_digest_of name) (entries-are kept)))
+
+pub returns-clause-parts : goal.returns-clause-parts
+returns-clause-parts g c =
+    let kept = c.args.mirror.now.kept in
+    let name = c.in_ok-name.name in
+    let live = c.in_ok-live.live in
+    let named : name_of_best kept ≡ Some name = sym c.name.ensures ∙ ap option_copied c.unwrap.ensures
+    ∙ ap (λ (n : FeedName). Some n) (sym c.in_ok-name.ensures.same) in
+    ap (option_map (with_digest live.digest))
+    (held_made name.base kept (best_of kept) refl c.unwrap-best.result name c.in_ok-lines.lines.items live.count
+    live.digest (sym c.best.ensures ∙ c.unwrap-best.ensures) named c.in_ok-lines.ensures.lines
+    c.in_ok-live.ensures.count)
+
+pub returns-clause-base : goal.returns-clause-base
+returns-clause-base g c =
+    let named : name_of_best c.args.mirror.now.kept ≡ Some c.in_ok-name.name = sym c.name.ensures
+    ∙ ap option_copied c.unwrap.ensures ∙ ap (λ (n : FeedName). Some n) (sym c.in_ok-name.ensures.same) in
+    ap (option_map (λ (n : FeedName). n.base)) named

@@ -1,0 +1,53 @@
+use Rattle.std.proofs.Common.{refl, ap, ◌∙◌, arith}
+use Rattle.feed_disk.proofs.MomentLemmas.{alone_joins}
+use Rattle.sha2.specs.Sha256.{sha256}
+use Rattle.coverage_certificate.proofs.HeldLemmas.{digesting-count, digesting-next, digesting-start, digesting-text}
+use Rattle.coverage_certificate.proofs.of.digest_live.Goals as goal
+
+pub loop-number-init : goal.loop-number-init
+loop-number-init g c =
+    digesting-start g.D.Disk.told c.args.mirror.now c.args.name.now (g.D.Disk.state c.args.disk.now)
+    c.new-hasher.result c.new-hasher.ensures c.requires.listed c.requires.unspent c.requires.stands
+
+pub loop-number-preserved : goal.loop-number-preserved
+loop-number-preserved g c =
+    digesting-next g.D.Disk.told c.args.mirror.now c.args.name.now (g.D.Disk.state c.args.disk.now)
+    (g.D.Disk.state c.loop-number.disk) c.loop-number.mirror c.loop-number.hasher c.loop-number.count
+    c.loop-number.after c.loop-number.invariant (g.D.Disk.state c.entry.new.disk) c.entry.new.self
+    c.update.new.self c.in-Some.number c.in_ok-entry.entry c.as_slice.result.now c.in-Some.ensures.found
+    (omega arith) c.in_ok-entry.ensures.entry (c.as_slice.ensures.value ∙ c.in_ok-document.ensures) c.update.ensures
+    (c.in_ok-entry.ensures.same (λ e. cc)) (c.in_ok-entry.ensures.stands (λ e. cc)) c.in_ok-entry.ensures.areas
+    (c.in_ok-entry.ensures.unfailed (λ e. cc))
+
+pub loop-number-preserved-in_ok-document : goal.loop-number-preserved-in_ok-document
+loop-number-preserved-in_ok-document g c =
+    digesting-next g.D.Disk.told c.args.mirror.now c.args.name.now (g.D.Disk.state c.args.disk.now)
+    (g.D.Disk.state c.loop-number.disk) c.loop-number.mirror c.loop-number.hasher c.loop-number.count
+    c.loop-number.after c.loop-number.invariant (g.D.Disk.state c.entry.new.disk) c.entry.new.self
+    c.update.new.self c.in-Some.number c.in_ok-entry.entry c.as_slice.result.now c.in-Some.ensures.found
+    (omega arith) c.in_ok-entry.ensures.entry (c.as_slice.ensures.value ∙ c.in_ok-document.ensures) c.update.ensures
+    (c.in_ok-entry.ensures.same (λ e. cc)) (c.in_ok-entry.ensures.stands (λ e. cc)) c.in_ok-entry.ensures.areas
+    (c.in_ok-entry.ensures.unfailed (λ e. cc))
+
+pub returns-in_err-entry-clause-areas : goal.returns-in_err-entry-clause-areas
+returns-in_err-entry-clause-areas g c = λ a.
+    alone_joins _ (g.D.Disk.state c.loop-number.disk) _ a (c.loop-number.invariant.areas a)
+    (c.in_err-entry.ensures.areas a)
+
+pub returns-in_err-document-clause-areas : goal.returns-in_err-document-clause-areas
+returns-in_err-document-clause-areas g c = λ a.
+    alone_joins _ (g.D.Disk.state c.loop-number.disk) _ a (c.loop-number.invariant.areas a)
+    (c.in_ok-entry.ensures.areas a)
+
+pub returns-clause-count : goal.returns-clause-count
+returns-clause-count g c =
+    digesting-count g.D.Disk.told c.args.mirror.now c.args.name.now (g.D.Disk.state c.args.disk.now)
+    (g.D.Disk.state c.loop-number.disk) c.loop-number.mirror c.loop-number.hasher c.loop-number.count
+    c.loop-number.after c.loop-number.invariant (c.in_default.ensures.last refl)
+
+pub returns-clause-digest : goal.returns-clause-digest
+returns-clause-digest g c = λ told.
+    c.finalize-digest.ensures c.loop-number.invariant.message c.loop-number.invariant.holds
+    ∙ ap sha256 (digesting-text g.D.Disk.told c.args.mirror.now c.args.name.now (g.D.Disk.state c.args.disk.now)
+    (g.D.Disk.state c.loop-number.disk) c.loop-number.mirror c.loop-number.hasher c.loop-number.count
+    c.loop-number.after c.loop-number.invariant (c.in_default.ensures.last refl) told)
