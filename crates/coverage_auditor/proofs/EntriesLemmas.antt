@@ -1,77 +1,22 @@
 -- The live entries of a list of documents, newest first, after one more document was laid over the map of
 -- their places.
-use Rattle.std.proofs.Common.{◌≡◌, ◌≢◌, inl, inr, ℕ, suc, ◌==◌, List, [], ◌∷◌, Option, Some, None, refl, ap}
-use Rattle.std.proofs.Common.{sym}
-use Rattle.std.proofs.Common.{◌∙◌, subst, arith}
-use Rattle.std.specs.Prelude.{All, map, slice_get}
+use Rattle.std.proofs.Common.{◌≡◌, ℕ, ◌==◌, List, [], ◌∷◌, Option, Some, None, refl, sym, subst}
+use Rattle.std.specs.Prelude.{is_some, slice_get}
 use Rattle.std.specs.BTreeMap.{BTreeMap, get, is_at}
 use Rattle.std.specs.List.{find}
 use Rattle.std.specs.Map.{lookup}
-use Rattle.std.specs.Option.{option_map, option_or}
 use Rattle.std.specs.Ordering.{nat_cmp}
-use Rattle.std.proofs.lemmas.Bool.{cases_eq, eq-eqb, ne_eqb}
-use Rattle.std.proofs.lemmas.List.Concat.{flat_map-cons}
-use Rattle.std.proofs.lemmas.List.Elements.{All-nil, All-cons, All-head, All-tail}
-use Rattle.std.proofs.lemmas.List.Folds.{find-append}
-use Rattle.std.proofs.lemmas.Option.{slice_get-map}
+use Rattle.atom_values.specs.Entry.{EntryValue}
 use Rattle.atom_writer.specs.Doc.{DocValue}
 use Rattle.deleted_entries.specs.Item.{item_number}
 use Rattle.deleted_entries.specs.declared.item.Item.{Item}
 use Rattle.deleted_entries.specs.declared.item.Item.TheVariants.{Kept as KeptItem, Gone as GoneItem}
-use Rattle.member_rules.specs.Shows.{all_items, entry_of, live_of}
+use Rattle.member_rules.specs.Shows.{entry_of, live_of}
+use Rattle.mirror_walk.specs.Index.{LaysOver}
+use Rattle.mirror_walk.proofs.EntriesLemmas.{find-none, find-place, live_of-none, live_of-some}
+use Rattle.mirror_walk.proofs.ListedCountLemmas.{HasLive}
 use Rattle.coverage_auditor.specs.declared.live.EntryPlace.{EntryPlace}
-use Rattle.coverage_auditor.specs.LiveList.{HasEntries, LaysOver, ListsEntry, entry_place}
-
--- the first item of a member, or none
-
-pub find-place : (number : ℕ) (items : List Item) (item : Item)
-    → find (λ item. item_number item == number) items ≡ Some item
-    → (at : ℕ) × (slice_get items at ≡ Some item) × (item_number item ≡ number)
-find-place number [] item e = absurd (grind arith)
-find-place number (first ∷ items) item e = elim (cases_eq (item_number first) number) [
-  | inl same ↦
-      let found : Some first ≡ Some item = rw (eq-eqb (item_number first) number same) at e in
-      let it : first ≡ item = cc in
-      (0, found, subst (λ (i : Item). item_number i ≡ number) it same)
-  | inr other ↦
-      let rest = find-place number items item (rw (ne_eqb (item_number first) number other) at e) in
-      (suc rest.0, rest.1, rest.2)
-]
-
-find-none : (number : ℕ) (items : List Item) → find (λ item. item_number item == number) items ≡ None
-    → All (λ item. item_number item ≢ number) items
-find-none number [] e = All-nil (λ item. item_number item ≢ number)
-find-none number (first ∷ items) e = elim (cases_eq (item_number first) number) [
-  | inl same ↦
-      let found : Some first ≡ None = rw (eq-eqb (item_number first) number same) at e in
-      absurd (grind arith)
-  | inr other ↦
-      All-cons (λ item. item_number item ≢ number) first items other
-      (find-none number items (rw (ne_eqb (item_number first) number other) at e))
-]
-
-live_of-more : (document : DocValue) (older : List DocValue) (number : ℕ)
-    → live_of (document ∷ older) number
-    ≡ entry_of (option_or (find (λ item. item_number item == number) document.items)
-    (find (λ item. item_number item == number) (all_items older)))
-unfolding live_of
-live_of-more document older number =
-    ap (λ items. entry_of (find (λ item. item_number item == number) items))
-    (flat_map-cons (λ (d : DocValue). d.items) document older)
-    ∙ ap entry_of (find-append (λ item. item_number item == number) document.items (all_items older))
-
-live_of-some : (document : DocValue) (older : List DocValue) (number : ℕ) (item : Item)
-    → find (λ item. item_number item == number) document.items ≡ Some item
-    → live_of (document ∷ older) number ≡ entry_of (Some item)
-live_of-some document older number item found = live_of-more document older number
-    ∙ ap (λ o. entry_of (option_or o (find (λ item. item_number item == number) (all_items older)))) found
-
-live_of-none : (document : DocValue) (older : List DocValue) (number : ℕ)
-    → find (λ item. item_number item == number) document.items ≡ None
-    → live_of (document ∷ older) number ≡ live_of older number
-unfolding live_of
-live_of-none document older number none = live_of-more document older number
-    ∙ ap (λ o. entry_of (option_or o (find (λ item. item_number item == number) (all_items older)))) none
+use Rattle.coverage_auditor.specs.LiveList.{HasEntries, ListsEntry, entry_place}
 
 pub HasEntries-none : (kept : List DocValue) (live : BTreeMap ℕ EntryPlace) → live.entries ≡ []
     → HasEntries kept [] live
@@ -81,7 +26,7 @@ HasEntries-none kept live empty number =
 
 pub HasEntries-more : (kept : List DocValue) (document : ℕ) (given : DocValue) (older : List DocValue)
     (old new : BTreeMap ℕ EntryPlace) → slice_get kept document ≡ Some given
-    → LaysOver document given.items old new → HasEntries kept older old
+    → LaysOver item_number (entry_place document) given.items old new → HasEntries kept older old
     → HasEntries kept (given ∷ older) new
 HasEntries-more kept document given older old new there laid entries number =
     split (find (λ item. item_number item == number) given.items) refl
@@ -101,3 +46,15 @@ HasEntries-more kept document given older old new there laid entries number =
         let named = subst (λ k. get nat_cmp new k ≡ entry_place document place.0 item)
         place.2 (laid.named place.0 item place.1) in
         rw (named, live_of-some given older number item found) (listed place.0 item place.1)
+
+listed-live : (documents : List DocValue) (place : Option EntryPlace) (entry : Option EntryValue)
+    → ListsEntry documents place entry → is_some place ≡ is_some entry
+listed-live documents None None h = refl
+listed-live documents None (Some entry) h = absurd h
+listed-live documents (Some place) None h = absurd h
+listed-live documents (Some place) (Some entry) h = refl
+
+pub entries-live : (documents listed : List DocValue) (live : BTreeMap ℕ EntryPlace)
+    → HasEntries documents listed live → HasLive listed live
+entries-live documents listed live entries number =
+    listed-live documents (get nat_cmp live number) (live_of listed number) (entries number)

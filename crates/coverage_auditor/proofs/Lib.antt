@@ -10,12 +10,8 @@ pub mod LinksLemmas
 pub mod VerdictLemmas
 -- serves `audit`: one verdict for each certificate and pile
 pub mod UniqueLemmas
--- serves `list_items`: the items of one document
-pub mod ListedItemsLemmas
--- serves `live_places`: the live entries of the documents
+-- serves `live_places` and `check_live`: the live entries of the documents
 pub mod EntriesLemmas
--- serves `check_live`: how many live entries there are
-pub mod LiveCountLemmas
 -- serves `next_live` and `live_digest`: the live entries in order of number
 pub mod NextLiveLemmas
 -- serves `audit`, `served`: documents that one feed served
@@ -24,3 +20,5 @@ pub mod ServedLemmas
 pub mod DigestLemmas
 -- serves `check`: the result of all checks
 pub mod CheckLemmas
+-- serves `own_certificates_are_accepted`: a mirror's certificate over its own documents
+pub mod OwnLemmas

@@ -1,6 +1,6 @@
 -- The entries that a map lists, in order of number.
 use Rattle.std.proofs.lemmas.Bool.{cases_lt}
-use Rattle.std.proofs.Common.{◌≡◌, inl, inr, ℕ, zero, suc, ◌+◌, ◌-◌, ◌<◌, ◌≤◌, List, [], ◌∷◌, ◌++◌, Option, Some, None, refl, ap, sym}
+use Rattle.std.proofs.Common.{◌≡◌, inl, inr, ℕ, suc, ◌+◌, ◌-◌, ◌<◌, ◌≤◌, List, [], ◌∷◌, ◌++◌, Option, Some, None, refl, ap, sym}
 use Rattle.std.proofs.Common.{subst, ◌∙◌, arith}
 use Rattle.std.specs.Prelude.{IsSome, is_some}
 use Rattle.std.specs.BTreeMap.{BTreeMap, get}
@@ -15,6 +15,7 @@ use Rattle.atom_writer.specs.Doc.{DocValue}
 use Rattle.atom_writer.specs.Members.{member_text}
 use Rattle.atom_writer.specs.declared.doc.FeedName.{FeedName}
 use Rattle.coverage_certificate.specs.Live.{live_entries_of, live_text}
+use Rattle.coverage_certificate.proofs.HeldLemmas.{entries-none, entries-same}
 use Rattle.member_rules.specs.Shows.{greatest_member, live_of}
 use Rattle.member_rules.proofs.ShowsLemmas.{live_of-past}
 use Rattle.mirror_walk.specs.Listing.{entries_up_to, with_entry}
@@ -83,31 +84,6 @@ last-in_range documents live after entries range number later =
     (range.5 refl number (is_less after number later, tt))
 
 -- the entries up to a number
-
--- no entry has one of the next numbers
-entries-none : (live : ℕ → Option EntryValue) (n more : ℕ)
-    → ((k : ℕ) → n < k → k ≤ n + more → live k ≡ None) → entries_up_to live (n + more) ≡ entries_up_to live n
-entries-none live n zero none = let same : n + 0 ≡ n = omega arith in ap (entries_up_to live) same
-entries-none live n (suc more) none =
-    let next : n + suc more ≡ suc (n + more) = omega arith in
-    ap (entries_up_to live) next
-    ∙ ap (with_entry (entries_up_to live (n + more))) (none (suc (n + more)) (omega arith) (omega arith))
-    ∙ entries-none live n more (λ k low high. none k low (omega arith))
-
--- all entries have numbers up to both of these
-pub entries-same : (live : ℕ → Option EntryValue) (n m : ℕ) → ((k : ℕ) → n < k → live k ≡ None)
-    → ((k : ℕ) → m < k → live k ≡ None) → entries_up_to live n ≡ entries_up_to live m
-entries-same live n m past_n past_m =
-    let around : n + m ≡ m + n = omega arith in
-    sym (entries-none live n m (λ k low high. past_n k low))
-    ∙ ap (entries_up_to live) around
-    ∙ entries-none live m n (λ k low high. past_m k low)
-
--- the same entries, up to a number
-pub entries-equal : (live other : ℕ → Option EntryValue) (n : ℕ) → ((k : ℕ) → live k ≡ other k)
-    → entries_up_to live n ≡ entries_up_to other n
-entries-equal live other zero same = refl
-entries-equal live other (suc n) same = (λ i. with_entry (entries-equal live other n same i) (same (suc n) i))
 
 -- one more entry
 entries-next : (documents : List DocValue) (after next : ℕ) (place : EntryPlace)

@@ -1,6 +1,6 @@
 -- An accepted certificate over documents that one feed served.
-use Rattle.std.proofs.Common.{◌≡◌, ℕ, zero, suc, ◌+◌, ◌-◌, ◌<◌, ◌≤◌, ◌^◌, Bool, true, false, cond, List, [], ◌∷◌, ◌++◌}
-use Rattle.std.proofs.Common.{Option, Some, None, IsTrue, take, map, refl, sym, ap, ap₂, subst, ◌∙◌, arith}
+use Rattle.std.proofs.Common.{◌≡◌, ℕ, zero, suc, ◌-◌, ◌≤◌, Bool, true, false, cond, List, [], ◌∷◌}
+use Rattle.std.proofs.Common.{Some, None, IsTrue, take, map, refl, sym, ap, ap₂, subst, ◌∙◌, arith}
 use Rattle.std.specs.Prelude.{All, find}
 use Rattle.std.proofs.lemmas.Bool.Decides.{nat_tests}
 use Rattle.std.proofs.lemmas.List.Elements.{All-cons, All-head, All-nil, All-tail}
@@ -12,34 +12,30 @@ use Rattle.atom_writer.specs.Pieces.{own_address}
 use Rattle.atom_writer.specs.declared.doc.FeedName.{FeedName}
 use Rattle.atom_writer.specs.declared.doc.Kind.{Kind}
 use Rattle.atom_writer.specs.declared.doc.Kind.TheVariants.{Subscription, Archive as Sealed}
-use Rattle.chain_links.specs.declared.address.Address.{Address}
 use Rattle.chain_links.specs.declared.address.Address.TheVariants.{Feed}
 use Rattle.chain_links.specs.declared.place.Span.{Span}
 use Rattle.coverage_certificate.specs.Certificate.{AreCoverLines, CertificateValue, CoverValue}
-use Rattle.coverage_certificate.specs.Live.{live_digest_of, live_entries_of}
+use Rattle.coverage_certificate.specs.Live.{live_digest_of}
 use Rattle.doc_source.specs.declared.offer.Offer.{Offer}
 use Rattle.member_rules.specs.declared.operation.Op.{Op}
 use Rattle.member_rules.specs.Chain.{IsChain, ShowsTheFold, chain, chain_of as cut_chain, down_from}
 use Rattle.member_rules.specs.Documents.{archive, document_of, name_of, subscription, subscription_of}
-use Rattle.member_rules.specs.Fold.{fold_of, live_count, made}
+use Rattle.member_rules.specs.Fold.{live_count}
 use Rattle.member_rules.specs.Head.{HeadValue, IsHead}
-use Rattle.member_rules.specs.History.{IsLawful}
 use Rattle.member_rules.specs.Served.{Served}
-use Rattle.member_rules.specs.Shows.{greatest_member, live_of}
 use Rattle.member_rules.specs.Windows.{windows_of}
 use Rattle.member_rules.proofs.LawLemmas.{law-of_chain}
 use Rattle.member_rules.proofs.ServedLemmas.{prefix-lawful}
-use Rattle.member_rules.proofs.ShowsLemmas.{live_of-past}
-use Rattle.member_rules.proofs.StateLemmas.{AreMembers-of}
 use Rattle.mirror_walk.specs.Laws.{ShowsVersion}
 use Rattle.mirror_walk.specs.Offers.{Offering}
-use Rattle.mirror_walk.proofs.FeedDocumentLemmas.{IsOfFeed, IsReading, IsVersionOf, archive-of, archive-past}
+use Rattle.mirror_walk.proofs.FeedDocumentLemmas.{IsOfFeed, archive-of, archive-past}
 use Rattle.mirror_walk.proofs.FeedDocumentLemmas.{served-reading, subscription-prev, version-of}
 use Rattle.mirror_walk.proofs.MirrorLemmas.{address-archive}
-use Rattle.coverage_auditor.specs.Certified.{IsServedPile, ShowsCertified, fold_entries, offering_of}
+use Rattle.coverage_certificate.specs.Served.{fold_entries}
+use Rattle.coverage_certificate.proofs.ServedLemmas.{shown-entries}
+use Rattle.coverage_auditor.specs.Certified.{IsServedPile, ShowsCertified, offering_of}
 use Rattle.coverage_auditor.specs.Finding.{HasDocument, offer_of}
 use Rattle.coverage_auditor.specs.Verdict.{AreDocuments, Covers}
-use Rattle.coverage_auditor.proofs.NextLiveLemmas.{entries-equal, entries-same}
 
 found-holds : (P : Offering → Type 0) (p : Offer → Bool) (pile : List Offer) (offer : Offer)
     → All P (map offering_of pile) → find p pile ≡ Some offer → P (offering_of offer)
@@ -180,16 +176,6 @@ module _ (head : HeadValue) (history : List Op) where
     first-of [] newest others are all = absurd are
     first-of (line ∷ lines) newest others are all = record { line = line; feed = are.0; has = all.0 }
 
-    live-entries : (documents : List DocValue) (past : List Op) → IsLawful head past → ShowsTheFold documents past
-        → live_entries_of documents ≡ fold_entries past
-    unfolding live_entries_of
-    live-entries documents past lawful shows =
-        let live = (fold_of past).live in
-        entries-equal (live_of documents) live (greatest_member documents) shows.live
-        ∙ entries-same live (greatest_member documents) (made past)
-        (λ k l. sym (shows.live k) ∙ live_of-past documents k l)
-        (λ k l. ((AreMembers-of head.created past lawful.following).none_past k l).0)
-
     pub covers-served : AreCoverLines c.lines → Covers c pile → ShowsCertified head history c pile
     covers-served lines covers =
         let newest = covers.newest in
@@ -218,6 +204,6 @@ module _ (head : HeadValue) (history : List Op) where
           count = sym covers.count ∙ fold.count ∙ ap (λ (v : ℕ). live_count (take v history)) covers.version;
           digest = sym covers.digest
               ∙ ap₂ (λ (n : FeedName) (es : List EntryValue). live_digest_of n es) name
-              (live-entries documents past lawful fold)
+              (shown-entries head documents past lawful fold)
               ∙ ap (λ (v : ℕ). live_digest_of head.name (fold_entries (take v history))) covers.version;
         }

@@ -1,15 +1,14 @@
 -- What an accepted certificate says of documents that one feed served.
-use Rattle.std.specs.Prelude.{◌≡◌, ℕ, List, map, take}
-use Rattle.atom_values.specs.Entry.{EntryValue}
+use Rattle.std.specs.Prelude.{◌≡◌, List, map, take}
 use Rattle.atom_writer.specs.Doc.{DocValue}
 use Rattle.coverage_certificate.specs.Certificate.{CertificateValue}
 use Rattle.coverage_certificate.specs.Live.{live_digest_of}
+use Rattle.coverage_certificate.specs.Served.{fold_entries}
 use Rattle.doc_source.specs.declared.offer.Offer.{Offer}
-use Rattle.member_rules.specs.Fold.{fold_of, live_count, made}
+use Rattle.member_rules.specs.Fold.{live_count}
 use Rattle.member_rules.specs.Head.{HeadValue}
 use Rattle.member_rules.specs.declared.operation.Op.{Op}
 use Rattle.mirror_walk.specs.Laws.{ShowsVersion}
-use Rattle.mirror_walk.specs.Listing.{entries_up_to}
 use Rattle.mirror_walk.specs.Offers.{AreServed, Offering}
 use Rattle.coverage_auditor.specs.Verdict.{AreDocuments}
 
@@ -20,10 +19,6 @@ offering_of offer = record { address = offer.address; bytes = offer.bytes }
 -- the feed with this head served each offer of the pile after some of these operations
 abbrev pub IsServedPile : HeadValue → List Op → List Offer → Type 0
 IsServedPile head history pile = AreServed head history (map offering_of pile)
-
--- the live entries after these operations, in order of number
-abbrev pub fold_entries : List Op → List EntryValue
-fold_entries operations = entries_up_to (fold_of operations).live (made operations)
 
 -- The lines' documents are the chain of the feed after the certificate's version. The number and the digest of the live
 -- entries are those of the feed's live entries at that version.

@@ -6,3 +6,4 @@ pub mod LiveList
 pub mod Verdict
 pub mod Checks
 pub mod Certified
+pub mod Own

@@ -1,10 +1,9 @@
 -- The places of the live entries in the documents of the lines.
-use Rattle.std.specs.Prelude.{◌≡◌, ◌≢◌, ℕ, ◌≤◌, ◌<◌, ◌^◌, List, Option, Some, None, IsSome, All, slice_get}
+use Rattle.std.specs.Prelude.{◌≡◌, ℕ, ◌<◌, List, Option, Some, None, slice_get}
 use Rattle.std.specs.BTreeMap.{BTreeMap, get}
 use Rattle.std.specs.Ordering.{nat_cmp}
 use Rattle.atom_values.specs.Entry.{EntryValue}
 use Rattle.atom_writer.specs.Doc.{DocValue}
-use Rattle.deleted_entries.specs.Item.{item_number}
 use Rattle.deleted_entries.specs.declared.item.Item.{Item}
 use Rattle.deleted_entries.specs.declared.item.Item.TheVariants.{Kept, Gone}
 use Rattle.member_rules.specs.Shows.{live_of}
@@ -27,21 +26,10 @@ abbrev pub HasEntries : List DocValue → List DocValue → BTreeMap ℕ EntryPl
 HasEntries documents listed live =
     (number : ℕ) → ListsEntry documents (get nat_cmp live number) (live_of listed number)
 
--- each key is a member's number
-abbrev pub AreMembers : BTreeMap ℕ EntryPlace → Type 0
-AreMembers live = (number : ℕ) → IsSome (get nat_cmp live number) → (1 ≤ number) × (number < 2 ^ 32)
-
 -- the place of an item's entry; a tombstone has none
 abbrev pub entry_place : ℕ → ℕ → Item → Option EntryPlace
 entry_place document at (Kept entry) = Some record { document = document; item = at }
 entry_place document at (Gone tombstone) = None
-
--- the map has the places of a document's items, and is as before at all other numbers
-pub record LaysOver (document : ℕ) (items : List Item) (old new : BTreeMap ℕ EntryPlace) : Type 0 where
-  pub named : (at : ℕ) (item : Item) → slice_get items at ≡ Some item
-      → get nat_cmp new (item_number item) ≡ entry_place document at item
-  pub others : (number : ℕ) → All (λ item. item_number item ≢ number) items
-      → get nat_cmp new number ≡ get nat_cmp old number
 
 -- no member with a number after this one is live
 abbrev pub IsLastLive : List DocValue → ℕ → Type 0

@@ -31,5 +31,5 @@ mod offers;
 mod verdict;
 
 pub use auditor::audit;
-pub use laws::audits_have_one_verdict;
+pub use laws::{audits_have_one_verdict, own_certificates_are_accepted};
 pub use verdict::Verdict;

@@ -6,10 +6,10 @@ ghost use Rattle.atom_values.specs.Entry.{EntryValue};
 ghost use Rattle.atom_writer.specs.Doc.{DocValue};
 ghost use Rattle.deleted_entries.specs.Item.{item_number};
 ghost use Rattle.member_rules.specs.Shows.{live_count_of};
+ghost use Rattle.mirror_walk.specs.Index.{AreMembers, LaysOver};
 ghost use Rattle.coverage_auditor.specs.Checks.{Checks};
 ghost use Rattle.coverage_auditor.specs.Links.{digest_by, live_differs};
-ghost use Rattle.coverage_auditor.specs.LiveList.{AreMembers, HasEntries, HasEntryAt, IsLastLive, IsNextPlace};
-ghost use Rattle.coverage_auditor.specs.LiveList.{LaysOver, entry_place};
+ghost use Rattle.coverage_auditor.specs.LiveList.{HasEntries, HasEntryAt, IsLastLive, IsNextPlace, entry_place};
 
 use crate::chain::Chain;
 use crate::halt::Halt;
@@ -61,7 +61,8 @@ fn list_items(
     items: &[Item],
 ) -> Result<(), NoMemory>
     requires { IsDistinct nat_eq (map item_number items.now) }
-    ensures items { OnOk result (LaysOver document items.now live.old live.new) }
+    ensures items { OnOk result
+        (LaysOver item_number (entry_place document) items.now live.old live.new) }
     ensures members { OnOk result (AreMembers live.old → AreMembers live.new) }
 {
     for (at, item) in items.iter().enumerate() {

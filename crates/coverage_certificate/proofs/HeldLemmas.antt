@@ -30,7 +30,7 @@ use Rattle.coverage_certificate.specs.Live.{live_digest_of, live_entries_of, liv
 use Rattle.coverage_certificate.proofs.SameLemmas.{made}
 
 -- no entry has one of the next numbers
-entries-none : (live : ℕ → Option EntryValue) (n more : ℕ)
+pub entries-none : (live : ℕ → Option EntryValue) (n more : ℕ)
     → ((k : ℕ) → n < k → k ≤ n + more → live k ≡ None) → entries_up_to live (n + more) ≡ entries_up_to live n
 entries-none live n zero none = let same : n + 0 ≡ n = omega arith in ap (entries_up_to live) same
 entries-none live n (suc more) none =
@@ -40,7 +40,7 @@ entries-none live n (suc more) none =
     ∙ entries-none live n more (λ k low high. none k low (omega arith))
 
 -- all entries have numbers up to both of these
-entries-same : (live : ℕ → Option EntryValue) (n m : ℕ) → ((k : ℕ) → n < k → live k ≡ None)
+pub entries-same : (live : ℕ → Option EntryValue) (n m : ℕ) → ((k : ℕ) → n < k → live k ≡ None)
     → ((k : ℕ) → m < k → live k ≡ None) → entries_up_to live n ≡ entries_up_to live m
 entries-same live n m past_n past_m =
     let around : n + m ≡ m + n = omega arith in
@@ -223,7 +223,7 @@ archives_are kept (suc number) small =
         record { address = Archive (suc number); digest = digest } (archives_to kept number)
         (omega arith, small) more
 
-lines-are : (kept : List KeptValue) (prev : ℕ) → lines_of kept prev
+pub lines-are : (kept : List KeptValue) (prev : ℕ) → lines_of kept prev
     ≡ cons_option (line_at kept Feed) (archives_to kept prev)
 unfolding lines_of
 lines-are kept prev = refl

@@ -8,3 +8,5 @@ pub mod PrintLemmas
 pub mod ReadLemmas
 pub mod ReadingLemmas
 pub mod SameLemmas
+-- serves `Certificate::of`, `served`, and the crates above: documents that one feed served
+pub mod ServedLemmas

@@ -155,15 +155,15 @@ made feed base version lines count digest = record {
 }
 
 -- the fields of two certificates agree
-record SameFields (one other : CertificateValue) : Type 0 where
-  feed : one.feed ≡ other.feed
-  base : one.base ≡ other.base
-  version : one.version ≡ other.version
-  lines : one.lines ≡ other.lines
-  live_count : one.live_count ≡ other.live_count
-  live_digest : one.live_digest ≡ other.live_digest
+pub record SameFields (one other : CertificateValue) : Type 0 where
+  pub feed : one.feed ≡ other.feed
+  pub base : one.base ≡ other.base
+  pub version : one.version ≡ other.version
+  pub lines : one.lines ≡ other.lines
+  pub live_count : one.live_count ≡ other.live_count
+  pub live_digest : one.live_digest ≡ other.live_digest
 
-fields_same : (one other : CertificateValue) → SameFields one other → one ≡ other
+pub fields_same : (one other : CertificateValue) → SameFields one other → one ≡ other
 fields_same one other s =
     ap (λ (x : List ℕ). made x one.base one.version one.lines one.live_count one.live_digest) s.feed
     ∙ ap (λ (x : List ℕ). made other.feed x one.version one.lines one.live_count one.live_digest) s.base

@@ -4,3 +4,4 @@ pub mod Text
 pub mod Reading
 pub mod Live
 pub mod Held
+pub mod Served

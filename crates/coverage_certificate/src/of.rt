@@ -1,18 +1,24 @@
 //! The certificate of what a mirror holds.
 
-ghost use Rattle.std.specs.Prelude.{◌≡◌, ◌≢◌, ◌≤◌, ◌<◌, ◌++◌, ◌^◌, ℕ, false, Err, IfOk, IsSome, IsTrue, OnOk, Some, length, option_map};
+ghost use Rattle.std.specs.Prelude.{◌≡◌, ◌≢◌, ◌≤◌, ◌<◌, ◌++◌, ◌^◌, ℕ, false, Err, IfOk, IsSome, IsTrue, List, None, OnOk, Some};
+ghost use Rattle.std.specs.Prelude.{length, option_map, take};
 ghost use Rattle.std.specs.Option.{option_to_list};
 ghost use Rattle.atom_values.specs.Counts.{Rose};
 ghost use Rattle.feed_disk.specs.Moments.{LeavesAlone};
 ghost use Rattle.feed_disk.specs.declared.area.Area.{Area as AreaValue};
+ghost use Rattle.member_rules.specs.Head.{HeadValue};
 ghost use Rattle.member_rules.specs.Shows.{live_count_of};
-ghost use Rattle.mirror_walk.specs.Holding.{best_of, chain_of, name_of_best};
+ghost use Rattle.member_rules.specs.declared.operation.Op.{Op};
+ghost use Rattle.mirror_walk.specs.Holding.{best_of, chain_of, first_missing, name_of_best, payloads_of};
 ghost use Rattle.mirror_walk.specs.Listing.{live_entries};
+ghost use Rattle.mirror_walk.specs.Loaded.{IsLoadedOf};
 ghost use Rattle.mirror_walk.specs.Mirror.{StandsFor, is_spent};
+ghost use Rattle.mirror_walk.specs.Published.{HoldsServed};
 ghost use Rattle.mirror_walk.specs.Rereading.{KeepsAllBut, IsSpentBy};
 ghost use Rattle.coverage_certificate.specs.Certificate.{AreCoverLines};
 ghost use Rattle.coverage_certificate.specs.Held.{certificate_of, line_at, lines_of, with_digest};
 ghost use Rattle.coverage_certificate.specs.Live.{live_digest_of};
+ghost use Rattle.coverage_certificate.specs.Served.{served_certificate};
 
 use crate::certificate::Certificate;
 use crate::cover_line::CoverLine;
@@ -55,6 +61,10 @@ impl Certificate {
             (certificate_of made.base mirror.old.kept) ≡ Some made) }
         ensures base { IfOk result (λ made. option_map (λ name. name.base) (name_of_best mirror.old.kept)
             ≡ Some made.base) }
+        // Of documents that one feed served: the feed's own certificate at this version.
+        ensures served { IfOk result (λ made. D.told → (head : HeadValue) (history : List Op)
+            → mirror.old.base ≡ head.name.base → HoldsServed head history mirror.old.kept
+            → made ≡ served_certificate head (take made.version history)) }
         ensures never { D.told → (index : ℕ) → result ≢ Err (LogFault.Changed index) }
         ensures changed { (index : ℕ) → result ≡ Err (LogFault.Changed index)
             → index < length mirror.old.kept }
@@ -147,6 +157,9 @@ fn digest_live<D: Disk>(
     ensures count { IfOk result (λ live. live.count ≡ live_count_of (chain_of mirror.old.kept)) }
     ensures digest { IfOk result (λ live. D.told
         → live.digest ≡ live_digest_of name.now (live_entries mirror.old.kept)) }
+    ensures whole { IfOk result (λ live. first_missing mirror.old.kept ≡ None) }
+    ensures loaded { IfOk result (λ live.
+        IsLoadedOf mirror.old.base (payloads_of mirror.old.kept) mirror.old.kept) }
     ensures never { D.told → (index : ℕ) → result ≢ Err (LogFault.Changed index) }
     ensures changed { (index : ℕ) → result ≡ Err (LogFault.Changed index)
         → index < length mirror.old.kept }

@@ -41,7 +41,7 @@ Accepts kept given (Err refusal) = ⊥
 
 -- the first answer of some that fit
 
-first_of-fits : (P : Answer → Type 0) (answers : List (Option Answer))
+pub first_of-fits : (P : Answer → Type 0) (answers : List (Option Answer))
     → AllByRecursion (λ a. IfSome a P) answers
     → IfSome (first_of answers) P
 first_of-fits P [] all = tt
@@ -55,7 +55,7 @@ unwrap_or-fits P None default fits is_default = is_default
 unwrap_or-fits P (Some answer) default fits is_default = fits
 
 -- an answer that is made from a document that may be held
-and_then-fits : (P : Answer → Type 0) (answer : KeptValue → Option Answer) (held : Option KeptValue)
+pub and_then-fits : (P : Answer → Type 0) (answer : KeptValue → Option Answer) (held : Option KeptValue)
     → ((k : KeptValue) → held ≡ Some k → IfSome (answer k) P) → IfSome (option_and_then answer held) P
 and_then-fits P answer None fits = tt
 and_then-fits P answer (Some k) fits = fits k refl

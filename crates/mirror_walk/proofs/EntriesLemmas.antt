@@ -40,7 +40,7 @@ find-place number (first ∷ items) item e = elim (cases_eq (item_number first) 
       (suc rest.0, rest.1, rest.2)
 ]
 
-find-none : (number : ℕ) (items : List Item) → find (λ item. item_number item == number) items ≡ None
+pub find-none : (number : ℕ) (items : List Item) → find (λ item. item_number item == number) items ≡ None
     → All (λ item. item_number item ≢ number) items
 find-none number [] e = All-nil (λ item. item_number item ≢ number)
 find-none number (first ∷ items) e = elim (cases_eq (item_number first) number) [
@@ -62,13 +62,13 @@ live_of-more document older number =
     (flat_map-cons (λ (d : DocValue). d.items) document older)
     ∙ ap entry_of (find-append (λ item. item_number item == number) document.items (all_items older))
 
-live_of-some : (document : DocValue) (older : List DocValue) (number : ℕ) (item : Item)
+pub live_of-some : (document : DocValue) (older : List DocValue) (number : ℕ) (item : Item)
     → find (λ item. item_number item == number) document.items ≡ Some item
     → live_of (document ∷ older) number ≡ entry_of (Some item)
 live_of-some document older number item found = live_of-more document older number
     ∙ ap (λ o. entry_of (option_or o (find (λ item. item_number item == number) (all_items older)))) found
 
-live_of-none : (document : DocValue) (older : List DocValue) (number : ℕ)
+pub live_of-none : (document : DocValue) (older : List DocValue) (number : ℕ)
     → find (λ item. item_number item == number) document.items ≡ None
     → live_of (document ∷ older) number ≡ live_of older number
 unfolding live_of
@@ -102,7 +102,7 @@ others-marked number (item ∷ items) all =
 
 pub HasEntries-more : (kept : List KeptValue) (document : ℕ) (given : KeptValue) (older : List DocValue)
     (old new : BTreeMap ℕ EntryPlace) → slice_get kept document ≡ Some given
-    → LaysOver document (marks_of given.document) old new → HasEntries kept older old
+    → LaysOver marked_number (entry_place document) (marks_of given.document) old new → HasEntries kept older old
     → HasEntries kept (given.document ∷ older) new
 HasEntries-more kept document given older old new there laid entries number =
     split (find (λ item. item_number item == number) given.document.items) refl

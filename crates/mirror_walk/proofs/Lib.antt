@@ -34,6 +34,8 @@ pub mod ListedCountLemmas
 pub mod OutcomeLemmas
 -- serves `Mirror::next_live`
 pub mod NextLiveLemmas
+-- serves `Mirror::next_live` and `Mirror::entry`, `published`
+pub mod PublishedLemmas
 -- serves `Mirror::offer`: what is held once one more document is held
 pub mod PushLemmas
 -- serves `Mirror::wanted` and `Mirror::offer`: the greatest number of an archive that isn't held
@@ -50,6 +52,8 @@ pub mod NumberLemmas
 pub mod AddressLemmas
 -- serves `Mirror::load` and `Mirror::offer`: documents that are taken one after another
 pub mod TakenLemmas
+-- serves `Mirror::next_live`, `loaded`, and the crates above: what is true of the documents held
+pub mod HeldLemmas
 -- serves `Mirror::load`: why no mirror is loaded
 pub mod LoadLemmas
 -- serves `Mirror`: the size of its log

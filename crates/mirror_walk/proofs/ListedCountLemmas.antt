@@ -127,40 +127,46 @@ count-of_map live m n ordered agrees between =
 
 -- the entries of documents
 
-abbrev agrees : (kept : List KeptValue) (place : Option EntryPlace) (entry : Option EntryValue)
+-- the map has a value for each member with a live entry, and for no other
+abbrev pub HasLive : {P : Type 0} → List DocValue → BTreeMap ℕ P → Type 0
+HasLive documents live = (number : ℕ) → is_some (get nat_cmp live number) ≡ is_some (live_of documents number)
+
+listed : (kept : List KeptValue) (place : Option EntryPlace) (entry : Option EntryValue)
     → ListsEntry kept place entry
     → is_some place ≡ is_some entry
-agrees kept None None h = refl
-agrees kept None (Some entry) h = absurd h
-agrees kept (Some place) None h = absurd h
-agrees kept (Some place) (Some entry) h = refl
+listed kept None None h = refl
+listed kept None (Some entry) h = absurd h
+listed kept (Some place) None h = absurd h
+listed kept (Some place) (Some entry) h = refl
+
+pub entries-live : (kept : List KeptValue) (documents : List DocValue) (live : BTreeMap ℕ EntryPlace)
+    → HasEntries kept documents live → HasLive documents live
+entries-live kept documents live entries number =
+    listed kept (get nat_cmp live number) (live_of documents number) (entries number)
 
 some_from : {A : Type 0} (o : Option A) → is_some o ≡ true → IsSome o
 some_from None e = absurd (false≢true e)
 some_from (Some x) e = refl
 
-members_of : (kept : List KeptValue) (documents : List DocValue) (live : BTreeMap ℕ EntryPlace)
-    → AreMembers live
-    → HasEntries kept documents live → (number : ℕ) → is_some (live_of documents number) ≡ true
+members_of : {P : Type 0} (documents : List DocValue) (live : BTreeMap ℕ P) → AreMembers live
+    → HasLive documents live → (number : ℕ) → is_some (live_of documents number) ≡ true
     → (1 ≤ number) × (number < 2 ^ 32)
-members_of kept documents live members entries number on =
-    members number (some_from (get nat_cmp live number)
-    (agrees kept (get nat_cmp live number) (live_of documents number) (entries number) ∙ on))
+members_of documents live members same number on =
+    members number (some_from (get nat_cmp live number) (same number ∙ on))
 
-pub len-live_count : (kept : List KeptValue) (documents : List DocValue) (live : BTreeMap ℕ EntryPlace)
-    → IsOrdered nat_cmp live → AreMembers live → HasEntries kept documents live
+pub len-live_count : {P : Type 0} (documents : List DocValue) (live : BTreeMap ℕ P)
+    → IsOrdered nat_cmp live → AreMembers live → HasLive documents live
     → btree_map_len live ≡ live_count_of documents
 unfolding live_count_of
-len-live_count kept documents live ordered members entries =
-    count-of_map (live_of documents) live (greatest_member documents) ordered
-    (λ number. agrees kept (get nat_cmp live number) (live_of documents number) (entries number)) between
+len-live_count documents live ordered members same =
+    count-of_map (live_of documents) live (greatest_member documents) ordered same between
   where
     between : (number : ℕ) → is_some (live_of documents number) ≡ true
         → (1 ≤ number) × (number ≤ greatest_member documents)
     between number on = elim (cases_lt (greatest_member documents) number) [
       | inl past ↦
           absurd (false≢true (sym (ap (λ o. is_some o) (live_of-past documents number past)) ∙ on))
-      | inr within ↦ ((members_of kept documents live members entries number on).0, within)
+      | inr within ↦ ((members_of documents live members same number on).0, within)
     ]
 
 count-le : (live : ℕ → Option EntryValue) (n : ℕ) → count_up_to live n ≤ n
@@ -172,18 +178,15 @@ count-le live (suc n) = split (is_some (live (suc n))) (count-le live n)
     split true h = omega arith
     split false h = omega arith
 
-len-le : (kept : List KeptValue) (documents : List DocValue) (live : BTreeMap ℕ EntryPlace) (n : ℕ)
-    → IsOrdered nat_cmp live → n + 1 ≡ 2 ^ 32 → AreMembers live → HasEntries kept documents live
-    → btree_map_len live ≤ n
-len-le kept documents live n ordered bound members entries =
-    let all = count-of_map (live_of documents) live n ordered
-    (λ number. agrees kept (get nat_cmp live number) (live_of documents number) (entries number))
-    (λ number on. let h = members_of kept documents live members entries number on in (h.0, omega arith)) in
+len-le : {P : Type 0} (documents : List DocValue) (live : BTreeMap ℕ P) (n : ℕ) → IsOrdered nat_cmp live
+    → n + 1 ≡ 2 ^ 32 → AreMembers live → HasLive documents live → btree_map_len live ≤ n
+len-le documents live n ordered bound members same =
+    let all = count-of_map (live_of documents) live n ordered same
+    (λ number on. let h = members_of documents live members same number on in (h.0, omega arith)) in
     omega (arith, count-le (live_of documents) n)
 
 -- a map has at most one entry for each number of a member
-pub len-lt : (kept : List KeptValue) (documents : List DocValue) (live : BTreeMap ℕ EntryPlace)
-    → IsOrdered nat_cmp live
-    → AreMembers live → HasEntries kept documents live → btree_map_len live < 2 ^ 32
-len-lt kept documents live ordered members entries =
-    omega (arith, len-le kept documents live (2 ^ 32 - 1) ordered refl members entries)
+pub len-lt : {P : Type 0} (documents : List DocValue) (live : BTreeMap ℕ P) → IsOrdered nat_cmp live
+    → AreMembers live → HasLive documents live → btree_map_len live < 2 ^ 32
+len-lt documents live ordered members same =
+    omega (arith, len-le documents live (2 ^ 32 - 1) ordered refl members same)

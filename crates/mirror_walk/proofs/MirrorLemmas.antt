@@ -82,6 +82,10 @@ archive-there base document number is_doc one small e =
     address-archive document.kind number (same_address base (own_address document.kind) (Archive number)
     (placed-address document.kind document.span document.prev is_doc.rules.placed) (one, small) e)
 
+pub option_map-none : (gap : Option ℕ) → option_map Archive gap ≡ None → gap ≡ None
+option_map-none None e = refl
+option_map-none (Some number) e = absurd (cc)
+
 module _ (head : HeadValue) (history : List Op) (offers : List Offering) (kept : List KeptValue)
     (served : AreServed head history offers) (mirrors : Mirrors head history offers kept) where
   archive-covered : (number : ℕ) → 1 ≤ number → number < 2 ^ 32
@@ -181,10 +185,6 @@ module _ (head : HeadValue) (history : List Op) (offers : List Offering) (kept :
       ∙ ap₂ (λ (newest : DocValue) (others : List DocValue). newest ∷ others) is_version.same
       (older ∙ ap (down_from (archive head past)) prev)
       ∙ sym (chain-documents past)
-
-  option_map-none : (gap : Option ℕ) → option_map Archive gap ≡ None → gap ≡ None
-  option_map-none None e = refl
-  option_map-none (Some number) e = absurd (cc)
 
   shows-version : (best : KeptValue) → IsHead head → IsLawful head history → best_of kept ≡ Some best
       → gap_from kept best.document.prev ≡ None

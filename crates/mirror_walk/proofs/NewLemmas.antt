@@ -34,7 +34,7 @@ use Rattle.mirror_walk.proofs.PushLemmas.{best_of-push-other, best_of-push-own}
 
 -- a check that only refuses
 
-abbrev Refuses : Option Answer → Type 0
+abbrev pub Refuses : Option Answer → Type 0
 Refuses check = IfSome check IsErr
 
 refuses-held : (answer : KeptValue → Option Answer) (held : Option KeptValue)
@@ -52,14 +52,14 @@ refuses-first (Some answer) more is rest = is
 refuses-test : (test : Bool) (answer : Answer) → IsErr answer → Refuses (cond test None (Some answer))
 refuses-test test answer is = cond_both test None (Some answer) Refuses (λ yes. tt) (λ no. is)
 
-address-refuses : (base address : List ℕ) (document : DocValue)
+pub address-refuses : (base address : List ℕ) (document : DocValue)
     → Refuses (wrong_address base address document)
 unfolding wrong_address
 address-refuses base address document =
     refuses-test (bytes_eq document.name.base base && bytes_eq address (own_text document))
     (Err (WrongAddress (own_text document))) refl
 
-feed-refuses : (kept : List KeptValue) (document : DocValue) → Refuses (wrong_feed kept document)
+pub feed-refuses : (kept : List KeptValue) (document : DocValue) → Refuses (wrong_feed kept document)
 unfolding wrong_feed
 feed-refuses kept document =
     refuses-held _ (slice_get kept 0) (λ k. refuses-test (bytes_eq k.document.name.id document.name.id)
@@ -81,7 +81,7 @@ after-refuses document older =
     refuses-held (λ (k : KeptValue). break_of k.document document) older (λ k. break-refuses k.document
     document)
 
-broken-refuses : (kept : List KeptValue) (document : DocValue) → Refuses (broken kept document)
+pub broken-refuses : (kept : List KeptValue) (document : DocValue) → Refuses (broken kept document)
 unfolding broken
 broken-refuses kept document = of_kind document.kind
   where

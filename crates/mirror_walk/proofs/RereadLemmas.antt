@@ -141,6 +141,16 @@ entry-there kept number place live last reread is index held =
     some-same : (one other : KeptValue) → Some one ≡ Some other → one ≡ other
     some-same one other same = cc
 
+-- one entry is in that place
+pub entry-same : (last : Option Reread) (item : ℕ) (one other : EntryValue) → HasEntryIn last item one
+    → HasEntryIn last item other → one ≡ other
+entry-same last item one other first second =
+    let both : Some first.reread ≡ Some second.reread = sym first.there ∙ second.there in
+    let reread : first.reread ≡ second.reread = cc in
+    let found : Some (KeptItem one) ≡ Some (KeptItem other) =
+    sym first.entry_is ∙ ap (λ (r : Reread). slice_get r.document.items item) reread ∙ second.entry_is in
+    cc
+
 pub place-within : (kept : List KeptValue) (number : ℕ) (place : EntryPlace) → IsLiveAt kept number place
     → place.document < length kept
 place-within kept number place live = slice_get_within kept place.document live.held.document live.held.there

@@ -154,7 +154,7 @@ pub record AnswersDocument (base : List ℕ) (kept : List KeptValue) (address by
   pub first_fit : answer ≡ accept base kept address given
   pub left_over : left ≡ after_answer kept given answer
 
--- the bytes are no document's, and are refused at their first piece that can't stand there
+-- the bytes are the text of no document, and `at` is the offset of the first piece that is refused
 pub record AnswersOthers (kept : List KeptValue) (bytes : List ℕ) (at : ℕ) (left : List KeptValue)
     : Type 0 where
   pub no_document : IsNoDocument bytes

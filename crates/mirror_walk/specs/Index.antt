@@ -12,7 +12,6 @@ use Rattle.mirror_walk.specs.declared.held.EntryPlace.{EntryPlace}
 use Rattle.mirror_walk.specs.declared.mark.ItemMark.{ItemMark}
 use Rattle.mirror_walk.specs.declared.mark.ItemMark.TheVariants.{Live, Gone}
 use Rattle.mirror_walk.specs.Holding.{KeptValue, archive_at, best_of, chain_of, first_missing, gap_from}
-use Rattle.mirror_walk.specs.Marks.{marked_number}
 
 -- the index is that of a document among those taken
 pub record IsPlaceOf (kept : List KeptValue) (at : ℕ) (found : Option KeptValue) : Type 0 where
@@ -57,7 +56,7 @@ HasEntries kept documents live =
     (number : ℕ) → ListsEntry kept (get nat_cmp live number) (live_of documents number)
 
 -- each key is a member's number
-abbrev pub AreMembers : BTreeMap ℕ EntryPlace → Type 0
+abbrev pub AreMembers : {P : Type 0} → BTreeMap ℕ P → Type 0
 AreMembers live = (number : ℕ) → IsSome (get nat_cmp live number) → (1 ≤ number) × (number < 2 ^ 32)
 
 -- the place of an item's entry; a tombstone has none
@@ -66,10 +65,11 @@ entry_place document at (Live number) = Some record { document = document; item 
 entry_place document at (Gone number) = None
 
 -- the map has the places of a document's items, and is as before at all other numbers
-pub record LaysOver (document : ℕ) (items : List ItemMark) (old new : BTreeMap ℕ EntryPlace) : Type 0 where
-  pub named : (at : ℕ) (item : ItemMark) → slice_get items at ≡ Some item
-      → get nat_cmp new (marked_number item) ≡ entry_place document at item
-  pub others : (number : ℕ) → All (λ item. marked_number item ≢ number) items
+pub record LaysOver {X P : Type 0} (number_of : X → ℕ) (place : ℕ → X → Option P) (items : List X)
+    (old new : BTreeMap ℕ P) : Type 0 where
+  pub named : (at : ℕ) (item : X) → slice_get items at ≡ Some item
+      → get nat_cmp new (number_of item) ≡ place at item
+  pub others : (number : ℕ) → All (λ item. number_of item ≢ number) items
       → get nat_cmp new number ≡ get nat_cmp old number
 
 -- the map has the live entries, and nothing is missing

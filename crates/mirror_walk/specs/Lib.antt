@@ -6,10 +6,12 @@ pub mod Offers
 pub mod Listing
 pub mod Index
 pub mod Laws
+pub mod Held
 pub mod Loaded
 pub mod Loading
 pub mod Mirror
 pub mod Taking
 pub mod Rereading
 pub mod Walk
+pub mod Published
 pub mod Visit

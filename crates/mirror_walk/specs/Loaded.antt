@@ -34,12 +34,12 @@ pub record IsNotTaken (base : List ℕ) (kept : List KeptValue) (payload : List 
   pub read : IsKeptOf payload given
   pub not_taken : accept base kept (own_text given.document) given ≢ Ok Taken
 
--- the payload is no document, and is refused at its first piece that can't stand there
+-- the payload is no document, and `at` is the offset of its first piece that is refused
 pub record IsUnread (payload : List ℕ) (at : ℕ) : Type 0 where
   pub no_document : IsNoDocument payload
   pub place : IsPlaceOfRefusal payload at
 
--- The payload of this index can't be there after the documents that are held: it is no document, or it isn't
+-- The payload of this index is refused after the documents that are held: it is no document, or it isn't
 -- taken. The offset is that of the refusal, or the payload's length.
 abbrev pub IsBadPayload : List ℕ → List KeptValue → ℕ → List ℕ → ℕ → Type 0
 IsBadPayload base kept index payload at =

@@ -47,7 +47,7 @@ pub record IsHeldAt (kept : List KeptValue) (reread : Reread) : Type 0 where
   pub there : slice_get kept reread.index ≡ Some given
   pub same : reread.document ≡ given.document
 
--- the mirror stands for the content of the disk: the payloads are its documents, and its log lists them
+-- the mirror holds the documents of the disk: the payloads are their texts, and its log lists them
 pub record StandsFor (disk : DiskState) (mirror : MirrorValue) : Type 0 where
   pub listed : IsListed mirror.log (disk.content MirrorArea)
   pub payloads : records (disk.content MirrorArea) ≡ payloads_of mirror.kept

@@ -83,7 +83,8 @@ impl Held {
         }
     }
 
-    /// The held archive with the same number, or the best subscription document if it has the same `last`.
+    /// The held document with the same place in the chain: the archive with the same number, or the best
+    /// subscription document if it has the same `last`. `None` if there is none.
     #[tactic(auto, unfolding(crate::specs::Accept::counterpart))]
     fn counterpart(&self, given: &Kept) -> Option<&Kept>
         ensures { option_copied result ≡ counterpart self.now.kept given.now.document }
@@ -112,8 +113,10 @@ impl Held {
         }
     }
 
-    /// Compares the document with its counterpart: `Known`, `Stale` or `Conflict`. `None` if none of them
-    /// fits.
+    /// Compares the document with the held one that has the same place in the chain.
+    ///
+    /// `Known` if their digests are equal, `Conflict` if they differ, and `Stale` if the best subscription
+    /// document has a greater `last`. `None` if no document is held in that place.
     #[tactic(auto, unfolding(crate::specs::Accept::counterpart, crate::specs::Accept::known, crate::specs::Accept::stale, crate::specs::Accept::conflict))]
     fn compare(&self, given: &Kept) -> Result<Option<Accepted>, Offered>
         ensures answer { let kept = self.now.kept in Compares (first_of (known kept given.now

@@ -6,7 +6,7 @@ use feed_journal::DiskFault;
 use std::error::Error;
 use std::fmt;
 
-/// The answer of a mirror to an offered document that it doesn't refuse.
+/// The result of an offer that the mirror didn't refuse.
 #[derive(Clone, Copy, Debug, PartialEq, Eq)]
 pub enum Accepted {
     /// The document was new. The mirror holds it from now on.

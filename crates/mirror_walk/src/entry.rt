@@ -1,13 +1,18 @@
 ghost use Rattle.std.specs.Prelude.{◌≡◌, ◌≢◌, ◌≤◌, ◌<◌, ℕ, false, length, Err, IfOk, IsSome};
-ghost use Rattle.std.specs.Prelude.{◌⊎◌, ◌↔◌, IfErr, IsTrue, OnOk, Some};
+ghost use Rattle.std.specs.Prelude.{◌⊎◌, ◌↔◌, IfErr, IsTrue, List, OnOk, Some};
 ghost use Rattle.atom_values.specs.Counts.{Rose};
 ghost use Rattle.atom_values.specs.Entry.{EntryValue};
 ghost use Rattle.atom_writer.specs.Doc.{DocValue, IsDoc};
 ghost use Rattle.atom_writer.specs.Pieces.{text};
 ghost use Rattle.feed_disk.specs.Moments.{LeavesAlone};
 ghost use Rattle.feed_disk.specs.declared.area.Area.{Area as AreaValue};
+ghost use Rattle.member_rules.specs.Head.{HeadValue};
+ghost use Rattle.member_rules.specs.declared.operation.Op.{Op};
+ghost use Rattle.published_rule.specs.Counts.{Counts};
+ghost use Rattle.mirror_walk.specs.Holding.{chain_of};
 ghost use Rattle.mirror_walk.specs.Listing.{live_at};
 ghost use Rattle.mirror_walk.specs.Mirror.{StandsFor, is_spent};
+ghost use Rattle.mirror_walk.specs.Published.{HoldsServed};
 ghost use Rattle.mirror_walk.specs.Rereading.{HasEntryIn, HasReread, KeepsAllBut, IsSpentBy};
 
 use crate::mirror::{Mirror, Reread};
@@ -22,6 +27,9 @@ use std::alloc::Global;
 impl Mirror {
     /// A copy of the entry of a live member. `outcome` has listed the live entries, and no document was taken
     /// since.
+    ///
+    /// If one feed served all documents held, it is the entry that counts by the published rules for
+    /// duplicates (RFC 5005 and RFC 6721).
     ///
     /// Reads the entry's document back from the log, in one device call, unless it is the one that was read
     /// back last. So asking for the entries in order of number reads a document once for each run of its
@@ -39,6 +47,10 @@ impl Mirror {
         requires live { IsSome (live_at self.old.kept number) }
         requires stands { D.told → StandsFor (D.state disk.old) self.old }
         ensures entry { IfOk result (λ entry. D.told → live_at self.old.kept number ≡ Some entry) }
+        // Of documents that one feed served.
+        ensures published { IfOk result (λ entry. D.told → (head : HeadValue) (history : List Op)
+            → self.old.base ≡ head.name.base → HoldsServed head history self.old.kept
+            → Counts (chain_of self.old.kept) number entry) }
         // Of any disk, it is an entry of this member.
         ensures number { IfOk result (λ entry. entry.number ≡ number) }
         ensures never { D.told → (index : ℕ) → result ≢ Err (LogFault.Changed index) }

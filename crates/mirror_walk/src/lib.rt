@@ -17,7 +17,9 @@
 //! A document is taken only if it is canonical, lies at its own address below the mirror's base, belongs to
 //! the same feed as the others and adjoins its neighbours in the chain. `specs/Accept.antt` defines the
 //! answer to each offer. If all documents were served by one feed, none is refused, and a complete mirror
-//! shows the feed's entries as they were at the newest version offered: the law in `laws.rt` says so.
+//! shows the feed's entries as they were at the newest version offered: the law in `laws.rt` says so. These
+//! are the entries that count by the published rules for duplicates (RFC 5005 and RFC 6721): the clauses
+//! `published` of [`Mirror::next_live`] and [`Mirror::entry`] say so.
 //!
 //! The texts of the documents taken are the payloads of the mirror area, in order. A crash at any moment of
 //! an offer leaves the documents held before, or those and the new one. In memory are only the parts of each
@@ -26,7 +28,8 @@
 //! [`Mirror::walk`] asks a source of documents for those that are missing, newest first, and for none twice.
 //!
 //! Stands on `atom_grammar`, which reads the documents, on `member_rules` for the law of the chain, on
-//! `feed_journal` for the log of the area, on `doc_source` for the trait of a source, and on `sha2`.
+//! `published_rule` for the law of duplicates, on `feed_journal` for the log of the area, on `doc_source` for
+//! the trait of a source, and on `sha2`.
 #![tactic(auto)]
 
 mod accept;

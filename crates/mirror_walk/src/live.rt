@@ -53,7 +53,8 @@ fn list_items(
 ) -> Result<(), NoMemory>
     requires distinct { IsDistinct nat_eq (map marked_number items.now) }
     requires from_one { AreFromOne items.now }
-    ensures items { OnOk result (LaysOver document items.now live.old live.new) }
+    ensures items { OnOk result
+        (LaysOver marked_number (entry_place document) items.now live.old live.new) }
     ensures members { OnOk result (AreMembers live.old → AreMembers live.new) }
 {
     for (at, item) in items.iter().enumerate() {
@@ -152,6 +153,7 @@ impl Held {
         requires { IsTrue self.now.listed }
         ensures found { IfSome result (IsNextLive self.now.kept after) }
         ensures last { result ≡ None → IsLastLive self.now.kept after }
+        ensures whole { first_missing self.now.kept ≡ None }
     {
         let live = self.live.as_ref()?;
         let (number, _) = live
@@ -165,7 +167,8 @@ impl Held {
     pub(crate) fn entry_place(&self, number: u32) -> EntryPlace
         requires listed { IsTrue self.now.listed }
         requires live { IsSome (live_at self.now.kept number) }
-        ensures { IfSome (live_at self.now.kept number) (HasEntryAt self.now.kept result) }
+        ensures place { IfSome (live_at self.now.kept number) (HasEntryAt self.now.kept result) }
+        ensures whole { first_missing self.now.kept ≡ None }
     {
         *self.live.as_ref().unwrap().get(&number).unwrap()
     }

@@ -4,11 +4,14 @@ ghost use Rattle.chain_links.specs.Address.{IsAddress};
 ghost use Rattle.member_rules.specs.Chain.{place_of};
 ghost use Rattle.member_rules.specs.Head.{HeadValue};
 ghost use Rattle.member_rules.specs.declared.operation.Op.{Op};
-ghost use Rattle.mirror_walk.specs.Holding.{best_of, digest_at, first_missing, name_of_best};
+ghost use Rattle.mirror_walk.specs.Holding.{best_of, chain_of, digest_at, first_missing, name_of_best};
+ghost use Rattle.mirror_walk.specs.Holding.{payloads_of};
+ghost use Rattle.mirror_walk.specs.Loaded.{IsLoadedOf};
 ghost use Rattle.mirror_walk.specs.Laws.{ShowsServed};
 ghost use Rattle.mirror_walk.specs.Listing.{HasAddress, IsLastLive, IsNextLive, is_complete, outcome_of};
 ghost use Rattle.mirror_walk.specs.Mirror.{is_spent};
 ghost use Rattle.mirror_walk.specs.Offers.{AreServed, AreTakenOf, Offering};
+ghost use Rattle.mirror_walk.specs.Published.{HoldsServed, IsNextCounted};
 
 use crate::answer::Outcome;
 use crate::held::Held;
@@ -132,11 +135,20 @@ impl Mirror {
 
     /// The least number after this one of a live member. `None` if there is none. `outcome` has listed the
     /// live entries, and no document was taken since. Takes no memory.
+    ///
+    /// If one feed served all documents held, the live members are those with an entry that counts by the
+    /// published rules for duplicates (RFC 5005 and RFC 6721).
     pub fn next_live(&self, after: u32) -> Option<u32>
         requires unspent { is_spent self.now ≡ false }
         requires listed { IsTrue self.now.listed }
         ensures found { IfSome result (IsNextLive self.now.kept after) }
         ensures last { result ≡ None → IsLastLive self.now.kept after }
+        ensures published { (head : HeadValue) (history : List Op) → self.now.base ≡ head.name.base
+            → HoldsServed head history self.now.kept
+            → IsNextCounted (chain_of self.now.kept) after result }
+        // No document is missing, and each document held was taken after those before it.
+        ensures whole { first_missing self.now.kept ≡ None }
+        ensures loaded { IsLoadedOf self.now.base (payloads_of self.now.kept) self.now.kept }
     {
         self.held.next_live(after)
     }

@@ -1,5 +1,6 @@
 use Rattle.std.proofs.Common.{◌-◌, drop, length}
-use Rattle.coverage_auditor.specs.LiveList.{AreMembers, HasEntries}
+use Rattle.mirror_walk.specs.Index.{AreMembers}
+use Rattle.coverage_auditor.specs.LiveList.{HasEntries}
 use Rattle.coverage_auditor.proofs.live.live_places.Given as goal
 
 abbrev pub invariant-loop-older : goal.invariant-loop-older

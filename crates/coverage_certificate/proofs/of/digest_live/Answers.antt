@@ -1,5 +1,8 @@
-use Rattle.std.proofs.Common.{refl, ap, ◌∙◌, arith}
+use Rattle.std.proofs.Common.{◌≡◌, None, refl, ap, subst, ◌∙◌, arith}
 use Rattle.feed_disk.proofs.MomentLemmas.{alone_joins}
+use Rattle.mirror_walk.specs.Holding.{first_missing, payloads_of}
+use Rattle.mirror_walk.specs.Loaded.{IsLoadedOf}
+use Rattle.mirror_walk.specs.Mirror.{MirrorValue}
 use Rattle.sha2.specs.Sha256.{sha256}
 use Rattle.coverage_certificate.proofs.HeldLemmas.{digesting-count, digesting-next, digesting-start, digesting-text}
 use Rattle.coverage_certificate.proofs.of.digest_live.Goals as goal
@@ -51,3 +54,12 @@ returns-clause-digest g c = λ told.
     ∙ ap sha256 (digesting-text g.D.Disk.told c.args.mirror.now c.args.name.now (g.D.Disk.state c.args.disk.now)
     (g.D.Disk.state c.loop-number.disk) c.loop-number.mirror c.loop-number.hasher c.loop-number.count
     c.loop-number.after c.loop-number.invariant (c.in_default.ensures.last refl) told)
+
+pub returns-clause-whole : goal.returns-clause-whole
+returns-clause-whole g c =
+    subst (λ (m : MirrorValue). first_missing m.kept ≡ None) c.loop-number.invariant.keeps c.in_default.ensures.whole
+
+pub returns-clause-loaded : goal.returns-clause-loaded
+returns-clause-loaded g c =
+    subst (λ (m : MirrorValue). IsLoadedOf m.base (payloads_of m.kept) m.kept) c.loop-number.invariant.keeps
+    c.in_default.ensures.loaded

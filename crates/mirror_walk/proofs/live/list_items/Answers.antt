@@ -18,8 +18,8 @@ loop-at-preserved c =
     let within : (1 ≤ marked_number item) × (marked_number item < 2 ^ 32) =
     (from_one-at items at item c.requires.from_one there, c.list_item.ensures.small) in
     record {
-      laid = laid-more c.args.document items at item c.args.live.now c.loop-at.live c.list_item.new.live
-          c.requires.distinct there c.loop-at.invariant.laid updates;
+      laid = laid-more marked_number (entry_place c.args.document) items at item c.args.live.now c.loop-at.live
+          c.list_item.new.live c.requires.distinct there c.loop-at.invariant.laid updates;
       members = λ members. AreMembers-more (marked_number item) (entry_place c.args.document at item)
           c.loop-at.live c.list_item.new.live within updates (c.loop-at.invariant.members members);
     }
@@ -27,6 +27,6 @@ loop-at-preserved c =
 pub returns-clause-items : goal.returns-clause-items
 returns-clause-items c =
     let all : c.loop-at.at ≡ length c.args.items.now = omega arith in
-    LaysOver-laid c.args.document c.args.items.now c.args.live.now c.loop-at.live
-    (subst (λ n. LaidUpTo c.args.document c.args.items.now n c.args.live.now c.loop-at.live) all
-    c.loop-at.invariant.laid)
+    LaysOver-laid marked_number (entry_place c.args.document) c.args.items.now c.args.live.now c.loop-at.live
+    (subst (λ n. LaidUpTo marked_number (entry_place c.args.document) c.args.items.now n c.args.live.now
+    c.loop-at.live) all c.loop-at.invariant.laid)

@@ -1,11 +1,17 @@
 use Rattle.std.proofs.Common.{◌≡◌, List, ℕ, Some, refl, sym, ap, ◌∙◌}
 use Rattle.std.specs.Prelude.{option_copied, option_map}
+use Rattle.std.proofs.lemmas.Option.{same_Some}
 use Rattle.atom_writer.specs.declared.doc.FeedName.{FeedName}
-use Rattle.mirror_walk.specs.Holding.{best_of, name_of_best}
+use Rattle.mirror_walk.specs.Held.{IsHeldDoc}
+use Rattle.mirror_walk.specs.Holding.{KeptValue, best_of, name_of_best, payloads_of}
+use Rattle.mirror_walk.proofs.FoundLemmas.{best_of-holds}
+use Rattle.mirror_walk.proofs.HeldLemmas.{loaded-held}
+use Rattle.mirror_walk.proofs.OutcomeLemmas.{best-of_whole}
 use Rattle.coverage_certificate.specs.Held.{with_digest}
 use Rattle.coverage_certificate.specs.Live.{live_digest_of}
 use Rattle.coverage_certificate.proofs.HeldLemmas.{entries-are, held_made}
 use Rattle.coverage_certificate.proofs.SameLemmas.{made}
+use Rattle.coverage_certificate.proofs.ServedLemmas.{made-served}
 use Rattle.coverage_certificate.proofs.certificate.Certificate.of.Goals as goal
 
 pub returns-clause-certificate : goal.returns-clause-certificate
@@ -39,3 +45,20 @@ returns-clause-base g c =
     let named : name_of_best c.args.mirror.now.kept ≡ Some c.in_ok-name.name = sym c.name.ensures
     ∙ ap option_copied c.unwrap.ensures ∙ ap (λ (n : FeedName). Some n) (sym c.in_ok-name.ensures.same) in
     ap (option_map (λ (n : FeedName). n.base)) named
+
+pub returns-clause-served : goal.returns-clause-served
+returns-clause-served g c = λ told head history same served.
+    let mirror = c.args.mirror.now in
+    let kept = mirror.kept in
+    let loaded = c.in_ok-live.ensures.loaded in
+    let whole = c.in_ok-live.ensures.whole in
+    let found = best-of_whole kept whole in
+    let held = loaded-held mirror.base (payloads_of kept) kept loaded in
+    let is = best_of-holds (IsHeldDoc mirror.base) kept found.0 held.each found.1 in
+    let named : name_of_best kept ≡ Some c.in_ok-name.name = sym c.name.ensures ∙ ap option_copied c.unwrap.ensures
+    ∙ ap (λ (n : FeedName). Some n) (sym c.in_ok-name.ensures.same) in
+    let name = same_Some found.0.document.name c.in_ok-name.name
+    (sym (ap (option_map (λ (k : KeptValue). k.document.name)) found.1) ∙ named) in
+    made-served mirror.base (payloads_of kept) kept loaded whole head history same served _
+    (returns-clause-certificate g c told)
+    (sym (ap (λ (n : FeedName). n.base) name) ∙ is.0.base_is)

@@ -4,7 +4,7 @@ use Rattle.std.specs.Prelude.{map}
 use Rattle.std.proofs.lemmas.Option.{get_or_from_slice_get}
 use Rattle.std.proofs.lemmas.Result.{on_ok_weaker}
 use Rattle.mirror_walk.specs.Holding.{HeldValue, KeptValue}
-use Rattle.mirror_walk.specs.Index.{LaysOver}
+use Rattle.mirror_walk.specs.Index.{LaysOver, entry_place}
 use Rattle.mirror_walk.specs.Marks.{marked_number, marks_of}
 use Rattle.mirror_walk.proofs.EntriesLemmas.{HasEntries-more, marked_numbers-of}
 use Rattle.mirror_walk.proofs.held.Held.list_document.Goals as goal
@@ -23,5 +23,6 @@ returns-clause-entries c = on_ok_weaker c.list_items.result (λ laid found older
     ∙ get_or_from_slice_get kept c.args.at found c.index.result.now there in
     let items = c.items.ensures.marks ∙ ap (λ (k : KeptValue). marks_of k.document) given in
     HasEntries-more kept c.args.at found older c.args.live.now c.list_items.new.live there
-    (subst (λ listed. LaysOver c.args.at listed c.args.live.now c.list_items.new.live) items laid) entries)
+    (subst (λ listed. LaysOver marked_number (entry_place c.args.at) listed c.args.live.now
+    c.list_items.new.live) items laid) entries)
     c.list_items.ensures.items
