@@ -9,7 +9,7 @@ use Rattle.feed_disk.specs.declared.area.Area.TheVariants.{Journal, Sealed, Mirr
 use Rattle.feed_journal.specs.Records.{records}
 use Rattle.feed_recovery.specs.Opening.{OpensInOneWay}
 use Rattle.tool_words.specs.declared.command.Command.{Command}
-use Rattle.tool_words.specs.declared.command.Command.TheVariants.{Init, Apply, Serve, Show, Mirror}
+use Rattle.tool_words.specs.declared.command.Command.TheVariants.{Init, Apply, Audit, Serve, Show, Mirror}
 use Rattle.tool_words.specs.declared.command.Show.TheVariants.{Document, Feed, Archive, Member, Pile}
 use Rattle.feed_commands.specs.Answer.{Answer}
 use Rattle.feed_commands.specs.Fault.{refusal_answer}
@@ -19,6 +19,7 @@ use Rattle.feed_commands.specs.Run.{IsMirrorEnd, IsOfMirror, IsOfStore, OneAnswe
 use Rattle.feed_commands.specs.Stored.{IsInitAnswer}
 use Rattle.mirror_walk.specs.Holding.{KeptValue}
 use Rattle.mirror_walk.proofs.TakenLemmas.{loaded-once}
+use Rattle.feed_commands.proofs.OneAuditedLemmas.{one-audited}
 use Rattle.feed_commands.proofs.OneFetchedLemmas.{fetched-once}
 use Rattle.feed_commands.proofs.OneMirroredLemmas.{mirrored-once}
 use Rattle.feed_commands.proofs.PlaceLemmas.{place_once}
@@ -67,20 +68,21 @@ of_store_once law command outside one other p q = p.is
     ∙ ap (stored_answer command outside) (stored_once law outside.content p.stored q.stored p.opens q.opens) ∙ sym q.is
 
 -- the ends of `mirror` by the documents that were held before
-mirror-end_once : (capacity : ℕ) (base : List ℕ) (fetch : Bool) (kept : List KeptValue) (outside : Outside)
-    (one other : Answer) → IsMirrorEnd capacity base fetch kept outside one →
-    IsMirrorEnd capacity base fetch kept outside other → one ≡ other
-mirror-end_once capacity base true kept outside one other p q =
-    fetched-once capacity base kept outside.answers one other p q
-mirror-end_once capacity base false kept outside one other p q =
-    mirrored-once capacity base kept outside.input one other p q
+mirror-end_once : (capacity : ℕ) (base : List ℕ) (fetch report : Bool) (kept : List KeptValue) (outside : Outside)
+    (one other : Answer) → IsMirrorEnd capacity base fetch report kept outside one →
+    IsMirrorEnd capacity base fetch report kept outside other → one ≡ other
+mirror-end_once capacity base true report kept outside one other p q =
+    fetched-once report capacity base kept outside.answers one other p q
+mirror-end_once capacity base false report kept outside one other p q =
+    mirrored-once report capacity base kept outside.input one other p q
 
-of_mirror_once : (base : List ℕ) (fetch : Bool) (capacity : ℕ) (outside : Outside) (one other : Answer) →
-    IsOfMirror base fetch capacity outside one → IsOfMirror base fetch capacity outside other → one ≡ other
-of_mirror_once base fetch capacity outside one other p q =
+of_mirror_once : (base : List ℕ) (fetch report : Bool) (capacity : ℕ) (outside : Outside) (one other : Answer) →
+    IsOfMirror base fetch report capacity outside one → IsOfMirror base fetch report capacity outside other
+    → one ≡ other
+of_mirror_once base fetch report capacity outside one other p q =
     let same : q.kept ≡ p.kept = loaded-once base (records (outside.content Mirrored)) q.kept p.kept q.loaded p.loaded in
-    mirror-end_once capacity base fetch p.kept outside one other p.is
-    (subst (λ (ks : List KeptValue). IsMirrorEnd capacity base fetch ks outside other) same q.is)
+    mirror-end_once capacity base fetch report p.kept outside one other p.is
+    (subst (λ (ks : List KeptValue). IsMirrorEnd capacity base fetch report ks outside other) same q.is)
 
 -- a command has one answer, since the areas of a store open in one way
 pub answer_once : OpensInOneWay → OneAnswer
@@ -88,8 +90,9 @@ answer_once law (Init name window capacity) outside one other p q = init_once ou
 answer_once law (Apply None) outside one other p q = of_store_once law (Apply None) outside one other p q
 answer_once law (Apply (Some window)) outside one other p q = sym p ∙ q
 answer_once law (Serve listen requests) outside one other p q = absurd p
-answer_once law (Mirror base fetch capacity) outside one other p q =
-    of_mirror_once base fetch capacity outside one other p q
+answer_once law (Mirror base fetch report capacity) outside one other p q =
+    of_mirror_once base fetch report capacity outside one other p q
+answer_once law Audit outside one other p q = one-audited outside.input one other p q
 answer_once law (Show Document) outside one other p q = shown_once outside.input one other p q
 answer_once law (Show Feed) outside one other p q = of_store_once law (Show Feed) outside one other p q
 answer_once law (Show (Archive number)) outside one other p q =

@@ -8,7 +8,6 @@ use Rattle.mirror_walk.specs.Accept.{Answer as MirrorAnswer, AnswersOthers, Answ
 use Rattle.mirror_walk.specs.Accept.{accept, accept_within, after_answer, within}
 use Rattle.mirror_walk.specs.Holding.{KeptValue, payloads_of}
 use Rattle.mirror_walk.specs.Offers.{AreAnswered, Offering}
-use Rattle.mirror_walk.specs.declared.answer.Accepted.{Accepted}
 use Rattle.mirror_walk.specs.declared.answer.Accepted.TheVariants.{Taken, Known, Stale}
 use Rattle.mirror_walk.specs.declared.answer.Offered.TheVariants as refusals
 use Rattle.mirror_walk.proofs.AcceptLemmas.{IsCheck, accept-is_check}

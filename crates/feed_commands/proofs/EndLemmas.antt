@@ -7,6 +7,8 @@ use Rattle.feed_commands.specs.declared.fault.Refusal.TheVariants.{
   TooLong,
   BadDocument,
   BadPile,
+  BadCertificate,
+  TooManyOffers,
   BadLine,
   NotFound,
   Deleted,
@@ -57,6 +59,8 @@ pub refusal_code : (P : ℕ → Type 0) → P 10 → P 12 → (refusal : Refusal
 refusal_code P ten twelve TooLong = ten
 refusal_code P ten twelve (BadDocument offset) = ten
 refusal_code P ten twelve (BadPile at) = ten
+refusal_code P ten twelve (BadCertificate line) = ten
+refusal_code P ten twelve TooManyOffers = ten
 refusal_code P ten twelve (BadLine line) = ten
 refusal_code P ten twelve (NotFound line member) = twelve
 refusal_code P ten twelve (Deleted line member) = twelve
@@ -81,7 +85,7 @@ pub no_end : (fault : Fault) → code_of (fault_answer fault).status ≡ 0 → �
 no_end fault = fault_code (λ n. n ≡ 0 → ⊥) (λ e. omega (arith, e)) (λ e. omega (arith, e)) (λ e. omega (arith, e))
     (λ e. omega (arith, e)) (λ e. omega (arith, e)) (λ e. omega (arith, e)) (λ e. omega (arith, e)) fault
 
-no_three : (fault : Fault) → code_of (fault_answer fault).status ≡ 3 → ⊥
+pub no_three : (fault : Fault) → code_of (fault_answer fault).status ≡ 3 → ⊥
 no_three fault = fault_code (λ n. n ≡ 3 → ⊥) (λ e. omega (arith, e)) (λ e. omega (arith, e)) (λ e. omega (arith, e))
     (λ e. omega (arith, e)) (λ e. omega (arith, e)) (λ e. omega (arith, e)) (λ e. omega (arith, e)) fault
 

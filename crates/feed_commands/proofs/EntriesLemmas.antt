@@ -1,7 +1,7 @@
 -- The live entries in order of number.
-use Rattle.std.proofs.Common.{◌≡◌, ℕ, zero, suc, ◌+◌, ◌-◌, ◌<◌, ◌≤◌, List, [], ◌∷◌, ◌++◌, Option, None, Some, sym, ap, ◌∙◌, arith}
+use Rattle.std.proofs.Common.{◌≡◌, ℕ, zero, suc, ◌+◌, ◌-◌, ◌<◌, ◌≤◌, List, [], ◌∷◌, ◌++◌, Option, None, sym, ap, ◌∙◌, arith}
 use Rattle.atom_values.specs.Entry.{EntryValue}
-use Rattle.member_rules.specs.Shows.{greatest_member, live_of}
+use Rattle.member_rules.specs.Shows.{greatest_member}
 use Rattle.member_rules.proofs.ShowsLemmas.{live_of-past}
 use Rattle.mirror_walk.specs.Holding.{KeptValue, chain_of}
 use Rattle.mirror_walk.specs.Listing.{IsLastLive, IsNextLive, entries_up_to, live_at, live_entries, with_entry}

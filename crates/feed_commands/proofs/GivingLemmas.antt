@@ -1,6 +1,7 @@
 -- `mirror` from a pile: a mirror amid the offers, with the disk that it takes them on.
-use Rattle.std.proofs.Common.{◌≡◌, ◌≢◌, ◌⊎◌, inl, inr, ℕ, ◌+◌, ◌≤◌, List, [], ◌∷◌, ◌++◌, Option, Some, None, Result, Ok, Err}
-use Rattle.std.proofs.Common.{IsOk, length, refl, sym, ap, subst, ◌∙◌, arith}
+use Rattle.std.proofs.Common.{◌≡◌, ◌≢◌, ℕ, ◌+◌, ◌≤◌, List, [], ◌∷◌, ◌++◌, Bool, Some, None}
+use Rattle.std.proofs.Common.{Result, Ok, Err}
+use Rattle.std.proofs.Common.{IsOk, length, refl, sym, subst, ◌∙◌, arith}
 use Rattle.std.proofs.lemmas.List.Elements.{All-nil}
 use Rattle.std.proofs.lemmas.Bool.{false≢true}
 use Rattle.doc_source.specs.Laws.{HasRead}
@@ -14,7 +15,7 @@ use Rattle.feed_disk.specs.declared.area.Area.TheVariants.{Mirror as MirrorArea}
 use Rattle.feed_disk.proofs.MomentLemmas.{alone_begins, alone_joins}
 use Rattle.feed_journal.specs.Laws.{BegunAreWhole}
 use Rattle.mirror_walk.specs.Accept.{Answer as MirrorAnswer, IsAnswerWithin}
-use Rattle.mirror_walk.specs.Holding.{KeptValue, payloads_of}
+use Rattle.mirror_walk.specs.Holding.{payloads_of}
 use Rattle.mirror_walk.specs.Loaded.{IsLoadedOf}
 use Rattle.mirror_walk.specs.Mirror.{IsAtRest, IsOfferStep, MirrorValue}
 use Rattle.feed_commands.specs.declared.commands.report.Report.{Report}
@@ -22,7 +23,7 @@ use Rattle.mirror_walk.specs.declared.answer.Offered.TheVariants.{Full as NoRoom
 use Rattle.feed_commands.specs.declared.fault.Fault.{Fault}
 use Rattle.feed_commands.specs.declared.fault.Fault.TheVariants.{BadStore, Disk, Full, Input, NoMemory, Refused}
 use Rattle.feed_commands.specs.Fault.{fault_answer}
-use Rattle.feed_commands.specs.Mirror.{HasAnswered, IsMirrored, ReadsOffers, ReadsTo, pile_limit}
+use Rattle.feed_commands.specs.Mirror.{IsMirrored, ReadsOffers, ReadsTo, pile_limit}
 use Rattle.feed_commands.specs.MirrorEnds.{GivesOffers}
 use Rattle.feed_commands.specs.MirrorFaults.{full_fault}
 use Rattle.feed_commands.specs.Report.{HasAdded, IsReportable, no_counts}
@@ -33,10 +34,11 @@ use Rattle.feed_commands.proofs.TakingLemmas.{IsTaking, gives-failed, gives-of, 
 
 -- the offers that were given so far, from a mirror that held `first.kept` and a disk in the state s; the two marks are
 -- whether contracts can see the input and the disk
-pub record IsGiving (input_told disk_told : Type 0) (first : MirrorValue) (s now : DiskState)
+pub record IsGiving (input_told disk_told : Type 0) (detailed : Bool) (first : MirrorValue) (s now : DiskState)
     (input source : SourceState) (reader : PileState) (mirror : MirrorValue) (report : Report) : Type 0 where
   pub offers : List Offer
-  pub amid : IsAmid input_told first.capacity first.base first.kept input.left offers reader source mirror.kept report
+  pub amid : IsAmid input_told detailed first.capacity first.base first.kept input.left offers reader source
+      mirror.kept report
   pub taking : IsTaking disk_told first.capacity first.base first.kept offers s now mirror.kept
   pub usable : IsUsable disk_told now mirror
   pub same : SameMirror first mirror
@@ -49,15 +51,18 @@ pub not-ok : {T E : Type 0} (result : Result T E) (fault : E) → result ≡ Err
 not-ok (Ok value) fault is ok = cc
 not-ok (Err other) fault is ok = false≢true ok
 
-module _ (input_told disk_told : Type 0) (first : MirrorValue) (s : DiskState) (input : SourceState) where
+module _ (input_told disk_told : Type 0) (detailed : Bool) (first : MirrorValue) (s : DiskState)
+    (input : SourceState) where
   pub giving-start : (reader : PileState) (report : Report) → BegunAreWhole
-      → reader ≡ record { ahead = []; used = 0; limit = pile_limit; refusal = None } → report.text.items ≡ []
+      → reader ≡ record { ahead = []; used = 0; limit = pile_limit; refusal = None } → report.detailed ≡ detailed
+      → report.text.items ≡ []
       → report.counts ≡ no_counts → IsUsable disk_told s first
       → IsLoadedOf first.base (payloads_of first.kept) first.kept
-      → IsGiving input_told disk_told first s s input input reader first report
-  giving-start reader report law start text counts usable loaded = record {
+      → IsGiving input_told disk_told detailed first s s input input reader first report
+  giving-start reader report law start form text counts usable loaded = record {
     offers = [];
-    amid = amid-start input_told first.capacity first.base reader input first.kept report start text counts;
+    amid = amid-start input_told detailed first.capacity first.base reader input first.kept report start form text
+        counts;
     taking = taking-start disk_told first.capacity first.base first.kept s law loaded
         (λ told. (usable.stands told).payloads);
     usable = usable;
@@ -70,28 +75,31 @@ module _ (input_told disk_told : Type 0) (first : MirrorValue) (s : DiskState) (
   -- the offers that were given, if no device call failed
   pub giving-ends : (now : DiskState) (source : SourceState) (reader : PileState) (mirror : MirrorValue)
       (report : Report) (failed whole : Type 0) → BegunAreWhole
-      → (h : IsGiving input_told disk_told first s now input source reader mirror report)
+      → (h : IsGiving input_told disk_told detailed first s now input source reader mirror report)
       → (whole → input_told → ReadsTo input.left h.offers (Ok None))
       → GivesOffers first.capacity first.base first.kept input.left input_told disk_told s now failed whole
   giving-ends now source reader mirror report failed whole law h all =
       gives-of disk_told first.capacity first.base first.kept s input.left input_told h.offers now mirror.kept failed whole
       law
-      (reads-offers input_told first.capacity first.base first.kept input.left h.offers reader source mirror.kept report
+      (reads-offers input_told detailed first.capacity first.base first.kept input.left h.offers reader source
+      mirror.kept report
       h.amid)
       all
-      (has-answered input_told first.capacity first.base first.kept input.left h.offers reader source mirror.kept report
+      (has-answered input_told detailed first.capacity first.base first.kept input.left h.offers reader source
+      mirror.kept report
       h.amid)
       h.taking (λ told. (h.usable.stands told).payloads)
 
   -- the next offer was read
   module _ (now : DiskState) (source rest : SourceState) (reader after : PileState) (mirror : MirrorValue)
-      (report : Report) (h : IsGiving input_told disk_told first s now input source reader mirror report)
+      (report : Report) (h : IsGiving input_told disk_told detailed first s now input source reader mirror report)
       (offer : Offer) (used : after.used ≡ reader.used + length (used_text reader.used (Ok (Some offer))))
       (begins : input_told → IsPileAnswer reader.used reader.limit (unused reader source) (Ok (Some offer)))
       (stays : input_told → unused reader source ≡ used_text reader.used (Ok (Some offer)) ++ unused after rest)
       (limit : after.limit ≡ reader.limit) (bound : after.used ≤ after.limit) where
     read : input_told → HasRead input.left (h.offers ++ offer ∷ []) after.used (unused after rest)
-    read = next-read input_told first.capacity first.base first.kept input.left h.offers reader after source rest
+    read = next-read input_told detailed first.capacity first.base first.kept input.left h.offers reader after source
+        rest
         mirror.kept report offer h.amid used begins stays
 
     pub reads-next : input_told → ReadsOffers input.left (h.offers ++ offer ∷ [])
@@ -112,7 +120,7 @@ module _ (input_told disk_told : Type 0) (first : MirrorValue) (s : DiskState) (
         → (disk_told → IsAtRest now mirror.kept → IsAtRest later left.kept)
         → ((a : Area) → a ≢ MirrorArea → LeavesAlone now later a) → later.faults ≡ now.faults
         → rest.faults ≡ source.faults
-        → IsGiving input_told disk_told first s later input rest after left added
+        → IsGiving input_told disk_told detailed first s later input rest after left added
     giving-next later left added answer fresh is fits answered has same usable moments rests others faults input_faults =
         let within : IsAnswerWithin first.capacity first.base mirror.kept offer.address offer.bytes answer left.kept =
         subst (λ (b : List ℕ). IsAnswerWithin first.capacity b mirror.kept offer.address offer.bytes answer left.kept)
@@ -121,11 +129,13 @@ module _ (input_told disk_told : Type 0) (first : MirrorValue) (s : DiskState) (
         h.same.capacity answered) in
         record {
           offers = h.offers ++ offer ∷ [];
-          amid = amid-next input_told first.capacity first.base first.kept input.left h.offers reader after source rest
+          amid = amid-next input_told detailed first.capacity first.base first.kept input.left h.offers reader after
+              source rest
               mirror.kept left.kept report added offer answer h.amid fresh limit bound used is read fits within has;
           taking = taking-next disk_told first.capacity first.base first.kept s h.offers offer mirror now later h.same.base
               h.same.capacity
-              (has-answered input_told first.capacity first.base first.kept input.left h.offers reader source mirror.kept
+              (has-answered input_told detailed first.capacity first.base first.kept input.left h.offers reader
+              source mirror.kept
               report h.amid)
               h.taking moments answer left.kept within rests;
           usable = usable;
@@ -145,7 +155,8 @@ module _ (input_told disk_told : Type 0) (first : MirrorValue) (s : DiskState) (
         mirror.kept failed whole is part reads-next
         (taking-images disk_told first.capacity first.base first.kept s h.offers offer mirror now later h.same.base
         h.same.capacity
-        (has-answered input_told first.capacity first.base first.kept input.left h.offers reader source mirror.kept report
+        (has-answered input_told detailed first.capacity first.base first.kept input.left h.offers reader source
+        mirror.kept report
         h.amid)
         h.taking moments)
 
@@ -153,7 +164,8 @@ module _ (input_told disk_told : Type 0) (first : MirrorValue) (s : DiskState) (
     pub giving-full : (address bytes : List ℕ) (size needed most : ℕ) → address ≡ offer.address → bytes ≡ offer.bytes
         → IsAnswerWithin mirror.capacity mirror.base mirror.kept address bytes (Err (NoRoom size needed most)) mirror.kept
         → input_told
-        → IsMirrored first.capacity first.base first.kept input.left (fault_answer (full_fault size needed most))
+        → IsMirrored detailed first.capacity first.base first.kept input.left
+        (fault_answer (full_fault size needed most))
     giving-full address bytes size needed most same_address same_bytes full told =
         let answer : MirrorAnswer = Err (NoRoom size needed most) in
         let most_is : most ≡ first.capacity =
@@ -169,9 +181,10 @@ module _ (input_told disk_told : Type 0) (first : MirrorValue) (s : DiskState) (
         (subst (λ (x : List ℕ). IsAnswerWithin mirror.capacity mirror.base mirror.kept address x answer mirror.kept)
         same_bytes full))) in
         subst (λ (n : ℕ).
-        IsMirrored first.capacity first.base first.kept input.left (fault_answer (full_fault size needed n)))
+        IsMirrored detailed first.capacity first.base first.kept input.left (fault_answer (full_fault size needed n)))
         (sym most_is)
-        (mirrored-full input_told first.capacity first.base first.kept input.left h.offers reader source mirror.kept report
+        (mirrored-full input_told detailed first.capacity first.base first.kept input.left h.offers reader source
+        mirror.kept report
         h.amid offer size needed (reads-next told)
         (subst (λ (n : ℕ). IsAnswerWithin first.capacity first.base mirror.kept offer.address offer.bytes
         (Err (NoRoom size needed n)) mirror.kept) most_is within))

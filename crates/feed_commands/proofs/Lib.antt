@@ -14,13 +14,15 @@ pub mod AnswersLemmas
 pub mod EntriesLemmas
 -- `history_of`, clauses `refused` and `unrefused`
 pub mod FaultLemmas
+-- `mirror`: the certificate of a complete mirror
+pub mod CertifiedLemmas
 -- `mirror`: a mirror amid the offers of a pile
 pub mod GivingLemmas
 -- `history_of`, clauses `history` and `lawful`
 pub mod HistoryLemmas
 -- `init`
 pub mod InitLemmas
--- `line_ask` and the definitions of lines
+-- `line_ask`, the lines of an input, and the prefix of a line that decides what it asks
 pub mod LineLemmas
 -- `Lines::next`
 pub mod LinesLemmas
@@ -52,7 +54,9 @@ pub mod RoomLemmas
 pub mod RunLemmas
 -- `serve`: what is printed, and how the program ends
 pub mod ServeLemmas
--- `mirror`, clause `mirrored`
+-- `mirror`, clause `mirrors`: what is held of documents that one feed served
+pub mod HeldLemmas
+-- `mirror`, clause `mirrors`: what is printed of documents that one feed served
 pub mod ServedReportLemmas
 -- `show`, clause `shown`
 pub mod ShowLemmas
@@ -76,3 +80,19 @@ pub mod MirrorEndLemmas
 pub mod RoomFaultLemmas
 -- `mirror` and `mirror --fetch`
 pub mod MovedLemmas
+-- `audit`: how it ends, and what its status says
+pub mod AuditEndLemmas
+-- `audit`: how the program ends
+pub mod AuditRunLemmas
+-- `audit`: the offers of the pile
+pub mod AuditedPileLemmas
+-- `audit`: the text of a certificate has one line `end`
+pub mod CertificateEndLemmas
+-- `commands_have_one_answer`: an input of `audit` has one answer
+pub mod OneAuditedLemmas
+-- `commands_have_one_answer`: a pile is read in one way
+pub mod OnePileLemmas
+-- `audit`: the part of the input before the pile
+pub mod PartLemmas
+-- `audit`: the line of a verdict, and what its status says
+pub mod VerdictSoundLemmas

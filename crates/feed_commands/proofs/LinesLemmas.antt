@@ -1,56 +1,15 @@
 -- How far a search of a line's end came.
-use Rattle.std.proofs.Common.{
-  ◌≡◌,
-  ◌≢◌,
-  ℕ,
-  zero,
-  suc,
-  ◌+◌,
-  ◌-◌,
-  ◌<◌,
-  ◌≤◌,
-  Bool,
-  true,
-  not,
-  eqb,
-  List,
-  [],
-  ◌∷◌,
-  ◌++◌,
-  length,
-  take,
-  drop,
-  refl,
-  sym,
-  ap,
-  ◌∙◌,
-  subst,
-  inl,
-  inr,
-  arith,
-}
+use Rattle.std.proofs.Common.{◌≡◌, ◌≢◌, ℕ, zero, suc, ◌+◌, ◌-◌, ◌<◌, ◌≤◌, Bool, true, not, eqb, List, [], ◌∷◌, ◌++◌}
+use Rattle.std.proofs.Common.{length, take, drop, refl, sym, ap, ◌∙◌, subst, inl, inr, arith}
 use Rattle.std.proofs.lemmas.List.{append-nil, append_assoc, drop-take, drop-drop, length-append, length-take, take_at}
 use Rattle.std.proofs.lemmas.Bool.{both_ways, eq-eqb, not-true}
 use Rattle.std.proofs.lemmas.List.Elements.{All-append, All-nil}
 use Rattle.doc_source.specs.Outside.{SourceState}
 use Rattle.atom_values.specs.Ascii.{lf}
+use Rattle.tool_words.specs.Line.{IsFirst}
 use Rattle.feed_commands.specs.Line.{prefix_limit}
-use Rattle.feed_commands.specs.Lines.{
-  FindsLine,
-  HasNoLf,
-  IsFirst,
-  IsSpent,
-  IsTooLong,
-  KnowsEnd,
-  LinesState,
-  ReadsMore,
-  StopsAmid,
-  TakesAll,
-  TakesEnd,
-  allowance,
-  stream,
-  with_prefix,
-}
+use Rattle.feed_commands.specs.Lines.{FindsLine, HasNoLf, IsSpent, IsTooLong, KnowsEnd, LinesState, ReadsMore}
+use Rattle.feed_commands.specs.Lines.{StopsAmid, TakesAll, TakesEnd, allowance, stream, with_prefix}
 
 -- what is ahead after a line that ended
 pub ahead-rest : (piece : List ℕ) (start end at : ℕ) → start + (at + 1) ≤ end →

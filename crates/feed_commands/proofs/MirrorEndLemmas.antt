@@ -1,5 +1,6 @@
 -- How `mirror` and `mirror --fetch` end, by their report or by their fault.
-use Rattle.std.proofs.Common.{◌≡◌, ◌≢◌, ◌⊎◌, inl, inr, ⊎_elim, ℕ, List, ◌++◌, Option, Ok, Err, Result, IsOk, refl, sym, ap, subst}
+use Rattle.std.proofs.Common.{◌≡◌, ◌≢◌, ◌⊎◌, inl, inr, ⊎_elim, ℕ, List, ◌++◌, Bool, Option, Err, Result, IsOk}
+use Rattle.std.proofs.Common.{refl, sym, ap, subst}
 use Rattle.std.proofs.Common.{◌∙◌, map, arith, true, false}
 use Rattle.doc_source.specs.Outside.{SinkState}
 use Rattle.doc_source.specs.declared.offer.Offer.{Offer}
@@ -10,16 +11,20 @@ use Rattle.feed_journal.specs.Records.{records}
 use Rattle.member_rules.specs.Head.{HeadValue}
 use Rattle.member_rules.specs.declared.operation.Op.{Op}
 use Rattle.mirror_walk.specs.Holding.{KeptValue}
-use Rattle.mirror_walk.specs.Loaded.{IsLoadedOf, IsMirrorFault}
+use Rattle.mirror_walk.specs.Listing.{outcome_of}
+use Rattle.mirror_walk.specs.Loaded.{IsLoadedOf}
 use Rattle.mirror_walk.specs.Offers.{AreServed}
 use Rattle.mirror_walk.specs.Walk.{IsServedBy}
+use Rattle.mirror_walk.specs.declared.answer.Outcome.{Outcome}
+use Rattle.mirror_walk.specs.declared.answer.Outcome.TheVariants.{Complete, Missing}
 use Rattle.mirror_walk.specs.declared.mirror_fault.MirrorFault.{MirrorFault}
 use Rattle.mirror_walk.specs.declared.mirror_fault.MirrorFault.TheVariants as loads
 use Rattle.mirror_walk.proofs.LoadLemmas.{loads-without}
 use Rattle.mirror_walk.proofs.TakenLemmas.{loaded-once}
 use Rattle.tool_words.specs.declared.command.Command.{Command}
 use Rattle.tool_words.specs.declared.command.Command.TheVariants.{Mirror}
-use Rattle.feed_commands.specs.declared.commands.mirror.Printed.{Printed}
+use Rattle.feed_commands.specs.declared.commands.printed.Printed.{Printed}
+use Rattle.feed_commands.specs.declared.commands.report.Report.{Report}
 use Rattle.feed_commands.specs.declared.commands.report_fault.ReportFault.{ReportFault}
 use Rattle.feed_commands.specs.declared.commands.report_fault.ReportFault.TheVariants.{Fetch, OtherBase, Other}
 use Rattle.feed_commands.specs.declared.fault.Fault.TheVariants.{NoMemory, Input, Disk, BadStore, Full, Refused}
@@ -33,6 +38,7 @@ use Rattle.feed_commands.specs.MirrorEnds.{IsLater, IsPileEnd, IsPileRefusal, Is
 use Rattle.feed_commands.specs.MirrorFaults.{IsBadMirror, IsHeldIn, IsReportRefusal, mirror_fault, report_answer}
 use Rattle.feed_commands.specs.Mirroring.{HoldsServed}
 use Rattle.feed_commands.specs.Outside.{Outside}
+use Rattle.feed_commands.specs.Report.{EndsReport, status_of}
 use Rattle.feed_commands.specs.Run.{EndsWith, IsAnswer, IsDone}
 use Rattle.feed_commands.specs.Served.{EndsServed, IsPileOf, IsReported}
 use Rattle.feed_commands.specs.Status.{code_of}
@@ -40,12 +46,21 @@ use Rattle.feed_commands.specs.Walked.{IsFetched, IsWalkReport}
 use Rattle.feed_commands.proofs.LoadedLemmas.{fetched-weaker, leaves-weaker, mirrored-weaker}
 use Rattle.feed_commands.proofs.OneFetchedLemmas.{fetched-once}
 use Rattle.feed_commands.proofs.OneMirroredLemmas.{mirrored-once}
-use Rattle.feed_commands.proofs.ReportFaultLemmas.{after-later, report-no_done, report-unreported}
+use Rattle.feed_commands.proofs.ReportFaultLemmas.{report-no_done}
 use Rattle.feed_commands.proofs.ServedReportLemmas.{served-report}
 use Rattle.feed_commands.proofs.WalkEndLemmas.{refusal-over}
 use Rattle.feed_commands.proofs.WalkedReportLemmas.{walked-report}
 
 -- the exit statuses behind a report
+
+pub outcome-done : (outcome : Outcome) → IsDone (code_of (status_of outcome))
+outcome-done (Missing address) = inr refl
+outcome-done (Complete version live) = inl refl
+
+pub report-done : (told : Type 0) (base : List ℕ) (made : Report) (kept : List KeptValue) (given : Answer)
+    → EndsReport told base made kept given → IsDone (code_of given.status)
+report-done told base made kept given ends =
+    subst (λ (status : Status). IsDone (code_of status)) (sym ends.status) (outcome-done (outcome_of kept))
 
 pub printed-mirror : (status : Status) (ended : ℕ) → IsDone (code_of status)
     → (ended ≡ code_of status) ⊎ (ended ≡ code_of ends.OutputFault) → MayEndMirror ended
@@ -114,21 +129,23 @@ bad-unheld base content kept given held bad = of bad.fault bad.refuses
 
 -- the answers by a pile and by a source are the one answer of what the area loads to
 
-pub pile-same : (capacity : ℕ) (base : List ℕ) (content : Area → List ℕ) (input : List ℕ) (one other : Answer)
-    (kept : List KeptValue) → IsPileEnd capacity base content input one → IsHeldIn base content kept
-    → IsMirrored capacity base kept input other → one ≡ other
-pile-same capacity base content input one other kept p held q =
+pub pile-same : (report : Bool) (capacity : ℕ) (base : List ℕ) (content : Area → List ℕ) (input : List ℕ)
+    (one other : Answer)
+    (kept : List KeptValue) → IsPileEnd report capacity base content input one → IsHeldIn base content kept
+    → IsMirrored report capacity base kept input other → one ≡ other
+pile-same report capacity base content input one other kept p held q =
     let same = loaded-once base (records (content MirrorArea)) p.kept kept p.loaded held in
-    mirrored-once capacity base kept input one other
-    (subst (λ (ks : List KeptValue). IsMirrored capacity base ks input one) same p.is) q
+    mirrored-once report capacity base kept input one other
+    (subst (λ (ks : List KeptValue). IsMirrored report capacity base ks input one) same p.is) q
 
-pub walk-same : (capacity : ℕ) (base : List ℕ) (content : Area → List ℕ) (answers : List ℕ → Option (List ℕ))
-    (one other : Answer) (kept : List KeptValue) → IsWalkEnd capacity base content answers one
-    → IsHeldIn base content kept → IsFetched capacity base kept answers other → one ≡ other
-walk-same capacity base content answers one other kept p held q =
+pub walk-same : (report : Bool) (capacity : ℕ) (base : List ℕ) (content : Area → List ℕ)
+    (answers : List ℕ → Option (List ℕ))
+    (one other : Answer) (kept : List KeptValue) → IsWalkEnd report capacity base content answers one
+    → IsHeldIn base content kept → IsFetched report capacity base kept answers other → one ≡ other
+walk-same report capacity base content answers one other kept p held q =
     let same = loaded-once base (records (content MirrorArea)) p.kept kept p.loaded held in
-    fetched-once capacity base kept answers one other
-    (subst (λ (ks : List KeptValue). IsFetched capacity base ks answers one) same p.is) q
+    fetched-once report capacity base kept answers one other
+    (subst (λ (ks : List KeptValue). IsFetched report capacity base ks answers one) same p.is) q
 
 -- without a failed call the status of a fault is that of the answer, or memory ran out
 pub fault-complete : (fault : ReportFault) (given : Answer) → (IsReportRefusal fault → report_answer fault ≡ given)
@@ -147,75 +164,79 @@ fault-complete (Other (Full area size needed capacity)) given same disk input fe
 fault-complete (Other (Refused refusal)) given same disk input fetch =
     inl (ap (λ (a : Answer). code_of a.status) (same tt))
 
-pub pile-refused : (capacity : ℕ) (base : List ℕ) (content : Area → List ℕ) (input : List ℕ) (one other : Answer)
-    (kept : List KeptValue) → IsPileRefusal capacity base content input one → IsHeldIn base content kept
-    → IsMirrored capacity base kept input other → one ≡ other
-pile-refused capacity base content input one other kept (inl end) held q =
-    pile-same capacity base content input one other kept end held q
-pile-refused capacity base content input one other kept (inr bad) held q =
+pub pile-refused : (report : Bool) (capacity : ℕ) (base : List ℕ) (content : Area → List ℕ) (input : List ℕ)
+    (one other : Answer)
+    (kept : List KeptValue) → IsPileRefusal report capacity base content input one → IsHeldIn base content kept
+    → IsMirrored report capacity base kept input other → one ≡ other
+pile-refused report capacity base content input one other kept (inl end) held q =
+    pile-same report capacity base content input one other kept end held q
+pile-refused report capacity base content input one other kept (inr bad) held q =
     absurd (bad-unheld base content kept one held bad)
 
-pub walk-refused-same : (capacity : ℕ) (base : List ℕ) (content : Area → List ℕ) (answers : List ℕ → Option (List ℕ))
-    (one other : Answer) (kept : List KeptValue) → IsWalkRefusal capacity base content answers one
-    → IsHeldIn base content kept → IsFetched capacity base kept answers other → one ≡ other
-walk-refused-same capacity base content answers one other kept (inl end) held q =
-    walk-same capacity base content answers one other kept end held q
-walk-refused-same capacity base content answers one other kept (inr bad) held q =
+pub walk-refused-same : (report : Bool) (capacity : ℕ) (base : List ℕ) (content : Area → List ℕ)
+    (answers : List ℕ → Option (List ℕ))
+    (one other : Answer) (kept : List KeptValue) → IsWalkRefusal report capacity base content answers one
+    → IsHeldIn base content kept → IsFetched report capacity base kept answers other → one ≡ other
+walk-refused-same report capacity base content answers one other kept (inl end) held q =
+    walk-same report capacity base content answers one other kept end held q
+walk-refused-same report capacity base content answers one other kept (inr bad) held q =
     absurd (bad-unheld base content kept one held bad)
 
 -- the end by a pile or by a source is an answer of the command
 
-pub pile-answers : (capacity : ℕ) (base : List ℕ) (outside : Outside) (given : Answer)
-    → IsPileRefusal capacity base outside.content outside.input given
-    → IsAnswer (Mirror base false capacity) outside given
-pile-answers capacity base outside given (inl end) =
+pub pile-answers : (report : Bool) (capacity : ℕ) (base : List ℕ) (outside : Outside) (given : Answer)
+    → IsPileRefusal report capacity base outside.content outside.input given
+    → IsAnswer (Mirror base false report capacity) outside given
+pile-answers report capacity base outside given (inl end) =
     inl record { kept = end.kept; loaded = end.loaded; is = end.is }
-pile-answers capacity base outside given (inr bad) = inr bad
+pile-answers report capacity base outside given (inr bad) = inr bad
 
-pub walk-answers : (capacity : ℕ) (base : List ℕ) (outside : Outside) (given : Answer)
-    → IsWalkRefusal capacity base outside.content outside.answers given
-    → IsAnswer (Mirror base true capacity) outside given
-walk-answers capacity base outside given (inl end) =
+pub walk-answers : (report : Bool) (capacity : ℕ) (base : List ℕ) (outside : Outside) (given : Answer)
+    → IsWalkRefusal report capacity base outside.content outside.answers given
+    → IsAnswer (Mirror base true report capacity) outside given
+walk-answers report capacity base outside given (inl end) =
     inl record { kept = end.kept; loaded = end.loaded; is = end.is }
-walk-answers capacity base outside given (inr bad) = inr bad
+walk-answers report capacity base outside given (inr bad) = inr bad
 
--- the report of documents that one feed served
+-- the report or the certificate of documents that one feed served
 
-pub pile-served : (capacity : ℕ) (base : List ℕ) (before : DiskState) (input : List ℕ) (answer : Answer)
+pub pile-served : (report : Bool) (capacity : ℕ) (base : List ℕ) (before : DiskState) (input : List ℕ) (answer : Answer)
     (head : HeadValue) (history : List Op) (kept : List KeptValue) (offers : List Offer) (told : Type 0)
-    (output taken : SinkState) (ended : ℕ) → IsPileReport capacity base before.content input answer
+    (output taken : SinkState) (ended : ℕ) → IsPileReport report capacity base before.content input answer
     → HoldsServed base before head history kept → IsPileOf offers input → AreServed head history (map offering offers)
     → (ended ≡ code_of answer.status) ⊎ (ended ≡ code_of ends.OutputFault)
     → (told → Prints output taken answer.printed)
-    → EndsServed head history kept (map offering offers) told output taken ended
-pile-served capacity base before input answer head history kept offers told output taken ended report holds pile served
-    status prints =
+    → EndsServed report head history kept (map offering offers) told output taken ended
+pile-served report capacity base before input answer head history kept offers told output taken ended shown holds
+    pile served status prints =
     let payloads = records (before.content MirrorArea) in
-    let same = loaded-once base payloads report.kept kept report.loaded holds.loaded in
+    let same = loaded-once base payloads shown.kept kept shown.loaded holds.loaded in
     let loaded = subst (λ (b : List ℕ). IsLoadedOf b payloads kept) holds.base_is holds.loaded in
-    let is = subst (λ (ks : List KeptValue). IsReport capacity head.name.base ks input answer) same
-    (subst (λ (b : List ℕ). IsReport capacity b report.kept input answer) holds.base_is report.is) in
+    let is = subst (λ (ks : List KeptValue). IsReport report capacity head.name.base ks input answer) same
+    (subst (λ (b : List ℕ). IsReport report capacity b shown.kept input answer) holds.base_is shown.is) in
     record {
       answer = answer;
-      is = served-report head history kept payloads loaded holds.served capacity input answer offers is pile served;
+      is = served-report report head history kept payloads loaded holds.served capacity input answer offers is pile
+          served;
       status = status;
       prints = prints;
     }
 
-pub walk-served : (capacity : ℕ) (base : List ℕ) (before : DiskState) (answers : List ℕ → Option (List ℕ))
+pub walk-served : (report : Bool) (capacity : ℕ) (base : List ℕ) (before : DiskState)
+    (answers : List ℕ → Option (List ℕ))
     (answer : Answer) (head : HeadValue) (history : List Op) (kept : List KeptValue) (told : Type 0)
-    (output taken : SinkState) (ended : ℕ) → IsWalkedReport capacity base before.content answers answer
+    (output taken : SinkState) (ended : ℕ) → IsWalkedReport report capacity base before.content answers answer
     → HoldsServed base before head history kept → IsServedBy head history answers
     → (ended ≡ code_of answer.status) ⊎ (ended ≡ code_of ends.OutputFault)
     → (told → Prints output taken answer.printed)
-    → EndsFetched capacity head history kept answers told output taken ended
-walk-served capacity base before answers answer head history kept told output taken ended report holds served status
-    prints =
+    → EndsFetched report capacity head history kept answers told output taken ended
+walk-served report capacity base before answers answer head history kept told output taken ended shown holds served
+    status prints =
     let payloads = records (before.content MirrorArea) in
-    let same = loaded-once base payloads report.kept kept report.loaded holds.loaded in
+    let same = loaded-once base payloads shown.kept kept shown.loaded holds.loaded in
     let loaded = subst (λ (b : List ℕ). IsLoadedOf b payloads kept) holds.base_is holds.loaded in
-    let is = subst (λ (ks : List KeptValue). IsWalkReport capacity head.name.base ks answers answer) same
-    (subst (λ (b : List ℕ). IsWalkReport capacity b report.kept answers answer) holds.base_is report.is) in
+    let is = subst (λ (ks : List KeptValue). IsWalkReport report capacity head.name.base ks answers answer) same
+    (subst (λ (b : List ℕ). IsWalkReport report capacity b shown.kept answers answer) holds.base_is shown.is) in
     record {
       asked = is.asked;
       accepted = is.accepted;
@@ -225,7 +246,7 @@ walk-served capacity base before answers answer head history kept told output ta
       over = refusal-over is.asked is.ending is.walked.refused is.is_walked.refusal;
       ends = record {
         answer = answer;
-        is = walked-report head history kept payloads loaded holds.served capacity answers answer is served;
+        is = walked-report report head history kept payloads loaded holds.served capacity answers answer is served;
         status = status;
         prints = prints;
       };

@@ -1,13 +1,10 @@
 -- What a run of device calls leaves of the two areas of a store.
-use Rattle.std.proofs.Common.{◌≡◌, inl, inr, refl, ℕ, ◌-◌, ◌^◌, ◌<◌, ◌≤◌, List, [], ◌∷◌, ◌++◌, length, take, sym, subst, arith}
-use Rattle.std.proofs.Common.{length-append}
-use Rattle.std.proofs.lemmas.List.{take-append-le}
+use Rattle.std.proofs.Common.{◌≡◌, inl, inr, refl, ℕ, ◌-◌, ◌^◌, ◌<◌, List, [], ◌∷◌, ◌++◌, length, subst, arith}
 use Rattle.feed_disk.specs.Disk.{DiskState, IsDisk}
-use Rattle.feed_disk.specs.Moments.{LeavesAlone}
 use Rattle.feed_disk.specs.declared.area.Area.TheVariants.{Journal, Sealed}
-use Rattle.feed_disk.proofs.MomentLemmas.{both_join, both_leave, both_weaker, leaves_begin, leaves_join, leaves_over}
-use Rattle.feed_recovery.specs.Opening.{Opens, OpensInOneWay}
-use Rattle.feed_recovery.specs.Settled.{AlwaysLeavesBoth, AreWhole, NowBoth, OpensPast, Settled}
+use Rattle.feed_disk.proofs.MomentLemmas.{leaves_join, leaves_over}
+use Rattle.feed_recovery.specs.Opening.{OpensInOneWay}
+use Rattle.feed_recovery.specs.Settled.{AlwaysLeavesBoth, AreWhole, OpensPast, Settled}
 use Rattle.feed_recovery.specs.Stored.{OpensTo, Stored}
 use Rattle.feed_recovery.proofs.PastLemmas.{settled-head, settled-whole}
 use Rattle.feed_commands.specs.Applied.{IsMadeBy}

@@ -1,12 +1,13 @@
 -- `mirror --fetch`: a walk over the documents of a source goes one way, and has one answer.
-use Rattle.std.proofs.Common.{◌≡◌, ◌⊎◌, inl, inr, ℕ, List, [], ◌∷◌, ◌++◌, Option, Some, None, Ok, Err, refl, sym, ap, ap₂}
+use Rattle.std.proofs.Common.{◌≡◌, ◌⊎◌, inl, inr, ℕ, List, [], ◌∷◌, ◌++◌, Bool, Option, Some, None, Ok, Err, refl}
+use Rattle.std.proofs.Common.{sym, ap, ap₂}
 use Rattle.std.proofs.Common.{subst, ◌∙◌}
 use Rattle.chain_links.specs.Address.{printed}
 use Rattle.chain_links.specs.declared.address.Address.{Address}
 use Rattle.chain_links.specs.declared.address.Address.TheVariants.{Feed}
 use Rattle.mirror_walk.specs.Accept.{Answer as MirrorAnswer, IsAnswerWithin, IsForRoom}
 use Rattle.mirror_walk.specs.Holding.{KeptValue, first_missing}
-use Rattle.mirror_walk.specs.Walk.{EndsAt, EndsBefore, HasRefusal, IsAnswered, IsRefusedLast, IsWalked, WalkEnding}
+use Rattle.mirror_walk.specs.Walk.{EndsAt, EndsBefore, HasRefusal, IsAnswered, IsWalked, WalkEnding}
 use Rattle.mirror_walk.specs.Walk.{WalkSetting, Walks}
 use Rattle.mirror_walk.specs.Walk.WalkEnding.{nothing_wanted, not_there, refused, fetch_failed, filled, cut_short}
 use Rattle.mirror_walk.specs.declared.answer.Accepted.{Accepted}
@@ -237,9 +238,10 @@ refusal-once asked fetch_failed one other p q = absurd p
 refusal-once asked (filled size needed capacity) one other p q = absurd p
 refusal-once asked cut_short one other p q = absurd p
 
-module _ (capacity : ℕ) (base : List ℕ) (kept : List KeptValue) (answers : List ℕ → Option (List ℕ)) where
-  report-once : (one other : Answer) → IsWalkReport capacity base kept answers one
-      → IsWalkReport capacity base kept answers other → one ≡ other
+module _ (report : Bool) (capacity : ℕ) (base : List ℕ) (kept : List KeptValue)
+    (answers : List ℕ → Option (List ℕ)) where
+  report-once : (one other : Answer) → IsWalkReport report capacity base kept answers one
+      → IsWalkReport report capacity base kept answers other → one ≡ other
   unfolding walk_report
   report-once one other p q =
       let same = walks-once (walk_setting capacity base answers) kept (Some Feed) p.asked q.asked p.accepted q.accepted
@@ -265,7 +267,8 @@ module _ (capacity : ℕ) (base : List ℕ) (kept : List KeptValue) (answers : L
         refused = refusal i;
         outcome = outcome i;
       } in
-      p.is ∙ ap₂ (λ (w : Walked) (l : List KeptValue). walk_report base w l) (sym walked) (sym same.left_is) ∙ sym q.is
+      p.is ∙ ap₂ (λ (w : Walked) (l : List KeptValue). walk_report report base w l) (sym walked) (sym same.left_is)
+      ∙ sym q.is
 
   filled-once : (one other : Answer) → IsWalkFilled capacity base kept answers one
       → IsWalkFilled capacity base kept answers other → one ≡ other
@@ -277,7 +280,7 @@ module _ (capacity : ℕ) (base : List ℕ) (kept : List KeptValue) (answers : L
       let needed : q.needed ≡ p.needed = cc in
       p.is ∙ ap₂ (λ (s n : ℕ). fault_answer (full_fault s n capacity)) (sym size) (sym needed) ∙ sym q.is
 
-  not-both : (one other : Answer) → IsWalkReport capacity base kept answers one
+  not-both : (one other : Answer) → IsWalkReport report capacity base kept answers one
       → IsWalkFilled capacity base kept answers other → ⊥
   not-both one other p q =
       let same = walks-once (walk_setting capacity base answers) kept (Some Feed) p.asked q.asked p.accepted q.accepted
@@ -286,8 +289,8 @@ module _ (capacity : ℕ) (base : List ℕ) (kept : List KeptValue) (answers : L
       subst (λ (e : WalkEnding). HasRefusal p.asked e p.walked.refused) (sym same.ending_is) p.is_walked.refusal
 
   -- the source has one answer, by the documents held before
-  pub fetched-once : (one other : Answer) → IsFetched capacity base kept answers one
-      → IsFetched capacity base kept answers other → one ≡ other
+  pub fetched-once : (one other : Answer) → IsFetched report capacity base kept answers one
+      → IsFetched report capacity base kept answers other → one ≡ other
   fetched-once one other (inl p) (inl q) = report-once one other p q
   fetched-once one other (inl p) (inr q) = absurd (not-both one other p q)
   fetched-once one other (inr p) (inl q) = absurd (not-both other one q p)

@@ -2,8 +2,7 @@
 use Rattle.std.proofs.Common.{◌≡◌, ℕ, zero, suc, ◌-◌, ◌<◌, ◌≤◌, List, [], ◌∷◌, ◌++◌, map, flat_map, refl, sym, ◌∙◌, ap, subst}
 use Rattle.std.proofs.Common.{append_assoc, append-nil, arith}
 use Rattle.std.proofs.lemmas.Grind.{flat_map-append}
-use Rattle.atom_writer.specs.Pieces.{own_address, text}
-use Rattle.atom_writer.specs.declared.doc.Kind.TheVariants.{Subscription, Archive as Sealed}
+use Rattle.atom_writer.specs.Pieces.{text}
 use Rattle.chain_links.specs.Address.{printed}
 use Rattle.chain_links.specs.declared.address.Address.TheVariants.{Feed, Archive}
 use Rattle.doc_source.specs.Outside.{SinkState, TakesPrefix}
@@ -11,7 +10,7 @@ use Rattle.doc_source.specs.Pile.{offer_text, pile_head, pile_text}
 use Rattle.doc_source.specs.declared.offer.Offer.{Offer}
 use Rattle.doc_source.proofs.WriteLemmas.{takes_more, took_more}
 use Rattle.feed_recovery.specs.Stored.{Stored}
-use Rattle.feed_commands.specs.Pile.{IsFront, TakesFront, offer_of, offers_of}
+use Rattle.feed_commands.specs.Pile.{TakesFront, offer_of, offers_of}
 use Rattle.member_rules.specs.Chain.{chain, chain_of, down_from}
 use Rattle.member_rules.specs.Documents.{archive, archive_of, document_of, name_of, subscription, subscription_of}
 use Rattle.member_rules.specs.Head.{HeadValue}

@@ -1,44 +1,7 @@
 -- How far the lines of an input have come, and what each line makes of a feed.
-use Rattle.std.proofs.Common.{
-  ◌≡◌,
-  ◌⊎◌,
-  inl,
-  inr,
-  ⊎_elim,
-  ℕ,
-  ◌+◌,
-  ◌-◌,
-  ◌<◌,
-  ◌≤◌,
-  true,
-  false,
-  nat_le,
-  List,
-  [],
-  ◌∷◌,
-  ◌++◌,
-  length,
-  take,
-  Some,
-  None,
-  Result,
-  Ok,
-  Err,
-  refl,
-  ap,
-  sym,
-  ◌∙◌,
-  arith,
-  rules,
-  tests,
-  length-append,
-  append_assoc,
-  append-nil,
-  add-zero,
-  zero-add,
-  add_assoc,
-  one-add,
-}
+use Rattle.std.proofs.Common.{◌≡◌, ◌⊎◌, inl, inr, ⊎_elim, ℕ, ◌+◌, ◌-◌, ◌<◌, ◌≤◌, true, false, nat_le, List, [], ◌∷◌}
+use Rattle.std.proofs.Common.{◌++◌, length, take, Some, None, Result, Ok, Err, refl, ap, sym, ◌∙◌, arith, rules, tests}
+use Rattle.std.proofs.Common.{length-append, append_assoc, append-nil, add-zero, zero-add, add_assoc, one-add}
 use Rattle.std.specs.Prelude.{All}
 use Rattle.std.proofs.lemmas.List.Elements.{All-nil, All-head, All-tail, All-push}
 use Rattle.std.proofs.lemmas.List.{take_all, take_at}
@@ -51,31 +14,11 @@ use Rattle.feed_commands.specs.declared.fault.Refusal.TheVariants.{TooLong}
 use Rattle.doc_source.specs.Outside.{SourceState}
 use Rattle.atom_values.specs.Ascii.{lf}
 use Rattle.feed_commands.specs.Line.{prefix_limit}
-use Rattle.feed_commands.specs.Lines.{
-  lines,
-  ended_lines,
-  input_limit,
-  LinesState,
-  stream,
-  allowance,
-  HasNoLf,
-  FindsLine,
-  FindsEnded,
-  FindsLast,
-  IsTooLong,
-  StopsAmid,
-}
+use Rattle.feed_commands.specs.Lines.{lines, ended_lines, input_limit, LinesState, stream, allowance, HasNoLf}
+use Rattle.feed_commands.specs.Lines.{FindsLine, FindsEnded, FindsLast, IsTooLong, StopsAmid}
 use Rattle.feed_commands.specs.Applied.{Applied, Step, IsMadeBy, IsUnrefused, after_line, applied, apply_lines, then_too_long}
-use Rattle.feed_commands.proofs.LineLemmas.{
-  with_lf,
-  lines-ended,
-  ended_lines-ended,
-  lines-last,
-  ended_lines-none,
-  ended_lines-joined,
-  lines-joined,
-  with_lf-first,
-}
+use Rattle.feed_commands.proofs.LineLemmas.{with_lf, lines-ended, ended_lines-ended, lines-last, ended_lines-none}
+use Rattle.feed_commands.proofs.LineLemmas.{ended_lines-joined, lines-joined, with_lf-first}
 
 -- a feed that lines made, none of which was refused
 abbrev pub made_whole : {F : Type 0} → F → Applied F

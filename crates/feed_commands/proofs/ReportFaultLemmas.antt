@@ -143,15 +143,7 @@ fault-mirror (Other (BadStore bad)) ended may is = inr (inr (inr (inr (inl is)))
 fault-mirror (Other (Full area size needed capacity)) ended may is = inr (inr (inr (inr (inr (inr (inr (inr (inl is))))))))
 fault-mirror (Other (Refused (why.BadPile at))) ended may is = inr (inr (inr (inr (inr (inr (inr (inl is)))))))
 fault-mirror (Other (Refused why.TooLong)) ended may is = inr (inr (inr (inr (inr (inr (inr (inl is)))))))
-fault-mirror (Other (Refused (why.BadDocument offset))) ended may is = absurd may
-fault-mirror (Other (Refused (why.BadLine line))) ended may is = absurd may
-fault-mirror (Other (Refused (why.NotFound line member))) ended may is = absurd may
-fault-mirror (Other (Refused (why.Deleted line member))) ended may is = absurd may
-fault-mirror (Other (Refused (why.Clock line))) ended may is = absurd may
-fault-mirror (Other (Refused (why.TooLarge line))) ended may is = absurd may
-fault-mirror (Other (Refused (why.NotSealed number sealed))) ended may is = absurd may
-fault-mirror (Other (Refused (why.NoMember number))) ended may is = absurd may
-fault-mirror (Other (Refused (why.DeletedMember number))) ended may is = absurd may
+fault-mirror (Other (Refused _)) ended may is = absurd may
 
 pub fault-fetched : (fault : ReportFault) (ended : ℕ) → MayEndWalkReport fault
     → ended ≡ code_of (report_answer fault).status → MayEndFetched ended

@@ -1,14 +1,12 @@
 -- `Report::offer`: the answers that end a report, and those that it has.
-use Rattle.std.proofs.Common.{◌≡◌, ◌≢◌, ◌⊎◌, inl, inr, ℕ, List, Option, Some, None, Ok, Err, Result, IsErr, refl, sym, ◌∙◌, subst}
+use Rattle.std.proofs.Common.{◌≡◌, ◌≢◌, ◌⊎◌, inl, inr, ℕ, Some, None, Ok, Err, refl, sym, ◌∙◌, subst}
 use Rattle.feed_disk.specs.declared.area.Area.TheVariants.{Journal, Sealed, Mirror}
-use Rattle.mirror_walk.specs.Accept.{Answer, IsAnswerWithin}
-use Rattle.mirror_walk.specs.Holding.{KeptValue}
-use Rattle.mirror_walk.specs.declared.answer.Accepted.{Accepted}
-use Rattle.mirror_walk.specs.declared.answer.Accepted.TheVariants.{Taken, Known, Stale}
+use Rattle.mirror_walk.specs.Accept.{Answer}
+use Rattle.mirror_walk.specs.declared.answer.Accepted.TheVariants.{Taken}
 use Rattle.mirror_walk.specs.declared.answer.Offered.TheVariants as why
 use Rattle.feed_commands.specs.declared.fault.Fault.{Fault}
 use Rattle.feed_commands.specs.declared.fault.Fault.TheVariants.{BadStore, Disk, Full, Input, NoMemory, Refused}
-use Rattle.feed_commands.specs.Fault.{IsRefusal, fault_answer}
+use Rattle.feed_commands.specs.Fault.{IsRefusal}
 use Rattle.feed_commands.specs.MirrorFaults.{full_fault}
 use Rattle.feed_commands.specs.Report.{IsReportable, room_fault}
 use Rattle.feed_commands.specs.Reporting.{MayEndOffer}

@@ -9,6 +9,7 @@ use Rattle.feed_commands.specs.declared.fault.Fault.{Fault}
 use Rattle.feed_commands.specs.declared.status.Status.TheVariants.{Done}
 use Rattle.feed_commands.specs.declared.status.Status.TheVariants as ends
 use Rattle.feed_commands.specs.Answer.{Prints}
+use Rattle.feed_commands.specs.Audit.{MayEndAudit}
 use Rattle.feed_commands.specs.Fault.{fault_answer}
 use Rattle.doc_source.specs.Outside.{SinkState}
 use Rattle.feed_commands.specs.FetchEnds.{MayEndFetched}
@@ -153,17 +154,30 @@ fetched-status n (inr (inr (inr (inr (inr (inr (inl e))))))) = (ends.OutputFault
 fetched-status n (inr (inr (inr (inr (inr (inr (inr (inl e)))))))) = (ends.Full, e)
 fetched-status n (inr (inr (inr (inr (inr (inr (inr (inr e)))))))) = (ends.Refused, e)
 
--- the words of `mirror` have one base and one capacity, and say in one way whether to fetch
-pub same_mirror : (P : List ℕ → Bool → ℕ → Type 0) (words : List (List ℕ)) (result : Result Command WordsFault)
-    (read : Command) (base : List ℕ) (fetch : Bool) (capacity : ℕ) → result ≡ Ok read → read ≡ Mirror base fetch capacity
+-- the status of `audit` is one of the program's
+pub audit-status : (n : ℕ) → MayEndAudit n → IsStatus n
+audit-status n (inl e) = (ends.Done, e)
+audit-status n (inr (inl e)) = (ends.Rejected, e)
+audit-status n (inr (inr (inl e))) = (ends.NoMemory, e)
+audit-status n (inr (inr (inr (inl e)))) = (ends.OutputFault, e)
+audit-status n (inr (inr (inr (inr (inl e))))) = (ends.InputFault, e)
+audit-status n (inr (inr (inr (inr (inr e))))) = (ends.BadInput, e)
+
+-- the words of `mirror` have one base and one capacity, and say in one way whether to fetch and to report
+pub same_mirror : (P : List ℕ → Bool → Bool → ℕ → Type 0) (words : List (List ℕ)) (result : Result Command WordsFault)
+    (read : Command) (base : List ℕ) (fetch report : Bool) (capacity : ℕ) → result ≡ Ok read
+    → read ≡ Mirror base fetch report capacity
     → ((command : Command) → IsCommandOf words command → (result ≡ Ok command) ⊎ (result ≡ Err NoMemory))
-    → P base fetch capacity → (other : List ℕ) (asked : Bool) (limit : ℕ)
-    → IsCommandOf words (Mirror other asked limit) → P other asked limit
-same_mirror P words result read base fetch capacity is mirrors only holds other asked limit of_words =
-    let same : Mirror base fetch capacity ≡ Mirror other asked limit =
-    read_only words result read (Mirror base fetch capacity) is mirrors only (Mirror other asked limit) of_words in
+    → P base fetch report capacity → (other : List ℕ) (asked shown : Bool) (limit : ℕ)
+    → IsCommandOf words (Mirror other asked shown limit) → P other asked shown limit
+same_mirror P words result read base fetch report capacity is mirrors only holds other asked shown limit of_words =
+    let same : Mirror base fetch report capacity ≡ Mirror other asked shown limit =
+    read_only words result read (Mirror base fetch report capacity) is mirrors only (Mirror other asked shown limit)
+    of_words in
     let base_is : base ≡ other = cc in
     let fetch_is : fetch ≡ asked = cc in
+    let report_is : report ≡ shown = cc in
     let capacity_is : capacity ≡ limit = cc in
-    subst (λ (b : List ℕ). P b asked limit) base_is
-    (subst (λ (f : Bool). P base f limit) fetch_is (subst (P base fetch) capacity_is holds))
+    subst (λ (b : List ℕ). P b asked shown limit) base_is
+    (subst (λ (f : Bool). P base f shown limit) fetch_is
+    (subst (λ (r : Bool). P base fetch r limit) report_is (subst (P base fetch report) capacity_is holds)))

@@ -1,12 +1,13 @@
--- The report of a mirror to the documents that one feed served.
-use Rattle.std.proofs.Common.{◌≡◌, ◌⊎◌, inl, inr, ℕ, ◌+◌, List, [], ◌∷◌, ◌++◌, Option, None, Some, Ok, Err, All, IsOk}
-use Rattle.std.proofs.Common.{flat_map, length, map, take, unwrap_or, refl, sym, ap, ap₂, subst, ◌∙◌, arith, length-append}
-use Rattle.std.specs.Prelude.{count_by, fold}
+-- What a mirror prints of documents that one feed served: the report, or else the certificate.
+use Rattle.std.proofs.Common.{◌≡◌, ◌⊎◌, inl, inr, ℕ, ◌+◌, List, [], ◌∷◌, ◌++◌, Bool, true, false, Option, None, Some}
+use Rattle.std.proofs.Common.{Ok, Err, All, IsOk}
+use Rattle.std.proofs.Common.{flat_map, length, map, take, refl, sym, ap, ap₂, subst, ◌∙◌, arith}
+use Rattle.std.specs.Prelude.{fold}
 use Rattle.std.proofs.lemmas.List.Elements.{All-append, All-contains, All-head, All-tail}
 use Rattle.atom_values.specs.Entry.{EntryValue}
-use Rattle.chain_links.specs.Address.{printed}
 use Rattle.chain_links.specs.declared.address.Address.{Address}
 use Rattle.chain_links.specs.declared.address.Address.TheVariants.{Archive, Feed, Member}
+use Rattle.coverage_certificate.proofs.ServedLemmas.{certificate-served}
 use Rattle.doc_source.specs.declared.offer.Offer.{Offer}
 use Rattle.doc_source.proofs.OneReading.{one_reading}
 use Rattle.doc_source.proofs.RunLemmas.{at_the_end}
@@ -14,31 +15,36 @@ use Rattle.member_rules.specs.Fold.{fold_of, made}
 use Rattle.member_rules.specs.Head.{HeadValue}
 use Rattle.member_rules.specs.History.{IsLawful}
 use Rattle.member_rules.specs.Served.{Served}
-use Rattle.member_rules.specs.Shows.{greatest_member}
+use Rattle.member_rules.specs.Shows.{greatest_member, live_count_of}
 use Rattle.member_rules.specs.declared.operation.Op.{Op}
 use Rattle.member_rules.proofs.ServedLemmas.{prefix-lawful}
 use Rattle.member_rules.proofs.ShowsLemmas.{live_of-past}
 use Rattle.member_rules.proofs.StateLemmas.{AreMembers-of}
 use Rattle.mirror_walk.specs.Accept.{Answer as MirrorAnswer}
-use Rattle.mirror_walk.specs.Holding.{KeptValue, best_of, chain_of, first_missing}
+use Rattle.mirror_walk.specs.Holding.{KeptValue, best_of, chain_of, first_missing, payloads_of}
 use Rattle.mirror_walk.specs.Laws.{IsMissingOf, ShowsBest, ShowsServed, ShowsVersion}
 use Rattle.mirror_walk.specs.Listing.{entries_up_to, live_at, live_entries, outcome_of}
 use Rattle.mirror_walk.specs.Loaded.{IsLoadedOf}
 use Rattle.mirror_walk.specs.Offers.{AreAnswered, AreServed, AreTakenOf, IsOffered, Offering}
 use Rattle.mirror_walk.specs.declared.answer.Accepted.TheVariants.{Taken, Known, Stale}
 use Rattle.mirror_walk.specs.declared.answer.Outcome.{Outcome}
+use Rattle.mirror_walk.specs.declared.answer.Outcome.TheVariants.{Complete, Missing}
 use Rattle.mirror_walk.proofs.MirrorLemmas.{law-of_mirror}
 use Rattle.mirror_walk.proofs.OutcomeLemmas.{outcome-complete, outcome-missing}
 use Rattle.feed_commands.specs.Answer.{Answer}
 use Rattle.feed_commands.specs.Mirror.{IsReport, offering, pile_limit}
-use Rattle.feed_commands.specs.Report.{AreAnsweredWithin, complete_line, counted, counts_line, counts_of, ending, no_counts}
-use Rattle.feed_commands.specs.Report.{refused_lines, report_of, status_of}
-use Rattle.feed_commands.specs.Served.{IsPileOf, IsServedReport, MissesArchive, MissesFeed, ShowsEntries, entries_after}
-use Rattle.feed_commands.specs.Served.{own_offers}
+use Rattle.feed_commands.specs.Report.{certified_ending, complete_line, counted, counts_of, ending, ending_in}
+use Rattle.feed_commands.specs.Report.{missing_line}
+use Rattle.feed_commands.specs.Report.{no_counts, optional_text, refused_lines, refused_lines_in, report_of, status_of}
+use Rattle.feed_commands.specs.Served.{IsPileOf, IsServedReport, MissesArchive, MissesFeed, ShowsFeed, counts_in}
+use Rattle.feed_commands.specs.Served.{entries_after}
+use Rattle.feed_commands.specs.Served.{own_offers, shown_at}
 use Rattle.feed_commands.specs.Show.{entry_line}
 use Rattle.feed_commands.specs.declared.commands.report.Counts.{Counts}
 use Rattle.feed_commands.proofs.AnswersLemmas.{answers-plain}
 use Rattle.feed_commands.proofs.EntriesLemmas.{entries-same}
+use Rattle.feed_commands.proofs.HeldLemmas.{taken-served}
+use Rattle.feed_commands.proofs.TakingLemmas.{answered-loaded}
 
 -- nothing was refused
 
@@ -76,6 +82,11 @@ answers-length base start (offer ∷ offers) [] kept is = absurd is
 answers-length base start (offer ∷ offers) (answer ∷ answers) kept (next, one, others) =
     let more = answers-length base next offers answers kept others in omega (arith, more)
 
+refused_lines_in-none : (report : Bool) (offers : List Offering) (answers : List MirrorAnswer) → All IsOk answers
+    → refused_lines_in report offers answers ≡ []
+refused_lines_in-none true offers answers accepted = refused_lines-none offers answers accepted
+refused_lines_in-none false offers answers accepted = refl
+
 -- the live entries are those of the fold
 
 entries-of_fold : (head : HeadValue) (history : List Op) (version : ℕ) (kept : List KeptValue) → IsLawful head history
@@ -91,59 +102,88 @@ entries-of_fold head history version kept lawful shows =
     (λ number above. sym (shows.fold.live number) ∙ live_of-past (chain_of kept) number above)
     (λ number above. (members.none_past number above).0)
 
--- the report of what is held ends in one of the three ways
-abbrev pub Ends : HeadValue → List Op → List Offering → List KeptValue → Outcome → Type 0
-Ends head history offers kept outcome =
-    let said = ending head.name.base (live_entries kept) outcome in
+-- what is shown behind the counts
+abbrev pub shown_in : Bool → List ℕ → List KeptValue → Outcome → List ℕ
+shown_in true base kept outcome = ending base (live_entries kept) outcome
+shown_in false base kept outcome = certified_ending base kept outcome
+
+pub shown-in : (report : Bool) (base : List ℕ) (counts : Counts) (kept : List KeptValue)
+    → ending_in report base counts kept ≡ counts_in report counts ++ shown_in report base kept (outcome_of kept)
+shown-in true base counts kept = refl
+shown-in false base counts kept = refl
+
+shown-missing : (report : Bool) (base : List ℕ) (kept : List KeptValue) (address : Address)
+    → shown_in report base kept (Missing address) ≡ missing_line base address
+shown-missing true base kept address = refl
+shown-missing false base kept address = refl
+
+-- what is shown of what is held ends in one of the three ways
+abbrev pub Ends : Bool → HeadValue → List Op → List Offering → List KeptValue → Outcome → Type 0
+Ends report head history offers kept outcome =
+    let said = shown_in report head.name.base kept outcome in
     MissesFeed head offers (status_of outcome) said ⊎ MissesArchive head offers (status_of outcome) said
-    ⊎ ShowsEntries head history offers (status_of outcome) said
+    ⊎ ShowsFeed report head history offers (status_of outcome) said
 
 module _ (head : HeadValue) (history : List Op) (offers : List Offering) (kept : List KeptValue)
-    (served : AreServed head history offers) where
+    (served : AreServed head history offers) (taken : AreTakenOf head.name.base offers kept)
+    (loaded : IsLoadedOf head.name.base (payloads_of kept) kept) where
   offered-lawful : (best : KeptValue) → IsOffered offers best.document → IsLawful head history
   offered-lawful best offered =
       let (k, offer, within, there, text) = offered.there in
       (All-contains (λ (o : Offering). Served head history o.address o.bytes) offers offer served
       (k, within, there)).is_lawful
 
-  ends-best : (best : KeptValue) → best_of kept ≡ Some best → ShowsBest head history offers kept best
-      → (missing : Option Address) → first_missing kept ≡ missing
-      → IsMissingOf head.name.base offers best.document.prev missing → Ends head history offers kept (outcome_of kept)
-  ends-best best is shows None none all =
+  -- all of the best document's chain is held
+  shown-best : (report : Bool) (best : KeptValue) → best_of kept ≡ Some best → first_missing kept ≡ None
+      → IsLawful head history → ShowsVersion head history best.document.span.last (chain_of kept)
+      → shown_in report head.name.base kept (Complete best.document.span.last (live_count_of (chain_of kept)))
+      ≡ shown_at report head best.document.span.last (take best.document.span.last history)
+  shown-best true best is none lawful shown =
       let version = best.document.span.last in
+      ap₂ (λ (es : List EntryValue) (live : ℕ). flat_map entry_line es ++ complete_line version live)
+      (entries-of_fold head history version kept lawful shown) shown.fold.count
+  shown-best false best is none lawful shown =
+      ap optional_text
+      (certificate-served head.name.base (payloads_of kept) kept loaded none head history refl
+      (taken-served head history offers kept served taken) best is)
+
+  ends-best : (report : Bool) (best : KeptValue) → best_of kept ≡ Some best
+      → ShowsBest head history offers kept best → (missing : Option Address) → first_missing kept ≡ missing
+      → IsMissingOf head.name.base offers best.document.prev missing
+      → Ends report head history offers kept (outcome_of kept)
+  ends-best report best is shows None none all =
       let shown = shows.live none in
-      let entries = entries-of_fold head history version kept (offered-lawful best shows.newest.offered) shown in
-      subst (Ends head history offers kept) (sym (outcome-complete kept best is none)) (inr (inr (record {
+      subst (Ends report head history offers kept) (sym (outcome-complete kept best is none)) (inr (inr (record {
         best = best.document;
         newest = shows.newest;
         all = all;
         past = shown.past;
         ends = refl;
-        prints = ap₂ (λ (es : List EntryValue) (live : ℕ). flat_map entry_line es ++ complete_line version live)
-            entries shown.fold.count;
+        prints = shown-best report best is none (offered-lawful best shows.newest.offered) shown;
       })))
-  ends-best best is shows (Some Feed) missing first = absurd first
-  ends-best best is shows (Some (Archive number)) missing first =
-      subst (Ends head history offers kept) (sym (outcome-missing kept (Archive number) missing)) (inr (inl (record {
+  ends-best report best is shows (Some Feed) missing first = absurd first
+  ends-best report best is shows (Some (Archive number)) missing first =
+      subst (Ends report head history offers kept) (sym (outcome-missing kept (Archive number) missing))
+      (inr (inl (record {
         best = best.document;
         newest = shows.newest;
         number = number;
         first = first;
         ends = refl;
-        prints = refl;
+        prints = shown-missing report head.name.base kept (Archive number);
       })))
-  ends-best best is shows (Some (Member number)) missing first = absurd first
+  ends-best report best is shows (Some (Member number)) missing first = absurd first
 
-  ends-served : (best : Option KeptValue) → best_of kept ≡ best → ShowsServed head history offers kept best
-      → Ends head history offers kept (outcome_of kept)
-  ends-served None is shows =
-      subst (Ends head history offers kept) (sym (outcome-missing kept Feed shows.missing)) (inl (record {
+  ends-served : (report : Bool) (best : Option KeptValue) → best_of kept ≡ best
+      → ShowsServed head history offers kept best → Ends report head history offers kept (outcome_of kept)
+  ends-served report None is shows =
+      subst (Ends report head history offers kept) (sym (outcome-missing kept Feed shows.missing)) (inl (record {
         none_offered = shows.none_offered;
         ends = refl;
-        prints = refl;
+        prints = shown-missing report head.name.base kept Feed;
       }))
-  ends-served (Some best) is shows =
-      ends-best best is shows (first_missing kept) refl shows.missing
+  ends-served report (Some best) is shows =
+      ends-best report best is shows (first_missing kept) refl shows.missing
 
 -- the documents that were held, and then others
 pub answered-append : (base : List ℕ) (offers more : List Offering) (answers others : List MirrorAnswer)
@@ -165,61 +205,68 @@ All-served : (head : HeadValue) (history : List Op) (first rest : List Offering)
 All-served head history first rest p q =
     All-append (λ (offer : Offering). Served head history offer.address offer.bytes) first rest p q
 
-module _ (head : HeadValue) (history : List Op) (held : List KeptValue) (payloads : List (List ℕ))
+module _ (report : Bool) (head : HeadValue) (history : List Op) (held : List KeptValue) (payloads : List (List ℕ))
     (loaded : IsLoadedOf head.name.base payloads held) (own : AreServed head history (own_offers held)) where
-  -- what the report ends with, and that nothing was refused
-  pub served-all : (offers : List Offering) (answers : List MirrorAnswer) (kept : List KeptValue)
-      → AreServed head history offers → AreAnswered head.name.base held offers answers kept
-      → All IsOk answers × Ends head history (own_offers held ++ offers) kept (outcome_of kept)
-  served-all offers answers kept served answered =
-      let all = All-served head history (own_offers held) offers own served in
-      let mirrors = law-of_mirror head history (own_offers held ++ offers) (map (λ _. Ok Taken) held ++ answers) kept all
-      (answered-append head.name.base (own_offers held) offers (map (λ _. Ok Taken) held) answers [] held kept loaded.taken
-      answered) in (
-        All-behind (map (λ _. Ok Taken) held) answers mirrors.accepted,
-        ends-served head history (own_offers held ++ offers) kept all (best_of kept) refl mirrors.shows,
-      )
-
-  -- what the report of documents ends with that were taken behind those that were held
+  -- what is shown of documents that were taken behind those that were held
   pub ends-taken : (offers : List Offering) (kept : List KeptValue) → AreServed head history offers
       → AreTakenOf head.name.base (own_offers held ++ offers) kept
-      → Ends head history (own_offers held ++ offers) kept (outcome_of kept)
-  ends-taken offers kept served taken =
+      → IsLoadedOf head.name.base (payloads_of kept) kept
+      → Ends report head history (own_offers held ++ offers) kept (outcome_of kept)
+  ends-taken offers kept served taken left =
       let all = All-served head history (own_offers held) offers own served in
       let mirrors = law-of_mirror head history (own_offers held ++ offers) taken.answers kept all taken.answered in
-      ends-served head history (own_offers held ++ offers) kept all (best_of kept) refl mirrors.shows
+      ends-served head history (own_offers held ++ offers) kept all taken left report (best_of kept) refl mirrors.shows
+
+  -- what is printed ends so, and nothing was refused
+  served-all : (offers : List Offering) (answers : List MirrorAnswer) (kept : List KeptValue)
+      → AreServed head history offers → AreAnswered head.name.base held offers answers kept
+      → IsLoadedOf head.name.base (payloads_of kept) kept
+      → All IsOk answers × Ends report head history (own_offers held ++ offers) kept (outcome_of kept)
+  served-all offers answers kept served answered left =
+      let all = All-served head history (own_offers held) offers own served in
+      let first : List MirrorAnswer = map (λ _. Ok Taken) held in
+      let behind = answered-append head.name.base (own_offers held) offers first answers [] held kept loaded.taken
+      answered in
+      let mirrors = law-of_mirror head history (own_offers held ++ offers) (first ++ answers) kept all behind in (
+        All-behind first answers mirrors.accepted,
+        ends-taken offers kept served (record { answers = first ++ answers; answered = behind }) left,
+      )
 
   report-served : (offers : List Offering) (answers : List MirrorAnswer) (kept : List KeptValue)
       → AreServed head history offers → AreAnswered head.name.base held offers answers kept
-      → IsServedReport head history held offers (report_of head.name.base offers answers kept)
+      → IsLoadedOf head.name.base (payloads_of kept) kept
+      → IsServedReport report head history held offers (report_of report head.name.base offers answers kept)
   unfolding report_of
-  report-served offers answers kept served answered =
-      let mirrors = served-all offers answers kept served answered in
+  report-served offers answers kept served answered left =
+      let mirrors = served-all offers answers kept served answered left in
       let counts = counts-accepted answers no_counts mirrors.0 in
-      let said = ending head.name.base (live_entries kept) (outcome_of kept) in
       record {
         counts = counts_of answers;
         none_refused = counts.0;
         all = omega (arith, counts.1, answers-length head.name.base held offers answers kept answered);
-        ending = said;
-        is = ap (λ (lines : List ℕ). lines ++ counts_line (counts_of answers) ++ said)
-            (refused_lines-none offers answers mirrors.0);
+        ending = shown_in report head.name.base kept (outcome_of kept);
+        is = ap₂ (λ (lines said : List ℕ). lines ++ said) (refused_lines_in-none report offers answers mirrors.0)
+            (shown-in report head.name.base (counts_of answers) kept);
         ends = mirrors.1;
       }
 
   pub served-report : (capacity : ℕ) (input : List ℕ) (given : Answer) (offers : List Offer)
-      → IsReport capacity head.name.base held input given → IsPileOf offers input
+      → IsReport report capacity head.name.base held input given → IsPileOf offers input
       → AreServed head history (map offering offers)
-      → IsServedReport head history held (map offering offers) given
-  served-report capacity input given offers report pile served =
-      let read = report.read.read in
-      let whole = at_the_end input report.offers report.read.used pile_limit report.read.bytes read report.read.answer in
-      let all : report.offers ≡ offers = one_reading report.offers offers read.are pile.are (sym whole ∙ pile.whole) in
-      let answered = answers-plain capacity head.name.base held (map offering report.offers) report.has.answers
-      report.left report.has.answered in
-      let answered_all = subst (λ (os : List Offer). AreAnswered head.name.base held (map offering os) report.has.answers
-      report.left) all answered in
-      let is = report.is
-      ∙ ap (λ (os : List Offer). report_of head.name.base (map offering os) report.has.answers report.left) all in
-      subst (IsServedReport head history held (map offering offers)) (sym is)
-      (report-served (map offering offers) report.has.answers report.left served answered_all)
+      → IsServedReport report head history held (map offering offers) given
+  served-report capacity input given offers shown pile served =
+      let read = shown.read.read in
+      let whole = at_the_end input shown.offers shown.read.used pile_limit shown.read.bytes read shown.read.answer in
+      let all : shown.offers ≡ offers = one_reading shown.offers offers read.are pile.are (sym whole ∙ pile.whole) in
+      let within = shown.has.answered in
+      let answered = answers-plain capacity head.name.base held (map offering shown.offers) shown.has.answers shown.left
+      within in
+      let answered_all = subst (λ (os : List Offer). AreAnswered head.name.base held (map offering os) shown.has.answers
+      shown.left) all answered in
+      let left = answered-loaded capacity head.name.base held (map offering shown.offers) shown.has.answers
+      shown.left within
+      (subst (λ (list : List (List ℕ)). IsLoadedOf head.name.base list held) loaded.payloads loaded) in
+      let is = shown.is
+      ∙ ap (λ (os : List Offer). report_of report head.name.base (map offering os) shown.has.answers shown.left) all in
+      subst (IsServedReport report head history held (map offering offers)) (sym is)
+      (report-served (map offering offers) shown.has.answers shown.left served answered_all left)

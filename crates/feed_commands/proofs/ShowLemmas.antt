@@ -1,23 +1,6 @@
 -- The bytes of an input, a buffer at a time.
-use Rattle.std.proofs.Common.{
-  ◌≡◌,
-  ℕ,
-  ◌-◌,
-  ◌<◌,
-  ◌≤◌,
-  List,
-  ◌++◌,
-  length,
-  take,
-  drop,
-  ap,
-  sym,
-  ◌∙◌,
-  append_assoc,
-  arith,
-  length-append,
-  length-take,
-}
+use Rattle.std.proofs.Common.{◌≡◌, ℕ, ◌-◌, ◌<◌, ◌≤◌, List, ◌++◌, length, take, drop, ap, sym, ◌∙◌, append_assoc, arith}
+use Rattle.std.proofs.Common.{length-append, length-take}
 use Rattle.std.proofs.lemmas.List.{take_at}
 
 -- one more buffer goes past a limit

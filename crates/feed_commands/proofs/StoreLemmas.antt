@@ -1,17 +1,11 @@
 -- What a loaded store opens to, and the sizes of its two logs.
-use Rattle.std.proofs.Common.{◌≡◌, ◌⊎◌, inl, inr, Result, ℕ, zero, suc, ◌+◌, ◌-◌, ◌<◌, ◌≤◌, List, [], ◌∷◌, ◌++◌, length, get_or, take, refl}
-use Rattle.std.proofs.Common.{sym, ◌∙◌, ap, subst, arith}
-use Rattle.std.specs.Prelude.{Some, slice_get}
-use Rattle.std.proofs.Math.Seq.{take-length, take-suc}
-use Rattle.std.proofs.lemmas.Option.{slice_get-get_or}
-use Rattle.feed_disk.specs.Disk.{DiskState}
+use Rattle.std.proofs.Common.{◌≡◌, ◌⊎◌, inl, inr, Result, ℕ, ◌+◌, List, length, refl}
+use Rattle.std.proofs.Common.{sym, ◌∙◌, ap, subst}
 use Rattle.feed_disk.specs.declared.area.Area.{Area}
 use Rattle.feed_disk.specs.declared.area.Area.TheVariants.{Journal, Sealed}
-use Rattle.feed_journal.specs.Log.{IsLog}
-use Rattle.feed_journal.specs.Records.{records, size_of}
-use Rattle.feed_journal.proofs.ListLemmas.{is_size}
-use Rattle.feed_recovery.specs.Opening.{AreSeals, IsJournal, Opens, journal_of, seal_of}
-use Rattle.feed_recovery.specs.Store.{StandsFor, StoreValue, seal_count}
+use Rattle.feed_journal.specs.Records.{records}
+use Rattle.feed_recovery.specs.Opening.{AreSeals, IsJournal}
+use Rattle.feed_recovery.specs.Store.{StoreValue}
 use Rattle.feed_commands.specs.declared.fault.Fault.{Fault}
 use Rattle.feed_commands.specs.declared.fault.Fault.TheVariants.{NoMemory, Input, Disk, BadStore, Full, Refused}
 use Rattle.feed_commands.specs.Apply.{line_operation}
@@ -19,8 +13,6 @@ use Rattle.feed_commands.specs.Fault.{IsRefusal}
 use Rattle.feed_commands.specs.Loaded.{line_made}
 use Rattle.feed_recovery.specs.Stored.{OpensTo, Stored, stored_of}
 use Rattle.feed_commands.specs.Stored.{stored_step}
-use Rattle.member_rules.specs.Head.{HeadValue}
-use Rattle.member_rules.specs.declared.operation.Op.{Op}
 
 -- the payloads decide what a content opens to
 pub opens-same : (content other : Area → List ℕ) (stored : Stored)

@@ -3,7 +3,7 @@ use Rattle.std.proofs.Common.{◌≡◌, inl, inr, ℕ, List, [], ◌∷◌, ◌
 use Rattle.std.proofs.lemmas.List.{map-append}
 use Rattle.doc_source.specs.declared.offer.Offer.{Offer}
 use Rattle.feed_disk.specs.Disk.{DiskState}
-use Rattle.feed_disk.specs.Moments.{AlwaysLeaves, LeavesAlone, NowOnly}
+use Rattle.feed_disk.specs.Moments.{AlwaysLeaves, LeavesAlone}
 use Rattle.feed_disk.specs.declared.area.Area.TheVariants.{Mirror as MirrorArea}
 use Rattle.feed_disk.proofs.MomentLemmas.{alone_leaves, always_begins, always_joins, always_weaker}
 use Rattle.feed_journal.specs.Laws.{BegunAreWhole}
@@ -47,6 +47,18 @@ module _ (capacity : ℕ) (base : List ℕ) (kept : List KeptValue) (address byt
   loaded-after (Err (refusals.Full size needed most)) is = unmoved is.left_over
   loaded-after (Err refusals.DiskFault) is = absurd is
   loaded-after (Err refusals.NoMemory) is = absurd is
+
+-- and after all answers
+pub answered-loaded : (capacity : ℕ) (base : List ℕ) (kept : List KeptValue) (offers : List Offering)
+    (answers : List MirrorAnswer) (left : List KeptValue) → AreAnsweredWithin capacity base kept offers answers left
+    → IsLoadedOf base (payloads_of kept) kept → IsLoadedOf base (payloads_of left) left
+answered-loaded capacity base kept [] [] left is loaded =
+    subst (λ (ks : List KeptValue). IsLoadedOf base (payloads_of ks) ks) (sym is) loaded
+answered-loaded capacity base kept [] (answer ∷ answers) left is loaded = absurd is
+answered-loaded capacity base kept (offer ∷ offers) [] left is loaded = absurd is
+answered-loaded capacity base kept (offer ∷ offers) (answer ∷ answers) left (fits, (next, one, rest)) loaded =
+    answered-loaded capacity base next offers answers left rest
+    (loaded-after capacity base kept offer.address offer.bytes next loaded answer one)
 
 -- the images while the offers of a pile are taken; `told` is whether contracts can see the disk
 pub record IsTaking (told : Type 0) (capacity : ℕ) (base : List ℕ) (start : List KeptValue) (offers : List Offer)

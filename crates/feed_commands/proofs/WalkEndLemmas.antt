@@ -1,21 +1,22 @@
 -- `mirror --fetch`: how a walk of the mirror ended, and its report.
-use Rattle.std.proofs.Common.{◌≡◌, ◌≢◌, ◌⊎◌, inl, inr, ℕ, List, [], ◌∷◌, ◌++◌, Option, Some, None, Result, Ok, Err, refl, sym, ap}
-use Rattle.std.proofs.Common.{subst, ◌∙◌, map}
+use Rattle.std.proofs.Common.{◌≡◌, ◌≢◌, inr, ℕ, List, [], ◌∷◌, ◌++◌, Bool, false, Option, Some, None}
+use Rattle.std.proofs.Common.{Result, Ok, Err, refl, sym, ap}
+use Rattle.std.proofs.Common.{ap₂, subst, ◌∙◌}
 use Rattle.chain_links.specs.Address.{printed}
 use Rattle.chain_links.specs.declared.address.Address.{Address}
 use Rattle.chain_links.specs.declared.address.Address.TheVariants.{Feed}
 use Rattle.doc_source.specs.Fetch.{FetchState}
 use Rattle.feed_disk.specs.Disk.{DiskState}
-use Rattle.feed_disk.specs.Moments.{AlwaysLeaves, LeavesAlone, NowOnly}
+use Rattle.feed_disk.specs.Moments.{AlwaysLeaves, LeavesAlone}
 use Rattle.feed_disk.specs.declared.area.Area.TheVariants.{Mirror as MirrorArea}
 use Rattle.feed_disk.proofs.MomentLemmas.{alone_leaves, always_joins}
 use Rattle.feed_journal.specs.Laws.{BegunAreWhole}
 use Rattle.feed_journal.specs.Records.{records}
 use Rattle.mirror_walk.specs.Holding.{KeptValue, first_missing, payloads_of}
-use Rattle.mirror_walk.specs.Listing.{live_entries, outcome_of}
+use Rattle.mirror_walk.specs.Listing.{outcome_of}
 use Rattle.mirror_walk.specs.Loaded.{IsLoadedOf}
-use Rattle.mirror_walk.specs.Mirror.{IsAtRest, LoadsTo}
-use Rattle.mirror_walk.specs.Walk.{EndsAt, EndsBefore, HasRefusal, HasWalked, IsWalkStep, WalkEnding, WalkSetting, Walks}
+use Rattle.mirror_walk.specs.Mirror.{IsAtRest}
+use Rattle.mirror_walk.specs.Walk.{HasRefusal, HasWalked, IsWalkStep, WalkEnding, WalkSetting, Walks}
 use Rattle.mirror_walk.specs.Walk.WalkEnding.{nothing_wanted, not_there, refused, fetch_failed, filled, cut_short}
 use Rattle.mirror_walk.specs.declared.answer.Accepted.{Accepted}
 use Rattle.mirror_walk.specs.declared.walk.Refusal.{Refusal}
@@ -23,12 +24,12 @@ use Rattle.mirror_walk.specs.declared.walk.WalkFault.{WalkFault}
 use Rattle.mirror_walk.specs.declared.walk.WalkFault.TheVariants as faults
 use Rattle.mirror_walk.specs.declared.walk.Walked.{Walked}
 use Rattle.mirror_walk.proofs.StepLemmas.{rest-loads}
+use Rattle.feed_commands.specs.declared.commands.report.Counts.{Counts}
 use Rattle.feed_commands.specs.declared.commands.report.Report.{Report}
-use Rattle.feed_commands.specs.declared.status.Status.{Status}
 use Rattle.feed_commands.specs.Answer.{Answer}
 use Rattle.feed_commands.specs.FetchEnds.{AsksOfMirror, GoesWalk}
 use Rattle.feed_commands.specs.MirrorFaults.{IsReportRefusal, report_answer, walk_fault}
-use Rattle.feed_commands.specs.Report.{counts_line, ending, status_of, walk_counts, walk_line, walk_report}
+use Rattle.feed_commands.specs.Report.{EndsReport, ending_in, status_of, walk_counts, walk_line_in, walk_report}
 use Rattle.feed_commands.specs.Walked.{IsFetched, IsOver, IsWalkReport, walk_setting}
 use Rattle.feed_commands.proofs.AnswersLemmas.{full-capacity}
 use Rattle.feed_commands.proofs.TakingLemmas.{loaded-after}
@@ -114,17 +115,20 @@ module _ (capacity : ℕ) (base : List ℕ) (kept now : List KeptValue) (before 
   }
 
 -- the walk ended by a fault
-walk-fault-of : (capacity : ℕ) (base : List ℕ) (kept now : List KeptValue) (answers : List ℕ → Option (List ℕ))
+walk-fault-of : (report : Bool) (capacity : ℕ) (base : List ℕ) (kept now : List KeptValue)
+    (answers : List ℕ → Option (List ℕ))
     (before after : List (List ℕ)) (fault : WalkFault)
     → HasWalked (walk_setting capacity base answers) kept now before after (Err fault)
-    → IsReportRefusal (walk_fault fault) → IsFetched capacity base kept answers (report_answer (walk_fault fault))
-walk-fault-of capacity base kept now answers before after faults.FetchFault went refusal = absurd refusal
-walk-fault-of capacity base kept now answers before after (faults.Full size needed most) went refusal =
+    → IsReportRefusal (walk_fault fault) → IsFetched report capacity base kept answers
+    (report_answer (walk_fault fault))
+walk-fault-of report capacity base kept now answers before after faults.FetchFault went refusal = absurd refusal
+walk-fault-of report capacity base kept now answers before after (faults.Full size needed most) went refusal =
     let setting = walk_setting capacity base answers in
     let walks = subst (λ (e : WalkEnding). Walks setting kept (Some Feed) went.asked went.accepted went.held e) went.result
     went.walks in
     let same = filled-capacity setting went.asked went.accepted kept went.held (Some Feed) size needed most walks in
-    subst (λ (c : ℕ). IsFetched capacity base kept answers (report_answer (walk_fault (faults.Full size needed c))))
+    subst (λ (c : ℕ). IsFetched report capacity base kept answers
+    (report_answer (walk_fault (faults.Full size needed c))))
     (sym same) (inr record {
       asked = went.asked;
       accepted = went.accepted;
@@ -135,36 +139,34 @@ walk-fault-of capacity base kept now answers before after (faults.Full size need
           same walks;
       is = refl;
     })
-walk-fault-of capacity base kept now answers before after faults.DiskFault went refusal = absurd refusal
-walk-fault-of capacity base kept now answers before after faults.NoMemory went refusal = absurd refusal
+walk-fault-of report capacity base kept now answers before after faults.DiskFault went refusal = absurd refusal
+walk-fault-of report capacity base kept now answers before after faults.NoMemory went refusal = absurd refusal
 
-pub walk-refused : (capacity : ℕ) (base : List ℕ) (kept now : List KeptValue) (answers : List ℕ → Option (List ℕ))
+pub walk-refused : (report : Bool) (capacity : ℕ) (base : List ℕ) (kept now : List KeptValue)
+    (answers : List ℕ → Option (List ℕ))
     (before after : List (List ℕ)) (fault : WalkFault)
     → HasWalked (walk_setting capacity base answers) kept now before after (Err fault)
-    → IsReportRefusal (walk_fault fault) → IsFetched capacity base kept answers (report_answer (walk_fault fault))
+    → IsReportRefusal (walk_fault fault) → IsFetched report capacity base kept answers
+    (report_answer (walk_fault fault))
 walk-refused = walk-fault-of
 
--- the report of a walk, from what was added at its end
-pub walked-is : (capacity : ℕ) (base : List ℕ) (kept now : List KeptValue) (answers : List ℕ → Option (List ℕ))
-    (asked later : List (List ℕ)) (walked : Walked) (before after : Report) (status : Status)
-    → HasWalked (walk_setting capacity base answers) kept now asked later (Ok walked)
-    → before.text.items ≡ walk_line base walked.refused → before.counts ≡ walk_counts walked
-    → status ≡ status_of (outcome_of now)
-    → after.text.items ≡ before.text.items ++ counts_line before.counts ++ ending base (live_entries now) (outcome_of now)
-    → IsWalkReport capacity base kept answers (record { status = status; printed = after.text.items })
+-- what is printed of a walk
+pub walked-is : (report : Bool) (capacity : ℕ) (base : List ℕ) (kept now : List KeptValue)
+    (answers : List ℕ → Option (List ℕ)) (asked later : List (List ℕ)) (walked : Walked) (made : Report)
+    (given : Answer)
+    → HasWalked (walk_setting capacity base answers) kept now asked later (Ok walked) → made.detailed ≡ report
+    → made.text.items ≡ walk_line_in report base walked.refused → made.counts ≡ walk_counts walked
+    → EndsReport (Unit {0}) base made now given → IsWalkReport report capacity base kept answers given
 unfolding walk_report
-walked-is capacity base kept now answers asked later walked before after status went lines counts ends text =
+walked-is report capacity base kept now answers asked later walked made given went form lines counts ends =
     let same : now ≡ went.held = went.left (λ e. cc) in
-    let End : List KeptValue → List ℕ = λ ks. walk_line base walked.refused ++ counts_line (walk_counts walked)
-    ++ ending base (live_entries ks) (outcome_of ks) in
-    let printed : after.text.items ≡ End went.held =
-    text
-    ∙ ap (λ (bytes : List ℕ). bytes ++ counts_line before.counts ++ ending base (live_entries now) (outcome_of now)) lines
-    ∙ ap (λ counts. walk_line base walked.refused ++ counts_line counts
-    ++ ending base (live_entries now) (outcome_of now)) counts
-    ∙ ap End same in
-    let status_is : status ≡ status_of (outcome_of went.held) =
-    ends ∙ ap (λ (ks : List KeptValue). status_of (outcome_of ks)) same in
+    let line = walk_line_in report base walked.refused in
+    let printed : given.printed ≡ line ++ ending_in report base (walk_counts walked) went.held =
+    ends.printed tt
+    ∙ ap₂ (λ (bytes : List ℕ) (detailed : Bool). bytes ++ ending_in detailed base made.counts now) lines form
+    ∙ ap₂ (λ (cs : Counts) (ks : List KeptValue). line ++ ending_in report base cs ks) counts same in
+    let status_is : given.status ≡ status_of (outcome_of went.held) =
+    ends.status ∙ ap (λ (ks : List KeptValue). status_of (outcome_of ks)) same in
     record {
       asked = went.asked;
       accepted = went.accepted;
@@ -175,3 +177,14 @@ walked-is capacity base kept now answers asked later walked before after status 
       is_walked = went.result;
       is = λ i. record { status = status_is i; printed = printed i };
     }
+
+-- without the report no line was added
+line-left_out : (base : List ℕ) (refusal : Option Refusal) → walk_line_in false base refusal ≡ []
+line-left_out base None = refl
+line-left_out base (Some refusal) = refl
+
+pub walk-lines : (report : Bool) (base : List ℕ) (walked : Walked) (made : Report) → made.detailed ≡ report
+    → made.text.items ≡ walk_line_in report base walked.refused → made.detailed ≡ false → made.text.items ≡ []
+walk-lines report base walked made form lines plain =
+    lines ∙ ap (λ (detailed : Bool). walk_line_in detailed base walked.refused) (sym form ∙ plain)
+    ∙ line-left_out base walked.refused

@@ -1,7 +1,7 @@
--- The report of a walk over the documents that one feed served.
-use Rattle.std.proofs.Common.{◌≡◌, ◌⊎◌, ℕ, ◌+◌, List, [], ◌∷◌, ◌++◌, Option, None, Some, Ok, Err, All, length, map, take, unwrap_or}
-use Rattle.std.proofs.Common.{refl, sym, ap, subst, ◌∙◌, arith}
-use Rattle.std.specs.Prelude.{Bool, count_by, if◌then◌else◌}
+-- What is printed of a walk over the documents that one feed served: the report, or else the certificate.
+use Rattle.std.proofs.Common.{◌≡◌, ℕ, ◌+◌, List, [], ◌∷◌, ◌++◌, Option, None, Some, Ok, length, map, unwrap_or}
+use Rattle.std.proofs.Common.{Bool, refl, sym, ap, ap₂, subst, arith}
+use Rattle.std.specs.Prelude.{count_by, if◌then◌else◌}
 use Rattle.std.proofs.lemmas.List.Elements.{All-cons, All-nil}
 use Rattle.std.proofs.lemmas.List.Sums.{sum_by-cons}
 use Rattle.chain_links.specs.Address.{printed}
@@ -11,21 +11,20 @@ use Rattle.member_rules.specs.Head.{HeadValue}
 use Rattle.member_rules.specs.Served.{Served}
 use Rattle.member_rules.specs.declared.operation.Op.{Op}
 use Rattle.mirror_walk.specs.Holding.{KeptValue, first_missing}
-use Rattle.mirror_walk.specs.Listing.{live_entries, outcome_of}
+use Rattle.mirror_walk.specs.Listing.{outcome_of}
 use Rattle.mirror_walk.specs.Loaded.{IsLoadedOf}
 use Rattle.mirror_walk.specs.Offers.{AreServed, AreTakenOf, Offering}
 use Rattle.mirror_walk.specs.Walk.{HasWalked, IsServedBy, WalkEnding, WalkSetting, Walks, accepted_offers, answer_at}
 use Rattle.mirror_walk.specs.Walk.{is_known, is_stale, is_taken}
 use Rattle.mirror_walk.specs.declared.answer.Accepted.{Accepted}
 use Rattle.mirror_walk.specs.declared.answer.Accepted.TheVariants.{Taken, Known, Stale}
-use Rattle.mirror_walk.specs.declared.walk.Refusal.{Refusal}
-use Rattle.mirror_walk.specs.declared.walk.Walked.{Walked}
 use Rattle.mirror_walk.proofs.WalkServedLemmas.{walk-taken, walked-served}
 use Rattle.feed_commands.specs.Answer.{Answer}
-use Rattle.feed_commands.specs.Report.{counts_line, ending, refused_count, walk_counts, walk_line, walk_report}
+use Rattle.feed_commands.specs.Report.{refused_count, walk_counts, walk_line_in, walk_report}
 use Rattle.feed_commands.specs.Served.{IsServedReport, own_offers}
 use Rattle.feed_commands.specs.Walked.{IsWalkReport, walk_setting}
-use Rattle.feed_commands.proofs.ServedReportLemmas.{ends-taken}
+use Rattle.feed_commands.proofs.ServedReportLemmas.{ends-taken, shown-in, shown_in}
+use Rattle.feed_commands.proofs.WalkEndLemmas.{walks-loaded}
 
 some-bytes : (found : Option (List ℕ)) (bytes : List ℕ) → found ≡ Some bytes → unwrap_or found [] ≡ bytes
 some-bytes None bytes e = cc
@@ -79,38 +78,37 @@ counts-all (answer ∷ accepted) = omega (
   sum_by-cons (λ a. one (is_stale a)) answer accepted,
 )
 
-module _ (head : HeadValue) (history : List Op) (held : List KeptValue) (payloads : List (List ℕ))
+module _ (report : Bool) (head : HeadValue) (history : List Op) (held : List KeptValue) (payloads : List (List ℕ))
     (loaded : IsLoadedOf head.name.base payloads held) (own : AreServed head history (own_offers held)) where
   held-taken : AreTakenOf head.name.base (own_offers held) held
   held-taken = record { answers = map (λ _. Ok Taken) held; answered = loaded.taken }
 
   pub walked-report : (capacity : ℕ) (answers : List ℕ → Option (List ℕ)) (given : Answer)
-      (report : IsWalkReport capacity head.name.base held answers given) → IsServedBy head history answers
-      → IsServedReport head history held
-      (accepted_offers (walk_setting capacity head.name.base answers) report.asked report.accepted) given
+      (shown : IsWalkReport report capacity head.name.base held answers given) → IsServedBy head history answers
+      → IsServedReport report head history held
+      (accepted_offers (walk_setting capacity head.name.base answers) shown.asked shown.accepted) given
   unfolding walk_report
-  walked-report capacity answers given report served =
+  walked-report capacity answers given shown served =
       let setting = walk_setting capacity head.name.base answers in
-      let walked = report.walked in
-      let went : HasWalked setting held report.left [] (map (printed head.name.base) report.asked) (Ok walked) = record {
-        asked = report.asked;
-        accepted = report.accepted;
-        held = report.left;
-        ending = report.ending;
-        walks = report.walks;
+      let walked = shown.walked in
+      let went : HasWalked setting held shown.left [] (map (printed head.name.base) shown.asked) (Ok walked) = record {
+        asked = shown.asked;
+        accepted = shown.accepted;
+        held = shown.left;
+        ending = shown.ending;
+        walks = shown.walks;
         addresses = refl;
         left = λ _. refl;
-        result = report.is_walked;
+        result = shown.is_walked;
       } in
       let none : walked.refused ≡ None =
-      walked-served setting held report.left [] (map (printed head.name.base) report.asked) walked went head history
+      walked-served setting held shown.left [] (map (printed head.name.base) shown.asked) walked went head history
       (own_offers held) refl own held-taken served in
-      let offers = accepted_offers setting report.asked report.accepted in
-      let all = accepted-served head history setting served report.asked report.accepted held report.left (Some Feed)
-      report.ending report.walks in
-      let said = ending head.name.base (live_entries report.left) (outcome_of report.left) in
-      let is = report.is_walked in
-      subst (IsServedReport head history held offers) (sym report.is) (record {
+      let offers = accepted_offers setting shown.asked shown.accepted in
+      let all = accepted-served head history setting served shown.asked shown.accepted held shown.left (Some Feed)
+      shown.ending shown.walks in
+      let is = shown.is_walked in
+      subst (IsServedReport report head history held offers) (sym shown.is) (record {
         counts = walk_counts walked;
         none_refused = ap refused_count none;
         all = omega (
@@ -118,12 +116,15 @@ module _ (head : HeadValue) (history : List Op) (held : List KeptValue) (payload
           is.taken,
           is.known,
           is.stale,
-          counts-all report.accepted,
-          offers-length setting report.asked report.accepted held report.left (Some Feed) report.ending report.walks,
+          counts-all shown.accepted,
+          offers-length setting shown.asked shown.accepted held shown.left (Some Feed) shown.ending shown.walks,
         );
-        ending = said;
-        is = ap (λ (r : Option Refusal). walk_line head.name.base r ++ counts_line (walk_counts walked) ++ said) none;
-        ends = ends-taken head history held payloads loaded own offers report.left all
-            (walk-taken setting (own_offers held) report.asked report.accepted held report.left (Some Feed) report.ending
-            held-taken report.walks);
+        ending = shown_in report head.name.base shown.left (outcome_of shown.left);
+        is = ap₂ (λ (lines said : List ℕ). lines ++ said) (ap (walk_line_in report head.name.base) none)
+            (shown-in report head.name.base (walk_counts walked) shown.left);
+        ends = ends-taken report head history held payloads loaded own offers shown.left all
+            (walk-taken setting (own_offers held) shown.asked shown.accepted held shown.left (Some Feed) shown.ending
+            held-taken shown.walks)
+            (walks-loaded setting shown.asked shown.accepted held shown.left (Some Feed) shown.ending shown.walks
+            (subst (λ (list : List (List ℕ)). IsLoadedOf head.name.base list held) loaded.payloads loaded));
       })

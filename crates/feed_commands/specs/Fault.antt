@@ -10,8 +10,9 @@ use Rattle.feed_commands.specs.declared.fault.Fault.TheVariants.{NoMemory, Input
 use Rattle.feed_commands.specs.declared.fault.BadStore.{BadStore}
 use Rattle.feed_commands.specs.declared.fault.BadStore.TheVariants.{NotInit, AlreadyInit, BadRecord, SealCount, BadSeal, Changed}
 use Rattle.feed_commands.specs.declared.fault.Refusal.{Refusal}
-use Rattle.feed_commands.specs.declared.fault.Refusal.TheVariants.{TooLong, BadDocument, BadPile, BadLine, NotFound, Deleted}
-use Rattle.feed_commands.specs.declared.fault.Refusal.TheVariants.{Clock, TooLarge, NotSealed, NoMember, DeletedMember}
+use Rattle.feed_commands.specs.declared.fault.Refusal.TheVariants.{TooLong, BadDocument, BadPile, BadCertificate, TooManyOffers}
+use Rattle.feed_commands.specs.declared.fault.Refusal.TheVariants.{BadLine, NotFound, Deleted, Clock, TooLarge, NotSealed, NoMember}
+use Rattle.feed_commands.specs.declared.fault.Refusal.TheVariants.{DeletedMember}
 use Rattle.feed_commands.specs.Answer.{Answer}
 
 -- a number between two words
@@ -52,6 +53,9 @@ refusal_answer (BadDocument offset) =
     record { status = status.BadInput; printed = numbered (codes "bad document ") offset (codes "\n") }
 refusal_answer (BadPile at) =
     record { status = status.BadInput; printed = numbered (codes "bad pile ") at (codes "\n") }
+refusal_answer (BadCertificate line) =
+    record { status = status.BadInput; printed = numbered (codes "bad certificate ") line (codes "\n") }
+refusal_answer TooManyOffers = record { status = status.BadInput; printed = codes "too many offers\n" }
 refusal_answer (BadLine line) =
     record { status = status.BadInput; printed = numbered (codes "bad line ") line (codes "\n") }
 refusal_answer (NotFound line member) =

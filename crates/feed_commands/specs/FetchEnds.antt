@@ -1,5 +1,5 @@
 -- How `mirror --fetch` ends.
-use Rattle.std.specs.Prelude.{◌≡◌, ◌⊎◌, ℕ, List, ◌++◌, Option, map}
+use Rattle.std.specs.Prelude.{◌≡◌, ◌⊎◌, ℕ, List, ◌++◌, Bool, Option, map}
 use Rattle.chain_links.specs.Address.{printed}
 use Rattle.chain_links.specs.declared.address.Address.{Address}
 use Rattle.doc_source.specs.Fetch.{FetchState}
@@ -43,23 +43,23 @@ MayEndWalkReport (Other (BadStore (Changed MirrorArea index))) = Unit {0}
 MayEndWalkReport (Other (Full MirrorArea size needed capacity)) = Unit {0}
 MayEndWalkReport (Other _) = ⊥
 
--- the area loads to the documents of a mirror, and this is the report of its walk
-pub record IsWalkedReport (capacity : ℕ) (base : List ℕ) (content : Area → List ℕ)
+-- the area loads to the documents of a mirror, and this is the report of its walk, or else its certificate
+pub record IsWalkedReport (report : Bool) (capacity : ℕ) (base : List ℕ) (content : Area → List ℕ)
     (answers : List ℕ → Option (List ℕ)) (given : Answer) : Type 0 where
   pub kept : List KeptValue
   pub loaded : IsHeldIn base content kept
-  pub is : IsWalkReport capacity base kept answers given
+  pub is : IsWalkReport report capacity base kept answers given
 
 -- the area loads to the documents of a mirror, and this is its end by the source
-pub record IsWalkEnd (capacity : ℕ) (base : List ℕ) (content : Area → List ℕ)
+pub record IsWalkEnd (report : Bool) (capacity : ℕ) (base : List ℕ) (content : Area → List ℕ)
     (answers : List ℕ → Option (List ℕ)) (given : Answer) : Type 0 where
   pub kept : List KeptValue
   pub loaded : IsHeldIn base content kept
-  pub is : IsFetched capacity base kept answers given
+  pub is : IsFetched report capacity base kept answers given
 
-abbrev pub IsWalkRefusal : ℕ → List ℕ → (Area → List ℕ) → (List ℕ → Option (List ℕ)) → Answer → Type 0
-IsWalkRefusal capacity base content answers given =
-    IsWalkEnd capacity base content answers given ⊎ IsBadMirror base content given
+abbrev pub IsWalkRefusal : Bool → ℕ → List ℕ → (Area → List ℕ) → (List ℕ → Option (List ℕ)) → Answer → Type 0
+IsWalkRefusal report capacity base content answers given =
+    IsWalkEnd report capacity base content answers given ⊎ IsBadMirror base content given
 
 -- the addresses that were asked are those of a walk of a mirror that held `kept`
 pub record AsksOfMirror (capacity : ℕ) (base : List ℕ) (kept : List KeptValue) (before after : FetchState) : Type 0
@@ -96,9 +96,9 @@ pub record AsksInWalk (capacity : ℕ) (base : List ℕ) (content : Area → Lis
 abbrev pub AsksOf : ℕ → List ℕ → (Area → List ℕ) → FetchState → FetchState → Type 0
 AsksOf capacity base content before after = (after ≡ before) ⊎ AsksInWalk capacity base content before after
 
--- The program ended with the report of a walk over documents that one feed served: nothing is refused, and the mirror
--- shows as much of the feed as it held and fetched.
-pub record EndsFetched (capacity : ℕ) (head : HeadValue) (history : List Op) (kept : List KeptValue)
+-- The program ended with the report, or else the certificate, of a walk over documents that one feed served: nothing is
+-- refused, and the mirror shows as much of the feed as it held and fetched.
+pub record EndsFetched (report : Bool) (capacity : ℕ) (head : HeadValue) (history : List Op) (kept : List KeptValue)
     (answers : List ℕ → Option (List ℕ)) (told : Type 0) (before after : SinkState) (ended : ℕ) : Type 0 where
   pub asked : List Address
   pub accepted : List Accepted
@@ -106,5 +106,5 @@ pub record EndsFetched (capacity : ℕ) (head : HeadValue) (history : List Op) (
   pub ending : WalkEnding
   pub walks : WalksFromFeed (walk_setting capacity head.name.base answers) kept asked accepted left ending
   pub over : IsOver ending
-  pub ends : EndsServed head history kept
+  pub ends : EndsServed report head history kept
       (accepted_offers (walk_setting capacity head.name.base answers) asked accepted) told before after ended

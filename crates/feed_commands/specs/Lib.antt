@@ -20,6 +20,12 @@ pub mod MirrorCrash
 pub mod MirrorEnds
 pub mod FetchEnds
 pub mod Mirroring
+pub mod Printed
+pub mod Audit
+pub mod AuditedPile
+pub mod AuditEnds
+pub mod CertificatePart
+pub mod VerdictLine
 pub mod Run
 pub mod Crash
 pub mod Loaded

@@ -1,29 +1,10 @@
 -- The lines of an input, and a reader of them.
-use Rattle.std.specs.Prelude.{
-  ◌≡◌,
-  ◌≢◌,
-  ◌⊎◌,
-  ℕ,
-  ◌+◌,
-  ◌-◌,
-  ◌<◌,
-  ◌≤◌,
-  List,
-  [],
-  ◌∷◌,
-  ◌++◌,
-  Bool,
-  ◌==◌,
-  if◌then◌else◌,
-  length,
-  take,
-  drop,
-  IsTrue,
-  All,
-}
+use Rattle.std.specs.Prelude.{◌≡◌, ◌⊎◌, ℕ, ◌+◌, ◌-◌, ◌<◌, ◌≤◌, List, [], ◌∷◌, ◌++◌, Bool, ◌==◌, if◌then◌else◌, length, take}
+use Rattle.std.specs.Prelude.{IsTrue}
 use Rattle.atom_values.specs.Ascii.{lf}
 use Rattle.feed_commands.specs.Line.{prefix_limit}
 use Rattle.doc_source.specs.Outside.{SourceState}
+use Rattle.tool_words.specs.Line.{HasNo}
 
 -- a byte in front of the first line
 abbrev pub onto_first : ℕ → List (List ℕ) → List (List ℕ)
@@ -72,9 +53,6 @@ allowance lines = length lines.ahead + lines.allowed
 abbrev pub KnowsEnd : LinesState → SourceState → Type 0
 KnowsEnd lines input = IsTrue lines.ended → input.left ≡ []
 
-abbrev pub HasNo : ℕ → List ℕ → Type 0
-HasNo byte bytes = All (λ b. b ≢ byte) bytes
-
 abbrev pub HasNoLf : List ℕ → Type 0
 HasNoLf bytes = HasNo lf bytes
 
@@ -111,12 +89,6 @@ pub record StopsAmid (before : LinesState) (input : SourceState) (rest : SourceS
   pub from : input.left ≡ read ++ rest.left
   pub no_lf : HasNoLf (before.ahead ++ read)
   pub within : length (before.ahead ++ read) ≤ allowance before
-
--- the first occurrence of the byte is at this offset
-pub record IsFirst (byte : ℕ) (bytes : List ℕ) (at : ℕ) : Type 0 where
-  pub within : at < length bytes
-  pub none_before : HasNo byte (take at bytes)
-  pub split : bytes ≡ take at bytes ++ byte ∷ drop (at + 1) bytes
 
 -- the prefix that is kept of a line, with more bytes of the line
 abbrev pub with_prefix : List ℕ → List ℕ → List ℕ

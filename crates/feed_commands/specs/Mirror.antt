@@ -1,5 +1,5 @@
 -- `mirror` from a pile: what it answers to its input and to the documents that it held.
-use Rattle.std.specs.Prelude.{◌≡◌, ◌⊎◌, ℕ, ◌≤◌, List, [], ◌∷◌, ◌++◌, Option, None, Some, Result, Ok, Err, length, map}
+use Rattle.std.specs.Prelude.{◌≡◌, ◌⊎◌, ℕ, ◌≤◌, List, [], ◌∷◌, ◌++◌, Bool, Option, None, Result, Ok, Err, length, map}
 use Rattle.doc_source.specs.Laws.{HasRead}
 use Rattle.doc_source.specs.Outside.{SourceState}
 use Rattle.doc_source.specs.Pile.{IsAnswer}
@@ -26,20 +26,28 @@ pile_limit = 1_073_741_824
 abbrev pub offering : Offer → Offering
 offering offer = record { address = offer.address; bytes = offer.bytes }
 
--- these offers lie within the limit and are read one after another
-pub record ReadsOffers (pile : List ℕ) (offers : List Offer) : Type 0 where
+-- these offers lie within a limit and are read one after another
+pub record ReadsOffersWithin (limit : ℕ) (pile : List ℕ) (offers : List Offer) : Type 0 where
   pub used : ℕ
   pub bytes : List ℕ
   pub read : HasRead pile offers used bytes
-  pub within : used ≤ pile_limit
+  pub within : used ≤ limit
 
--- these offers lie within the limit and are read one after another, and then the reader gives this answer
-pub record ReadsTo (pile : List ℕ) (offers : List Offer) (last : Result (Option Offer) PileFault) : Type 0 where
+-- these offers lie within a limit and are read one after another, and then the reader gives this answer
+pub record ReadsToWithin (limit : ℕ) (pile : List ℕ) (offers : List Offer) (last : Result (Option Offer) PileFault)
+    : Type 0 where
   pub used : ℕ
   pub bytes : List ℕ
   pub read : HasRead pile offers used bytes
-  pub within : used ≤ pile_limit
-  pub answer : IsAnswer used pile_limit bytes last
+  pub within : used ≤ limit
+  pub answer : IsAnswer used limit bytes last
+
+-- the same within the limit of a pile
+abbrev pub ReadsOffers : List ℕ → List Offer → Type 0
+ReadsOffers pile offers = ReadsOffersWithin pile_limit pile offers
+
+abbrev pub ReadsTo : List ℕ → List Offer → Result (Option Offer) PileFault → Type 0
+ReadsTo pile offers last = ReadsToWithin pile_limit pile offers last
 
 -- the fault of a pile that isn't read on
 abbrev pub pile_fault : PileFault → Fault
@@ -54,14 +62,14 @@ pub record HasAnswered (capacity : ℕ) (base : List ℕ) (kept : List KeptValue
   pub answers : List MirrorAnswer
   pub answered : AreAnsweredWithin capacity base kept (map offering offers) answers left
 
--- the input is a pile: the answer is the report of a mirror that held `kept` before its offers
-pub record IsReport (capacity : ℕ) (base : List ℕ) (kept : List KeptValue) (input : List ℕ) (given : Answer)
-    : Type 0 where
+-- the input is a pile: the answer is the report, or else the certificate, of a mirror that held `kept` before its offers
+pub record IsReport (report : Bool) (capacity : ℕ) (base : List ℕ) (kept : List KeptValue) (input : List ℕ)
+    (given : Answer) : Type 0 where
   pub offers : List Offer
   pub read : ReadsTo input offers (Ok None)
   pub left : List KeptValue
   pub has : HasAnswered capacity base kept offers left
-  pub is : given ≡ report_of base (map offering offers) has.answers left
+  pub is : given ≡ report_of report base (map offering offers) has.answers left
 
 -- an offer of the input is to be taken and doesn't fit; those before it fitted
 pub record IsFilled (capacity : ℕ) (base : List ℕ) (kept : List KeptValue) (input : List ℕ) (given : Answer)
@@ -96,9 +104,9 @@ pub record IsLongPile (capacity : ℕ) (base : List ℕ) (kept : List KeptValue)
   pub is : given ≡ refusal_answer TooLong
 
 -- how `mirror` from a pile ends by its input
-abbrev pub IsMirrored : ℕ → List ℕ → List KeptValue → List ℕ → Answer → Type 0
-IsMirrored capacity base kept input given =
-    IsReport capacity base kept input given ⊎ IsFilled capacity base kept input given
+abbrev pub IsMirrored : Bool → ℕ → List ℕ → List KeptValue → List ℕ → Answer → Type 0
+IsMirrored report capacity base kept input given =
+    IsReport report capacity base kept input given ⊎ IsFilled capacity base kept input given
     ⊎ IsBadPile capacity base kept input given ⊎ IsLongPile capacity base kept input given
 
 -- the bytes that were read before a call failed are within the limit, and the offers among them fitted

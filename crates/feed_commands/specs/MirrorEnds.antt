@@ -1,5 +1,5 @@
 -- How `mirror` ends, and the parts of its way there.
-use Rattle.std.specs.Prelude.{◌≡◌, ◌⊎◌, ℕ, List, None, Result, Ok, Err}
+use Rattle.std.specs.Prelude.{◌≡◌, ◌⊎◌, ℕ, List, Bool, None, Result, Ok, Err}
 use Rattle.doc_source.specs.declared.offer.Offer.{Offer}
 use Rattle.feed_disk.specs.Disk.{DiskState}
 use Rattle.feed_disk.specs.Moments.{AlwaysLeaves, NowOnly}
@@ -46,23 +46,23 @@ MayEndPileReport (OtherBase base) = Unit {0}
 MayEndPileReport (Other (BadStore (BadRecord MirrorArea index at))) = Unit {0}
 MayEndPileReport (Other fault) = MayEndOffers fault
 
--- the area loads to the documents of a mirror, and this is its report of the pile
-pub record IsPileReport (capacity : ℕ) (base : List ℕ) (content : Area → List ℕ) (input : List ℕ) (given : Answer)
-    : Type 0 where
+-- the area loads to the documents of a mirror, and this is its report of the pile, or else its certificate
+pub record IsPileReport (report : Bool) (capacity : ℕ) (base : List ℕ) (content : Area → List ℕ) (input : List ℕ)
+    (given : Answer) : Type 0 where
   pub kept : List KeptValue
   pub loaded : IsHeldIn base content kept
-  pub is : IsReport capacity base kept input given
+  pub is : IsReport report capacity base kept input given
 
 -- the area loads to the documents of a mirror, and this is its end by the pile
-pub record IsPileEnd (capacity : ℕ) (base : List ℕ) (content : Area → List ℕ) (input : List ℕ) (given : Answer)
-    : Type 0 where
+pub record IsPileEnd (report : Bool) (capacity : ℕ) (base : List ℕ) (content : Area → List ℕ) (input : List ℕ)
+    (given : Answer) : Type 0 where
   pub kept : List KeptValue
   pub loaded : IsHeldIn base content kept
-  pub is : IsMirrored capacity base kept input given
+  pub is : IsMirrored report capacity base kept input given
 
-abbrev pub IsPileRefusal : ℕ → List ℕ → (Area → List ℕ) → List ℕ → Answer → Type 0
-IsPileRefusal capacity base content input given =
-    IsPileEnd capacity base content input given ⊎ IsBadMirror base content given
+abbrev pub IsPileRefusal : Bool → ℕ → List ℕ → (Area → List ℕ) → List ℕ → Answer → Type 0
+IsPileRefusal report capacity base content input given =
+    IsPileEnd report capacity base content input given ⊎ IsBadMirror base content given
 
 -- The offers of a pile that were given to a mirror, up to the end of the pile or to a fault. While they are, a crash leaves
 -- of a disk at rest the documents held after the first few of them.

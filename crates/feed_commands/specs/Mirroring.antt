@@ -1,5 +1,5 @@
--- What `mirror` promises beside its answer: the images of its area, and its report of documents that one feed served.
-use Rattle.std.specs.Prelude.{◌≡◌, ℕ, List, map}
+-- What `mirror` promises beside its answer: the images of its area, and what it prints of documents that one feed served.
+use Rattle.std.specs.Prelude.{◌≡◌, ℕ, List, Bool, map}
 use Rattle.doc_source.specs.Fetch.{FetchState}
 use Rattle.doc_source.specs.Outside.{SinkState}
 use Rattle.doc_source.specs.declared.offer.Offer.{Offer}
@@ -28,21 +28,21 @@ pub record HoldsServed (base : List ℕ) (before : DiskState) (head : HeadValue)
   pub served : AreServed head history (own_offers kept)
 
 -- `mirror` from a pile
-pub record EndsMirroring (capacity : ℕ) (base : List ℕ) (before after : DiskState) (input : List ℕ) (told : Type 0)
-    (output taken : SinkState) (ended : ℕ) : Type 0 where
+pub record EndsMirroring (report : Bool) (capacity : ℕ) (base : List ℕ) (before after : DiskState) (input : List ℕ)
+    (told : Type 0) (output taken : SinkState) (ended : ℕ) : Type 0 where
   pub kept : NowOnly before MirrorArea IsWhole → LeavesMirror before after (IsAfterLoad ended)
       (LeavesMirrored capacity base input before after (ended ≡ code_of DiskFault) (IsReported ended))
   pub mirrored : (head : HeadValue) (history : List Op) (kept : List KeptValue) (offers : List Offer)
       → HoldsServed base before head history kept → IsPileOf offers input
       → AreServed head history (map offering offers) → IsReported ended
-      → EndsServed head history kept (map offering offers) told output taken ended
+      → EndsServed report head history kept (map offering offers) told output taken ended
 
 -- `mirror --fetch`
-pub record EndsFetching (capacity : ℕ) (base : List ℕ) (before after : DiskState) (fetch fetched : FetchState)
-    (told : Type 0) (output taken : SinkState) (ended : ℕ) : Type 0 where
+pub record EndsFetching (report : Bool) (capacity : ℕ) (base : List ℕ) (before after : DiskState)
+    (fetch fetched : FetchState) (told : Type 0) (output taken : SinkState) (ended : ℕ) : Type 0 where
   pub asks : AsksOf capacity base before.content fetch fetched
   pub kept : NowOnly before MirrorArea IsWhole → LeavesMirror before after (IsAfterLoad ended)
       (LeavesFetched capacity base fetch.answers before after (ended ≡ code_of DiskFault) (IsReported ended))
   pub mirrored : (head : HeadValue) (history : List Op) (kept : List KeptValue)
       → HoldsServed base before head history kept → IsServedBy head history fetch.answers → IsReported ended
-      → EndsFetched capacity head history kept fetch.answers told output taken ended
+      → EndsFetched report capacity head history kept fetch.answers told output taken ended

@@ -1,8 +1,13 @@
--- The report of `mirror`: its lines, what an offer adds to it, and the report of a walk.
-use Rattle.std.specs.Prelude.{◌≡◌, ℕ, ◌+◌, List, [], ◌∷◌, ◌++◌, Option, None, Some, Ok, Err, codes, decimal, flat_map, fold}
+-- The report of `mirror`: its lines, what an offer adds to it, and the report of a walk. Without `--report` it prints
+-- the certificate of what is held.
+use Rattle.std.specs.Prelude.{◌≡◌, ℕ, ◌+◌, List, [], ◌∷◌, ◌++◌, Bool, true, false, Option, None, Some, Ok, Err}
+use Rattle.std.specs.Prelude.{codes, decimal, flat_map, fold}
 use Rattle.atom_values.specs.Entry.{EntryValue}
 use Rattle.chain_links.specs.Address.{printed}
 use Rattle.chain_links.specs.declared.address.Address.{Address}
+use Rattle.coverage_certificate.specs.Certificate.{CertificateValue}
+use Rattle.coverage_certificate.specs.Held.{certificate_of}
+use Rattle.coverage_certificate.specs.Text.{certificate_text}
 use Rattle.mirror_walk.specs.declared.answer.Accepted.TheVariants.{Taken, Known, Stale}
 use Rattle.mirror_walk.specs.declared.answer.Offered.{Offered}
 use Rattle.mirror_walk.specs.declared.answer.Offered.TheVariants.{NotADocument, WrongAddress, WrongFeed, Conflict}
@@ -48,6 +53,16 @@ refused_lines [] answers = []
 refused_lines (offer ∷ offers) [] = []
 refused_lines (offer ∷ offers) (answer ∷ answers) = refused_line offer.address answer ++ refused_lines offers answers
 
+-- the same, in the form that is printed: a certificate has no such lines
+abbrev pub refused_line_in : Bool → List ℕ → MirrorAnswer → List ℕ
+refused_line_in report address (Ok accepted) = []
+refused_line_in true address (Err refusal) = refused_line address (Err refusal)
+refused_line_in false address (Err refusal) = []
+
+abbrev pub refused_lines_in : Bool → List Offering → List MirrorAnswer → List ℕ
+refused_lines_in true offers answers = refused_lines offers answers
+refused_lines_in false offers answers = []
+
 -- how many offers got each answer
 abbrev pub no_counts : Counts
 no_counts = record { taken = 0; known = 0; stale = 0; refused = 0 }
@@ -81,6 +96,21 @@ abbrev pub ending : List ℕ → List EntryValue → Outcome → List ℕ
 ending base entries (Missing address) = missing_line base address
 ending base entries (Complete version live) = flat_map entry_line entries ++ complete_line version live
 
+-- the text of a certificate, if there is one
+abbrev pub optional_text : Option CertificateValue → List ℕ
+optional_text None = []
+optional_text (Some certificate) = certificate_text certificate
+
+-- what the mirror shows without a report: the missing document alone, or the certificate of what it holds
+abbrev pub certified_ending : List ℕ → List KeptValue → Outcome → List ℕ
+certified_ending base kept (Missing address) = missing_line base address
+certified_ending base kept (Complete version live) = optional_text (certificate_of base kept)
+
+-- the counts, and what a mirror that holds `kept` shows
+abbrev pub ending_in : Bool → List ℕ → Counts → List KeptValue → List ℕ
+ending_in true base counts kept = counts_line counts ++ ending base (live_entries kept) (outcome_of kept)
+ending_in false base counts kept = certified_ending base kept (outcome_of kept)
+
 abbrev pub status_of : Outcome → Status
 status_of (Missing address) = Incomplete
 status_of (Complete version live) = Done
@@ -108,18 +138,22 @@ AreAnsweredWithin capacity base kept (offer ∷ offers) (answer ∷ answers) lef
     × IsAnswerWithin capacity base kept offer.address offer.bytes answer next
     × AreAnsweredWithin capacity base next offers answers left)
 
--- the report of a mirror that gave these answers to the offers, and holds `kept`
-unfoldable pub report_of : List ℕ → List Offering → List MirrorAnswer → List KeptValue → Answer
-report_of base offers answers kept = record {
+-- the report, or else the certificate, of a mirror that gave these answers to the offers, and holds `kept`
+unfoldable pub report_of : Bool → List ℕ → List Offering → List MirrorAnswer → List KeptValue → Answer
+report_of report base offers answers kept = record {
   status = status_of (outcome_of kept);
-  printed = refused_lines offers answers ++ counts_line (counts_of answers)
-      ++ ending base (live_entries kept) (outcome_of kept);
+  printed = refused_lines_in report offers answers ++ ending_in report base (counts_of answers) kept;
 }
 
 -- the line of the document at which a walk ended, if the mirror refused it
 abbrev pub walk_line : List ℕ → Option Refusal → List ℕ
 walk_line base None = []
 walk_line base (Some refusal) = refused_line (printed base refusal.address) (Err refusal.why)
+
+abbrev pub walk_line_in : Bool → List ℕ → Option Refusal → List ℕ
+walk_line_in report base None = []
+walk_line_in true base (Some refusal) = walk_line base (Some refusal)
+walk_line_in false base (Some refusal) = []
 
 abbrev pub refused_count : Option Refusal → ℕ
 refused_count None = 0
@@ -133,23 +167,31 @@ walk_counts walked = record {
   refused = refused_count walked.refused;
 }
 
--- the report of a mirror that went this walk, and holds `kept`
-unfoldable pub walk_report : List ℕ → Walked → List KeptValue → Answer
-walk_report base walked kept = record {
+-- the report, or else the certificate, of a mirror that went this walk, and holds `kept`
+unfoldable pub walk_report : Bool → List ℕ → Walked → List KeptValue → Answer
+walk_report report base walked kept = record {
   status = status_of (outcome_of kept);
-  printed = walk_line base walked.refused ++ counts_line (walk_counts walked)
-      ++ ending base (live_entries kept) (outcome_of kept);
+  printed = walk_line_in report base walked.refused ++ ending_in report base (walk_counts walked) kept;
 }
 
 -- the report with the answer to one more offer
 pub record HasAdded (before after : Report) (address : List ℕ) (answer : MirrorAnswer) : Type 0 where
-  pub text : after.text.items ≡ before.text.items ++ refused_line address answer
+  pub detailed : after.detailed ≡ before.detailed
+  pub text : after.text.items ≡ before.text.items ++ refused_line_in before.detailed address answer
   pub counts : after.counts ≡ counted before.counts answer
 
 -- the report so far, of a mirror that held `kept` and holds `left` after these offers
-pub record Reports (capacity : ℕ) (base : List ℕ) (kept : List KeptValue) (offers : List Offering)
-    (left : List KeptValue) (report : Report) : Type 0 where
+pub record Reports (report : Bool) (capacity : ℕ) (base : List ℕ) (kept : List KeptValue) (offers : List Offering)
+    (left : List KeptValue) (made : Report) : Type 0 where
+  pub detailed : made.detailed ≡ report
   pub answers : List MirrorAnswer
   pub answered : AreAnsweredWithin capacity base kept offers answers left
-  pub text : report.text.items ≡ refused_lines offers answers
-  pub counts : report.counts ≡ counts_of answers
+  pub text : made.text.items ≡ refused_lines_in report offers answers
+  pub counts : made.counts ≡ counts_of answers
+
+-- What is printed at the end of a report, or else the certificate. `told` is whether contracts can see the disk, and
+-- the documents held were taken one after another.
+pub record EndsReport (told : Type 0) (base : List ℕ) (made : Report) (kept : List KeptValue) (given : Answer)
+    : Type 0 where
+  pub status : given.status ≡ status_of (outcome_of kept)
+  pub printed : told → given.printed ≡ made.text.items ++ ending_in made.detailed base made.counts kept

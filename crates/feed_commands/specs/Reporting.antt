@@ -1,5 +1,5 @@
 -- What a report needs of a mirror and its disk, and the faults by which it may end.
-use Rattle.std.specs.Prelude.{◌≡◌, ℕ, false}
+use Rattle.std.specs.Prelude.{◌≡◌, false}
 use Rattle.feed_disk.specs.Disk.{DiskState}
 use Rattle.feed_disk.specs.declared.area.Area.TheVariants.{Mirror}
 use Rattle.mirror_walk.specs.Mirror.{MirrorValue, StandsFor, is_spent}

@@ -14,6 +14,7 @@ use Rattle.mirror_walk.specs.Holding.{KeptValue}
 use Rattle.feed_commands.specs.Answer.{Answer, Prints, usage_line}
 use Rattle.feed_commands.specs.Applied.{IsUnrefused}
 use Rattle.feed_commands.specs.Apply.{answer, history_step, test_head}
+use Rattle.feed_commands.specs.Audit.{IsAuditUnrefused, IsAudited}
 use Rattle.feed_commands.specs.Fault.{fault_answer}
 use Rattle.feed_commands.specs.Mirror.{IsMirrored, ReadsWithinPile}
 use Rattle.feed_commands.specs.MirrorFaults.{IsBadMirror, IsHeldIn, report_answer}
@@ -26,7 +27,7 @@ use Rattle.feed_commands.specs.Stored.{IsBadStore, IsInitAnswer, apply_answer, a
 use Rattle.member_rules.specs.Head.{window_limit, capacity_floor, capacity_limit, title_limit}
 use Rattle.tool_words.specs.Words.{IsCommandOf, request_limit}
 use Rattle.tool_words.specs.declared.command.Command.{Command}
-use Rattle.tool_words.specs.declared.command.Command.TheVariants.{Init, Apply, Serve, Show, Mirror}
+use Rattle.tool_words.specs.declared.command.Command.TheVariants.{Init, Apply, Serve, Show, Mirror, Audit}
 use Rattle.tool_words.specs.declared.command.Show.TheVariants.{Document, Feed, Archive, Member, Pile}
 
 -- the ranges of a command's values
@@ -44,7 +45,8 @@ HasRange _ = Unit {0}
 abbrev pub ReadsInput : Command → Type 0
 ReadsInput (Apply window) = Unit {0}
 ReadsInput (Show Document) = Unit {0}
-ReadsInput (Mirror base false capacity) = Unit {0}
+ReadsInput (Mirror base false report capacity) = Unit {0}
+ReadsInput Audit = Unit {0}
 ReadsInput _ = ⊥
 
 -- whether the answer depends on the clock
@@ -56,11 +58,12 @@ AsksClock _ = ⊥
 abbrev pub UsesDisk : Command → Type 0
 UsesDisk (Apply (Some window)) = ⊥
 UsesDisk (Show Document) = ⊥
+UsesDisk Audit = ⊥
 UsesDisk _ = Unit {0}
 
 -- whether the command asks the source of documents
 abbrev pub Fetches : Command → Type 0
-Fetches (Mirror base true capacity) = Unit {0}
+Fetches (Mirror base true report capacity) = Unit {0}
 Fetches _ = ⊥
 
 -- whether the command has an answer that disk, clock, input and source determine: each but `serve`, which depends on the
@@ -75,9 +78,10 @@ IsAtOnce (Serve listen requests) = ⊥
 IsAtOnce (Show Pile) = ⊥
 IsAtOnce _ = Unit {0}
 
--- whether the command has one defined end, with the status 0: each but `mirror`
+-- whether the command has one defined end, with the status 0: each but `mirror` and `audit`
 abbrev pub IsTextual : Command → Type 0
-IsTextual (Mirror base fetch capacity) = ⊥
+IsTextual (Mirror base fetch report capacity) = ⊥
+IsTextual Audit = ⊥
 IsTextual _ = Unit {0}
 
 -- the words are those of a command that prints at once, or of none
@@ -90,7 +94,8 @@ ServesNot words = (listen : List ℕ) (requests : ℕ) → ¬ IsCommandOf words 
 
 -- the words are those of another command than `mirror`, or of none
 abbrev pub MirrorsNot : List (List ℕ) → Type 0
-MirrorsNot words = (base : List ℕ) (fetch : Bool) (capacity : ℕ) → ¬ IsCommandOf words (Mirror base fetch capacity)
+MirrorsNot words =
+    (base : List ℕ) (fetch report : Bool) (capacity : ℕ) → ¬ IsCommandOf words (Mirror base fetch report capacity)
 
 -- the words are those of a command that doesn't ask the source of documents, or of none
 abbrev pub FetchesNot : List (List ℕ) → Type 0
@@ -125,23 +130,24 @@ pub record IsOfStore (command : Command) (outside : Outside) (given : Answer) : 
   pub is : given ≡ stored_answer command outside stored
 
 -- how `mirror` ends if it held these documents before
-abbrev pub IsMirrorEnd : ℕ → List ℕ → Bool → List KeptValue → Outside → Answer → Type 0
-IsMirrorEnd capacity base true kept outside given = IsFetched capacity base kept outside.answers given
-IsMirrorEnd capacity base false kept outside given = IsMirrored capacity base kept outside.input given
+abbrev pub IsMirrorEnd : ℕ → List ℕ → Bool → Bool → List KeptValue → Outside → Answer → Type 0
+IsMirrorEnd capacity base true report kept outside given = IsFetched report capacity base kept outside.answers given
+IsMirrorEnd capacity base false report kept outside given = IsMirrored report capacity base kept outside.input given
 
 -- the area loads to the documents of a mirror, and `mirror` answers this of it
-pub record IsOfMirror (base : List ℕ) (fetch : Bool) (capacity : ℕ) (outside : Outside) (given : Answer)
+pub record IsOfMirror (base : List ℕ) (fetch report : Bool) (capacity : ℕ) (outside : Outside) (given : Answer)
     : Type 0 where
   pub kept : List KeptValue
   pub loaded : IsHeldIn base outside.content kept
-  pub is : IsMirrorEnd capacity base fetch kept outside given
+  pub is : IsMirrorEnd capacity base fetch report kept outside given
 
 abbrev pub IsAnswer : Command → Outside → Answer → Type 0
 IsAnswer (Init name window capacity) outside given = IsInitAnswer outside.content given
 IsAnswer (Apply (Some window)) outside given = answer (test_head window) outside.moments outside.input ≡ given
 IsAnswer (Show Document) outside given = IsShown outside.input given
-IsAnswer (Mirror base fetch capacity) outside given =
-    IsOfMirror base fetch capacity outside given ⊎ IsBadMirror base outside.content given
+IsAnswer (Mirror base fetch report capacity) outside given =
+    IsOfMirror base fetch report capacity outside given ⊎ IsBadMirror base outside.content given
+IsAnswer Audit outside given = IsAudited outside.input given
 IsAnswer (Serve listen requests) outside given = ⊥
 IsAnswer command outside given = IsOfStore command outside given ⊎ IsBadStore outside.content given
 
@@ -151,7 +157,8 @@ abbrev pub IsDueAnswer : Command → Outside → Answer → Type 0
 IsDueAnswer (Init name window capacity) outside given = IsInitAnswer outside.content given
 IsDueAnswer (Apply (Some window)) outside given = answer (test_head window) outside.moments outside.input ≡ given
 IsDueAnswer (Show Document) outside given = IsShown outside.input given
-IsDueAnswer (Mirror base fetch capacity) outside given = IsOfMirror base fetch capacity outside given
+IsDueAnswer (Mirror base fetch report capacity) outside given = IsOfMirror base fetch report capacity outside given
+IsDueAnswer Audit outside given = IsAudited outside.input given
 IsDueAnswer (Serve listen requests) outside given = ⊥
 IsDueAnswer command outside given = IsOfStore command outside given
 
@@ -174,8 +181,9 @@ IsUnrefusedBy (Apply (Some window)) moments content before after =
 IsUnrefusedBy (Apply None) moments content before after =
     (stored : Stored) × OpensTo content stored × IsUnrefused (stored_step moments) stored before after
 IsUnrefusedBy (Show Document) moments content before after = ReadsWithinLimit before after
-IsUnrefusedBy (Mirror base false capacity) moments content before after =
+IsUnrefusedBy (Mirror base false report capacity) moments content before after =
     IsMirrorUnrefused base capacity content before after
+IsUnrefusedBy Audit moments content before after = IsAuditUnrefused before after
 IsUnrefusedBy _ moments content before after = ⊥
 
 -- All commands

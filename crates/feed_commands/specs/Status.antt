@@ -1,15 +1,16 @@
 -- The exit statuses.
 use Rattle.std.specs.Prelude.{ℕ}
 use Rattle.feed_commands.specs.declared.status.Status.{Status}
-use Rattle.feed_commands.specs.declared.status.Status.TheVariants.{Done, Usage, Incomplete, DiskFault, NoMemory, BadStore}
-use Rattle.feed_commands.specs.declared.status.Status.TheVariants.{DoorFault, FetchFault, OutputFault, InputFault, BadInput}
-use Rattle.feed_commands.specs.declared.status.Status.TheVariants.{Full, Refused}
+use Rattle.feed_commands.specs.declared.status.Status.TheVariants.{Done, Usage, Incomplete, Rejected, DiskFault, NoMemory}
+use Rattle.feed_commands.specs.declared.status.Status.TheVariants.{BadStore, DoorFault, FetchFault, OutputFault, InputFault}
+use Rattle.feed_commands.specs.declared.status.Status.TheVariants.{BadInput, Full, Refused}
 
 -- the exit status of each way to end
 abbrev pub code_of : Status → ℕ
 code_of Done = 0
 code_of Usage = 2
 code_of Incomplete = 3
+code_of Rejected = 3
 code_of DiskFault = 4
 code_of NoMemory = 5
 code_of BadStore = 6

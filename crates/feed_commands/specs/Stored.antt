@@ -1,5 +1,5 @@
 -- What the commands do with a store.
-use Rattle.std.specs.Prelude.{◌≡◌, ◌≢◌, ◌⊎◌, ℕ, zero, suc, ◌+◌, List, [], ◌∷◌, ◌++◌, length, ◌==◌, ◌||◌, ◌&&◌, not, nat_le}
+use Rattle.std.specs.Prelude.{◌≡◌, ◌≢◌, ◌⊎◌, ℕ, ◌+◌, List, [], ◌∷◌, ◌++◌, length, ◌==◌, ◌||◌, ◌&&◌, not, nat_le}
 use Rattle.std.specs.Prelude.{if◌then◌else◌, Option, Some, None, option_map, option_and_then, unwrap_or, Result, Ok, Err, codes}
 use Rattle.atom_writer.specs.Members.{member_text}
 use Rattle.atom_writer.specs.Pieced.{text_of}
@@ -25,7 +25,6 @@ use Rattle.feed_commands.specs.StoreFaults.{load_fault}
 use Rattle.member_rules.specs.Coding.{operations}
 use Rattle.member_rules.specs.Documents.{archive}
 use Rattle.member_rules.specs.Fold.{fold_of, state_of}
-use Rattle.member_rules.specs.Head.{HeadValue}
 use Rattle.member_rules.specs.Windows.{windows_of}
 use Rattle.member_rules.specs.declared.operation.Op.{Op}
 use Rattle.member_rules.specs.declared.state.State.{State}

@@ -1,6 +1,5 @@
 -- `mirror --fetch`: what it answers to the documents of a source and to those that it held.
-use Rattle.std.specs.Prelude.{◌≡◌, ◌⊎◌, ℕ, List, ◌++◌, Option, map}
-use Rattle.chain_links.specs.Address.{printed}
+use Rattle.std.specs.Prelude.{◌≡◌, ◌⊎◌, ℕ, List, Bool, Option}
 use Rattle.chain_links.specs.declared.address.Address.{Address}
 use Rattle.mirror_walk.specs.Holding.{KeptValue}
 use Rattle.mirror_walk.specs.Walk.{IsWalked, WalkEnding, WalkSetting, WalksFromFeed}
@@ -24,8 +23,8 @@ IsOver fetch_failed = ⊥
 IsOver (filled size needed capacity) = ⊥
 IsOver cut_short = ⊥
 
--- the answer is the report of a mirror that held `kept` before its walk
-pub record IsWalkReport (capacity : ℕ) (base : List ℕ) (kept : List KeptValue)
+-- the answer is the report, or else the certificate, of a mirror that held `kept` before its walk
+pub record IsWalkReport (report : Bool) (capacity : ℕ) (base : List ℕ) (kept : List KeptValue)
     (answers : List ℕ → Option (List ℕ)) (given : Answer) : Type 0 where
   pub asked : List Address
   pub accepted : List Accepted
@@ -34,7 +33,7 @@ pub record IsWalkReport (capacity : ℕ) (base : List ℕ) (kept : List KeptValu
   pub walks : WalksFromFeed (walk_setting capacity base answers) kept asked accepted left ending
   pub walked : Walked
   pub is_walked : IsWalked asked accepted left ending walked
-  pub is : given ≡ walk_report base walked left
+  pub is : given ≡ walk_report report base walked left
 
 -- the last document of the walk is to be taken and doesn't fit; those before it fitted
 pub record IsWalkFilled (capacity : ℕ) (base : List ℕ) (kept : List KeptValue)
@@ -48,6 +47,6 @@ pub record IsWalkFilled (capacity : ℕ) (base : List ℕ) (kept : List KeptValu
   pub is : given ≡ fault_answer (full_fault size needed capacity)
 
 -- how `mirror --fetch` ends by the documents of the source
-abbrev pub IsFetched : ℕ → List ℕ → List KeptValue → (List ℕ → Option (List ℕ)) → Answer → Type 0
-IsFetched capacity base kept answers given =
-    IsWalkReport capacity base kept answers given ⊎ IsWalkFilled capacity base kept answers given
+abbrev pub IsFetched : Bool → ℕ → List ℕ → List KeptValue → (List ℕ → Option (List ℕ)) → Answer → Type 0
+IsFetched report capacity base kept answers given =
+    IsWalkReport report capacity base kept answers given ⊎ IsWalkFilled capacity base kept answers given

@@ -1,10 +1,11 @@
-ghost use Rattle.std.specs.Prelude.{◌≡◌, ◌≢◌, ◌⊎◌, ℕ, ◌≤◌, List, [], None, Err, map, string_bytes, true, false, IfOk, IfErr, IsOk};
+ghost use Rattle.std.specs.Prelude.{◌≡◌, ◌≢◌, ◌⊎◌, ℕ, ◌≤◌, List, [], Bool, None, Err, map, string_bytes, true, false, IfOk, IfErr, IsOk};
 ghost use Rattle.atom_values.specs.Counts.{Rose};
 ghost use Rattle.atom_writer.specs.declared.doc.FeedName.{FeedName};
 ghost use Rattle.feed_disk.specs.Moments.{LeavesAlone};
 ghost use Rattle.feed_disk.specs.declared.area.Area.TheVariants.{Mirror};
 ghost use Rattle.feed_commands.specs.declared.status.Status.TheVariants as status;
 ghost use Rattle.feed_commands.specs.Answer.{Answer, Prints};
+ghost use Rattle.feed_commands.specs.Audit.{EndsAuditing};
 ghost use Rattle.doc_source.specs.Fetch.{FetchState};
 ghost use Rattle.feed_recovery.specs.Settled.{LeavesStores};
 ghost use Rattle.feed_recovery.specs.Stored.{OpensTo, Stored};
@@ -20,11 +21,12 @@ ghost use Rattle.feed_commands.specs.Serve.{EndsServing, IsServedWhole};
 ghost use Rattle.feed_commands.specs.Status.{code_of};
 ghost use Rattle.tool_words.specs.Words.{IsCommandOf};
 ghost use Rattle.tool_words.specs.declared.command.Command.{Command as CommandValue};
-ghost use Rattle.tool_words.specs.declared.command.Command.TheVariants.{Init, Apply, Serve, Show as ShowOf};
+ghost use Rattle.tool_words.specs.declared.command.Command.TheVariants.{Init, Apply, Audit, Serve, Show as ShowOf};
 ghost use Rattle.tool_words.specs.declared.command.Command.TheVariants.{Mirror as MirrorOf};
 ghost use Rattle.tool_words.specs.declared.command.Show.TheVariants.{Pile};
 
 use crate::commands::apply::apply;
+use crate::commands::audit::audit;
 use crate::commands::fetched::mirror_fetched;
 use crate::commands::init::init;
 use crate::commands::mirror::mirror;
@@ -59,8 +61,12 @@ pub struct Ended {
 /// - `show` reads the input as one document and prints its summary. `show feed`, `show archive J` and `show member N`
 ///   print a document of the store, and `show pile` the subscription document and all archives as a pile.
 /// - `serve` serves the feed of the store at an address, one connection after the other, and then prints a line for each.
-/// - `mirror` mirrors the feed below a base address into the mirror's area of the disk, and prints a report. The documents
-///   come from the pile that is the input, or from the source with `--fetch`.
+/// - `mirror` mirrors the feed below a base address into the mirror's area of the disk, and prints a certificate of what it
+///   holds, or the address of the first missing document. With `--report` it prints a report instead, which has a line for
+///   each refused document and each live entry. The documents come from the pile that is the input, or from the source
+///   with `--fetch`.
+/// - `audit` reads a certificate and a pile from the input, and prints whether the documents of the pile cover the
+///   certificate.
 ///
 /// At any other end the line of that end is printed. A failure to print that line changes no status.
 pub fn run<D: Disk, C: Clock, L: Door, F: Fetch, I: Source, O: Sink>(
@@ -160,22 +166,26 @@ pub fn run<D: Disk, C: Clock, L: Door, F: Fetch, I: Source, O: Sink>(
     ensures no_hidden_door_fault { result.status ≢ code_of status.DoorFault
         → (L.state door.new).faults ≡ (L.state door.old).faults }
 
-    // `mirror`: what a crash leaves of its area, and the report of documents that one feed served.
-    ensures mirrors { (base : List ℕ) (capacity : ℕ)
-        → IsCommandOf (map string_bytes words.now) (MirrorOf base false capacity) → D.told → I.told
-        → EndsMirroring capacity base (D.state disk.old) (D.state disk.new) (I.state input.old).left O.told
-        (O.state output.old) (O.state output.new) result.status }
+    // `mirror`: what a crash leaves of its area, and the report or the certificate of documents that one feed served.
+    ensures mirrors { (base : List ℕ) (report : Bool) (capacity : ℕ)
+        → IsCommandOf (map string_bytes words.now) (MirrorOf base false report capacity) → D.told → I.told
+        → EndsMirroring report capacity base (D.state disk.old) (D.state disk.new) (I.state input.old).left
+        O.told (O.state output.old) (O.state output.new) result.status }
 
     // `mirror --fetch`: the addresses that it asks, and the same. No other command uses the source.
-    ensures fetches { (base : List ℕ) (capacity : ℕ)
-        → IsCommandOf (map string_bytes words.now) (MirrorOf base true capacity) → D.told → F.told
-        → EndsFetching capacity base (D.state disk.old) (D.state disk.new) (F.state fetch.old) (F.state fetch.new)
-        O.told (O.state output.old) (O.state output.new) result.status }
+    ensures fetches { (base : List ℕ) (report : Bool) (capacity : ℕ)
+        → IsCommandOf (map string_bytes words.now) (MirrorOf base true report capacity) → D.told → F.told
+        → EndsFetching report capacity base (D.state disk.old) (D.state disk.new) (F.state fetch.old)
+        (F.state fetch.new) O.told (O.state output.old) (O.state output.new) result.status }
     ensures no_fetch { FetchesNot (map string_bytes words.now) → fetch.new ≡ fetch.old }
     ensures fetch_fault { ServesNot (map string_bytes words.now) → result.status ≡ code_of status.FetchFault
         → Rose (F.state fetch.old).faults (F.state fetch.new).faults }
     ensures no_hidden_fetch_fault { result.status ≢ code_of status.FetchFault
         → (F.state fetch.new).faults ≡ (F.state fetch.old).faults }
+
+    // `audit`: what the status says of the certificate and the documents.
+    ensures audits { IsCommandOf (map string_bytes words.now) Audit → I.told
+        → EndsAuditing (I.state input.old).left result.status }
 {
     let command = match read_words(alloc, words) {
         Ok(command) => command,
@@ -194,13 +204,16 @@ pub fn run<D: Disk, C: Clock, L: Door, F: Fetch, I: Source, O: Sink>(
         Command::Mirror {
             base,
             fetch: false,
+            report,
             capacity,
-        } => mirror(alloc, &base, capacity, disk, input, output),
+        } => mirror(alloc, &base, report, capacity, disk, input, output),
         Command::Mirror {
             base,
             fetch: true,
+            report,
             capacity,
-        } => mirror_fetched(alloc, &base, capacity, disk, fetch, output),
+        } => mirror_fetched(alloc, &base, report, capacity, disk, fetch, output),
+        Command::Audit => audit(alloc, input, output),
         command => match answer(alloc, command, disk, clock, input) {
             Ok(text) => match write_all(output, text.as_slice()) {
                 Ok(()) => end_as(alloc, Status::Done),
@@ -237,7 +250,7 @@ pub fn end_with<O: Sink>(alloc: Global, output: &mut O, fault: Fault) -> Ended
 /// The line for words that name no command. Its names are those of the finished program.
 const USAGE: &[u8] = b"usage: feed_tool init, apply, show, serve, mirror, audit, drill\n";
 
-/// Returns what the command prints at its defined end. `serve`, `show pile` and `mirror` print by themselves.
+/// Returns what the command prints at its defined end. `serve`, `show pile`, `mirror` and `audit` print by themselves.
 fn answer<D: Disk, C: Clock, I: Source>(
     alloc: Global,
     command: Command,
@@ -291,6 +304,6 @@ fn answer<D: Disk, C: Clock, I: Source>(
             Show::Member(number) => store::show_member(alloc, number, disk),
             Show::Pile => unreachable!(),
         },
-        Command::Serve { .. } | Command::Mirror { .. } => unreachable!(),
+        Command::Serve { .. } | Command::Mirror { .. } | Command::Audit => unreachable!(),
     }
 }

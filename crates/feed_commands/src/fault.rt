@@ -62,6 +62,10 @@ pub enum Refusal {
     BadDocument { offset: u64 },
     /// The input isn't a pile: at this offset a line or an offer begins that can't be read.
     BadPile { at: u64 },
+    /// The input doesn't begin with a certificate: this line of it is the first that no certificate has there.
+    BadCertificate { line: u32 },
+    /// The pile behind a certificate has more offers than are audited.
+    TooManyOffers,
     /// The line is none of the command's.
     BadLine { line: u64 },
     /// The line names a member that was never made.
@@ -197,6 +201,8 @@ impl Refusal {
             Refusal::TooLong
             | Refusal::BadDocument { .. }
             | Refusal::BadPile { .. }
+            | Refusal::BadCertificate { .. }
+            | Refusal::TooManyOffers
             | Refusal::BadLine { .. } => Status::BadInput,
             Refusal::NotFound { .. }
             | Refusal::Deleted { .. }
@@ -215,6 +221,10 @@ impl Refusal {
             Refusal::TooLong => line_of("input too long\n"),
             Refusal::BadDocument { offset } => numbered("bad document ", offset, "\n"),
             Refusal::BadPile { at } => numbered("bad pile ", at, "\n"),
+            Refusal::BadCertificate { line } => {
+                numbered("bad certificate ", u64::from(line), "\n")
+            }
+            Refusal::TooManyOffers => line_of("too many offers\n"),
             Refusal::BadLine { line } => numbered("bad line ", line, "\n"),
             Refusal::NotFound { line, member } => naming_member(line, " not found ", member),
             Refusal::Deleted { line, member } => naming_member(line, " deleted ", member),

@@ -19,7 +19,8 @@
 //! The commands are in `commands`. A command has one answer to an input, and the law in `laws.rt` says so.
 //!
 //! Stands on `document_server` for the server, on `doc_source` for piles, the source, the input and the output, on
-//! `mirror_walk` for the mirror, on `archive_sealer` and `atom_grammar` for the documents, and on the crates below them.
+//! `mirror_walk` for the mirror, on `coverage_certificate` and `coverage_auditor` for certificates, on `archive_sealer` and
+//! `atom_grammar` for the documents, and on the crates below them.
 #![tactic(auto)]
 
 mod commands;

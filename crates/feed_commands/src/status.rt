@@ -10,6 +10,8 @@ pub enum Status {
     Usage,
     /// A document of the mirror is missing: 3.
     Incomplete,
+    /// The documents don't cover the certificate that is audited: 3, as for a mirror that isn't complete. No command ends with both.
+    Rejected,
     /// A call on the disk failed: 4.
     DiskFault,
     /// Memory ran out: 5.
@@ -40,7 +42,7 @@ impl Status {
         match self {
             Status::Done => 0,
             Status::Usage => 2,
-            Status::Incomplete => 3,
+            Status::Incomplete | Status::Rejected => 3,
             Status::DiskFault => 4,
             Status::NoMemory => 5,
             Status::BadStore => 6,

@@ -19,35 +19,39 @@ use crate::words::given_words;
 use doc_source::HttpFetch;
 use feed_commands::{Fault, end_with, run};
 use feed_disk::FileDisk;
-use std::io;
+use std::io::{self, BufReader};
 use std::process::ExitCode;
+
+/// How many bytes the program reads of its input at a time. A caller that asks for fewer gets them from this buffer.
+const INPUT_BUFFER: usize = 65_536;
 
 fn main(rt: HostRuntime) -> ExitCode {
     let mut clock = SystemClock { runtime: &rt };
     let mut door = TcpDoor::new(rt.alloc(), &rt);
     let mut fetch = HttpFetch::new(&rt);
-    let mut input = InputSource {
-        reader: rt.reader(),
-        faults: 0,
-    };
     let mut output = OutputSink {
         writer: io::writer(&rt),
         faults: 0,
     };
-    let ended = match (given_words(&rt), FileDisk::new(rt.alloc(), &rt, ".")) {
-        (Ok(words), Ok(mut disk)) => run(
+    let words = given_words(&rt);
+    let disk = FileDisk::new(rt.alloc(), &rt, ".");
+    let reader = BufReader::with_capacity(rt.alloc(), INPUT_BUFFER, rt.reader());
+    let ended = match (words, disk, reader) {
+        (Ok(words), Ok(mut disk), Ok(reader)) => run(
             rt.alloc(),
             words.as_slice(),
             &mut disk,
             &mut clock,
             &mut door,
             &mut fetch,
-            &mut input,
+            &mut InputSource { reader, faults: 0 },
             &mut output,
         ),
-        (Err(error), _) | (_, Err(error)) => {
+        (Err(error), _, _) | (_, Err(error), _) => {
             end_with(rt.alloc(), &mut output, Fault::from(error))
         }
+        // A buffer can't be had for want of memory alone.
+        (_, _, Err(_)) => end_with(rt.alloc(), &mut output, Fault::NoMemory),
     };
     ExitCode::from(ended.status)
 }

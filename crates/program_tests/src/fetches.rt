@@ -166,8 +166,8 @@ fn offer_of<D: Disk>(rt: &impl Abort, alloc: Global, store: &mut D, pair: (usize
     }
 }
 
-/// A source of these documents of the store.
-fn source_of<D: Disk>(
+/// A source of these documents of the store, of which one call fails. The calls are numbered from 1; 0 means none.
+pub fn source_of<D: Disk>(
     rt: &impl Abort,
     alloc: Global,
     store: &mut D,

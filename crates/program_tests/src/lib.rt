@@ -6,6 +6,12 @@
 #[cfg(test)]
 mod apply;
 #[cfg(test)]
+mod audit;
+#[cfg(test)]
+mod certificates;
+#[cfg(test)]
+mod covered;
+#[cfg(test)]
 mod documents;
 #[cfg(test)]
 mod faults;

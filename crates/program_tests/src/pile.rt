@@ -45,7 +45,8 @@ pub fn pile_of<D: Disk>(
     pile
 }
 
-fn push_offer(rt: &impl Abort, alloc: Global, pile: &mut Vec<u8>, address: &str, text: &[u8]) {
+/// Appends an offer to a pile.
+pub fn push_offer(rt: &impl Abort, alloc: Global, pile: &mut Vec<u8>, address: &str, text: &[u8]) {
     let line = format!(in alloc; "{address} {}\n", text.len()).expect(rt, "memory");
     pile.extend_from_slice(line.as_bytes()).expect(rt, "memory");
     pile.extend_from_slice(text).expect(rt, "memory");

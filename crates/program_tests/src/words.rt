@@ -1,10 +1,10 @@
-//! Words, and the commands that they are read as.
+//! Words, the commands that they are read as, and the lines of `apply`.
 use atom_writer::FeedName;
 use std::alloc::Global;
 use std::process::Abort;
 use std::str;
 use std::test::Fail;
-use tool_words::{Command, Show, WordsFault, read_words};
+use tool_words::{Command, LineAsk, LineFault, Show, WordsFault, read_line, read_words};
 
 /// The options that `init` needs, each with a value.
 static NEEDED: [(&str, &str); 4] = [
@@ -14,12 +14,15 @@ static NEEDED: [(&str, &str); 4] = [
     ("author", "Editor"),
 ];
 
-/// Each row has words, separated by single spaces, and what they are read as. `*` means all options that `init` needs,
-/// `*title` only the title, and so on. `_` means a space within a word.
-static ROWS: [(&str, &str); 163] = [
+/// Words of the commands without options, and words of no command.
+///
+/// Each row has words, separated by single spaces, and what they are read as. An empty row has no words. `*` means all
+/// options that `init` needs, `*title` only the title, and so on. `_` means a space within a word.
+static LONE: [(&str, &str); 63] = [
     ("apply", "apply"),
     ("apply 1", "apply 1"),
     ("apply 100", "apply 100"),
+    ("apply 04", "apply 4"),
     ("apply 0004", "apply 4"),
     ("apply 0", "usage"),
     ("apply 101", "usage"),
@@ -30,6 +33,10 @@ static ROWS: [(&str, &str); 163] = [
     ("apply 4_", "usage"),
     ("apply 4 5", "usage"),
     ("apply --window 4", "usage"),
+    ("apply -- 4", "usage"),
+    ("apply 4 --", "usage"),
+    ("apply --", "usage"),
+    ("apply --help", "usage"),
     ("show", "show"),
     ("show feed", "show feed"),
     ("show archive 7", "show archive 7"),
@@ -44,14 +51,41 @@ static ROWS: [(&str, &str); 163] = [
     ("show archive", "usage"),
     ("show archive 7 8", "usage"),
     ("show feed 1", "usage"),
+    ("show feed 3", "usage"),
+    ("show archive --", "usage"),
+    ("show archive -- 7", "usage"),
+    ("show archive ", "usage"),
+    ("show ", "usage"),
     ("show pile 1", "usage"),
     ("show page 1", "usage"),
     ("show Feed", "usage"),
     ("show 7", "usage"),
     ("", "usage"),
+    (" ", "usage"),
     ("--", "usage"),
+    ("--help", "usage"),
+    ("--version", "usage"),
+    ("-h", "usage"),
+    ("-V", "usage"),
+    ("help", "usage"),
+    ("audit", "audit"),
+    ("audit ", "usage"),
+    ("audit 1", "usage"),
+    ("audit --", "usage"),
+    ("audit --report", "usage"),
+    ("audit *base", "usage"),
+    ("Audit", "usage"),
+    ("drill 0 1", "usage"),
     ("Apply 4", "usage"),
     ("appl 4", "usage"),
+    ("show --fetch", "usage"),
+    ("show --report", "usage"),
+    ("apply --listen a --requests 5", "usage"),
+    ("--listen a --requests 5", "usage"),
+];
+
+/// Words of `init` and words like them, in the same form.
+static INIT: [(&str, &str); 44] = [
     ("init *", "init / Feed Editor 10 1073741824"),
     (
         "init * --window 100 --capacity 4096",
@@ -96,8 +130,14 @@ static ROWS: [(&str, &str); 163] = [
     ("init * --=4", "usage"),
     ("init * 4", "usage"),
     ("init * --", "usage"),
+    ("init * --help", "usage"),
+    ("init --help *", "usage"),
+    ("init * --version", "usage"),
     ("init 4 *", "usage"),
     ("init *base *uuid *author --title -", "usage"),
+    ("init *base *uuid *author --title -x", "usage"),
+    ("init *base *uuid *author --title=-x", "usage"),
+    ("init *base *uuid *author --title=", "usage"),
     ("init *base *uuid *author --title ", "usage"),
     ("init *base *uuid *author --title \u{FFFE}", "usage"),
     (
@@ -112,6 +152,15 @@ static ROWS: [(&str, &str); 163] = [
         "init *base *title *author --uuid 6d1f0c5a-93be-8c27-8d10-2b7f9e4a5c36",
         "usage",
     ),
+    ("init * --fetch", "usage"),
+    ("init * --report", "usage"),
+    ("init * --listen a", "usage"),
+    ("init * --requests=5", "usage"),
+    ("init --listen a --requests 5", "usage"),
+];
+
+/// Words of `serve` and words like them, in the same form.
+static SERVE: [(&str, &str); 51] = [
     (
         "serve --listen 127.0.0.1:80 --requests 5",
         "serve 127.0.0.1:80 5",
@@ -168,20 +217,46 @@ static ROWS: [(&str, &str); 163] = [
     ("serve --listen a --requests 5 --window 4", "usage"),
     ("serve --listen a --requests 5 *title", "usage"),
     ("serve *", "usage"),
-    ("mirror *base --report", "mirror / 1073741824"),
-    ("mirror --report *base", "mirror / 1073741824"),
-    ("mirror *base --report --fetch", "mirror / fetch 1073741824"),
+    ("serve --Listen a --requests 5", "usage"),
+    ("serve -listen a --requests 5", "usage"),
+    ("serve listen a requests 5", "usage"),
+    ("serve a 5", "usage"),
+    ("serve a --listen a --requests 5", "usage"),
+    ("serve --listen a b --requests 5", "usage"),
+    ("serve --listen a --requests 5 6", "usage"),
+    ("serve --listen a --requests 5 --", "usage"),
+    ("serve --listen a --requests 5 ", "usage"),
+    ("Serve --listen a --requests 5", "usage"),
+];
+
+/// Words of `mirror` and words like them, in the same form.
+static MIRROR: [(&str, &str); 46] = [
+    ("mirror *base --report", "mirror / report 1073741824"),
+    ("mirror --report *base", "mirror / report 1073741824"),
+    (
+        "mirror *base --report --fetch",
+        "mirror / fetch report 1073741824",
+    ),
     (
         "mirror --fetch *base --report --capacity 4096",
-        "mirror / fetch 4096",
+        "mirror / fetch report 4096",
     ),
     (
         "mirror --capacity=68719476736 --report *base",
-        "mirror / 68719476736",
+        "mirror / report 68719476736",
     ),
-    ("mirror *base --report --capacity 0004096", "mirror / 4096"),
-    ("mirror *base --fetch", "usage"),
-    ("mirror *base --fetch --capacity 4096", "usage"),
+    (
+        "mirror *base --report --capacity 0004096",
+        "mirror / report 4096",
+    ),
+    ("mirror *base", "mirror / 1073741824"),
+    ("mirror *base --fetch", "mirror / fetch 1073741824"),
+    (
+        "mirror --fetch --capacity 4096 *base",
+        "mirror / fetch 4096",
+    ),
+    ("mirror *base --fetch=yes", "usage"),
+    ("mirror *base yes", "usage"),
     ("mirror *base --report --fetch --fetch", "usage"),
     ("mirror *base --report --fetch=yes", "usage"),
     ("mirror *base --report --fetch yes", "usage"),
@@ -194,17 +269,26 @@ static ROWS: [(&str, &str); 163] = [
         "usage",
     ),
     ("mirror --fetch --report", "usage"),
-    ("init * --fetch", "usage"),
-    ("show --fetch", "usage"),
+    (
+        "mirror --report --base=http://feed.example/",
+        "mirror / report 1073741824",
+    ),
     (
         "mirror --base=http://feed.example:8080/a/ --report",
-        "mirror :8080/a/ 1073741824",
+        "mirror :8080/a/ report 1073741824",
     ),
     ("mirror", "usage"),
-    ("mirror *base", "usage"),
     ("mirror --report", "usage"),
     ("mirror *base --report --report", "usage"),
     ("mirror *base *base --report", "usage"),
+    ("mirror *base *base", "usage"),
+    ("mirror --base http://feed.example:80/", "usage"),
+    ("mirror *base --rep", "usage"),
+    ("mirror *base -r", "usage"),
+    ("mirror *base --help", "usage"),
+    ("mirror *base --version", "usage"),
+    ("mirror *base --", "usage"),
+    ("mirror *base ", "usage"),
     ("mirror *base --report=", "usage"),
     ("mirror *base --report=yes", "usage"),
     ("mirror *base --report yes", "usage"),
@@ -217,23 +301,6 @@ static ROWS: [(&str, &str); 163] = [
     ("mirror *base --report 4", "usage"),
     ("mirror report *base", "usage"),
     ("Mirror *base --report", "usage"),
-    ("init * --report", "usage"),
-    ("show --report", "usage"),
-    ("init * --listen a", "usage"),
-    ("init * --requests=5", "usage"),
-    ("init --listen a --requests 5", "usage"),
-    ("serve --Listen a --requests 5", "usage"),
-    ("serve -listen a --requests 5", "usage"),
-    ("serve listen a requests 5", "usage"),
-    ("serve a 5", "usage"),
-    ("serve a --listen a --requests 5", "usage"),
-    ("serve --listen a b --requests 5", "usage"),
-    ("serve --listen a --requests 5 6", "usage"),
-    ("serve --listen a --requests 5 --", "usage"),
-    ("serve --listen a --requests 5 ", "usage"),
-    ("Serve --listen a --requests 5", "usage"),
-    ("apply --listen a --requests 5", "usage"),
-    ("--listen a --requests 5", "usage"),
 ];
 
 /// Each row has words as above, a letter, how many times it replaces each `%`, and whether the words are read.
@@ -249,9 +316,58 @@ static LENGTHS: [(&str, &str, usize, bool); 9] = [
     ("serve --listen % --requests 5", "é", 128, false),
 ];
 
+/// Each row has a line of `apply` and what it is read as. In both, `%` means 1,024 letters `x`.
+static LINES: [(&str, &str); 42] = [
+    ("add ", "add "),
+    ("add a", "add a"),
+    ("add  a ", "add  a "),
+    ("add é", "add é"),
+    ("add %", "add %"),
+    ("add %x", "bad"),
+    ("add a\u{B}", "bad"),
+    ("add \u{FFFE}", "bad"),
+    ("add a\tb\r", "add a\tb\r"),
+    ("add", "bad"),
+    ("add\ta", "bad"),
+    (" add a", "bad"),
+    ("Add a", "bad"),
+    ("change 1 b", "change 1 b"),
+    ("change 1 ", "change 1 "),
+    ("change 1  b", "change 1  b"),
+    ("change 1 2 3", "change 1 2 3"),
+    ("change 4294967295 b", "change 4294967295 b"),
+    ("change 1 %", "change 1 %"),
+    ("change 1 %x", "bad"),
+    ("change 1 \u{B}", "bad"),
+    ("change 01 b", "bad"),
+    ("change 0 b", "bad"),
+    ("change 4294967296 b", "bad"),
+    ("change +1 b", "bad"),
+    ("change -1 b", "bad"),
+    ("change  1 b", "bad"),
+    ("change b", "bad"),
+    ("change 1", "bad"),
+    ("change ", "bad"),
+    ("change", "bad"),
+    ("remove 1", "remove 1"),
+    ("remove 4294967295", "remove 4294967295"),
+    ("remove 4294967296", "bad"),
+    ("remove 0", "bad"),
+    ("remove 01", "bad"),
+    ("remove 1 ", "bad"),
+    ("remove 1 b", "bad"),
+    ("remove ", "bad"),
+    ("remove", "bad"),
+    ("delete 1", "bad"),
+    ("", "bad"),
+];
+
 /// Returns the words of a row.
 fn spelled(alloc: Global, row: &str) -> Result<Vec<String>, Fail> {
     let mut words = Vec::new(alloc);
+    if row.is_empty() {
+        return Ok(words);
+    }
     for word in row.split(' ') {
         match word.strip_prefix('*') {
             None => words.push(word.replace(alloc, '_', " ")?)?,
@@ -296,12 +412,15 @@ fn reading(rt: &impl Abort, alloc: Global, words: &[String]) -> Result<String, F
         Command::Mirror {
             base,
             fetch,
+            report,
             capacity,
         } => {
             let base = base_of(base.text())?;
             let fetch = if fetch { "fetch " } else { "" };
-            format!(in alloc; "mirror {base} {fetch}{capacity}")?
+            let report = if report { "report " } else { "" };
+            format!(in alloc; "mirror {base} {fetch}{report}{capacity}")?
         }
+        Command::Audit => String::from_str(alloc, "audit")?,
         Command::Init {
             name,
             window,
@@ -357,13 +476,65 @@ fn values_have_limits(rt: HostRuntime) -> Result<(), Fail> {
     Ok(())
 }
 
-#[test]
-fn reads_words_as_a_command(rt: HostRuntime) -> Result<(), Fail> {
-    let alloc = rt.alloc();
-    for (row, wanted) in ROWS.iter() {
+/// Reads the words of each row as its command.
+fn reads_rows(rt: &impl Abort, alloc: Global, rows: &[(&str, &str)]) -> Result<(), Fail> {
+    for (row, wanted) in rows {
         let words = spelled(alloc, row)?;
-        let read = reading(&rt, alloc, words.as_slice())?;
+        let read = reading(rt, alloc, words.as_slice())?;
         assert_eq!(rt; read.as_str(), *wanted, "{row}");
+    }
+    Ok(())
+}
+
+#[test]
+fn reads_words_without_options(rt: HostRuntime) -> Result<(), Fail> {
+    reads_rows(&rt, rt.alloc(), &LONE)
+}
+
+#[test]
+fn reads_words_of_init(rt: HostRuntime) -> Result<(), Fail> {
+    reads_rows(&rt, rt.alloc(), &INIT)
+}
+
+#[test]
+fn reads_words_of_serve(rt: HostRuntime) -> Result<(), Fail> {
+    reads_rows(&rt, rt.alloc(), &SERVE)
+}
+
+#[test]
+fn reads_words_of_mirror(rt: HostRuntime) -> Result<(), Fail> {
+    reads_rows(&rt, rt.alloc(), &MIRROR)
+}
+
+/// Returns what the line is read as.
+fn line_reading(alloc: Global, line: &str) -> Result<String, Fail> {
+    let ask = match read_line(alloc, line.as_bytes()) {
+        Ok(ask) => ask,
+        Err(LineFault::BadLine) => return Ok(String::from_str(alloc, "bad")?),
+        Err(LineFault::NoMemory) => return Err(LineFault::NoMemory.into()),
+    };
+    Ok(match ask {
+        LineAsk::Add(title) => {
+            let title = str::from_utf8(title.bytes())?;
+            format!(in alloc; "add {title}")?
+        }
+        LineAsk::Change { number, title } => {
+            let title = str::from_utf8(title.bytes())?;
+            format!(in alloc; "change {number} {title}")?
+        }
+        LineAsk::Remove { number } => format!(in alloc; "remove {number}")?,
+    })
+}
+
+#[test]
+fn reads_lines_as_asks(rt: HostRuntime) -> Result<(), Fail> {
+    let alloc = rt.alloc();
+    let longest = "x".repeat(alloc, 1_024)?;
+    for (row, wanted) in LINES.iter() {
+        let line = row.replace(alloc, '%', longest.as_str())?;
+        let wanted = wanted.replace(alloc, '%', longest.as_str())?;
+        let read = line_reading(alloc, line.as_str())?;
+        assert_eq!(rt; read.as_str(), wanted.as_str(), "{row}");
     }
     Ok(())
 }
@@ -373,6 +544,22 @@ fn a_fault_has_a_sentence(rt: HostRuntime) -> Result<(), Fail> {
     let cases = [
         (WordsFault::Usage, "the words are those of no command"),
         (WordsFault::NoMemory, "no memory"),
+    ];
+    for (fault, sentence) in cases {
+        let text = format!(in rt.alloc(); "{fault}")?;
+        assert!(rt; text.as_str() == sentence);
+    }
+    Ok(())
+}
+
+#[test]
+fn a_fault_of_a_line_has_a_sentence(rt: HostRuntime) -> Result<(), Fail> {
+    let cases = [
+        (
+            LineFault::BadLine,
+            "the line has none of the forms of a line",
+        ),
+        (LineFault::NoMemory, "no memory"),
     ];
     for (fault, sentence) in cases {
         let text = format!(in rt.alloc(); "{fault}")?;

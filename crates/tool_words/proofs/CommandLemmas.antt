@@ -1,12 +1,13 @@
--- The words of a command by their first word.
-use Rattle.std.proofs.Common.{◌≡◌, ◌⊎◌, ℕ, List, ◌∷◌, Option, Result, Ok, Err, IfOk}
-use Rattle.std.proofs.Common.{codes, bytes_eq, Bool, false, refl, sym, ◌∙◌, subst}
+-- The command that words spell, by their first word.
+use Rattle.std.proofs.Common.{◌≡◌, ◌⊎◌, ℕ, List, [], ◌∷◌, Option, Result, Ok, Err, IfOk}
+use Rattle.std.proofs.Common.{inl, ap, codes, bytes_eq, Bool, false, refl, sym, ◌∙◌, subst}
 use Rattle.std.proofs.lemmas.Bool.{true≢false}
 use Rattle.std.proofs.lemmas.Slice.Eq.{bytes_eq-Decides}
 use Rattle.atom_writer.specs.declared.doc.FeedName.{FeedName}
-use Rattle.tool_words.specs.Words.{IsApply, IsCommandOf, IsInit, IsMirror, IsServe}
+use Rattle.tool_words.specs.Words.{IsApply, IsCommandOf, IsInit, IsMirror, IsServe, IsShow}
 use Rattle.tool_words.specs.declared.command.Command.{Command}
-use Rattle.tool_words.specs.declared.command.Command.TheVariants.{Init, Apply, Show, Serve, Mirror}
+use Rattle.tool_words.specs.declared.command.Command.TheVariants.{Init, Apply, Show, Serve, Mirror, Audit}
+use Rattle.tool_words.specs.declared.command.Show.{Show as Shown}
 use Rattle.tool_words.specs.declared.fault.WordsFault.{WordsFault}
 use Rattle.tool_words.specs.declared.fault.WordsFault.TheVariants.{NoMemory}
 
@@ -28,8 +29,42 @@ module _ (words rest : List (List ℕ)) (r : Result Command WordsFault) where
       absurd (other_first (codes "init") (codes "show") rest behind refl (sym spelt ∙ e))
   init_only spelt only (Serve listen requests) (behind, e, i) =
       absurd (other_first (codes "init") (codes "serve") rest behind refl (sym spelt ∙ e))
-  init_only spelt only (Mirror base fetch capacity) (behind, e, i) =
+  init_only spelt only (Mirror base fetch report capacity) (behind, e, i) =
       absurd (other_first (codes "init") (codes "mirror") rest behind refl (sym spelt ∙ e))
+  init_only spelt only Audit e =
+      absurd (other_first (codes "init") (codes "audit") rest [] refl (sym spelt ∙ e))
+
+  pub apply_only : words ≡ codes "apply" ∷ rest →
+      ((window : Option ℕ) → IsApply rest window → (r ≡ Ok (Apply window)) ⊎ (r ≡ Err NoMemory)) →
+      (command : Command) → IsCommandOf words command → (r ≡ Ok command) ⊎ (r ≡ Err NoMemory)
+  apply_only spelt only (Apply window) (behind, e, i) =
+      let same : behind ≡ rest = cc in only window (subst (λ b. IsApply b window) same i)
+  apply_only spelt only (Init name window capacity) (behind, e, i) =
+      absurd (other_first (codes "apply") (codes "init") rest behind refl (sym spelt ∙ e))
+  apply_only spelt only (Show shown) (behind, e, i) =
+      absurd (other_first (codes "apply") (codes "show") rest behind refl (sym spelt ∙ e))
+  apply_only spelt only (Serve listen requests) (behind, e, i) =
+      absurd (other_first (codes "apply") (codes "serve") rest behind refl (sym spelt ∙ e))
+  apply_only spelt only (Mirror base fetch report capacity) (behind, e, i) =
+      absurd (other_first (codes "apply") (codes "mirror") rest behind refl (sym spelt ∙ e))
+  apply_only spelt only Audit e =
+      absurd (other_first (codes "apply") (codes "audit") rest [] refl (sym spelt ∙ e))
+
+  pub show_only : words ≡ codes "show" ∷ rest →
+      ((shown : Shown) → IsShow rest shown → (r ≡ Ok (Show shown)) ⊎ (r ≡ Err NoMemory)) →
+      (command : Command) → IsCommandOf words command → (r ≡ Ok command) ⊎ (r ≡ Err NoMemory)
+  show_only spelt only (Show shown) (behind, e, i) =
+      let same : behind ≡ rest = cc in only shown (subst (λ b. IsShow b shown) same i)
+  show_only spelt only (Init name window capacity) (behind, e, i) =
+      absurd (other_first (codes "show") (codes "init") rest behind refl (sym spelt ∙ e))
+  show_only spelt only (Apply window) (behind, e, i) =
+      absurd (other_first (codes "show") (codes "apply") rest behind refl (sym spelt ∙ e))
+  show_only spelt only (Serve listen requests) (behind, e, i) =
+      absurd (other_first (codes "show") (codes "serve") rest behind refl (sym spelt ∙ e))
+  show_only spelt only (Mirror base fetch report capacity) (behind, e, i) =
+      absurd (other_first (codes "show") (codes "mirror") rest behind refl (sym spelt ∙ e))
+  show_only spelt only Audit e =
+      absurd (other_first (codes "show") (codes "audit") rest [] refl (sym spelt ∙ e))
 
   pub serve_only : words ≡ codes "serve" ∷ rest →
       ((listen : List ℕ) (requests : ℕ) → IsServe rest listen requests →
@@ -43,16 +78,18 @@ module _ (words rest : List (List ℕ)) (r : Result Command WordsFault) where
       absurd (other_first (codes "serve") (codes "apply") rest behind refl (sym spelt ∙ e))
   serve_only spelt only (Show shown) (behind, e, i) =
       absurd (other_first (codes "serve") (codes "show") rest behind refl (sym spelt ∙ e))
-  serve_only spelt only (Mirror base fetch capacity) (behind, e, i) =
+  serve_only spelt only (Mirror base fetch report capacity) (behind, e, i) =
       absurd (other_first (codes "serve") (codes "mirror") rest behind refl (sym spelt ∙ e))
+  serve_only spelt only Audit e =
+      absurd (other_first (codes "serve") (codes "audit") rest [] refl (sym spelt ∙ e))
 
   pub mirror_only : words ≡ codes "mirror" ∷ rest →
-      ((base : List ℕ) (fetch : Bool) (capacity : ℕ) → IsMirror rest base fetch capacity →
-      (r ≡ Ok (Mirror base fetch capacity)) ⊎ (r ≡ Err NoMemory)) →
+      ((base : List ℕ) (fetch report : Bool) (capacity : ℕ) → IsMirror rest base fetch report capacity →
+      (r ≡ Ok (Mirror base fetch report capacity)) ⊎ (r ≡ Err NoMemory)) →
       (command : Command) → IsCommandOf words command → (r ≡ Ok command) ⊎ (r ≡ Err NoMemory)
-  mirror_only spelt only (Mirror base fetch capacity) (behind, e, i) =
+  mirror_only spelt only (Mirror base fetch report capacity) (behind, e, i) =
       let same : behind ≡ rest = cc in
-      only base fetch capacity (subst (λ b. IsMirror b base fetch capacity) same i)
+      only base fetch report capacity (subst (λ b. IsMirror b base fetch report capacity) same i)
   mirror_only spelt only (Init name window capacity) (behind, e, i) =
       absurd (other_first (codes "mirror") (codes "init") rest behind refl (sym spelt ∙ e))
   mirror_only spelt only (Apply window) (behind, e, i) =
@@ -61,9 +98,37 @@ module _ (words rest : List (List ℕ)) (r : Result Command WordsFault) where
       absurd (other_first (codes "mirror") (codes "show") rest behind refl (sym spelt ∙ e))
   mirror_only spelt only (Serve listen requests) (behind, e, i) =
       absurd (other_first (codes "mirror") (codes "serve") rest behind refl (sym spelt ∙ e))
+  mirror_only spelt only Audit e =
+      absurd (other_first (codes "mirror") (codes "audit") rest [] refl (sym spelt ∙ e))
 
 pub apply_found : (words rest : List (List ℕ)) (r : Result Command WordsFault) → words ≡ codes "apply" ∷ rest →
     IfOk r (λ command. (window : Option ℕ) × (command ≡ Apply window) × IsApply rest window) →
     IfOk r (IsCommandOf words)
 apply_found words rest (Ok command) spelt (window, e, i) = subst (IsCommandOf words) (sym e) (rest, spelt, i)
 apply_found words rest (Err fault) spelt h = tt
+
+pub show_found : (words rest : List (List ℕ)) (r : Result Command WordsFault) → words ≡ codes "show" ∷ rest →
+    IfOk r (λ command. (shown : Shown) × (command ≡ Show shown) × IsShow rest shown) → IfOk r (IsCommandOf words)
+show_found words rest (Ok command) spelt (shown, e, i) = subst (IsCommandOf words) (sym e) (rest, spelt, i)
+show_found words rest (Err fault) spelt h = tt
+
+pub audit_found : (words rest : List (List ℕ)) (r : Result Command WordsFault) → words ≡ codes "audit" ∷ rest →
+    IfOk r (λ command. (command ≡ Audit) × (rest ≡ [])) → IfOk r (IsCommandOf words)
+audit_found words rest (Ok command) spelt (e, none) =
+    subst (IsCommandOf words) (sym e) (spelt ∙ ap (λ more. codes "audit" ∷ more) none)
+audit_found words rest (Err fault) spelt h = tt
+
+pub audit_only : (words rest : List (List ℕ)) (r : Result Command WordsFault) → words ≡ codes "audit" ∷ rest →
+    (rest ≡ [] → r ≡ Ok Audit) → (command : Command) → IsCommandOf words command →
+    (r ≡ Ok command) ⊎ (r ≡ Err NoMemory)
+audit_only words rest r spelt only Audit e = inl (only (cc))
+audit_only words rest r spelt only (Init name window capacity) (behind, e, i) =
+    absurd (other_first (codes "audit") (codes "init") rest behind refl (sym spelt ∙ e))
+audit_only words rest r spelt only (Apply window) (behind, e, i) =
+    absurd (other_first (codes "audit") (codes "apply") rest behind refl (sym spelt ∙ e))
+audit_only words rest r spelt only (Show shown) (behind, e, i) =
+    absurd (other_first (codes "audit") (codes "show") rest behind refl (sym spelt ∙ e))
+audit_only words rest r spelt only (Serve listen requests) (behind, e, i) =
+    absurd (other_first (codes "audit") (codes "serve") rest behind refl (sym spelt ∙ e))
+audit_only words rest r spelt only (Mirror base fetch report capacity) (behind, e, i) =
+    absurd (other_first (codes "audit") (codes "mirror") rest behind refl (sym spelt ∙ e))

@@ -1,51 +1,51 @@
--- What options give depends on their names and their values only.
-use Rattle.std.proofs.Common.{◌≡◌, ◌⊎◌, ℕ, List, [], Result, Ok, Err, map, codes, sym, ap, ◌∙◌, subst, inl, inr}
+-- The command of `init` depends only on the values of its options.
+use Rattle.std.proofs.Common.{◌≡◌, ◌⊎◌, ℕ, List, [], All, Option, Result, Ok, Err, codes, sym, subst, arith, inl, inr}
 use Rattle.atom_writer.specs.declared.doc.FeedName.{FeedName}
-use Rattle.tool_words.specs.Options.{Given, value_of}
-use Rattle.tool_words.specs.Reading.{AreRead, apart}
-use Rattle.tool_words.specs.Words.{IsBaseText, IsFeedIdText, IsNameText, IsNamed, IsNumberOr, IsInit, init_options, window_limit, default_window}
+use Rattle.tool_words.specs.Options.{Given, AreOptions, value_of}
+use Rattle.clap.specs.declared.parser.matches.ArgMatches.{ArgMatches}
+use Rattle.tool_words.specs.Parse.{Match, value_in}
+use Rattle.tool_words.specs.Words.{IsBaseText, IsFeedIdText, IsNameText, IsNamed, IsNumberOr, IsInit, init_options}
+use Rattle.tool_words.specs.Words.{window_limit, default_window}
 use Rattle.tool_words.specs.Words.{capacity_floor, capacity_limit, default_capacity}
 use Rattle.tool_words.specs.declared.command.Command.{Command}
 use Rattle.tool_words.specs.declared.command.Command.TheVariants.{Init}
 use Rattle.tool_words.specs.declared.fault.WordsFault.{WordsFault}
 use Rattle.tool_words.specs.declared.fault.WordsFault.TheVariants.{NoMemory}
-use Rattle.tool_words.proofs.OptionLemmas.{value_of-apart}
 
--- the options give this feed, this window and this capacity
-pub record Give (given : List Given) (name : FeedName) (window capacity : ℕ) : Type 0 where
-  pub named : IsNamed given name
-  pub window_is : IsNumberOr default_window 1 window_limit (value_of (codes "window") given) window
-  pub capacity_is :
-      IsNumberOr default_capacity capacity_floor capacity_limit (value_of (codes "capacity") given) capacity
+-- the values give this feed, this window and this capacity
+pub record Give (value : List ℕ → Option (List ℕ)) (name : FeedName) (window capacity : ℕ) : Type 0 where
+  pub named : IsNamed value name
+  pub window_is : IsNumberOr default_window 1 window_limit (value (codes "window")) window
+  pub capacity_is : IsNumberOr default_capacity capacity_floor capacity_limit (value (codes "capacity")) capacity
 
-give_same : (one other : List Given) (name : FeedName) (window capacity : ℕ) →
-    ((key : List ℕ) → value_of key one ≡ value_of key other) → Give one name window capacity →
-    Give other name window capacity
+pub give_same : (one other : List ℕ → Option (List ℕ)) (name : FeedName) (window capacity : ℕ) →
+    All (λ key. one key ≡ other key) init_options → Give one name window capacity → Give other name window capacity
 give_same one other name window capacity same g = record {
   named = record {
-    base = subst (λ v. IsBaseText v name.base) (same (codes "base")) g.named.base;
-    id = subst (λ v. IsFeedIdText v name.id) (same (codes "uuid")) g.named.id;
-    title = subst (λ v. IsNameText v name.title) (same (codes "title")) g.named.title;
-    author = subst (λ v. IsNameText v name.author) (same (codes "author")) g.named.author;
+    base = subst (λ v. IsBaseText v name.base) (same 0 [] (omega arith)) g.named.base;
+    id = subst (λ v. IsFeedIdText v name.id) (same 1 [] (omega arith)) g.named.id;
+    title = subst (λ v. IsNameText v name.title) (same 2 [] (omega arith)) g.named.title;
+    author = subst (λ v. IsNameText v name.author) (same 3 [] (omega arith)) g.named.author;
   };
-  window_is = subst (λ v. IsNumberOr default_window 1 window_limit v window) (same (codes "window")) g.window_is;
+  window_is = subst (λ v. IsNumberOr default_window 1 window_limit v window) (same 4 [] (omega arith)) g.window_is;
   capacity_is = subst (λ v. IsNumberOr default_capacity capacity_floor capacity_limit v capacity)
-      (same (codes "capacity")) g.capacity_is;
+      (same 5 [] (omega arith)) g.capacity_is;
 }
 
--- the words of `init` and the options that are read from them
-pub init_gives : (words : List (List ℕ)) (given : List Given) (name : FeedName) (window capacity : ℕ) →
-    (i : IsInit words name window capacity) → given ≡ map apart i.options → Give given name window capacity
-init_gives words given name window capacity i same =
-    give_same i.options given name window capacity
-    (λ key. sym (ap (value_of key) same ∙ value_of-apart key i.options))
+-- the words of `init` and the matches of their options
+pub init_gives : (words : List (List ℕ)) (matches : ArgMatches) (name : FeedName) (window capacity : ℕ) →
+    (i : IsInit words name window capacity) → Match init_options [] i.options matches →
+    Give (value_in matches) name window capacity
+init_gives words matches name window capacity i m =
+    give_same (λ key. value_of key i.options) (value_in matches) name window capacity
+    (λ k d lt. sym (m.values k d lt))
     (record { named = i.is_named; window_is = i.is_window; capacity_is = i.is_capacity })
 
-pub gives_init : (words : List (List ℕ)) (given : List Given) (name : FeedName) (window capacity : ℕ) →
-    AreRead init_options [] words given → Give given name window capacity → IsInit words name window capacity
-gives_init words given name window capacity (options, are, same) g =
-    let k = give_same given options name window capacity
-    (λ key. ap (value_of key) (sym same) ∙ value_of-apart key options) g in
+pub gives_init : (words : List (List ℕ)) (matches : ArgMatches) (options : List Given) (name : FeedName)
+    (window capacity : ℕ) → AreOptions init_options [] words options → Match init_options [] options matches →
+    Give (value_in matches) name window capacity → IsInit words name window capacity
+gives_init words matches options name window capacity are m g =
+    let k = give_same (value_in matches) (λ key. value_of key options) name window capacity m.values g in
     record {
       options = options;
       are_options = are;

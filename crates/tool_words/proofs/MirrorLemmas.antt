@@ -1,54 +1,83 @@
--- What the options of `mirror` give depends on their names and their values only.
-use Rattle.std.proofs.Common.{◌≡◌, ◌⊎◌, inl, inr, ℕ, List, Bool, IsTrue, Result, Ok, Err, map, codes, sym, ap, ◌∙◌}
-use Rattle.std.proofs.Common.{subst}
-use Rattle.tool_words.specs.Options.{Given, is_given, value_of}
-use Rattle.tool_words.specs.Reading.{AreRead, apart}
+-- The command of `mirror` depends only on the values of its options and on the flags that are given.
+use Rattle.std.proofs.Common.{◌≡◌, ◌⊎◌, inl, inr, ℕ, List, [], All, Option, Some, Bool, true, false, Result, Ok, Err}
+use Rattle.std.proofs.Common.{codes, sym, subst, arith}
+use Rattle.tool_words.specs.Options.{Given, AreOptions, is_given, value_of}
+use Rattle.clap.specs.declared.parser.matches.ArgMatches.{ArgMatches}
+use Rattle.tool_words.specs.Parse.{Match, flag_in, flag_text, value_in}
 use Rattle.tool_words.specs.Words.{IsBaseText, IsMirror, IsNumberOr, mirror_flags, mirror_options}
 use Rattle.tool_words.specs.Words.{capacity_floor, capacity_limit, default_capacity}
 use Rattle.tool_words.specs.declared.command.Command.{Command}
 use Rattle.tool_words.specs.declared.command.Command.TheVariants.{Mirror}
 use Rattle.tool_words.specs.declared.fault.WordsFault.{WordsFault}
 use Rattle.tool_words.specs.declared.fault.WordsFault.TheVariants.{NoMemory}
-use Rattle.tool_words.proofs.OptionLemmas.{is_given-apart, value_of-apart}
 
--- the options give this base and this capacity, ask for the report, and say whether the documents are fetched
-pub record Give (given : List Given) (base : List ℕ) (fetch : Bool) (capacity : ℕ) : Type 0 where
-  pub base_is : IsBaseText (value_of (codes "base") given) base
-  pub fetch_is : is_given (codes "fetch") given ≡ fetch
-  pub report_is : IsTrue (is_given (codes "report") given)
-  pub capacity_is :
-      IsNumberOr default_capacity capacity_floor capacity_limit (value_of (codes "capacity") given) capacity
+-- the values give this base and this capacity
+pub record Give (value : List ℕ → Option (List ℕ)) (base : List ℕ) (capacity : ℕ) : Type 0 where
+  pub base_is : IsBaseText (value (codes "base")) base
+  pub capacity_is : IsNumberOr default_capacity capacity_floor capacity_limit (value (codes "capacity")) capacity
 
--- the words of `mirror` and the options that are read from them
-pub mirror_gives : (words : List (List ℕ)) (given : List Given) (base : List ℕ) (fetch : Bool) (capacity : ℕ) →
-    (i : IsMirror words base fetch capacity) → given ≡ map apart i.options → Give given base fetch capacity
-mirror_gives words given base fetch capacity i same = record {
-  base_is = subst (λ v. IsBaseText v base)
-      (sym (ap (value_of (codes "base")) same ∙ value_of-apart (codes "base") i.options)) i.is_base;
-  fetch_is = ap (is_given (codes "fetch")) same ∙ is_given-apart (codes "fetch") i.options ∙ i.is_fetch;
-  report_is = ap (is_given (codes "report")) same ∙ is_given-apart (codes "report") i.options ∙ i.is_report;
+pub give_same : (one other : List ℕ → Option (List ℕ)) (base : List ℕ) (capacity : ℕ) →
+    All (λ key. one key ≡ other key) mirror_options → Give one base capacity → Give other base capacity
+give_same one other base capacity same g = record {
+  base_is = subst (λ v. IsBaseText v base) (same 0 [] (omega arith)) g.base_is;
   capacity_is = subst (λ v. IsNumberOr default_capacity capacity_floor capacity_limit v capacity)
-      (sym (ap (value_of (codes "capacity")) same ∙ value_of-apart (codes "capacity") i.options)) i.is_capacity;
+      (same 1 [] (omega arith)) g.capacity_is;
 }
 
-pub gives_mirror : (words : List (List ℕ)) (given : List Given) (base : List ℕ) (fetch : Bool) (capacity : ℕ) →
-    AreRead mirror_options mirror_flags words given → Give given base fetch capacity →
-    IsMirror words base fetch capacity
-gives_mirror words given base fetch capacity (options, are, same) g = record {
-  options = options;
-  are_options = are;
-  is_base = subst (λ v. IsBaseText v base)
-      (ap (value_of (codes "base")) (sym same) ∙ value_of-apart (codes "base") options) g.base_is;
-  is_fetch = sym (is_given-apart (codes "fetch") options) ∙ ap (is_given (codes "fetch")) same ∙ g.fetch_is;
-  is_report = sym (is_given-apart (codes "report") options) ∙ ap (is_given (codes "report")) same ∙ g.report_is;
-  is_capacity = subst (λ v. IsNumberOr default_capacity capacity_floor capacity_limit v capacity)
-      (ap (value_of (codes "capacity")) (sym same) ∙ value_of-apart (codes "capacity") options) g.capacity_is;
-}
+-- a flag that is read is one that is given
+flag_read : (given read : Bool) (text : Option (List ℕ)) → text ≡ Some (flag_text given) →
+    (text ≡ Some (codes "true") → read ≡ true) → (text ≡ Some (codes "false") → read ≡ false) → read ≡ given
+flag_read true read text is set unset = set is
+flag_read false read text is set unset = unset is
 
-pub same_mirror : (base read : List ℕ) (fetch flag : Bool) (capacity limit : ℕ) →
+-- the flags that the matches tell
+pub record Tells (matches : ArgMatches) (key : List ℕ) (read : Bool) : Type 0 where
+  pub set : flag_in matches key ≡ Some (codes "true") → read ≡ true
+  pub unset : flag_in matches key ≡ Some (codes "false") → read ≡ false
+
+pub fetch_read : (options : List Given) (matches : ArgMatches) (fetch : Bool) →
+    Match mirror_options mirror_flags options matches → Tells matches (codes "fetch") fetch →
+    fetch ≡ is_given (codes "fetch") options
+fetch_read options matches fetch m tells =
+    flag_read (is_given (codes "fetch") options) fetch (flag_in matches (codes "fetch"))
+    (m.flags_are 0 [] (omega arith)) tells.set tells.unset
+
+pub report_read : (options : List Given) (matches : ArgMatches) (report : Bool) →
+    Match mirror_options mirror_flags options matches → Tells matches (codes "report") report →
+    report ≡ is_given (codes "report") options
+report_read options matches report m tells =
+    flag_read (is_given (codes "report") options) report (flag_in matches (codes "report"))
+    (m.flags_are 1 [] (omega arith)) tells.set tells.unset
+
+-- the words of `mirror` and the matches of their options
+pub mirror_gives : (words : List (List ℕ)) (matches : ArgMatches) (base : List ℕ) (fetch report : Bool)
+    (capacity : ℕ) → (i : IsMirror words base fetch report capacity)
+    → Match mirror_options mirror_flags i.options matches →
+    Give (value_in matches) base capacity
+mirror_gives words matches base fetch report capacity i m =
+    give_same (λ key. value_of key i.options) (value_in matches) base capacity (λ k d lt. sym (m.values k d lt))
+    (record { base_is = i.is_base; capacity_is = i.is_capacity })
+
+pub gives_mirror : (words : List (List ℕ)) (matches : ArgMatches) (options : List Given) (base : List ℕ)
+    (fetch report : Bool) (capacity : ℕ) → AreOptions mirror_options mirror_flags words options →
+    Match mirror_options mirror_flags options matches → Give (value_in matches) base capacity →
+    Tells matches (codes "fetch") fetch → Tells matches (codes "report") report →
+    IsMirror words base fetch report capacity
+gives_mirror words matches options base fetch report capacity are m g fetches reports =
+    let k = give_same (value_in matches) (λ key. value_of key options) base capacity m.values g in
+    record {
+      options = options;
+      are_options = are;
+      is_base = k.base_is;
+      is_fetch = sym (fetch_read options matches fetch m fetches);
+      is_report = sym (report_read options matches report m reports);
+      is_capacity = k.capacity_is;
+    }
+
+pub same_mirror : (base read : List ℕ) (fetch flag report asked : Bool) (capacity limit : ℕ) →
     (◌≡◌ {A = Result (List ℕ) WordsFault} (Ok read) (Ok base))
-    ⊎ (◌≡◌ {A = Result (List ℕ) WordsFault} (Ok read) (Err NoMemory)) → flag ≡ fetch →
+    ⊎ (◌≡◌ {A = Result (List ℕ) WordsFault} (Ok read) (Err NoMemory)) → flag ≡ fetch → asked ≡ report →
     ◌≡◌ {A = Result ℕ WordsFault} (Ok limit) (Ok capacity) →
-    ◌≡◌ {A = Result Command WordsFault} (Ok (Mirror read flag limit)) (Ok (Mirror base fetch capacity))
-same_mirror base read fetch flag capacity limit (inl e) ef el = cc
-same_mirror base read fetch flag capacity limit (inr e) ef el = absurd (cc)
+    ◌≡◌ {A = Result Command WordsFault} (Ok (Mirror read flag asked limit)) (Ok (Mirror base fetch report capacity))
+same_mirror base read fetch flag report asked capacity limit (inl e) ef er el = cc
+same_mirror base read fetch flag report asked capacity limit (inr e) ef er el = absurd (cc)

@@ -1,5 +1,5 @@
 -- The words of each command.
-use Rattle.std.specs.Prelude.{◌≡◌, ◌≢◌, ℕ, ◌-◌, ◌≤◌, ◌^◌, List, [], ◌∷◌, Option, Some, None, Bool, IsTrue, codes, length}
+use Rattle.std.specs.Prelude.{◌≡◌, ◌≢◌, ℕ, ◌-◌, ◌≤◌, ◌^◌, List, [], ◌∷◌, Option, Some, None, Bool, codes, length}
 use Rattle.uuid.specs.Text.{parsed}
 use Rattle.atom_values.specs.XmlText.{IsAtomText}
 use Rattle.atom_writer.specs.declared.doc.FeedName.{FeedName}
@@ -9,7 +9,7 @@ use Rattle.deleted_entries.specs.FeedId.{version, member_version}
 use Rattle.tool_words.specs.Numbers.{IsNumber}
 use Rattle.tool_words.specs.Options.{Given, AreOptions, is_given, value_of}
 use Rattle.tool_words.specs.declared.command.Command.{Command}
-use Rattle.tool_words.specs.declared.command.Command.TheVariants.{Init, Apply, Show, Serve, Mirror}
+use Rattle.tool_words.specs.declared.command.Command.TheVariants.{Init, Apply, Show, Serve, Mirror, Audit}
 use Rattle.tool_words.specs.declared.command.Show.{Show as Shown}
 use Rattle.tool_words.specs.declared.command.Show.TheVariants.{Document, Feed, Archive, Member, Pile}
 
@@ -79,18 +79,18 @@ pub record IsFeedIdText (value : Option (List ℕ)) (id : List ℕ) : Type 0 whe
   pub is_id : parsed text ≡ Some id
   pub of_a_feed : version id ≢ member_version
 
--- the options name the feed
-pub record IsNamed (options : List Given) (name : FeedName) : Type 0 where
-  pub base : IsBaseText (value_of (codes "base") options) name.base
-  pub id : IsFeedIdText (value_of (codes "uuid") options) name.id
-  pub title : IsNameText (value_of (codes "title") options) name.title
-  pub author : IsNameText (value_of (codes "author") options) name.author
+-- the values of the options name the feed
+pub record IsNamed (value : List ℕ → Option (List ℕ)) (name : FeedName) : Type 0 where
+  pub base : IsBaseText (value (codes "base")) name.base
+  pub id : IsFeedIdText (value (codes "uuid")) name.id
+  pub title : IsNameText (value (codes "title")) name.title
+  pub author : IsNameText (value (codes "author")) name.author
 
 -- the words after `init`
 pub record IsInit (words : List (List ℕ)) (name : FeedName) (window capacity : ℕ) : Type 0 where
   pub options : List Given
   pub are_options : AreOptions init_options [] words options
-  pub is_named : IsNamed options name
+  pub is_named : IsNamed (λ key. value_of key options) name
   pub is_window : IsNumberOr default_window 1 window_limit (value_of (codes "window") options) window
   pub is_capacity :
       IsNumberOr default_capacity capacity_floor capacity_limit (value_of (codes "capacity") options) capacity
@@ -133,12 +133,12 @@ pub record IsServe (words : List (List ℕ)) (listen : List ℕ) (requests : ℕ
   pub is_requests : IsRequests (value_of (codes "requests") options) requests
 
 -- the words after `mirror`
-pub record IsMirror (words : List (List ℕ)) (base : List ℕ) (fetch : Bool) (capacity : ℕ) : Type 0 where
+pub record IsMirror (words : List (List ℕ)) (base : List ℕ) (fetch report : Bool) (capacity : ℕ) : Type 0 where
   pub options : List Given
   pub are_options : AreOptions mirror_options mirror_flags words options
   pub is_base : IsBaseText (value_of (codes "base") options) base
   pub is_fetch : is_given (codes "fetch") options ≡ fetch
-  pub is_report : IsTrue (is_given (codes "report") options)
+  pub is_report : is_given (codes "report") options ≡ report
   pub is_capacity :
       IsNumberOr default_capacity capacity_floor capacity_limit (value_of (codes "capacity") options) capacity
 
@@ -151,5 +151,6 @@ IsCommandOf words (Show shown) =
     (rest : List (List ℕ)) × (words ≡ codes "show" ∷ rest) × IsShow rest shown
 IsCommandOf words (Serve listen requests) =
     (rest : List (List ℕ)) × (words ≡ codes "serve" ∷ rest) × IsServe rest listen requests
-IsCommandOf words (Mirror base fetch capacity) =
-    (rest : List (List ℕ)) × (words ≡ codes "mirror" ∷ rest) × IsMirror rest base fetch capacity
+IsCommandOf words (Mirror base fetch report capacity) =
+    (rest : List (List ℕ)) × (words ≡ codes "mirror" ∷ rest) × IsMirror rest base fetch report capacity
+IsCommandOf words Audit = words ≡ codes "audit" ∷ []

@@ -8,33 +8,37 @@ pub(crate) const WINDOW_LIMIT: u64 = 100;
 /// A command, with its values.
 #[derive(Debug, Drop)]
 pub enum Command {
-    /// `init`: makes a store. The window has from 1 to 100 operations, and the capacity is from 4,096 to 68,719,476,736
-    /// bytes.
+    /// `init`: makes a store. The window has from 1 to 100 operations. The capacity is from 4,096 to
+    /// 68,719,476,736 bytes.
     Init {
         name: FeedName,
         window: u32,
         capacity: u64,
     },
-    /// `apply`: applies lines to an empty history, if a window from 1 to 100 is given, and else to the store.
+    /// `apply`: applies lines. If a window is given, which is from 1 to 100, to an empty history, and else to the
+    /// store.
     Apply {
         window: Option<u32>,
     },
-    /// `show`: prints what is shown.
+    /// `show`: prints a document.
     Show(Show),
     /// `serve`: serves the store over HTTP. `listen` is the address to listen at, which has from 1 to 255 bytes.
-    /// `requests` is from 1 to 1,000,000.
+    /// The command ends after `requests` requests, which are from 1 to 1,000,000.
     Serve {
         listen: Bytes,
         requests: u32,
     },
-    /// `mirror`: mirrors the feed below a base address, and prints a report. Its documents come from the server if `fetch`,
-    /// and else from the pile that is the input. The mirror's area has at most `capacity` bytes, which are from 4,096 to
-    /// 68,719,476,736.
+    /// `mirror`: mirrors the feed below a base address. If `fetch`, the documents come from the server, and else from
+    /// the pile that is the input. If `report`, a report is printed, and else the mirror's certificate. The mirror's
+    /// area has at most `capacity` bytes, which are from 4,096 to 68,719,476,736.
     Mirror {
         base: Base,
         fetch: bool,
+        report: bool,
         capacity: u64,
     },
+    /// `audit`: checks a mirror's certificate against a pile of documents.
+    Audit,
 }
 
 /// What `show` prints.

@@ -3,10 +3,10 @@ use std::alloc::AllocError;
 use std::error::Error;
 use std::fmt;
 
-/// Why words aren't read as a command.
+/// Why `read_words` returns no command.
 #[derive(Clone, Copy, Debug, PartialEq, Eq)]
 pub enum WordsFault {
-    /// The words are those of no command.
+    /// The words spell no command.
     Usage,
     /// Out of memory.
     NoMemory,
@@ -44,3 +44,23 @@ impl From<AllocError> for WordsFault {
         WordsFault::NoMemory
     }
 }
+
+/// Why `read_line` returns nothing that the line asks for.
+#[derive(Clone, Copy, Debug, PartialEq, Eq)]
+pub enum LineFault {
+    /// The line has none of the forms of a line.
+    BadLine,
+    /// Out of memory.
+    NoMemory,
+}
+
+impl fmt::Display for LineFault {
+    fn fmt<W: fmt::Write>(&self, f: &mut fmt::Formatter<W>) -> fmt::Result {
+        match self {
+            LineFault::BadLine => write!(f, "the line has none of the forms of a line"),
+            LineFault::NoMemory => write!(f, "no memory"),
+        }
+    }
+}
+
+impl Error for LineFault {}

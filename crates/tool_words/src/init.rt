@@ -1,7 +1,6 @@
 ghost use Rattle.std.specs.Prelude.{◌≡◌, ◌⊎◌, ℕ, List, Some, codes, map, string_bytes, Ok, Err, IfOk};
 ghost use Rattle.atom_writer.specs.declared.doc.FeedName.{FeedName as NameValue};
-ghost use Rattle.tool_words.specs.Options.{value_of};
-ghost use Rattle.tool_words.specs.Reading.{option_of};
+ghost use Rattle.tool_words.specs.Parse.{value_in};
 ghost use Rattle.tool_words.specs.Words.{IsFeedIdText, IsInit, IsNamed, IsNameText, IsNumberOr, window_limit, default_window};
 ghost use Rattle.tool_words.specs.declared.command.Command.{Command as CommandValue};
 
@@ -10,35 +9,35 @@ use crate::capacity::capacity;
 use crate::command::{Command, WINDOW_LIMIT};
 use crate::fault::WordsFault;
 use crate::number::number;
-use crate::options::{Given, read_options, required, value_of};
+use crate::parse::{parsed, required};
 use atom_values::{AtomText, TextFault};
 use atom_writer::FeedName;
+use clap::ArgMatches;
 use deleted_entries::FeedId;
 use std::alloc::Global;
 
-/// The names of the options.
+/// The names of the options of `init`.
 static INIT_OPTIONS: [&str; 6] = ["base", "uuid", "title", "author", "window", "capacity"];
 
-/// How many operations a window has where the words don't say.
+/// The window if `--window` is left out.
 const DEFAULT_WINDOW: u32 = 10;
 
-/// How many bytes a feed's title and its author may have.
+/// The most bytes of a feed's title, and of its author.
 const NAME_LIMIT: usize = 1_024;
 
 /// Reads the words after `init`.
 pub(crate) fn init(alloc: Global, words: &[String]) -> Result<Command, WordsFault>
     ensures found { IfOk result (λ command. (name : NameValue) × (window capacity : ℕ)
-        × (command ≡ Command.Init name window capacity) × IsInit (map string_bytes words.now) name window capacity) }
-    ensures only { (name : NameValue) (window capacity : ℕ) → IsInit (map string_bytes words.now) name window capacity
+        × (command ≡ Command.Init name window capacity)
+        × IsInit (map string_bytes words.now) name window capacity) }
+    ensures only { (name : NameValue) (window capacity : ℕ)
+        → IsInit (map string_bytes words.now) name window capacity
         → (result ≡ Ok (Command.Init name window capacity)) ⊎ (result ≡ Err WordsFault.NoMemory) }
 {
-    let Some(options) = read_options(alloc, &INIT_OPTIONS, &[], words)? else {
-        return Err(WordsFault::Usage);
-    };
-    let options = options.as_slice();
-    let name = feed_name(alloc, options)?;
-    let window = window(options)?;
-    let capacity = capacity(options)?;
+    let matches = parsed(alloc, &INIT_OPTIONS, &[], words)?;
+    let name = feed_name(alloc, &matches)?;
+    let window = window(&matches)?;
+    let capacity = capacity(&matches)?;
     Ok(Command::Init {
         name,
         window,
@@ -46,16 +45,18 @@ pub(crate) fn init(alloc: Global, words: &[String]) -> Result<Command, WordsFaul
     })
 }
 
-/// The name that the options give the feed.
-fn feed_name(alloc: Global, options: &[Given<'_>]) -> Result<FeedName, WordsFault>
-    ensures found { IfOk result (IsNamed (map option_of options.now)) }
-    ensures only { (name : NameValue) → IsNamed (map option_of options.now) name
+/// The feed's name, from the values of `--base`, `--uuid`, `--title` and `--author`.
+///
+/// `Usage` if one of them is left out or has another form.
+fn feed_name(alloc: Global, matches: &ArgMatches<'_>) -> Result<FeedName, WordsFault>
+    ensures found { IfOk result (IsNamed (value_in matches.now)) }
+    ensures only { (name : NameValue) → IsNamed (value_in matches.now) name
         → (result ≡ Ok name) ⊎ (result ≡ Err WordsFault.NoMemory) }
 {
-    let base = base(alloc, options)?;
-    let id = feed_id(required(options, "uuid")?)?;
-    let title = name_text(alloc, required(options, "title")?)?;
-    let author = name_text(alloc, required(options, "author")?)?;
+    let base = base(alloc, matches)?;
+    let id = feed_id(required(matches, "uuid")?)?;
+    let title = name_text(alloc, required(matches, "title")?)?;
+    let author = name_text(alloc, required(matches, "author")?)?;
     Ok(FeedName {
         base,
         id,
@@ -64,14 +65,16 @@ fn feed_name(alloc: Global, options: &[Given<'_>]) -> Result<FeedName, WordsFaul
     })
 }
 
-/// The window that the options give, or the default.
-fn window(options: &[Given<'_>]) -> Result<u32, WordsFault>
+/// The value of `--window`, or the default.
+///
+/// `Usage` if the value is no number in the range.
+fn window(matches: &ArgMatches<'_>) -> Result<u32, WordsFault>
     ensures found { IfOk result (IsNumberOr default_window 1 window_limit
-        (value_of (codes "window") (map option_of options.now))) }
+        (value_in matches.now (codes "window"))) }
     ensures only { (n : ℕ) → IsNumberOr default_window 1 window_limit
-        (value_of (codes "window") (map option_of options.now)) n → result ≡ Ok n }
+        (value_in matches.now (codes "window")) n → result ≡ Ok n }
 {
-    match value_of(options, "window") {
+    match matches.get_str("window") {
         None => Ok(DEFAULT_WINDOW),
         Some(word) => {
             let window = number(word.as_bytes(), 1, WINDOW_LIMIT).ok_or(WordsFault::Usage)?;
@@ -80,7 +83,7 @@ fn window(options: &[Given<'_>]) -> Result<u32, WordsFault>
     }
 }
 
-/// The identifier that a value is.
+/// The identifier with this text. `Usage` if it is no feed's.
 fn feed_id(text: &str) -> Result<FeedId, WordsFault>
     ensures found { IfOk result (λ id. IsFeedIdText (Some text.now) id) }
     ensures only { (id : List ℕ) → IsFeedIdText (Some text.now) id → result ≡ Ok id }
@@ -88,7 +91,7 @@ fn feed_id(text: &str) -> Result<FeedId, WordsFault>
     FeedId::parse(text.as_bytes()).ok_or(WordsFault::Usage)
 }
 
-/// The title or the author that a value is.
+/// The title or the author with this text. `Usage` if it is too long, or isn't XML text.
 fn name_text(alloc: Global, text: &str) -> Result<AtomText, WordsFault>
     ensures found { IfOk result (IsNameText (Some text.now)) }
     ensures refused { result ≡ Err WordsFault.Usage → (title : List ℕ) → ¬ IsNameText (Some text.now) title }

@@ -1,4 +1,4 @@
-//! The command words of `feed_tool`.
+//! The command words of `feed_tool`, and the lines of its `apply`.
 //!
 //! Begin with [`read_words`], which returns the command that the words after the program's name spell:
 //!
@@ -8,17 +8,23 @@
 //!     Ok(Command::Show(shown)) => ..,
 //!     Ok(Command::Init { name, window, capacity }) => ..,
 //!     Ok(Command::Serve { listen, requests }) => ..,
-//!     Ok(Command::Mirror { base, fetch, capacity }) => ..,
+//!     Ok(Command::Mirror { base, fetch, report, capacity }) => ..,
+//!     Ok(Command::Audit) => ..,
 //!     Err(WordsFault::Usage) => println!(rt; "usage: ..")?,
 //!     Err(WordsFault::NoMemory) => ..,
 //! }
 //! ```
 //!
 //! The first word is the command's name. Options are `--name value` or `--name=value`, in any order, each at most once.
-//! A flag is `--name` without a value. A value isn't empty and doesn't begin with `-`. A number is decimal digits, and may
-//! have leading zeros.
+//! A flag is `--name` without a value. A value isn't empty and doesn't begin with `-`. A number is decimal digits, and
+//! may have leading zeros.
 //!
-//! Stands on `atom_writer` for the name of a feed, and on the crates below it.
+//! Words are tested against this grammar first, and then parsed by `clap`, which gives their values. So words outside
+//! the grammar are `Usage` even if `clap` takes them. A command's words are refused only if memory runs out.
+//!
+//! [`read_line`] reads one line of the input of `apply` as a [`LineAsk`].
+//!
+//! Stands on `clap`, on `atom_writer` for the name of a feed, and on the crates below it.
 #![tactic(auto)]
 
 mod base;
@@ -26,12 +32,15 @@ mod capacity;
 mod command;
 mod fault;
 mod init;
+mod line;
 mod mirror;
 mod number;
 mod options;
+mod parse;
 mod serve;
 mod words;
 
 pub use command::{Command, Show};
-pub use fault::WordsFault;
+pub use fault::{LineFault, WordsFault};
+pub use line::{LineAsk, read_line};
 pub use words::read_words;

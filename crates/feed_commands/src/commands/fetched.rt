@@ -10,6 +10,7 @@ ghost use Rattle.feed_commands.specs.MirrorCrash.{LeavesFetched, LeavesMirror};
 ghost use Rattle.feed_commands.specs.Mirroring.{EndsFetching};
 ghost use Rattle.feed_commands.specs.MirrorFaults.{IsHeldIn, IsReportRefusal, report_answer};
 ghost use Rattle.feed_commands.specs.Outside.{outside_of};
+ghost use Rattle.feed_commands.specs.Printed.{printed_answer};
 ghost use Rattle.feed_commands.specs.Reporting.{IsUsable};
 ghost use Rattle.feed_commands.specs.Run.{EndsWith, IsAlone, IsAnswered, IsDone, alone_line};
 ghost use Rattle.feed_commands.specs.Status.{code_of};
@@ -24,7 +25,8 @@ ghost use Rattle.mirror_walk.specs.Holding.{KeptValue, payloads_of};
 ghost use Rattle.mirror_walk.specs.Loaded.{IsLoadedOf};
 ghost use Rattle.tool_words.specs.declared.command.Command.TheVariants.{Mirror as MirrorOf};
 
-use crate::commands::mirror::{Printed, end_printed, end_unreported};
+use crate::commands::mirror::end_unreported;
+use crate::commands::printed::{Printed, end_printed};
 use crate::commands::report::Report;
 use crate::commands::report_fault::ReportFault;
 use crate::dispatch::Ended;
@@ -37,12 +39,13 @@ use feed_journal::begun_images_are_whole;
 use mirror_walk::Mirror;
 use std::alloc::Global;
 
-/// Mirrors the feed below a base address from the documents of a source, into the mirror's area of the disk, and prints the
-/// report. It asks for the feed's document, and then for the first missing one, as long as one is missing and the last one
+/// Mirrors the feed below a base address from the documents of a source, into the mirror's area of the disk. Prints the
+/// report if `report`, and else the certificate of what is held, or the line of the first missing document. It asks for the feed's document, and then for the first missing one, as long as one is missing and the last one
 /// was there and was taken.
 pub fn mirror_fetched<D: Disk, F: Fetch, O: Sink>(
     alloc: Global,
     base: &Base,
+    report: bool,
     capacity: u64,
     disk: &mut D,
     fetch: &mut F,
@@ -52,7 +55,7 @@ pub fn mirror_fetched<D: Disk, F: Fetch, O: Sink>(
     ensures lines { result.lines.items ≡ [] }
     ensures statuses { MayEndFetched result.status }
     ensures answered { D.told → F.told → IsAnswered result.status → (moments : ℕ → ℕ) (input : SourceState)
-        → EndsWith (MirrorOf base.now true capacity)
+        → EndsWith (MirrorOf base.now true report capacity)
         (outside_of moments input (D.state disk.old) (F.state fetch.old)) O.told
         (O.state output.old) (O.state output.new) result.status }
     ensures alone { O.told → IsAlone result.status
@@ -71,37 +74,39 @@ pub fn mirror_fetched<D: Disk, F: Fetch, O: Sink>(
         → (O.state output.new).faults ≡ (O.state output.old).faults }
     ensures complete { D.told → F.told → (kept : List KeptValue) (given : Answer)
         → IsHeldIn base.now (D.state disk.old).content kept
-        → IsFetched capacity base.now kept (F.state fetch.old).answers given
+        → IsFetched report capacity base.now kept (F.state fetch.old).answers given
         → ¬ Rose (D.state disk.old).faults (D.state disk.new).faults
         → ¬ Rose (F.state fetch.old).faults (F.state fetch.new).faults
         → ¬ Rose (O.state output.old).faults (O.state output.new).faults
         → (result.status ≡ code_of given.status) ⊎ (result.status ≡ code_of status.NoMemory) }
-    ensures fetches { D.told → F.told → EndsFetching capacity base.now (D.state disk.old) (D.state disk.new)
-        (F.state fetch.old) (F.state fetch.new) O.told (O.state output.old) (O.state output.new) result.status }
+    ensures fetches { D.told → F.told → EndsFetching report capacity base.now (D.state disk.old)
+        (D.state disk.new) (F.state fetch.old) (F.state fetch.new) O.told
+        (O.state output.old) (O.state output.new) result.status }
     ensures safe { D.told → LeavesStores (D.state disk.old) (D.state disk.new) }
 {
-    match report(alloc, base, capacity, disk, fetch) {
+    match load_and_walk(alloc, base, report, capacity, disk, fetch) {
         Ok(printed) => end_printed(alloc, output, printed),
         Err(fault) => end_unreported(alloc, output, &fault),
     }
 }
 
-/// Loads the mirror, walks over the documents of the source, and returns the report.
-fn report<D: Disk, F: Fetch>(
+/// Loads the mirror, walks over the documents of the source, and returns what is printed.
+fn load_and_walk<D: Disk, F: Fetch>(
     alloc: Global,
     base: &Base,
+    report: bool,
     capacity: u64,
     disk: &mut D,
     fetch: &mut F,
 ) -> Result<Printed, ReportFault>
     requires { capacity ≤ area_limit }
-    ensures report { IfOk result (λ printed. D.told → F.told
-        → IsWalkedReport capacity base.now (D.state disk.old).content (F.state fetch.old).answers
-        record { status = printed.status; printed = printed.text.items }) }
+    ensures printed { IfOk result (λ printed. D.told → F.told
+        → IsWalkedReport report capacity base.now (D.state disk.old).content (F.state fetch.old).answers
+        (printed_answer printed)) }
     ensures refused { IfErr result (λ fault. IsReportRefusal fault → D.told → F.told
-        → IsWalkRefusal capacity base.now (D.state disk.old).content (F.state fetch.old).answers
+        → IsWalkRefusal report capacity base.now (D.state disk.old).content (F.state fetch.old).answers
         (report_answer fault)) }
-    ensures ends { IfOk result (λ printed. IsDone (code_of printed.status)) }
+    ensures ends { IfOk result (λ printed. IsDone (code_of (printed_answer printed).status)) }
     ensures own { IfErr result MayEndWalkReport }
     ensures disk { result ≡ Err (ReportFault.Other Fault.Disk)
         → Rose (D.state disk.old).faults (D.state disk.new).faults }
@@ -121,7 +126,7 @@ fn report<D: Disk, F: Fetch>(
         (result ≡ Err (ReportFault.Other Fault.Disk)) (IsOk result)) }
 {
     let mirror = Mirror::load(alloc, disk, base.copy(alloc)?, capacity)?;
-    report_loaded(alloc, base, mirror, disk, fetch)
+    report_loaded(alloc, base, report, mirror, disk, fetch)
 }
 
 /// Walks with a mirror that was loaded, and drops it. It is a function of its own, because the proof drops a mirror field
@@ -129,6 +134,7 @@ fn report<D: Disk, F: Fetch>(
 fn report_loaded<D: Disk, F: Fetch>(
     alloc: Global,
     base: &Base,
+    report: bool,
     mut mirror: Mirror,
     disk: &mut D,
     fetch: &mut F,
@@ -136,13 +142,13 @@ fn report_loaded<D: Disk, F: Fetch>(
     requires base { base.now ≡ mirror.base }
     requires usable { IsUsable D.told (D.state disk.old) mirror }
     requires loaded { IsLoadedOf mirror.base (payloads_of mirror.kept) mirror.kept }
-    ensures report { IfOk result (λ printed. D.told → F.told
-        → IsWalkReport mirror.capacity mirror.base mirror.kept (F.state fetch.old).answers
-        record { status = printed.status; printed = printed.text.items }) }
+    ensures printed { IfOk result (λ printed. D.told → F.told
+        → IsWalkReport report mirror.capacity mirror.base mirror.kept (F.state fetch.old).answers
+        (printed_answer printed)) }
     ensures refused { IfErr result (λ fault. IsReportRefusal fault → D.told → F.told
-        → IsFetched mirror.capacity mirror.base mirror.kept (F.state fetch.old).answers
+        → IsFetched report mirror.capacity mirror.base mirror.kept (F.state fetch.old).answers
         (report_answer fault)) }
-    ensures ends { IfOk result (λ printed. IsDone (code_of printed.status)) }
+    ensures ends { IfOk result (λ printed. IsDone (code_of (printed_answer printed).status)) }
     ensures own { IfErr result MayEndWalkReport }
     ensures asks { F.told → AsksOfMirror mirror.capacity mirror.base mirror.kept
         (F.state fetch.old) (F.state fetch.new) }
@@ -160,13 +166,14 @@ fn report_loaded<D: Disk, F: Fetch>(
     ensures fetch_faults { result ≢ Err ReportFault.Fetch
         → (F.state fetch.new).faults ≡ (F.state fetch.old).faults }
 {
-    report_walk(alloc, base, &mut mirror, disk, fetch)
+    report_walk(alloc, base, report, &mut mirror, disk, fetch)
 }
 
-/// Walks over the documents of the source with a mirror that was loaded, and returns the report.
+/// Walks over the documents of the source with a mirror that was loaded, and returns what is printed.
 fn report_walk<D: Disk, F: Fetch>(
     alloc: Global,
     base: &Base,
+    report: bool,
     mirror: &mut Mirror,
     disk: &mut D,
     fetch: &mut F,
@@ -174,13 +181,13 @@ fn report_walk<D: Disk, F: Fetch>(
     requires base { base.now ≡ mirror.old.base }
     requires usable { IsUsable D.told (D.state disk.old) mirror.old }
     requires loaded { IsLoadedOf mirror.old.base (payloads_of mirror.old.kept) mirror.old.kept }
-    ensures report { IfOk result (λ printed. D.told → F.told
-        → IsWalkReport mirror.old.capacity mirror.old.base mirror.old.kept (F.state fetch.old).answers
-        record { status = printed.status; printed = printed.text.items }) }
+    ensures printed { IfOk result (λ printed. D.told → F.told
+        → IsWalkReport report mirror.old.capacity mirror.old.base mirror.old.kept (F.state fetch.old).answers
+        (printed_answer printed)) }
     ensures refused { IfErr result (λ fault. IsReportRefusal fault → D.told → F.told
-        → IsFetched mirror.old.capacity mirror.old.base mirror.old.kept (F.state fetch.old).answers
+        → IsFetched report mirror.old.capacity mirror.old.base mirror.old.kept (F.state fetch.old).answers
         (report_answer fault)) }
-    ensures ends { IfOk result (λ printed. IsDone (code_of printed.status)) }
+    ensures ends { IfOk result (λ printed. IsDone (code_of (printed_answer printed).status)) }
     ensures own { IfErr result MayEndWalkReport }
     ensures asks { F.told → AsksOfMirror mirror.old.capacity mirror.old.base mirror.old.kept
         (F.state fetch.old) (F.state fetch.new) }
@@ -200,10 +207,6 @@ fn report_walk<D: Disk, F: Fetch>(
 {
     begun_images_are_whole();
     let walked = mirror.walk(disk, fetch)?;
-    let mut report = Report::of_walk(alloc, base, &walked)?;
-    let status = report.end(base, mirror, disk)?;
-    Ok(Printed {
-        status,
-        text: report.text,
-    })
+    let made = Report::of_walk(alloc, base, report, &walked)?;
+    Ok(made.end(alloc, base, mirror, disk)?)
 }

@@ -1,7 +1,8 @@
 ghost use Rattle.std.specs.Prelude.{◌≡◌, ◌≢◌, ◌+◌, ◌<◌, ◌≤◌, ◌++◌, [], length, take, drop, false, true, OnOk, OnErr, IfOk, MatchOption};
 ghost use Rattle.atom_values.specs.Ascii.{lf};
 ghost use Rattle.atom_values.specs.Counts.{HasCause, Rose};
-ghost use Rattle.feed_commands.specs.Lines.{KnowsEnd, FindsLine, HasNoLf, IsTooLong, StopsAmid, IsFirst, TakesEnd, TakesAll, ReadsMore, IsSpent, allowance, stream, with_prefix};
+ghost use Rattle.feed_commands.specs.Lines.{KnowsEnd, FindsLine, HasNoLf, IsTooLong, StopsAmid, TakesEnd, TakesAll, ReadsMore, IsSpent, allowance, stream, with_prefix};
+ghost use Rattle.tool_words.specs.Line.{IsFirst};
 
 use crate::commands::line::PREFIX_LIMIT;
 use atom_values::{Failed, NoMemory};

@@ -1,4 +1,4 @@
-ghost use Rattle.std.specs.Prelude.{◌≡◌, ◌≢◌, ◌⊎◌, ◌≤◌, ◌++◌, ℕ, List, [], None, Err, Ok, IfOk, IfErr, IsOk, OnOk, false, map};
+ghost use Rattle.std.specs.Prelude.{◌≡◌, ◌≢◌, ◌⊎◌, ◌≤◌, ℕ, List, [], None, Err, Ok, IfOk, IfErr, IsOk, OnOk, false, map};
 ghost use Rattle.atom_values.specs.Counts.{Rose};
 ghost use Rattle.doc_source.specs.Fetch.{FetchState};
 ghost use Rattle.doc_source.specs.declared.offer.Offer.{Offer as OfferValue};
@@ -13,6 +13,7 @@ ghost use Rattle.feed_commands.specs.MirrorEnds.{MayEndOffers, MayEndPileReport}
 ghost use Rattle.feed_commands.specs.Mirroring.{EndsMirroring};
 ghost use Rattle.feed_commands.specs.MirrorFaults.{IsHeldIn, IsReportRefusal, report_answer};
 ghost use Rattle.feed_commands.specs.Outside.{outside_of};
+ghost use Rattle.feed_commands.specs.Printed.{printed_answer};
 ghost use Rattle.feed_commands.specs.Report.{Reports, no_counts};
 ghost use Rattle.feed_commands.specs.Reporting.{IsUsable, SameMirror};
 ghost use Rattle.feed_commands.specs.Run.{EndsWith, IsAlone, IsAnswered, IsDone, IsMirrorUnrefused, alone_line};
@@ -28,12 +29,12 @@ ghost use Rattle.mirror_walk.specs.Loaded.{IsLoadedOf};
 ghost use Rattle.tool_words.specs.declared.command.Command.TheVariants.{Mirror as MirrorOf};
 
 use crate::commands::lines::INPUT_LIMIT;
+use crate::commands::printed::{Printed, end_printed};
 use crate::commands::report::Report;
 use crate::commands::report_fault::ReportFault;
 use crate::dispatch::{Ended, end_as};
 use crate::fault::{Fault, Refusal};
-use crate::status::Status;
-use atom_values::{Copies, Failed};
+use atom_values::Copies;
 use chain_links::Base;
 use doc_source::{PileFault, PileReader, Sink, Source, write_all};
 use feed_disk::Disk;
@@ -57,11 +58,13 @@ impl From<PileFault> for Fault {
     }
 }
 
-/// Mirrors the feed below a base address from the pile that is the input, into the mirror's area of the disk, and prints
-/// the report. Each document of the pile is in memory until it was offered.
+/// Mirrors the feed below a base address from the pile that is the input, into the mirror's area of the disk. Prints the
+/// report if `report`, and else the certificate of what is held, or the line of the first missing document. Each document
+/// of the pile is in memory until it was offered.
 pub fn mirror<D: Disk, I: Source, O: Sink>(
     alloc: Global,
     base: &Base,
+    report: bool,
     capacity: u64,
     disk: &mut D,
     input: &mut I,
@@ -71,7 +74,7 @@ pub fn mirror<D: Disk, I: Source, O: Sink>(
     ensures lines { result.lines.items ≡ [] }
     ensures statuses { MayEndMirror result.status }
     ensures answered { D.told → I.told → IsAnswered result.status → (moments : ℕ → ℕ) (source : FetchState)
-        → EndsWith (MirrorOf base.now false capacity)
+        → EndsWith (MirrorOf base.now false report capacity)
         (outside_of moments (I.state input.old) (D.state disk.old) source) O.told
         (O.state output.old) (O.state output.new) result.status }
     ensures alone { O.told → IsAlone result.status
@@ -93,37 +96,19 @@ pub fn mirror<D: Disk, I: Source, O: Sink>(
         (I.state input.old) (I.state input.new) }
     ensures complete { D.told → I.told → (kept : List KeptValue) (given : Answer)
         → IsHeldIn base.now (D.state disk.old).content kept
-        → IsMirrored capacity base.now kept (I.state input.old).left given
+        → IsMirrored report capacity base.now kept (I.state input.old).left given
         → ¬ Rose (D.state disk.old).faults (D.state disk.new).faults
         → ¬ Rose (I.state input.old).faults (I.state input.new).faults
         → ¬ Rose (O.state output.old).faults (O.state output.new).faults
         → (result.status ≡ code_of given.status) ⊎ (result.status ≡ code_of status.NoMemory) }
-    ensures mirrors { D.told → I.told → EndsMirroring capacity base.now (D.state disk.old) (D.state disk.new)
-        (I.state input.old).left O.told (O.state output.old) (O.state output.new) result.status }
+    ensures mirrors { D.told → I.told → EndsMirroring report capacity base.now (D.state disk.old)
+        (D.state disk.new) (I.state input.old).left O.told
+        (O.state output.old) (O.state output.new) result.status }
     ensures safe { D.told → LeavesStores (D.state disk.old) (D.state disk.new) }
 {
-    match report(alloc, base, capacity, disk, input) {
+    match load_and_offer(alloc, base, report, capacity, disk, input) {
         Ok(printed) => end_printed(alloc, output, printed),
         Err(fault) => end_unreported(alloc, output, &fault),
-    }
-}
-
-/// Prints what a command prints at its defined end, in one call of the output unless the output takes only a part of it.
-pub(crate) fn end_printed<O: Sink>(alloc: Global, output: &mut O, printed: Printed) -> Ended
-    requires { IsDone (code_of printed.status) }
-    ensures lines { result.lines.items ≡ [] }
-    ensures ends { (result.status ≡ code_of printed.status) ⊎ (result.status ≡ code_of status.OutputFault) }
-    ensures prints { O.told → Prints (O.state output.old) (O.state output.new) printed.text.items }
-    ensures whole { result.status ≢ code_of status.OutputFault → O.told
-        → (O.state output.new).taken ≡ (O.state output.old).taken ++ printed.text.items }
-    ensures fault { result.status ≡ code_of status.OutputFault
-        → Rose (O.state output.old).faults (O.state output.new).faults }
-    ensures no_fault { result.status ≢ code_of status.OutputFault
-        → (O.state output.new).faults ≡ (O.state output.old).faults }
-{
-    match write_all(output, printed.text.as_slice()) {
-        Ok(()) => end_as(alloc, printed.status),
-        Err(Failed) => end_as(alloc, Status::OutputFault),
     }
 }
 
@@ -139,29 +124,23 @@ pub(crate) fn end_unreported<O: Sink>(alloc: Global, output: &mut O, fault: &Rep
     end_as(alloc, fault.status())
 }
 
-/// What `mirror` prints, and the status with which it ends.
-#[derive(Debug, Drop)]
-pub(crate) struct Printed {
-    pub(crate) status: Status,
-    pub(crate) text: Vec<u8>,
-}
-
-/// Loads the mirror, offers it the documents of the pile that is the input, and returns the report.
-fn report<D: Disk, I: Source>(
+/// Loads the mirror, offers it the documents of the pile that is the input, and returns what is printed.
+fn load_and_offer<D: Disk, I: Source>(
     alloc: Global,
     base: &Base,
+    report: bool,
     capacity: u64,
     disk: &mut D,
     input: &mut I,
 ) -> Result<Printed, ReportFault>
     requires { capacity ≤ area_limit }
-    ensures report { IfOk result (λ printed. D.told → I.told
-        → IsPileReport capacity base.now (D.state disk.old).content (I.state input.old).left
-        record { status = printed.status; printed = printed.text.items }) }
+    ensures printed { IfOk result (λ printed. D.told → I.told
+        → IsPileReport report capacity base.now (D.state disk.old).content (I.state input.old).left
+        (printed_answer printed)) }
     ensures refused { IfErr result (λ fault. IsReportRefusal fault → D.told → I.told
-        → IsPileRefusal capacity base.now (D.state disk.old).content (I.state input.old).left
+        → IsPileRefusal report capacity base.now (D.state disk.old).content (I.state input.old).left
         (report_answer fault)) }
-    ensures ends { IfOk result (λ printed. IsDone (code_of printed.status)) }
+    ensures ends { IfOk result (λ printed. IsDone (code_of (printed_answer printed).status)) }
     ensures own { IfErr result MayEndPileReport }
     ensures disk { result ≡ Err (ReportFault.Other Fault.Disk)
         → Rose (D.state disk.old).faults (D.state disk.new).faults }
@@ -182,7 +161,7 @@ fn report<D: Disk, I: Source>(
         (result ≡ Err (ReportFault.Other Fault.Disk)) (IsOk result)) }
 {
     let mirror = Mirror::load(alloc, disk, base.copy(alloc)?, capacity)?;
-    Ok(report_loaded(alloc, base, mirror, disk, input)?)
+    Ok(report_loaded(alloc, base, report, mirror, disk, input)?)
 }
 
 /// Offers the documents to a mirror that was loaded, and drops it. It is a function of its own, because the proof drops a
@@ -190,6 +169,7 @@ fn report<D: Disk, I: Source>(
 fn report_loaded<D: Disk, I: Source>(
     alloc: Global,
     base: &Base,
+    report: bool,
     mut mirror: Mirror,
     disk: &mut D,
     input: &mut I,
@@ -197,13 +177,13 @@ fn report_loaded<D: Disk, I: Source>(
     requires base { base.now ≡ mirror.base }
     requires usable { IsUsable D.told (D.state disk.old) mirror }
     requires loaded { IsLoadedOf mirror.base (payloads_of mirror.kept) mirror.kept }
-    ensures report { IfOk result (λ printed. D.told → I.told
-        → IsReport mirror.capacity mirror.base mirror.kept (I.state input.old).left
-        record { status = printed.status; printed = printed.text.items }) }
+    ensures printed { IfOk result (λ printed. D.told → I.told
+        → IsReport report mirror.capacity mirror.base mirror.kept (I.state input.old).left
+        (printed_answer printed)) }
     ensures refused { IfErr result (λ fault. IsRefusal fault → D.told → I.told
-        → IsMirrored mirror.capacity mirror.base mirror.kept (I.state input.old).left
+        → IsMirrored report mirror.capacity mirror.base mirror.kept (I.state input.old).left
         (fault_answer fault)) }
-    ensures ends { IfOk result (λ printed. IsDone (code_of printed.status)) }
+    ensures ends { IfOk result (λ printed. IsDone (code_of (printed_answer printed).status)) }
     ensures own { IfErr result MayEndOffers }
     ensures gives { GivesOffers mirror.capacity mirror.base mirror.kept (I.state input.old).left
         I.told D.told (D.state disk.old) (D.state disk.new) (result ≡ Err Fault.Disk) (IsOk result) }
@@ -218,13 +198,14 @@ fn report_loaded<D: Disk, I: Source>(
         (I.state input.old) (I.state input.new) }
     ensures faults { result ≢ Err Fault.Input → (I.state input.new).faults ≡ (I.state input.old).faults }
 {
-    report_offers(alloc, base, &mut mirror, disk, input)
+    report_offers(alloc, base, report, &mut mirror, disk, input)
 }
 
-/// Offers the documents of the pile that is the input to a mirror that was loaded, and returns the report.
+/// Offers the documents of the pile that is the input to a mirror that was loaded, and returns what is printed.
 fn report_offers<D: Disk, I: Source>(
     alloc: Global,
     base: &Base,
+    report: bool,
     mirror: &mut Mirror,
     disk: &mut D,
     input: &mut I,
@@ -232,13 +213,13 @@ fn report_offers<D: Disk, I: Source>(
     requires base { base.now ≡ mirror.old.base }
     requires usable { IsUsable D.told (D.state disk.old) mirror.old }
     requires loaded { IsLoadedOf mirror.old.base (payloads_of mirror.old.kept) mirror.old.kept }
-    ensures report { IfOk result (λ printed. D.told → I.told
-        → IsReport mirror.old.capacity mirror.old.base mirror.old.kept (I.state input.old).left
-        record { status = printed.status; printed = printed.text.items }) }
+    ensures printed { IfOk result (λ printed. D.told → I.told
+        → IsReport report mirror.old.capacity mirror.old.base mirror.old.kept (I.state input.old).left
+        (printed_answer printed)) }
     ensures refused { IfErr result (λ fault. IsRefusal fault → D.told → I.told
-        → IsMirrored mirror.old.capacity mirror.old.base mirror.old.kept (I.state input.old).left
+        → IsMirrored report mirror.old.capacity mirror.old.base mirror.old.kept (I.state input.old).left
         (fault_answer fault)) }
-    ensures ends { IfOk result (λ printed. IsDone (code_of printed.status)) }
+    ensures ends { IfOk result (λ printed. IsDone (code_of (printed_answer printed).status)) }
     ensures own { IfErr result MayEndOffers }
     ensures gives { GivesOffers mirror.old.capacity mirror.old.base mirror.old.kept (I.state input.old).left
         I.told D.told (D.state disk.old) (D.state disk.new) (result ≡ Err Fault.Disk) (IsOk result) }
@@ -255,13 +236,9 @@ fn report_offers<D: Disk, I: Source>(
 {
     begun_images_are_whole();
     let mut reader = PileReader::new(alloc, INPUT_LIMIT)?;
-    let mut report = Report::new(alloc);
-    offer_all(&mut report, mirror, disk, &mut reader, input)?;
-    let status = report.end(base, mirror, disk)?;
-    Ok(Printed {
-        status,
-        text: report.text,
-    })
+    let mut made = Report::new(alloc, report);
+    offer_all(&mut made, mirror, disk, &mut reader, input)?;
+    made.end(alloc, base, mirror, disk)
 }
 
 /// Offers the documents of the pile to the mirror, and adds the answers to the report.
@@ -278,13 +255,13 @@ fn offer_all<D: Disk, I: Source>(
     requires reader { reader.old ≡ record { ahead = []; used = 0; limit = pile_limit; refusal = None } }
     ensures offers { OnOk result ((offers : List OfferValue)
         × (I.told → ReadsTo (I.state input.old).left offers (Ok None))
-        × Reports mirror.old.capacity mirror.old.base mirror.old.kept (map offering offers) mirror.new.kept
-        report.new) }
+        × Reports report.old.detailed mirror.old.capacity mirror.old.base mirror.old.kept
+        (map offering offers) mirror.new.kept report.new) }
     ensures same { SameMirror mirror.old mirror.new }
     ensures usable { result ≢ Err Fault.Disk → IsUsable D.told (D.state disk.new) mirror.new }
     ensures refused { IfErr result (λ fault. IsRefusal fault → I.told
-        → IsMirrored mirror.old.capacity mirror.old.base mirror.old.kept (I.state input.old).left
-        (fault_answer fault)) }
+        → IsMirrored report.old.detailed mirror.old.capacity mirror.old.base mirror.old.kept
+        (I.state input.old).left (fault_answer fault)) }
     ensures own { IfErr result MayEndOffers }
     ensures gives { GivesOffers mirror.old.capacity mirror.old.base mirror.old.kept (I.state input.old).left
         I.told D.told (D.state disk.old) (D.state disk.new) (result ≡ Err Fault.Disk) (IsOk result) }

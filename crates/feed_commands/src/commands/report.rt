@@ -2,27 +2,33 @@ ghost use Rattle.std.specs.Prelude.{◌≡◌, ◌≢◌, ◌≤◌, ◌<◌, �
 ghost use Rattle.atom_values.specs.Counts.{Rose};
 ghost use Rattle.atom_values.specs.Entry.{EntryValue};
 ghost use Rattle.chain_links.specs.Address.{IsAddress};
+ghost use Rattle.coverage_certificate.specs.Held.{certificate_of};
 ghost use Rattle.feed_commands.specs.Fault.{IsRefusal};
-ghost use Rattle.feed_commands.specs.MirrorFaults.{full_fault};
+ghost use Rattle.feed_commands.specs.MirrorFaults.{full_fault, reread_fault};
+ghost use Rattle.feed_commands.specs.Printed.{printed_answer};
 ghost use Rattle.feed_commands.specs.Report as lines;
-ghost use Rattle.feed_commands.specs.Report.{HasAdded, IsReportable, counts_line, complete_line, missing_line, no_counts};
-ghost use Rattle.feed_commands.specs.Report.{total, walk_counts, walk_line};
+ghost use Rattle.feed_commands.specs.Report.{EndsReport, HasAdded, IsReportable, complete_line, counts_line, missing_line};
+ghost use Rattle.feed_commands.specs.Report.{no_counts, refused_line_in, total, walk_counts, walk_line_in};
 ghost use Rattle.feed_commands.specs.Reporting.{IsUsable, MayEndOffer, MayEndReading, SameMirror};
 ghost use Rattle.feed_commands.specs.Show.{entry_line};
 ghost use Rattle.feed_disk.specs.Moments.{AlwaysLeaves, LeavesAlone};
 ghost use Rattle.feed_disk.specs.declared.area.Area.{Area as AreaValue};
 ghost use Rattle.feed_disk.specs.declared.area.Area.TheVariants.{Mirror as MirrorArea};
 ghost use Rattle.mirror_walk.specs.Accept.{Answer as MirrorAnswer, IsAnswerWithin};
+ghost use Rattle.mirror_walk.specs.Holding.{best_of, payloads_of};
 ghost use Rattle.mirror_walk.specs.Listing.{live_at, live_entries, outcome_of};
+ghost use Rattle.mirror_walk.specs.Loaded.{IsLoadedOf};
 ghost use Rattle.mirror_walk.specs.Mirror.{IsAtRest, IsOfferStep};
 ghost use Rattle.mirror_walk.specs.declared.answer.Offered.TheVariants.{Full as NoRoom};
 
+use crate::commands::printed::Printed;
 use crate::commands::summary::{push_entry, push_numbered};
 use crate::fault::{BadStore, Fault};
 use crate::status::Status;
 use atom_grammar::MAX_DOCUMENT;
 use atom_values::{Entry, NoMemory};
 use chain_links::{Address, Base};
+use coverage_certificate::Certificate;
 use feed_disk::{Area, Disk};
 use feed_journal::LogFault;
 use mirror_walk::{Accepted, Mirror, Offered, Outcome, Refusal, Walked};
@@ -40,17 +46,21 @@ pub struct Counts {
 /// The report of a mirror as it is made: a line for each refused offer so far, and how many offers got each answer.
 #[derive(Debug, Drop)]
 pub struct Report {
+    /// Whether the report is printed. If not, the certificate of what is held is, and no line is kept.
+    pub detailed: bool,
     pub text: Vec<u8>,
     pub counts: Counts,
 }
 
 impl Report {
     /// The report before the first offer.
-    pub fn new(alloc: Global) -> Report
+    pub fn new(alloc: Global, detailed: bool) -> Report
+        ensures detailed { result.detailed ≡ detailed }
         ensures text { result.text.items ≡ [] }
         ensures counts { result.counts ≡ no_counts }
     {
         Report {
+            detailed,
             text: Vec::new(alloc),
             counts: Counts {
                 taken: 0,
@@ -62,12 +72,19 @@ impl Report {
     }
 
     /// The report of a walk.
-    pub fn of_walk(alloc: Global, base: &Base, walked: &Walked) -> Result<Report, NoMemory>
+    pub fn of_walk(
+        alloc: Global,
+        base: &Base,
+        detailed: bool,
+        walked: &Walked,
+    ) -> Result<Report, NoMemory>
         requires { IfSome walked.now.refused (λ refusal. IsAddress refusal.address) }
-        ensures text { IfOk result (λ report. report.text.items ≡ walk_line base.now walked.now.refused) }
+        ensures detailed { IfOk result (λ report. report.detailed ≡ detailed) }
+        ensures text { IfOk result (λ report.
+            report.text.items ≡ walk_line_in detailed base.now walked.now.refused) }
         ensures counts { IfOk result (λ report. report.counts ≡ walk_counts walked.now) }
     {
-        let mut report = Report::new(alloc);
+        let mut report = Report::new(alloc, detailed);
         report.counts.taken = walked.taken;
         report.counts.known = walked.known;
         report.counts.stale = walked.stale;
@@ -78,7 +95,7 @@ impl Report {
         Ok(report)
     }
 
-    /// Adds the line of the document at which a walk ended.
+    /// Adds the line of the document at which a walk ended, if the report is printed.
     fn push_refusal(
         &mut self,
         alloc: Global,
@@ -87,9 +104,13 @@ impl Report {
     ) -> Result<(), NoMemory>
         requires { IsAddress refusal.now.address }
         ensures text { OnOk result (self.new.text.items
-            ≡ self.old.text.items ++ walk_line base.now (Some refusal.now)) }
+            ≡ self.old.text.items ++ walk_line_in self.old.detailed base.now (Some refusal.now)) }
         ensures counts { self.new.counts ≡ self.old.counts }
+        ensures detailed { self.new.detailed ≡ self.old.detailed }
     {
+        if !self.detailed {
+            return Ok(());
+        }
         let address = base.print(alloc, refusal.address)?;
         push_refused(
             &mut self.text,
@@ -150,15 +171,60 @@ impl Report {
             Ok(Accepted::Stale) => self.counts.stale += 1,
             Err(refusal) => {
                 self.counts.refused += 1;
-                push_refused(&mut self.text, address, refusal_name(refusal))?;
+                self.push_line(address, refusal)?;
             }
         }
         Ok(())
     }
 
+    /// Adds the line of a refused offer, if the report is printed.
+    fn push_line(&mut self, address: &[u8], refusal: &Offered) -> Result<(), NoMemory>
+        ensures text { OnOk result (self.new.text.items
+            ≡ self.old.text.items ++ refused_line_in self.old.detailed address.now (Err refusal.now)) }
+        ensures counts { self.new.counts ≡ self.old.counts }
+        ensures detailed { self.new.detailed ≡ self.old.detailed }
+    {
+        if !self.detailed {
+            return Ok(());
+        }
+        push_refused(&mut self.text, address, refusal_name(refusal))
+    }
+
+    /// Returns what is printed of the mirror, and the status: the report, or else the certificate of what is held. A
+    /// mirror that isn't complete has no certificate, so that the line of the missing document is printed alone.
+    /// Reads documents back from the disk.
+    pub(crate) fn end<D: Disk>(
+        mut self,
+        alloc: Global,
+        base: &Base,
+        mirror: &mut Mirror,
+        disk: &mut D,
+    ) -> Result<Printed, Fault>
+        requires base { base.now ≡ mirror.old.base }
+        requires usable { IsUsable D.told (D.state disk.old) mirror.old }
+        requires no_line { self.detailed ≡ false → self.text.items ≡ [] }
+        ensures printed { IfOk result (λ printed. EndsReport
+            (D.told × IsLoadedOf mirror.old.base (payloads_of mirror.old.kept) mirror.old.kept)
+            base.now self mirror.old.kept (printed_answer printed)) }
+        ensures own { IfErr result MayEndReading }
+        ensures never { IfErr result (λ fault. D.told → ¬ IsRefusal fault) }
+        ensures areas { (a : AreaValue) → LeavesAlone (D.state disk.old) (D.state disk.new) a }
+        ensures disk { result ≡ Err Fault.Disk → Rose (D.state disk.old).faults (D.state disk.new).faults }
+        ensures disk_faults { result ≢ Err Fault.Disk → (D.state disk.new).faults ≡ (D.state disk.old).faults }
+    {
+        if !self.detailed {
+            return certified(alloc, base, mirror, disk);
+        }
+        let status = self.push_ending(base, mirror, disk)?;
+        Ok(Printed::Text {
+            status,
+            text: self.text,
+        })
+    }
+
     /// Adds the counts, and what the mirror shows: the missing document alone, or the live entries and the version.
     /// Returns the status with which `mirror` ends. It reads the entries back from the disk.
-    pub fn end<D: Disk>(
+    fn push_ending<D: Disk>(
         &mut self,
         base: &Base,
         mirror: &mut Mirror,
@@ -302,10 +368,80 @@ fn live_entry<D: Disk>(mirror: &mut Mirror, disk: &mut D, number: u32) -> Result
     match mirror.entry(disk, number) {
         Ok(entry) => Ok(entry),
         Err(LogFault::DiskFault) => Err(Fault::Disk),
-        Err(LogFault::Changed { index }) => Err(Fault::BadStore(BadStore::Changed {
-            area: Area::Mirror,
-            index,
-        })),
+        Err(LogFault::Changed { index }) => Err(changed(index)),
+        Err(LogFault::NoMemory) => Err(Fault::NoMemory),
+    }
+}
+
+/// The fault of a document that the disk gave other bytes of.
+fn changed(index: u32) -> Fault
+    ensures { result ≡ reread_fault (LogFault.Changed index) }
+{
+    Fault::BadStore(BadStore::Changed {
+        area: Area::Mirror,
+        index,
+    })
+}
+
+/// The certificate of what a complete mirror holds, or the line of a missing document.
+fn certified<D: Disk>(
+    alloc: Global,
+    base: &Base,
+    mirror: &mut Mirror,
+    disk: &mut D,
+) -> Result<Printed, Fault>
+    requires base { base.now ≡ mirror.old.base }
+    requires usable { IsUsable D.told (D.state disk.old) mirror.old }
+    ensures status { IfOk result (λ printed.
+        (printed_answer printed).status ≡ lines.status_of (outcome_of mirror.old.kept)) }
+    ensures text { IfOk result (λ printed. D.told
+        → IsLoadedOf mirror.old.base (payloads_of mirror.old.kept) mirror.old.kept
+        → (printed_answer printed).printed
+        ≡ lines.certified_ending base.now mirror.old.kept (outcome_of mirror.old.kept)) }
+    ensures own { IfErr result MayEndReading }
+    ensures never { IfErr result (λ fault. D.told → ¬ IsRefusal fault) }
+    ensures areas { (a : AreaValue) → LeavesAlone (D.state disk.old) (D.state disk.new) a }
+    ensures disk { result ≡ Err Fault.Disk → Rose (D.state disk.old).faults (D.state disk.new).faults }
+    ensures disk_faults { result ≢ Err Fault.Disk → (D.state disk.new).faults ≡ (D.state disk.old).faults }
+{
+    match mirror.outcome()? {
+        Outcome::Missing { address } => {
+            let mut text = Vec::new(alloc);
+            push_missing(&mut text, base, address)?;
+            Ok(Printed::Text {
+                status: Status::Incomplete,
+                text,
+            })
+        }
+        Outcome::Complete { .. } => {
+            let certificate = certificate(alloc, mirror, disk)?;
+            Ok(Printed::Certificate(certificate))
+        }
+    }
+}
+
+/// The certificate of what a complete mirror holds.
+fn certificate<D: Disk>(
+    alloc: Global,
+    mirror: &mut Mirror,
+    disk: &mut D,
+) -> Result<Certificate, Fault>
+    requires listed { IsTrue mirror.old.listed }
+    requires best { IsSome (best_of mirror.old.kept) }
+    requires usable { IsUsable D.told (D.state disk.old) mirror.old }
+    ensures certificate { IfOk result (λ made. D.told
+        → IsLoadedOf mirror.old.base (payloads_of mirror.old.kept) mirror.old.kept
+        → certificate_of mirror.old.base mirror.old.kept ≡ Some made) }
+    ensures own { IfErr result MayEndReading }
+    ensures never { IfErr result (λ fault. D.told → ¬ IsRefusal fault) }
+    ensures areas { (a : AreaValue) → LeavesAlone (D.state disk.old) (D.state disk.new) a }
+    ensures disk { result ≡ Err Fault.Disk → Rose (D.state disk.old).faults (D.state disk.new).faults }
+    ensures disk_faults { result ≢ Err Fault.Disk → (D.state disk.new).faults ≡ (D.state disk.old).faults }
+{
+    match Certificate::of(alloc, mirror, disk) {
+        Ok(certificate) => Ok(certificate),
+        Err(LogFault::DiskFault) => Err(Fault::Disk),
+        Err(LogFault::Changed { index }) => Err(changed(index)),
         Err(LogFault::NoMemory) => Err(Fault::NoMemory),
     }
 }

@@ -1,23 +1,23 @@
-use Rattle.std.proofs.Common.{◌≡◌, ◌⊎◌, inl, ⊎_elim, ℕ, Bool, None, Err, true, false, refl, sym, subst, ap, ◌∙◌, arith}
+use Rattle.std.proofs.Common.{rules, ◌≡◌, ◌⊎◌, inl, ⊎_elim, ℕ, Bool, None, Err, true, false, refl, sym, subst, ap, ◌∙◌, arith}
 use Rattle.std.proofs.lemmas.Result.{on_ok_weaker}
-use Rattle.tool_words.specs.declared.command.Command.TheVariants.{Init, Apply, Mirror, Serve, Show}
+use Rattle.tool_words.specs.declared.command.Command.TheVariants.{Init, Apply, Audit, Mirror, Serve, Show}
 use Rattle.tool_words.specs.declared.command.Show.TheVariants.{Pile}
-use Rattle.tool_words.specs.declared.command.Command.{Command}
 use Rattle.feed_commands.specs.declared.commands.report_fault.ReportFault.TheVariants.{Other}
 use Rattle.feed_commands.specs.declared.fault.Fault.TheVariants.{Disk, Input, NoMemory}
 use Rattle.feed_commands.specs.Answer.{Answer}
 use Rattle.feed_commands.specs.Crash.{AddsNothing}
 use Rattle.feed_commands.specs.Fault.{fault_answer}
 use Rattle.feed_commands.specs.Mirroring.{EndsFetching, EndsMirroring}
-use Rattle.feed_commands.specs.Run.{EndsWith, IsAnswered, IsComplete, IsDueAnswer, IsSeen}
+use Rattle.feed_commands.specs.Outside.{outside_of}
 use Rattle.feed_commands.specs.Status.{code_of}
 use Rattle.feed_commands.proofs.DiskLemmas.{applies-weaker, makes-none, makes-weaker}
-use Rattle.feed_commands.proofs.EndLemmas.{answered-refusal, no_door, no_end, no_output}
+use Rattle.feed_commands.proofs.EndLemmas.{answered-refusal, no_door, no_end, no_output, no_three}
 use Rattle.feed_commands.proofs.MirrorEndLemmas.{fault-complete}
 use Rattle.feed_commands.proofs.PileEndLemmas.{cut-at-once, pile-is_status}
 use Rattle.feed_commands.proofs.PrintLemmas.{alone-fault, prints-from}
-use Rattle.feed_commands.proofs.RunLemmas.{ends-done, ends-refused, ends-unsent, no_command, read_all, read_as, read_only, same_requests}
-use Rattle.feed_commands.proofs.RunLemmas.{fetched-status, mirror-status, same_mirror, seen-unfetched, serve-status, usage}
+use Rattle.feed_commands.proofs.RunLemmas.{ends-done, ends-refused, ends-unsent, no_command, read_all, read_as, same_requests}
+use Rattle.feed_commands.proofs.RunLemmas.{audit-status, fetched-status, mirror-status, same_mirror, seen-unfetched}
+use Rattle.feed_commands.proofs.RunLemmas.{serve-status, usage}
 use Rattle.feed_commands.proofs.dispatch.run.Goals as goal
 
 pub returns-in-Err-Usage-clause-made : goal.returns-in-Err-Usage-clause-made
@@ -229,15 +229,28 @@ returns-clause-complete g c = read_all _ c.read_words.result c.in-Ok.command _ c
 
 -- `mirror --fetch`
 
-pub returns-in-Mirror-default-true-default-clause-statuses : goal.returns-in-Mirror-default-true-default-clause-statuses
-returns-in-Mirror-default-true-default-clause-statuses g c =
+pub returns-in-Mirror-default-true-default-default-clause-statuses :
+    goal.returns-in-Mirror-default-true-default-default-clause-statuses
+returns-in-Mirror-default-true-default-default-clause-statuses g c =
     fetched-status c.mirror_fetched.result.status c.mirror_fetched.ensures.statuses
 
-pub returns-in-Mirror-default-true-default-clause-complete : goal.returns-in-Mirror-default-true-default-clause-complete
-returns-in-Mirror-default-true-default-clause-complete g c =
-    let arm = c.in-Mirror-default-true-default in
-    let is : c.in-Ok.command ≡ Mirror arm.base true arm.capacity =
-    arm.is ∙ ap (λ (f : Bool). Mirror arm.base f arm.capacity) arm.fetch-test in
+pub returns-in-Mirror-default-true-default-default-clause-answered :
+    goal.returns-in-Mirror-default-true-default-default-clause-answered
+returns-in-Mirror-default-true-default-default-clause-answered g c =
+    let arm = c.in-Mirror-default-true-default-default in
+    let is : c.in-Ok.command ≡ Mirror arm.base true arm.report arm.capacity =
+    arm.is ∙ ap (λ (f : Bool). Mirror arm.base f arm.report arm.capacity) arm.fetch-test in
+    read_all _ c.read_words.result c.in-Ok.command _ c.in-Ok.is
+    c.read_words.ensures.only (rw is (λ seen answered.
+    c.mirror_fetched.ensures.answered (seen.disk tt) (seen.fetch tt) answered (g.C.Clock.coming c.args.clock.now)
+    (g.I.Source.state c.args.input.now)))
+
+pub returns-in-Mirror-default-true-default-default-clause-complete :
+    goal.returns-in-Mirror-default-true-default-default-clause-complete
+returns-in-Mirror-default-true-default-default-clause-complete g c =
+    let arm = c.in-Mirror-default-true-default-default in
+    let is : c.in-Ok.command ≡ Mirror arm.base true arm.report arm.capacity =
+    arm.is ∙ ap (λ (f : Bool). Mirror arm.base f arm.report arm.capacity) arm.fetch-test in
     read_all _ c.read_words.result c.in-Ok.command _ c.in-Ok.is
     c.read_words.ensures.only (rw is (λ seen given due. record {
       ends = λ disk fetch input output.
@@ -245,92 +258,136 @@ returns-in-Mirror-default-true-default-clause-complete g c =
           output;
     }))
 
-pub returns-in-Mirror-default-true-default-clause-mirror : goal.returns-in-Mirror-default-true-default-clause-mirror
-returns-in-Mirror-default-true-default-clause-mirror g c = λ others.
-    let arm = c.in-Mirror-default-true-default in
-    let is : c.in-Ok.command ≡ Mirror arm.base true arm.capacity =
-    arm.is ∙ ap (λ (f : Bool). Mirror arm.base f arm.capacity) arm.fetch-test in
-    absurd (others _ true _ (read_as _ c.read_words.result c.in-Ok.command _ c.in-Ok.is
+pub returns-in-Mirror-default-true-default-default-clause-mirror :
+    goal.returns-in-Mirror-default-true-default-default-clause-mirror
+returns-in-Mirror-default-true-default-default-clause-mirror g c = λ others.
+    let arm = c.in-Mirror-default-true-default-default in
+    let is : c.in-Ok.command ≡ Mirror arm.base true arm.report arm.capacity =
+    arm.is ∙ ap (λ (f : Bool). Mirror arm.base f arm.report arm.capacity) arm.fetch-test in
+    absurd (others _ true _ _ (read_as _ c.read_words.result c.in-Ok.command _ c.in-Ok.is
     is c.read_words.ensures.found))
 
-pub returns-in-Mirror-default-true-default-clause-mirrors : goal.returns-in-Mirror-default-true-default-clause-mirrors
-returns-in-Mirror-default-true-default-clause-mirrors g c = λ base capacity of_words.
-    let arm = c.in-Mirror-default-true-default in
-    let is : c.in-Ok.command ≡ Mirror arm.base true arm.capacity =
-    arm.is ∙ ap (λ (f : Bool). Mirror arm.base f arm.capacity) arm.fetch-test in
+pub returns-in-Mirror-default-true-default-default-clause-mirrors :
+    goal.returns-in-Mirror-default-true-default-default-clause-mirrors
+returns-in-Mirror-default-true-default-default-clause-mirrors g c = λ base report capacity of_words.
+    let arm = c.in-Mirror-default-true-default-default in
+    let is : c.in-Ok.command ≡ Mirror arm.base true arm.report arm.capacity =
+    arm.is ∙ ap (λ (f : Bool). Mirror arm.base f arm.report arm.capacity) arm.fetch-test in
     let other : false ≡ true =
-    same_mirror (λ b fetch c. fetch ≡ true) _ c.read_words.result c.in-Ok.command _ true _ c.in-Ok.is
-    is c.read_words.ensures.only refl base false capacity of_words in
+    same_mirror (λ b fetch report c. fetch ≡ true) _ c.read_words.result c.in-Ok.command _ true _ _ c.in-Ok.is
+    is c.read_words.ensures.only refl base false report capacity of_words in
     absurd (cc)
 
-pub returns-in-Mirror-default-true-default-clause-fetches : goal.returns-in-Mirror-default-true-default-clause-fetches
-returns-in-Mirror-default-true-default-clause-fetches g c = λ base capacity of_words.
-    let arm = c.in-Mirror-default-true-default in
-    let is : c.in-Ok.command ≡ Mirror arm.base true arm.capacity =
-    arm.is ∙ ap (λ (f : Bool). Mirror arm.base f arm.capacity) arm.fetch-test in
-    same_mirror (λ b fetch most. g.D.Disk.told → g.F.Fetch.told
-    → EndsFetching most b (g.D.Disk.state c.args.disk.now) (g.D.Disk.state c.mirror_fetched.new.disk)
+pub returns-in-Mirror-default-true-default-default-clause-fetches :
+    goal.returns-in-Mirror-default-true-default-default-clause-fetches
+returns-in-Mirror-default-true-default-default-clause-fetches g c = λ base report capacity of_words.
+    let arm = c.in-Mirror-default-true-default-default in
+    let is : c.in-Ok.command ≡ Mirror arm.base true arm.report arm.capacity =
+    arm.is ∙ ap (λ (f : Bool). Mirror arm.base f arm.report arm.capacity) arm.fetch-test in
+    same_mirror (λ b fetch report most. g.D.Disk.told → g.F.Fetch.told
+    → EndsFetching report most b (g.D.Disk.state c.args.disk.now) (g.D.Disk.state c.mirror_fetched.new.disk)
     (g.F.Fetch.state c.args.fetch.now) (g.F.Fetch.state c.mirror_fetched.new.fetch) g.O.Sink.told
     (g.O.Sink.state c.args.output.now) (g.O.Sink.state c.mirror_fetched.new.output) c.mirror_fetched.result.status)
-    _ c.read_words.result c.in-Ok.command _ true _ c.in-Ok.is is
-    c.read_words.ensures.only c.mirror_fetched.ensures.fetches base true capacity of_words
+    _ c.read_words.result c.in-Ok.command _ true _ _ c.in-Ok.is is
+    c.read_words.ensures.only c.mirror_fetched.ensures.fetches base true report capacity of_words
 
 -- `mirror` from a pile
 
-pub returns-in-Mirror-default-false-default-clause-statuses :
-    goal.returns-in-Mirror-default-false-default-clause-statuses
-returns-in-Mirror-default-false-default-clause-statuses g c =
+pub returns-in-Mirror-default-false-default-default-clause-statuses :
+    goal.returns-in-Mirror-default-false-default-default-clause-statuses
+returns-in-Mirror-default-false-default-default-clause-statuses g c =
     mirror-status c.mirror.result.status c.mirror.ensures.statuses
 
-pub returns-in-Mirror-default-false-default-clause-answered :
-    goal.returns-in-Mirror-default-false-default-clause-answered
-returns-in-Mirror-default-false-default-clause-answered g c =
-    let arm = c.in-Mirror-default-false-default in
-    let is : c.in-Ok.command ≡ Mirror arm.base false arm.capacity =
-    arm.is ∙ ap (λ (f : Bool). Mirror arm.base f arm.capacity) arm.fetch-test in
+pub returns-in-Mirror-default-false-default-default-clause-answered :
+    goal.returns-in-Mirror-default-false-default-default-clause-answered
+returns-in-Mirror-default-false-default-default-clause-answered g c =
+    let arm = c.in-Mirror-default-false-default-default in
+    let is : c.in-Ok.command ≡ Mirror arm.base false arm.report arm.capacity =
+    arm.is ∙ ap (λ (f : Bool). Mirror arm.base f arm.report arm.capacity) arm.fetch-test in
     read_all _ c.read_words.result c.in-Ok.command _ c.in-Ok.is
     c.read_words.ensures.only (rw is (λ seen answered.
     c.mirror.ensures.answered (seen.disk tt) (seen.input tt) answered (g.C.Clock.coming c.args.clock.now)
     (g.F.Fetch.state c.args.fetch.now)))
 
-pub returns-in-Mirror-default-false-default-clause-complete :
-    goal.returns-in-Mirror-default-false-default-clause-complete
-returns-in-Mirror-default-false-default-clause-complete g c =
-    let arm = c.in-Mirror-default-false-default in
-    let is : c.in-Ok.command ≡ Mirror arm.base false arm.capacity =
-    arm.is ∙ ap (λ (f : Bool). Mirror arm.base f arm.capacity) arm.fetch-test in
+pub returns-in-Mirror-default-false-default-default-clause-complete :
+    goal.returns-in-Mirror-default-false-default-default-clause-complete
+returns-in-Mirror-default-false-default-default-clause-complete g c =
+    let arm = c.in-Mirror-default-false-default-default in
+    let is : c.in-Ok.command ≡ Mirror arm.base false arm.report arm.capacity =
+    arm.is ∙ ap (λ (f : Bool). Mirror arm.base f arm.report arm.capacity) arm.fetch-test in
     read_all _ c.read_words.result c.in-Ok.command _ c.in-Ok.is
     c.read_words.ensures.only (rw is (λ seen given due. record {
       ends = λ disk fetch input output.
           c.mirror.ensures.complete (seen.disk tt) (seen.input tt) due.kept given due.loaded due.is disk input output;
     }))
 
-pub returns-in-Mirror-default-false-default-clause-mirror : goal.returns-in-Mirror-default-false-default-clause-mirror
-returns-in-Mirror-default-false-default-clause-mirror g c = λ others.
-    let arm = c.in-Mirror-default-false-default in
-    let is : c.in-Ok.command ≡ Mirror arm.base false arm.capacity =
-    arm.is ∙ ap (λ (f : Bool). Mirror arm.base f arm.capacity) arm.fetch-test in
-    absurd (others _ false _ (read_as _ c.read_words.result c.in-Ok.command _ c.in-Ok.is
+pub returns-in-Mirror-default-false-default-default-clause-mirror :
+    goal.returns-in-Mirror-default-false-default-default-clause-mirror
+returns-in-Mirror-default-false-default-default-clause-mirror g c = λ others.
+    let arm = c.in-Mirror-default-false-default-default in
+    let is : c.in-Ok.command ≡ Mirror arm.base false arm.report arm.capacity =
+    arm.is ∙ ap (λ (f : Bool). Mirror arm.base f arm.report arm.capacity) arm.fetch-test in
+    absurd (others _ false _ _ (read_as _ c.read_words.result c.in-Ok.command _ c.in-Ok.is
     is c.read_words.ensures.found))
 
-pub returns-in-Mirror-default-false-default-clause-mirrors : goal.returns-in-Mirror-default-false-default-clause-mirrors
-returns-in-Mirror-default-false-default-clause-mirrors g c = λ base capacity of_words.
-    let arm = c.in-Mirror-default-false-default in
-    let is : c.in-Ok.command ≡ Mirror arm.base false arm.capacity =
-    arm.is ∙ ap (λ (f : Bool). Mirror arm.base f arm.capacity) arm.fetch-test in
-    same_mirror (λ b fetch most. g.D.Disk.told → g.I.Source.told
-    → EndsMirroring most b (g.D.Disk.state c.args.disk.now) (g.D.Disk.state c.mirror.new.disk)
+pub returns-in-Mirror-default-false-default-default-clause-mirrors :
+    goal.returns-in-Mirror-default-false-default-default-clause-mirrors
+returns-in-Mirror-default-false-default-default-clause-mirrors g c = λ base report capacity of_words.
+    let arm = c.in-Mirror-default-false-default-default in
+    let is : c.in-Ok.command ≡ Mirror arm.base false arm.report arm.capacity =
+    arm.is ∙ ap (λ (f : Bool). Mirror arm.base f arm.report arm.capacity) arm.fetch-test in
+    same_mirror (λ b fetch report most. g.D.Disk.told → g.I.Source.told
+    → EndsMirroring report most b (g.D.Disk.state c.args.disk.now) (g.D.Disk.state c.mirror.new.disk)
     (g.I.Source.state c.args.input.now).left g.O.Sink.told (g.O.Sink.state c.args.output.now)
     (g.O.Sink.state c.mirror.new.output) c.mirror.result.status)
-    _ c.read_words.result c.in-Ok.command _ false _ c.in-Ok.is is
-    c.read_words.ensures.only c.mirror.ensures.mirrors base false capacity of_words
+    _ c.read_words.result c.in-Ok.command _ false _ _ c.in-Ok.is is
+    c.read_words.ensures.only c.mirror.ensures.mirrors base false report capacity of_words
 
-pub returns-in-Mirror-default-false-default-clause-fetches : goal.returns-in-Mirror-default-false-default-clause-fetches
-returns-in-Mirror-default-false-default-clause-fetches g c = λ base capacity of_words.
-    let arm = c.in-Mirror-default-false-default in
-    let is : c.in-Ok.command ≡ Mirror arm.base false arm.capacity =
-    arm.is ∙ ap (λ (f : Bool). Mirror arm.base f arm.capacity) arm.fetch-test in
+pub returns-in-Mirror-default-false-default-default-clause-fetches :
+    goal.returns-in-Mirror-default-false-default-default-clause-fetches
+returns-in-Mirror-default-false-default-default-clause-fetches g c = λ base report capacity of_words.
+    let arm = c.in-Mirror-default-false-default-default in
+    let is : c.in-Ok.command ≡ Mirror arm.base false arm.report arm.capacity =
+    arm.is ∙ ap (λ (f : Bool). Mirror arm.base f arm.report arm.capacity) arm.fetch-test in
     let other : true ≡ false =
-    same_mirror (λ b fetch c. fetch ≡ false) _ c.read_words.result c.in-Ok.command _ false _ c.in-Ok.is
-    is c.read_words.ensures.only refl base true capacity of_words in
+    same_mirror (λ b fetch report c. fetch ≡ false) _ c.read_words.result c.in-Ok.command _ false _ _ c.in-Ok.is
+    is c.read_words.ensures.only refl base true report capacity of_words in
     absurd (cc)
+
+-- `audit`
+
+pub returns-in-Audit-clause-statuses : goal.returns-in-Audit-clause-statuses
+returns-in-Audit-clause-statuses g c = audit-status c.audit.result.status c.audit.ensures.statuses
+
+pub returns-in-Audit-clause-answered : goal.returns-in-Audit-clause-answered
+returns-in-Audit-clause-answered g c =
+    read_all _ c.read_words.result c.in-Ok.command _ c.in-Ok.is
+    c.read_words.ensures.only (rw c.in-Audit.is (λ seen answered.
+    c.audit.ensures.answered (seen.input tt) answered
+    (outside_of (g.C.Clock.coming c.args.clock.now) (g.I.Source.state c.args.input.now)
+    (g.D.Disk.state c.args.disk.now) (g.F.Fetch.state c.args.fetch.now)) refl))
+
+pub returns-in-Audit-clause-complete : goal.returns-in-Audit-clause-complete
+returns-in-Audit-clause-complete g c =
+    read_all _ c.read_words.result c.in-Ok.command _ c.in-Ok.is
+    c.read_words.ensures.only (rw c.in-Audit.is (λ seen given due. record {
+      ends = λ disk fetch input output. c.audit.ensures.complete (seen.input tt) given due input output;
+    }))
+
+pub returns-in-Ok-write_all-clause-audits : goal.returns-in-Ok-write_all-clause-audits
+returns-in-Ok-write_all-clause-audits g c = λ of_words told.
+    let is : c.in-Ok.command ≡ Audit =
+    read_all _ c.read_words.result c.in-Ok.command (λ command. c.in-Ok.command ≡ command) c.in-Ok.is
+    c.read_words.ensures.only refl Audit of_words in
+    absurd (search rules)
+
+pub returns-clause-audits : goal.returns-clause-audits
+returns-clause-audits g c = λ of_words told.
+    record {
+      accepted = λ certificate offers input ended.
+          absurd (no_end c.in-Err.fault (sym c.end_with-in-Err.ensures.status ∙ ended));
+      rejected = λ certificate offers input ended.
+          absurd (no_three c.in-Err.fault (sym c.end_with-in-Err.ensures.status ∙ ended));
+      served = λ head history certificate offers input served ended.
+          absurd (no_end c.in-Err.fault (sym c.end_with-in-Err.ensures.status ∙ ended));
+    }

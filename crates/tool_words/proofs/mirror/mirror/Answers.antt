@@ -1,61 +1,50 @@
-use Rattle.std.proofs.Common.{Global, map, refl, ap, ◌∙◌, inl, string_bytes, sym, true, false}
-use Rattle.std.proofs.lemmas.Bool.{true≢false}
-use Rattle.tool_words.specs.Reading.{AreRead, option_of}
-use Rattle.tool_words.specs.Words.{mirror_flags, mirror_options}
-use Rattle.tool_words.proofs.FaultLemmas.{memory_only, not_usage_of}
-use Rattle.tool_words.proofs.MirrorLemmas.{mirror_gives, gives_mirror, same_mirror}
+use Rattle.std.proofs.Common.{Global, map, refl, ◌∙◌, inl, string_bytes}
+use Rattle.tool_words.proofs.FaultLemmas.{memory_only, memory_of, not_usage_of}
+use Rattle.tool_words.proofs.MirrorLemmas.{fetch_read, gives_mirror, mirror_gives, report_read, same_mirror}
 use Rattle.tool_words.proofs.mirror.mirror.Goals as goal
 
-pub returns-then-not-is_given-clause-only : goal.returns-then-not-is_given-clause-only
-returns-then-not-is_given-clause-only c = λ base fetch capacity i.
-    let same = ap (map option_of) c.as_slice-options.ensures.value
-    ∙ (rw c.in-Some.is at (c.in_ok-options.ensures.only i.options i.are_options)) in
-    let g = mirror_gives (map (string_bytes {Z = Global}) c.args.words.now)
-    (map option_of c.as_slice-options.result.now) base fetch capacity i same in
-    absurd (true≢false (sym g.report_is ∙ sym c.is_given.ensures ∙ c.if-not-is_given.true))
+pub returns-in_err-matches-clause-only : goal.returns-in_err-matches-clause-only
+returns-in_err-matches-clause-only c = λ base fetch report capacity i.
+    memory_of c.from_residual.result c.in_err-matches.field-0.0 _ c.from_residual.ensures.1
+    (c.in_err-matches.ensures.only i.options i.are_options)
 
 pub returns-in_err-base-clause-only : goal.returns-in_err-base-clause-only
-returns-in_err-base-clause-only c = λ base fetch capacity i.
-    let same = ap (map option_of) c.as_slice-options.ensures.value
-    ∙ (rw c.in-Some.is at (c.in_ok-options.ensures.only i.options i.are_options)) in
-    let g = mirror_gives (map (string_bytes {Z = Global}) c.args.words.now)
-    (map option_of c.as_slice-options.result.now) base fetch capacity i same in
+returns-in_err-base-clause-only c = λ base fetch report capacity i.
+    let g = mirror_gives (map (string_bytes {Z = Global}) c.args.words.now) c.in_ok-matches.matches base fetch report
+    capacity i (c.in_ok-matches.ensures.only i.options i.are_options) in
     memory_only c.from_residual-in_err-base.result c.in_err-base.field-0.0 _ c.from_residual-in_err-base.ensures.1
     (not_usage_of c.in_err-base.field-0.0 base (c.in_err-base.ensures.only base g.base_is))
 
 pub returns-in_err-capacity-clause-only : goal.returns-in_err-capacity-clause-only
-returns-in_err-capacity-clause-only c = λ base fetch capacity i.
-    let same = ap (map option_of) c.as_slice-options.ensures.value
-    ∙ (rw c.in-Some.is at (c.in_ok-options.ensures.only i.options i.are_options)) in
-    let g = mirror_gives (map (string_bytes {Z = Global}) c.args.words.now)
-    (map option_of c.as_slice-options.result.now) base fetch capacity i same in
+returns-in_err-capacity-clause-only c = λ base fetch report capacity i.
+    let g = mirror_gives (map (string_bytes {Z = Global}) c.args.words.now) c.in_ok-matches.matches base fetch report
+    capacity i (c.in_ok-matches.ensures.only i.options i.are_options) in
     absurd (let e = c.in_err-capacity.ensures.only capacity g.capacity_is in cc)
 
 pub returns-clause-found : goal.returns-clause-found
 returns-clause-found c =
-    let read : AreRead mirror_options mirror_flags (map (string_bytes {Z = Global}) c.args.words.now)
-    (map option_of c.as_slice-options.result.now) =
-    rw c.as_slice-options.ensures.value (rw c.in-Some.is at c.in_ok-options.ensures.found) in (
+    let (options, are, match) = c.in_ok-matches.ensures.found in (
       c.in_ok-base.base,
-      c.is_given-2.result,
+      c.get_flag.result,
+      c.get_flag-2.result,
       c.in_ok-capacity.capacity,
       refl,
-      gives_mirror (map (string_bytes {Z = Global}) c.args.words.now) (map option_of c.as_slice-options.result.now)
-          c.in_ok-base.base c.is_given-2.result c.in_ok-capacity.capacity read
-          (record {
-            base_is = c.in_ok-base.ensures.found;
-            fetch_is = sym c.is_given-2.ensures;
-            report_is = sym c.is_given.ensures ∙ c.if-not-is_given.false;
-            capacity_is = c.in_ok-capacity.ensures.found;
-          }),
+      gives_mirror (map (string_bytes {Z = Global}) c.args.words.now) c.in_ok-matches.matches options
+          c.in_ok-base.base c.get_flag.result c.get_flag-2.result c.in_ok-capacity.capacity are match
+          (record { base_is = c.in_ok-base.ensures.found; capacity_is = c.in_ok-capacity.ensures.found })
+          (record { set = c.get_flag.ensures.value; unset = c.get_flag.ensures.other })
+          (record { set = c.get_flag-2.ensures.value; unset = c.get_flag-2.ensures.other }),
     )
 
 pub returns-clause-only : goal.returns-clause-only
-returns-clause-only c = λ base fetch capacity i.
-    let same = ap (map option_of) c.as_slice-options.ensures.value
-    ∙ (rw c.in-Some.is at (c.in_ok-options.ensures.only i.options i.are_options)) in
-    let g = mirror_gives (map (string_bytes {Z = Global}) c.args.words.now)
-    (map option_of c.as_slice-options.result.now) base fetch capacity i same in
-    inl (same_mirror base c.in_ok-base.base fetch c.is_given-2.result capacity c.in_ok-capacity.capacity
-    (c.in_ok-base.ensures.only base g.base_is) (c.is_given-2.ensures ∙ g.fetch_is)
+returns-clause-only c = λ base fetch report capacity i.
+    let m = c.in_ok-matches.ensures.only i.options i.are_options in
+    let g = mirror_gives (map (string_bytes {Z = Global}) c.args.words.now) c.in_ok-matches.matches base fetch report
+    capacity i m in
+    inl (same_mirror base c.in_ok-base.base fetch c.get_flag.result report c.get_flag-2.result capacity
+    c.in_ok-capacity.capacity (c.in_ok-base.ensures.only base g.base_is)
+    (fetch_read i.options c.in_ok-matches.matches c.get_flag.result m
+    (record { set = c.get_flag.ensures.value; unset = c.get_flag.ensures.other }) ∙ i.is_fetch)
+    (report_read i.options c.in_ok-matches.matches c.get_flag-2.result m
+    (record { set = c.get_flag-2.ensures.value; unset = c.get_flag-2.ensures.other }) ∙ i.is_report)
     (c.in_ok-capacity.ensures.only capacity g.capacity_is))

@@ -1,5 +1,6 @@
 use Rattle.std.proofs.Common.{◌∷◌, Global, map, string_bytes, sym, ap, ◌∙◌}
-use Rattle.tool_words.proofs.CommandLemmas.{init_only, apply_found, mirror_only, serve_only}
+use Rattle.tool_words.proofs.CommandLemmas.{init_only, apply_found, apply_only, show_found, show_only, audit_found}
+use Rattle.tool_words.proofs.CommandLemmas.{audit_only, mirror_only, serve_only}
 use Rattle.tool_words.proofs.words.read_words.Goals as goal
 
 pub returns-in-init-clause-only : goal.returns-in-init-clause-only
@@ -16,12 +17,26 @@ returns-in-apply-clause-found c =
     ∙ ap (λ word. word ∷ rest) (sym c.as_str.ensures.value ∙ c.in-apply.is) in
     apply_found (map (string_bytes {Z = Global}) c.args.words.now) rest c.apply.result spelt c.apply.ensures.found
 
-pub returns-in_ok-ok_or-in-show-clause-found : goal.returns-in_ok-ok_or-in-show-clause-found
-returns-in_ok-ok_or-in-show-clause-found c =
+pub returns-in-apply-clause-only : goal.returns-in-apply-clause-only
+returns-in-apply-clause-only c =
+    let rest = map (string_bytes {Z = Global}) c.in-Some.rest.now in
+    let spelt = ap (map (string_bytes {Z = Global})) c.in-Some.ensures.cases.0
+    ∙ ap (λ word. word ∷ rest) (sym c.as_str.ensures.value ∙ c.in-apply.is) in
+    apply_only (map (string_bytes {Z = Global}) c.args.words.now) rest c.apply.result spelt c.apply.ensures.only
+
+pub returns-in-show-clause-found : goal.returns-in-show-clause-found
+returns-in-show-clause-found c =
     let rest = map (string_bytes {Z = Global}) c.in-Some.rest.now in
     let spelt = ap (map (string_bytes {Z = Global})) c.in-Some.ensures.cases.0
     ∙ ap (λ word. word ∷ rest) (sym c.as_str.ensures.value ∙ c.in-show.is) in
-    (rest, spelt, rw c.in_ok-ok_or-in-show.ensures.ok_part at c.shown.ensures.found)
+    show_found (map (string_bytes {Z = Global}) c.args.words.now) rest c.show.result spelt c.show.ensures.found
+
+pub returns-in-show-clause-only : goal.returns-in-show-clause-only
+returns-in-show-clause-only c =
+    let rest = map (string_bytes {Z = Global}) c.in-Some.rest.now in
+    let spelt = ap (map (string_bytes {Z = Global})) c.in-Some.ensures.cases.0
+    ∙ ap (λ word. word ∷ rest) (sym c.as_str.ensures.value ∙ c.in-show.is) in
+    show_only (map (string_bytes {Z = Global}) c.args.words.now) rest c.show.result spelt c.show.ensures.only
 
 pub returns-in-serve-clause-only : goal.returns-in-serve-clause-only
 returns-in-serve-clause-only c =
@@ -36,3 +51,17 @@ returns-in-mirror-clause-only c =
     let spelt = ap (map (string_bytes {Z = Global})) c.in-Some.ensures.cases.0
     ∙ ap (λ word. word ∷ rest) (sym c.as_str.ensures.value ∙ c.in-mirror.is) in
     mirror_only (map (string_bytes {Z = Global}) c.args.words.now) rest c.mirror.result spelt c.mirror.ensures.only
+
+pub returns-in-audit-clause-found : goal.returns-in-audit-clause-found
+returns-in-audit-clause-found c =
+    let rest = map (string_bytes {Z = Global}) c.in-Some.rest.now in
+    let spelt = ap (map (string_bytes {Z = Global})) c.in-Some.ensures.cases.0
+    ∙ ap (λ word. word ∷ rest) (sym c.as_str.ensures.value ∙ c.in-audit.is) in
+    audit_found (map (string_bytes {Z = Global}) c.args.words.now) rest c.audit.result spelt c.audit.ensures.found
+
+pub returns-in-audit-clause-only : goal.returns-in-audit-clause-only
+returns-in-audit-clause-only c =
+    let rest = map (string_bytes {Z = Global}) c.in-Some.rest.now in
+    let spelt = ap (map (string_bytes {Z = Global})) c.in-Some.ensures.cases.0
+    ∙ ap (λ word. word ∷ rest) (sym c.as_str.ensures.value ∙ c.in-audit.is) in
+    audit_only (map (string_bytes {Z = Global}) c.args.words.now) rest c.audit.result spelt c.audit.ensures.only

@@ -1,26 +1,5 @@
-use Rattle.std.proofs.Common.{
-  ◌≡◌,
-  ℕ,
-  ◌+◌,
-  ◌++◌,
-  List,
-  ◌∷◌,
-  [],
-  length,
-  Some,
-  Ok,
-  Err,
-  refl,
-  ap,
-  ◌∙◌,
-  arith,
-  rules,
-  vec_len,
-  add-zero,
-  zero-add,
-  length-append,
-  sym,
-}
+use Rattle.std.proofs.Common.{◌≡◌, ℕ, ◌+◌, ◌++◌, List, ◌∷◌, [], length, Some, Ok, Err, refl, ap, ◌∙◌, arith, rules}
+use Rattle.std.proofs.Common.{vec_len, add-zero, zero-add, length-append, sym}
 use Rattle.std.proofs.lemmas.Bool.{false≢true}
 use Rattle.std.proofs.lemmas.Result.{err_from_is_err_and}
 use Rattle.feed_commands.specs.declared.fault.Fault.{Fault}
@@ -31,14 +10,8 @@ use Rattle.feed_commands.specs.Applied.{Applied, applied}
 use Rattle.feed_commands.specs.Apply.{history_step, lines_fault}
 use Rattle.feed_commands.proofs.FaultLemmas.{refusal-of_lines, input-of_lines}
 use Rattle.feed_commands.proofs.HistoryLemmas.{IsTableOf-with_room, lawful-none}
-use Rattle.feed_commands.proofs.ProgressLemmas.{
-  Progress-start,
-  Progress-end,
-  Progress-step,
-  Progress-refused,
-  Progress-long,
-  Progress-amid,
-}
+use Rattle.feed_commands.proofs.ProgressLemmas.{Progress-start, Progress-end, Progress-step, Progress-refused}
+use Rattle.feed_commands.proofs.ProgressLemmas.{Progress-long, Progress-amid}
 use Rattle.feed_commands.proofs.StepLemmas.{history_step-is, history_step-prefix}
 use Rattle.feed_commands.proofs.commands.apply.history_of.Goals as goal
 

@@ -1,6 +1,6 @@
-use Rattle.std.proofs.Common.{◌≡◌, ◌⊎◌, inl, ⊎_elim, ℕ, List, true, Result, Ok, Err, IsOk, refl, sym, ap, subst, ◌∙◌}
+use Rattle.std.proofs.Common.{◌≡◌, ◌⊎◌, inl, ⊎_elim, ℕ, true, Result, Err, IsOk, refl, sym, ap, subst, ◌∙◌}
 use Rattle.tool_words.specs.declared.command.Command.TheVariants.{Mirror}
-use Rattle.feed_commands.specs.declared.commands.mirror.Printed.{Printed}
+use Rattle.feed_commands.specs.declared.commands.printed.Printed.{Printed}
 use Rattle.feed_commands.specs.declared.commands.report_fault.ReportFault.{ReportFault}
 use Rattle.feed_commands.specs.declared.commands.report_fault.ReportFault.TheVariants.{Other}
 use Rattle.feed_commands.specs.declared.fault.Fault.TheVariants.{Disk}
@@ -10,6 +10,7 @@ use Rattle.feed_commands.specs.MirrorCrash.{IsAfterLoad}
 use Rattle.feed_commands.specs.MirrorEnds.{IsLater}
 use Rattle.feed_commands.specs.MirrorFaults.{report_answer}
 use Rattle.feed_commands.specs.Outside.{outside_of}
+use Rattle.feed_commands.specs.Printed.{printed_answer}
 use Rattle.feed_commands.specs.Served.{IsReported}
 use Rattle.feed_commands.specs.Status.{code_of}
 use Rattle.feed_commands.proofs.LoadedLemmas.{stores-alone}
@@ -20,45 +21,46 @@ use Rattle.feed_commands.proofs.commands.fetched.mirror_fetched.Goals as goal
 
 pub returns-in-Ok-clause-answered : goal.returns-in-Ok-clause-answered
 returns-in-Ok-clause-answered g c = λ disk told answered moments input.
-    let report = c.in-Ok.ensures.report disk told in
-    ends-reported (Mirror c.args.base.now true c.args.capacity)
+    let shown = c.in-Ok.ensures.printed disk told in
+    ends-reported (Mirror c.args.base.now true c.args.report c.args.capacity)
     (outside_of moments input (g.D.Disk.state c.args.disk.now) (g.F.Fetch.state c.args.fetch.now)) g.O.Sink.told
     (g.O.Sink.state c.args.output.now) (g.O.Sink.state c.end_printed.new.output)
-    (record { status = c.in-Ok.printed.status; printed = c.in-Ok.printed.text.items }) c.end_printed.result.status
-    (inl record { kept = report.kept; loaded = report.loaded; is = inl report.is }) c.in-Ok.ensures.ends
+    (printed_answer c.in-Ok.printed) c.end_printed.result.status
+    (inl record { kept = shown.kept; loaded = shown.loaded; is = inl shown.is }) c.in-Ok.ensures.ends
     c.end_printed.ensures.ends c.end_printed.ensures.prints c.end_printed.ensures.whole
 
 pub returns-in-Ok-clause-complete : goal.returns-in-Ok-clause-complete
 returns-in-Ok-clause-complete g c = λ disk told kept given held is no_disk no_fetch no_output.
-    let report = c.in-Ok.ensures.report disk told in
-    let same = walk-same c.args.capacity c.args.base.now (g.D.Disk.state c.args.disk.now).content
+    let shown = c.in-Ok.ensures.printed disk told in
+    let same = walk-same c.args.report c.args.capacity c.args.base.now (g.D.Disk.state c.args.disk.now).content
     (g.F.Fetch.state c.args.fetch.now).answers
-    (record { status = c.in-Ok.printed.status; printed = c.in-Ok.printed.text.items }) given kept
-    (record { kept = report.kept; loaded = report.loaded; is = inl report.is }) held is in
+    (printed_answer c.in-Ok.printed) given kept
+    (record { kept = shown.kept; loaded = shown.loaded; is = inl shown.is }) held is in
     ⊎_elim (λ e. inl (e ∙ ap (λ (a : Answer). code_of a.status) same))
     (λ e. absurd (no_output (c.end_printed.ensures.fault e))) c.end_printed.ensures.ends
 
 pub returns-in-Ok-clause-fetches : goal.returns-in-Ok-clause-fetches
 returns-in-Ok-clause-fetches g c = λ disk told. record {
-  asks = c.report.ensures.asks disk told;
-  kept = λ whole. walk-left (g.D.Disk.state c.args.disk.now) (g.D.Disk.state c.report.new.disk)
-      c.end_printed.result.status c.args.capacity c.args.base.now (g.F.Fetch.state c.args.fetch.now).answers c.report.result
-      (c.report.ensures.kept disk told whole)
+  asks = c.load_and_walk.ensures.asks disk told;
+  kept = λ whole. walk-left (g.D.Disk.state c.args.disk.now) (g.D.Disk.state c.load_and_walk.new.disk)
+      c.end_printed.result.status c.args.capacity c.args.base.now
+      (g.F.Fetch.state c.args.fetch.now).answers c.load_and_walk.result
+      (c.load_and_walk.ensures.kept disk told whole)
       (λ after. subst (λ (r : Result Printed ReportFault). IsLater r) (sym c.in-Ok.is) tt)
       (λ e. let other = sym c.in-Ok.is ∙ e in absurd (cc))
       (λ reported. subst (λ (r : Result Printed ReportFault). IsOk r) (sym c.in-Ok.is) refl);
   mirrored = λ head history kept holds served reported.
-      walk-served c.args.capacity c.args.base.now (g.D.Disk.state c.args.disk.now)
+      walk-served c.args.report c.args.capacity c.args.base.now (g.D.Disk.state c.args.disk.now)
       (g.F.Fetch.state c.args.fetch.now).answers
-      (record { status = c.in-Ok.printed.status; printed = c.in-Ok.printed.text.items }) head history kept
+      (printed_answer c.in-Ok.printed) head history kept
       g.O.Sink.told (g.O.Sink.state c.args.output.now) (g.O.Sink.state c.end_printed.new.output)
-      c.end_printed.result.status (c.in-Ok.ensures.report disk told) holds served c.end_printed.ensures.ends
+      c.end_printed.result.status (c.in-Ok.ensures.printed disk told) holds served c.end_printed.ensures.ends
       c.end_printed.ensures.prints;
 }
 
 pub returns-in-Ok-clause-safe : goal.returns-in-Ok-clause-safe
 returns-in-Ok-clause-safe g c = λ told.
-    stores-alone (g.D.Disk.state c.args.disk.now) (g.D.Disk.state c.report.new.disk)
+    stores-alone (g.D.Disk.state c.args.disk.now) (g.D.Disk.state c.load_and_walk.new.disk)
     (g.met.D.Disk.is_disk c.args.disk.now) c.in-Ok.ensures.others
 
 pub returns-in-Err-clause-answered : goal.returns-in-Err-clause-answered
@@ -67,32 +69,33 @@ returns-in-Err-clause-answered g c = λ disk told answered moments input.
     let outside = outside_of moments input (g.D.Disk.state c.args.disk.now) (g.F.Fetch.state c.args.fetch.now) in
     let refused = c.in-Err.ensures.refused (answered-report fault (rw c.end_unreported.ensures.status at answered)) disk
     told in
-    ends-unreported (Mirror c.args.base.now true c.args.capacity) outside g.O.Sink.told
+    ends-unreported (Mirror c.args.base.now true c.args.report c.args.capacity) outside g.O.Sink.told
     (g.O.Sink.state c.args.output.now) (g.O.Sink.state c.end_unreported.new.output) fault
     c.end_unreported.result.status c.end_unreported.ensures.status
-    (walk-answers c.args.capacity c.args.base.now outside (report_answer fault) refused) c.end_unreported.ensures.prints
+    (walk-answers c.args.report c.args.capacity c.args.base.now outside (report_answer fault) refused)
+    c.end_unreported.ensures.prints
 
 pub returns-in-Err-clause-complete : goal.returns-in-Err-clause-complete
 returns-in-Err-clause-complete g c = λ disk told kept given held is no_disk no_fetch no_output.
     let fault = c.in-Err.fault in
     subst (λ (n : ℕ). (n ≡ code_of given.status) ⊎ (n ≡ 5)) (sym c.end_unreported.ensures.status)
     (fault-complete fault given
-    (λ refusal. walk-refused-same c.args.capacity c.args.base.now (g.D.Disk.state c.args.disk.now).content
+    (λ refusal. walk-refused-same c.args.report c.args.capacity c.args.base.now (g.D.Disk.state c.args.disk.now).content
     (g.F.Fetch.state c.args.fetch.now).answers (report_answer fault) given kept
     (c.in-Err.ensures.refused refusal disk told) held is)
-    (λ e. no_disk (c.report.ensures.disk (c.in-Err.is ∙ ap Err e)))
+    (λ e. no_disk (c.load_and_walk.ensures.disk (c.in-Err.is ∙ ap Err e)))
     (λ e. subst MayEndWalkReport e c.in-Err.ensures.own)
-    (λ e. no_fetch (c.report.ensures.fetch (c.in-Err.is ∙ ap Err e))))
+    (λ e. no_fetch (c.load_and_walk.ensures.fetch (c.in-Err.is ∙ ap Err e))))
 
 pub returns-in-Err-clause-fetches : goal.returns-in-Err-clause-fetches
 returns-in-Err-clause-fetches g c = λ disk told.
     let fault = c.in-Err.fault in
     let status = c.end_unreported.ensures.status in
     record {
-      asks = c.report.ensures.asks disk told;
-      kept = λ whole. walk-left (g.D.Disk.state c.args.disk.now) (g.D.Disk.state c.report.new.disk)
+      asks = c.load_and_walk.ensures.asks disk told;
+      kept = λ whole. walk-left (g.D.Disk.state c.args.disk.now) (g.D.Disk.state c.load_and_walk.new.disk)
           c.end_unreported.result.status c.args.capacity c.args.base.now (g.F.Fetch.state c.args.fetch.now).answers
-          c.report.result (c.report.ensures.kept disk told whole)
+          c.load_and_walk.result (c.load_and_walk.ensures.kept disk told whole)
           (λ after. subst (λ (r : Result Printed ReportFault). IsLater r) (sym c.in-Err.is)
           (after-later fault (subst IsAfterLoad status after)))
           (λ e. let same : fault ≡ Other Disk = let other = sym c.in-Err.is ∙ e in cc in
@@ -104,5 +107,5 @@ returns-in-Err-clause-fetches g c = λ disk told.
 
 pub returns-in-Err-clause-safe : goal.returns-in-Err-clause-safe
 returns-in-Err-clause-safe g c = λ told.
-    stores-alone (g.D.Disk.state c.args.disk.now) (g.D.Disk.state c.report.new.disk)
+    stores-alone (g.D.Disk.state c.args.disk.now) (g.D.Disk.state c.load_and_walk.new.disk)
     (g.met.D.Disk.is_disk c.args.disk.now) c.in-Err.ensures.others

@@ -1,14 +1,19 @@
-use Rattle.std.proofs.Common.{◌≡◌, List, ℕ, Err, Ok, ap, refl, sym, subst, ◌∙◌}
+use Rattle.std.proofs.Common.{◌≡◌, List, ℕ, Some, Err, Ok, ap, sym, subst, ◌∙◌}
 use Rattle.std.proofs.lemmas.Result.{err_from_is_err_and}
 use Rattle.feed_disk.specs.declared.area.Area.TheVariants.{Mirror as MirrorArea}
 use Rattle.feed_disk.proofs.MomentLemmas.{alone_begins, alone_joins}
+use Rattle.chain_links.specs.declared.address.Address.TheVariants.{Feed}
+use Rattle.mirror_walk.specs.Holding.{KeptValue, payloads_of}
+use Rattle.mirror_walk.specs.Loaded.{IsLoadedOf}
 use Rattle.mirror_walk.specs.Walk.{HasWalked}
-use Rattle.mirror_walk.specs.declared.walk.WalkFault.{WalkFault}
 use Rattle.mirror_walk.specs.declared.walk.WalkFault.TheVariants as faults
 use Rattle.feed_commands.specs.MirrorFaults.{walk_fault}
+use Rattle.feed_commands.specs.Printed.{printed_answer}
 use Rattle.feed_commands.specs.Walked.{IsWalkReport, walk_setting}
 use Rattle.feed_commands.proofs.GivingLemmas.{not-ok}
-use Rattle.feed_commands.proofs.WalkEndLemmas.{refusal-over, walk-goes, walk-refused, walked-is}
+use Rattle.feed_commands.proofs.OffersLemmas.{ends-told}
+use Rattle.feed_commands.proofs.WalkEndLemmas.{refusal-over, walk-goes, walk-lines, walk-refused, walked-is}
+use Rattle.feed_commands.proofs.WalkEndLemmas.{walks-loaded}
 use Rattle.feed_commands.proofs.commands.fetched.report_walk.Goals as goal
 
 pub returns-in_err-walked-clause-refused : goal.returns-in_err-walked-clause-refused
@@ -17,7 +22,7 @@ returns-in_err-walked-clause-refused g c =
     let first = c.args.mirror.now in
     let source = g.F.Fetch.state c.args.fetch.now in
     rw (p.1, p.2) (λ refusal disk told.
-    walk-refused first.capacity first.base first.kept c.walk.new.self.kept source.answers source.asked
+    walk-refused c.args.report first.capacity first.base first.kept c.walk.new.self.kept source.answers source.asked
     (g.F.Fetch.state c.walk.new.fetch).asked c.in_err-walked.field-0.0 (c.in_err-walked.ensures.walked told) refusal)
 
 pub returns-in_err-walked-clause-walk : goal.returns-in_err-walked-clause-walk
@@ -34,50 +39,72 @@ returns-in_err-walked-clause-walk g c = λ disk told.
     (λ worked. (c.in_err-walked.ensures.stands worked disk).payloads)
     (λ worked. c.in_err-walked.ensures.rests worked disk) (alone_begins _ MirrorArea)
 
-pub returns-in_err-report-clause-walk : goal.returns-in_err-report-clause-walk
-returns-in_err-report-clause-walk g c = λ disk told.
-    let p = err_from_is_err_and c.from_residual-in_err-report.result c.from_residual-in_err-report.ensures.1 in
+pub returns-in_err-made-clause-walk : goal.returns-in_err-made-clause-walk
+returns-in_err-made-clause-walk g c = λ disk told.
+    let p = err_from_is_err_and c.from_residual-in_err-made.result c.from_residual-in_err-made.ensures.1 in
     let first = c.args.mirror.now in
     walk-goes first.capacity first.base first.kept c.walk.new.self.kept (g.F.Fetch.state c.args.fetch.now)
     (g.F.Fetch.state c.walk.new.fetch) (Ok c.in_ok-walked.walked) (c.in_ok-walked.ensures.walked told)
     (g.D.Disk.state c.args.disk.now) (g.D.Disk.state c.walk.new.disk) (g.D.Disk.state c.walk.new.disk) _ _
     c.begun_images_are_whole.ensures c.requires.loaded (c.in_ok-walked.ensures.moments disk told) (λ e. absurd (cc))
-    (λ whole. absurd (not-ok c.from_residual-in_err-report.result _ p.1 whole))
+    (λ whole. absurd (not-ok c.from_residual-in_err-made.result _ p.1 whole))
     (λ worked. (c.in_ok-walked.ensures.stands worked disk).payloads)
     (λ worked. c.in_ok-walked.ensures.rests worked disk) (alone_begins _ MirrorArea)
 
-pub returns-in_err-status-clause-walk : goal.returns-in_err-status-clause-walk
-returns-in_err-status-clause-walk g c = λ disk told.
-    let p = err_from_is_err_and c.from_residual-in_err-status.result c.from_residual-in_err-status.ensures.1 in
+pub returns-in_err-end-clause-walk : goal.returns-in_err-end-clause-walk
+returns-in_err-end-clause-walk g c = λ disk told.
+    let p = err_from_is_err_and c.from_residual-in_err-end.result c.from_residual-in_err-end.ensures.1 in
     let first = c.args.mirror.now in
     walk-goes first.capacity first.base first.kept c.walk.new.self.kept (g.F.Fetch.state c.args.fetch.now)
     (g.F.Fetch.state c.walk.new.fetch) (Ok c.in_ok-walked.walked) (c.in_ok-walked.ensures.walked told)
     (g.D.Disk.state c.args.disk.now) (g.D.Disk.state c.walk.new.disk) (g.D.Disk.state c.end.new.disk) _ _
     c.begun_images_are_whole.ensures c.requires.loaded (c.in_ok-walked.ensures.moments disk told) (λ e. absurd (cc))
-    (λ whole. absurd (not-ok c.from_residual-in_err-status.result _ p.1 whole))
+    (λ whole. absurd (not-ok c.from_residual-in_err-end.result _ p.1 whole))
     (λ worked. (c.in_ok-walked.ensures.stands worked disk).payloads)
-    (λ worked. c.in_ok-walked.ensures.rests worked disk) (c.in_err-status.ensures.areas MirrorArea)
+    (λ worked. c.in_ok-walked.ensures.rests worked disk) (c.in_err-end.ensures.areas MirrorArea)
 
-pub returns-in_err-status-clause-others : goal.returns-in_err-status-clause-others
-returns-in_err-status-clause-others g c = λ a other.
+pub returns-in_err-end-clause-others : goal.returns-in_err-end-clause-others
+returns-in_err-end-clause-others g c = λ a other.
     alone_joins _ (g.D.Disk.state c.walk.new.disk) _ a (c.in_ok-walked.ensures.others a other)
-    (c.in_err-status.ensures.areas a)
+    (c.in_err-end.ensures.areas a)
 
-pub returns-clause-report : goal.returns-clause-report
-returns-clause-report g c = λ disk told.
+pub end-requires : goal.end-requires
+end-requires g c =
+    let first = c.args.mirror.now in
+    let left = c.walk.new.self in
+    record {
+      base = c.requires.base ∙ sym c.walk.ensures.base;
+      usable = record {
+        unspent = c.in_ok-walked.ensures.unspent (λ e. absurd (cc));
+        stands = c.in_ok-walked.ensures.stands (λ e. absurd (cc));
+      };
+      no_line = walk-lines c.args.report c.args.base.now c.in_ok-walked.walked c.in_ok-made.made
+          c.in_ok-made.ensures.detailed c.in_ok-made.ensures.text;
+    }
+
+pub returns-clause-printed : goal.returns-clause-printed
+returns-clause-printed g c = λ disk told.
     let first = c.args.mirror.now in
     let base = c.args.base.now in
     let source = g.F.Fetch.state c.args.fetch.now in
     let later = (g.F.Fetch.state c.walk.new.fetch).asked in
     let walked = c.in_ok-walked.walked in
-    subst (λ (b : List ℕ). IsWalkReport first.capacity b first.kept source.answers
-    (record { status = c.in_ok-status.status; printed = c.end.new.self.text.items })) c.requires.base
-    (walked-is first.capacity base first.kept c.walk.new.self.kept source.answers source.asked later walked
-    c.in_ok-report.report c.end.new.self c.in_ok-status.status
+    let given = printed_answer c.in_ok-end.field-0 in
+    let left = c.walk.new.self in
+    let went = c.in_ok-walked.ensures.walked told in
+    let held = walks-loaded (walk_setting first.capacity first.base source.answers) went.asked went.accepted first.kept
+    went.held (Some Feed) went.ending went.walks c.requires.loaded in
+    let loaded : IsLoadedOf left.base (payloads_of left.kept) left.kept =
+    subst (λ (ks : List KeptValue). IsLoadedOf left.base (payloads_of ks) ks) (sym (went.left (λ e. absurd (cc))))
+    (subst (λ (b : List ℕ). IsLoadedOf b (payloads_of went.held) went.held) (sym c.walk.ensures.base) held) in
+    subst (λ (b : List ℕ). IsWalkReport c.args.report first.capacity b first.kept source.answers given) c.requires.base
+    (walked-is c.args.report first.capacity base first.kept c.walk.new.self.kept source.answers source.asked later
+    walked
+    c.in_ok-made.made given
     (subst (λ (b : List ℕ). HasWalked (walk_setting first.capacity b source.answers) first.kept c.walk.new.self.kept
     source.asked later (Ok walked)) (sym c.requires.base) (c.in_ok-walked.ensures.walked told))
-    c.in_ok-report.ensures.text c.in_ok-report.ensures.counts c.in_ok-status.ensures.status
-    (c.in_ok-status.ensures.text disk))
+    c.in_ok-made.ensures.detailed c.in_ok-made.ensures.text c.in_ok-made.ensures.counts
+    (ends-told _ base c.in_ok-made.made left.kept given (disk, loaded) c.in_ok-end.ensures.printed))
 
 pub returns-clause-walk : goal.returns-clause-walk
 returns-clause-walk g c = λ disk told.
@@ -89,9 +116,9 @@ returns-clause-walk g c = λ disk told.
     c.begun_images_are_whole.ensures c.requires.loaded (c.in_ok-walked.ensures.moments disk told) (λ e. absurd (cc))
     (λ whole. refusal-over went.asked went.ending c.in_ok-walked.walked.refused went.result.refusal)
     (λ worked. (c.in_ok-walked.ensures.stands worked disk).payloads)
-    (λ worked. c.in_ok-walked.ensures.rests worked disk) (c.in_ok-status.ensures.areas MirrorArea)
+    (λ worked. c.in_ok-walked.ensures.rests worked disk) (c.in_ok-end.ensures.areas MirrorArea)
 
 pub returns-clause-others : goal.returns-clause-others
 returns-clause-others g c = λ a other.
     alone_joins _ (g.D.Disk.state c.walk.new.disk) _ a (c.in_ok-walked.ensures.others a other)
-    (c.in_ok-status.ensures.areas a)
+    (c.in_ok-end.ensures.areas a)

@@ -1,4 +1,4 @@
-use Rattle.std.proofs.Common.{◌≡◌, ℕ, ◌+◌, List, ◌++◌, Err, Ok, Option, Some, None, IsOk, length, ap, refl, sym, subst, arith, ◌∙◌}
+use Rattle.std.proofs.Common.{◌≡◌, ℕ, ◌+◌, List, ◌++◌, Err, Ok, Option, None, IsOk, length, ap, refl, sym, subst, arith, ◌∙◌}
 use Rattle.std.specs.Prelude.{IfSome}
 use Rattle.std.proofs.lemmas.Result.{err_from_is_err_and}
 use Rattle.doc_source.specs.Pile.{IsAnswer as IsPileAnswer, IsOffer, refusal_after, unused, used_text}
@@ -22,9 +22,10 @@ use Rattle.feed_commands.proofs.commands.mirror.offer_all.Goals as goal
 
 pub loop-offer-init : goal.loop-offer-init
 loop-offer-init g c =
-    giving-start g.I.Source.told g.D.Disk.told c.args.mirror.now (g.D.Disk.state c.args.disk.now)
+    giving-start g.I.Source.told g.D.Disk.told c.args.report.now.detailed c.args.mirror.now
+    (g.D.Disk.state c.args.disk.now)
     (g.I.Source.state c.args.input.now) c.args.reader.now c.args.report.now c.begun_images_are_whole.ensures
-    c.requires.reader c.requires.report.0 c.requires.report.1 c.requires.usable c.requires.loaded
+    c.requires.reader refl c.requires.report.0 c.requires.report.1 c.requires.usable c.requires.loaded
 
 pub returns-in_err-offer-clause-refused : goal.returns-in_err-offer-clause-refused
 returns-in_err-offer-clause-refused g c =
@@ -32,14 +33,16 @@ returns-in_err-offer-clause-refused g c =
     let h = c.loop-offer.invariant in
     let first = c.args.mirror.now in
     rw (p.1, p.2) (λ refusal told.
-    mirrored-fault g.I.Source.told first.capacity first.base first.kept (g.I.Source.state c.args.input.now).left h.offers
+    mirrored-fault g.I.Source.told c.args.report.now.detailed first.capacity first.base first.kept
+    (g.I.Source.state c.args.input.now).left h.offers
     c.loop-offer.reader (g.I.Source.state c.loop-offer.input) c.loop-offer.mirror.kept c.loop-offer.report h.amid
     c.in_err-offer.field-0.0 told (c.in_err-offer.ensures.answer h.amid.fresh told) refusal)
 
 pub returns-in_err-offer-clause-gives : goal.returns-in_err-offer-clause-gives
 returns-in_err-offer-clause-gives g c =
     let p = err_from_is_err_and c.from_residual.result c.from_residual.ensures.1 in
-    giving-ends g.I.Source.told g.D.Disk.told c.args.mirror.now (g.D.Disk.state c.args.disk.now)
+    giving-ends g.I.Source.told g.D.Disk.told c.args.report.now.detailed c.args.mirror.now
+    (g.D.Disk.state c.args.disk.now)
     (g.I.Source.state c.args.input.now) (g.D.Disk.state c.loop-offer.disk) (g.I.Source.state c.loop-offer.input)
     c.loop-offer.reader c.loop-offer.mirror c.loop-offer.report _ _ c.begun_images_are_whole.ensures
     c.loop-offer.invariant
@@ -54,7 +57,8 @@ returns-in_err-offer-clause-within g c = λ is told.
     let input : pile_fault fault ≡ Input = let a = p.1 in let b = p.2 in cc in
     let failed = input-of_pile fault input in
     let going = c.in_err-offer.ensures.refusal h.amid.fresh ∙ ap (λ (f : PileFault). refusal_after (Err f)) failed in
-    within-fault g.I.Source.told first.capacity first.base first.kept (g.I.Source.state c.args.input.now).left h.offers
+    within-fault g.I.Source.told c.args.report.now.detailed first.capacity first.base first.kept
+    (g.I.Source.state c.args.input.now).left h.offers
     c.loop-offer.reader (g.I.Source.state c.loop-offer.input) c.loop-offer.mirror.kept c.loop-offer.report h.amid
     c.next.new.self (g.I.Source.state c.args.input.now) (g.I.Source.state c.next.new.source) told refl
     c.in_err-offer.ensures.limit c.in_err-offer.ensures.bound (omega (arith, c.in_err-offer.ensures.used))
@@ -66,10 +70,12 @@ returns-in_err-offer-2-clause-refused g c =
     let h = c.loop-offer.invariant in
     let fault = c.in_err-offer-2.field-0.0 in
     rw (p.1, p.2) (λ refusal told.
-    offered-refused (λ (f : Fault). IsMirrored c.args.mirror.now.capacity c.args.mirror.now.base c.args.mirror.now.kept
+    offered-refused (λ (f : Fault). IsMirrored c.args.report.now.detailed c.args.mirror.now.capacity
+    c.args.mirror.now.base c.args.mirror.now.kept
     (g.I.Source.state c.args.input.now).left (fault_answer f)) fault c.in_err-offer-2.ensures.own refusal
     (λ size needed most same.
-    giving-full g.I.Source.told g.D.Disk.told c.args.mirror.now (g.D.Disk.state c.args.disk.now)
+    giving-full g.I.Source.told g.D.Disk.told c.args.report.now.detailed c.args.mirror.now
+    (g.D.Disk.state c.args.disk.now)
     (g.I.Source.state c.args.input.now)
     (g.D.Disk.state c.loop-offer.disk)
     (g.I.Source.state c.loop-offer.input) (g.I.Source.state c.next.new.source) c.loop-offer.reader c.next.new.self
@@ -92,7 +98,8 @@ returns-in_err-offer-2-clause-gives g c =
     let p = err_from_is_err_and c.from_residual-in_err-offer-2.result c.from_residual-in_err-offer-2.ensures.1 in
     let h = c.loop-offer.invariant in
     let fault = c.in_err-offer-2.field-0.0 in
-    giving-fault g.I.Source.told g.D.Disk.told c.args.mirror.now (g.D.Disk.state c.args.disk.now)
+    giving-fault g.I.Source.told g.D.Disk.told c.args.report.now.detailed c.args.mirror.now
+    (g.D.Disk.state c.args.disk.now)
     (g.I.Source.state c.args.input.now)
     (g.D.Disk.state c.loop-offer.disk)
     (g.I.Source.state c.loop-offer.input) (g.I.Source.state c.next.new.source) c.loop-offer.reader c.next.new.self
@@ -133,7 +140,8 @@ loop-offer-preserved g c =
     let left = c.offer.new.mirror in
     let offer = c.in-Some.offer in
     let answered = c.in_ok-offer-2.ensures.answer in
-    giving-next g.I.Source.told g.D.Disk.told c.args.mirror.now (g.D.Disk.state c.args.disk.now)
+    giving-next g.I.Source.told g.D.Disk.told c.args.report.now.detailed c.args.mirror.now
+    (g.D.Disk.state c.args.disk.now)
     (g.I.Source.state c.args.input.now)
     (g.D.Disk.state c.loop-offer.disk)
     (g.I.Source.state c.loop-offer.input) (g.I.Source.state c.next.new.source) c.loop-offer.reader c.next.new.self
@@ -170,11 +178,13 @@ pub returns-clause-gives : goal.returns-clause-gives
 returns-clause-gives g c =
     let h = c.loop-offer.invariant in
     let first = c.args.mirror.now in
-    giving-ends g.I.Source.told g.D.Disk.told c.args.mirror.now (g.D.Disk.state c.args.disk.now)
+    giving-ends g.I.Source.told g.D.Disk.told c.args.report.now.detailed c.args.mirror.now
+    (g.D.Disk.state c.args.disk.now)
     (g.I.Source.state c.args.input.now)
     (g.D.Disk.state c.loop-offer.disk) (g.I.Source.state c.loop-offer.input) c.loop-offer.reader c.loop-offer.mirror
     c.loop-offer.report _ _ c.begun_images_are_whole.ensures h
-    (λ whole told. reads-to g.I.Source.told first.capacity first.base first.kept (g.I.Source.state c.args.input.now).left
+    (λ whole told. reads-to g.I.Source.told c.args.report.now.detailed first.capacity first.base first.kept
+    (g.I.Source.state c.args.input.now).left
     h.offers c.loop-offer.reader (g.I.Source.state c.loop-offer.input) c.loop-offer.mirror.kept c.loop-offer.report h.amid
     (Ok None) told (subst (λ (o : Option Offer). IsPileAnswer c.loop-offer.reader.used c.loop-offer.reader.limit
     (unused c.loop-offer.reader (g.I.Source.state c.loop-offer.input)) (Ok o)) c.in_default.is (c.in_ok-offer.ensures.answer h.amid.fresh told)))

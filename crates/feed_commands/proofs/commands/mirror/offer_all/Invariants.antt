@@ -4,7 +4,8 @@ use Rattle.feed_commands.proofs.GivingLemmas.{IsGiving}
 use Rattle.feed_commands.proofs.commands.mirror.offer_all.Given as goal
 
 abbrev pub invariant-loop-offer : goal.invariant-loop-offer
-invariant-loop-offer g l = IsGiving g.I.Source.told g.D.Disk.told l.fn.mirror (g.D.Disk.state l.fn.disk)
+invariant-loop-offer g l = IsGiving g.I.Source.told g.D.Disk.told l.fn.report.detailed l.fn.mirror
+    (g.D.Disk.state l.fn.disk)
     (g.D.Disk.state l.disk) (g.I.Source.state l.fn.input) (g.I.Source.state l.input) l.reader l.mirror l.report
 
 abbrev pub decreases-loop-offer : goal.decreases-loop-offer

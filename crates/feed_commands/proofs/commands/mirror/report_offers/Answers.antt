@@ -1,14 +1,18 @@
-use Rattle.std.proofs.Common.{◌≡◌, ◌++◌, List, ℕ, Err, Ok, refl, sym, ap, subst, ◌∙◌, map}
-use Rattle.std.proofs.lemmas.Result.{err_from_is_err_and}
+use Rattle.std.proofs.Common.{◌≡◌, List, ℕ, Bool, Err, refl, sym, ap, subst, ◌∙◌, map}
+use Rattle.std.proofs.lemmas.Result.{err_from_is_err_and, IfErr-weaker, IfOk-weaker}
 use Rattle.feed_disk.specs.declared.area.Area.TheVariants.{Mirror as MirrorArea}
 use Rattle.feed_disk.proofs.MomentLemmas.{alone_begins, alone_joins}
 use Rattle.feed_commands.specs.declared.fault.Fault.TheVariants.{Disk}
-use Rattle.mirror_walk.specs.Listing.{live_entries, outcome_of}
-use Rattle.feed_commands.specs.Mirror.{offering}
-use Rattle.feed_commands.specs.Report.{counts_line, ending}
+use Rattle.mirror_walk.specs.Holding.{payloads_of}
+use Rattle.mirror_walk.specs.Loaded.{IsLoadedOf}
+use Rattle.feed_commands.specs.Fault.{fault_answer}
+use Rattle.feed_commands.specs.Mirror.{IsMirrored, offering}
+use Rattle.feed_commands.specs.Printed.{printed_answer}
+use Rattle.feed_commands.specs.Report.{EndsReport, Reports}
 use Rattle.feed_commands.proofs.GivingLemmas.{gives-none, not-ok}
-use Rattle.feed_commands.proofs.OffersLemmas.{report-is}
-use Rattle.feed_commands.proofs.TakingLemmas.{gives-later}
+use Rattle.feed_commands.proofs.MirrorEndLemmas.{report-done}
+use Rattle.feed_commands.proofs.OffersLemmas.{certificate-lines, ends-told, report-is}
+use Rattle.feed_commands.proofs.TakingLemmas.{answered-loaded, gives-later}
 use Rattle.feed_commands.proofs.commands.mirror.report_offers.Goals as goal
 
 pub returns-in_err-reader-clause-gives : goal.returns-in_err-reader-clause-gives
@@ -21,7 +25,10 @@ returns-in_err-reader-clause-gives g c =
 pub returns-in_err-offer_all-clause-refused : goal.returns-in_err-offer_all-clause-refused
 returns-in_err-offer_all-clause-refused g c =
     let p = err_from_is_err_and c.from_residual-in_err-offer_all.result c.from_residual-in_err-offer_all.ensures.1 in
-    rw (p.1, p.2) (λ refusal disk told. c.in_err-offer_all.ensures.refused refusal told)
+    rw (p.1, p.2) (λ refusal disk told.
+    subst (λ (detailed : Bool). IsMirrored detailed c.args.mirror.now.capacity c.args.mirror.now.base
+    c.args.mirror.now.kept (g.I.Source.state c.args.input.now).left (fault_answer c.in_err-offer_all.field-0.0))
+    c.new-made.ensures.detailed (c.in_err-offer_all.ensures.refused refusal told))
 
 pub returns-in_err-offer_all-clause-gives : goal.returns-in_err-offer_all-clause-gives
 returns-in_err-offer_all-clause-gives g c =
@@ -35,49 +42,57 @@ returns-in_err-offer_all-clause-gives g c =
     (λ whole. absurd (not-ok c.from_residual-in_err-offer_all.result _ p.1 whole)) (alone_begins later MirrorArea)
     c.in_err-offer_all.ensures.gives
 
-pub returns-in_err-status-clause-refused : goal.returns-in_err-status-clause-refused
-returns-in_err-status-clause-refused g c =
-    let p = err_from_is_err_and c.from_residual-in_err-status.result c.from_residual-in_err-status.ensures.1 in
-    rw (p.1, p.2) (λ refusal disk told. absurd (c.in_err-status.ensures.never disk refusal))
-
-pub returns-in_err-status-clause-gives : goal.returns-in_err-status-clause-gives
-returns-in_err-status-clause-gives g c =
-    let p = err_from_is_err_and c.from_residual-in_err-status.result c.from_residual-in_err-status.ensures.1 in
+pub end-requires : goal.end-requires
+end-requires g c =
     let first = c.args.mirror.now in
-    gives-later g.D.Disk.told first.capacity first.base first.kept (g.D.Disk.state c.args.disk.now)
-    (g.I.Source.state c.args.input.now).left g.I.Source.told (g.D.Disk.state c.offer_all.new.disk)
-    (g.D.Disk.state c.end.new.disk) _ _ _ _ (λ e. absurd (cc))
-    (λ whole. absurd (not-ok c.from_residual-in_err-status.result _ p.1 whole))
-    (c.in_err-status.ensures.areas MirrorArea) c.in_ok-offer_all.ensures.gives
+    let left = c.offer_all.new.mirror in
+    let held = c.in_ok-offer_all.ensures.offers in
+    let same = c.offer_all.ensures.same in
+    record {
+      base = c.requires.base ∙ sym same.base;
+      usable = c.in_ok-offer_all.ensures.usable (λ e. cc);
+      no_line = certificate-lines c.new-made.result.detailed first.capacity first.base first.kept (map offering held.0)
+          left.kept c.offer_all.new.report held.2;
+    }
 
-pub returns-in_err-status-clause-others : goal.returns-in_err-status-clause-others
-returns-in_err-status-clause-others g c = λ a other.
-    alone_joins _ (g.D.Disk.state c.offer_all.new.disk) _ a (c.in_ok-offer_all.ensures.others a other)
-    (c.in_err-status.ensures.areas a)
-
-pub returns-clause-report : goal.returns-clause-report
-returns-clause-report g c = λ disk told.
+pub returns-clause-printed : goal.returns-clause-printed
+returns-clause-printed g c = IfOk-weaker c.end.result _ _ (λ printed ends disk told.
     let first = c.args.mirror.now in
     let held = c.in_ok-offer_all.ensures.offers in
-    let offers = held.0 in
     let left = c.offer_all.new.mirror.kept in
-    let reports = held.2 in
+    let loaded = subst (λ (b : List ℕ). IsLoadedOf b (payloads_of left) left) (sym c.offer_all.ensures.same.base)
+    (answered-loaded first.capacity first.base first.kept (map offering held.0) held.2.answers left held.2.answered
+    c.requires.loaded) in
+    let reports = subst (λ (detailed : Bool). Reports detailed first.capacity first.base first.kept
+    (map offering held.0)
+    left c.offer_all.new.report) c.new-made.ensures.detailed held.2 in
     record {
-      offers = offers;
+      offers = held.0;
       read = held.1 told;
       left = left;
       has = record { answers = reports.answers; answered = reports.answered };
-      is = report-is first.capacity first.base first.kept (map offering offers) left c.offer_all.new.report c.end.new.self
-          c.in_ok-status.status reports c.in_ok-status.ensures.status
-          (subst (λ (b : List ℕ). c.end.new.self.text.items ≡ c.offer_all.new.report.text.items
-          ++ counts_line c.offer_all.new.report.counts ++ ending b (live_entries left) (outcome_of left))
-          c.requires.base (c.in_ok-status.ensures.text disk));
-    }
+      is = report-is c.args.report first.capacity first.base first.kept
+          (map offering held.0) left c.offer_all.new.report
+          (printed_answer printed) reports
+          (subst (λ (b : List ℕ). EndsReport (Unit {0}) b c.offer_all.new.report left (printed_answer printed))
+          c.requires.base (ends-told _ c.args.base.now c.offer_all.new.report left (printed_answer printed)
+          (disk, loaded)
+          ends));
+    }) c.end.ensures.printed
+
+pub returns-clause-refused : goal.returns-clause-refused
+returns-clause-refused g c = IfErr-weaker c.end.result _ _ (λ fault never refusal disk told.
+    absurd (never disk refusal)) c.end.ensures.never
+
+pub returns-clause-ends : goal.returns-clause-ends
+returns-clause-ends g c = IfOk-weaker c.end.result _ _ (λ printed ends.
+    report-done _ c.args.base.now c.offer_all.new.report c.offer_all.new.mirror.kept (printed_answer printed)
+    ends) c.end.ensures.printed
 
 pub returns-clause-others : goal.returns-clause-others
 returns-clause-others g c = λ a other.
     alone_joins _ (g.D.Disk.state c.offer_all.new.disk) _ a (c.in_ok-offer_all.ensures.others a other)
-    (c.in_ok-status.ensures.areas a)
+    (c.end.ensures.areas a)
 
 pub returns-clause-gives : goal.returns-clause-gives
 returns-clause-gives g c =
@@ -85,4 +100,4 @@ returns-clause-gives g c =
     gives-later g.D.Disk.told first.capacity first.base first.kept (g.D.Disk.state c.args.disk.now)
     (g.I.Source.state c.args.input.now).left g.I.Source.told (g.D.Disk.state c.offer_all.new.disk)
     (g.D.Disk.state c.end.new.disk) _ _ _ _ (λ e. absurd (cc)) (λ whole. refl)
-    (c.in_ok-status.ensures.areas MirrorArea) c.in_ok-offer_all.ensures.gives
+    (c.end.ensures.areas MirrorArea) c.in_ok-offer_all.ensures.gives

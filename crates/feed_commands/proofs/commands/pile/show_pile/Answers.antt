@@ -1,6 +1,5 @@
-use Rattle.std.proofs.Common.{◌≡◌, Result, Err, ap, subst, sym, ◌∙◌}
+use Rattle.std.proofs.Common.{ap, subst}
 use Rattle.doc_source.specs.Outside.{SinkState}
-use Rattle.feed_commands.specs.declared.commands.pile.PrintFault.{PrintFault}
 use Rattle.feed_commands.specs.declared.commands.pile.PrintFault.TheVariants.{Other}
 use Rattle.feed_commands.specs.declared.fault.Fault.{Fault}
 use Rattle.feed_commands.specs.Answer.{Prints}

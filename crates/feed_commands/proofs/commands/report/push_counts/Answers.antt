@@ -1,5 +1,4 @@
 use Rattle.std.proofs.Common.{◌≡◌, ◌++◌, codes, decimal, Ok}
-use Rattle.std.specs.Prelude.{Result}
 use Rattle.atom_values.specs.declared.memory.NoMemory.{NoMemory}
 use Rattle.feed_commands.specs.Report.{counts_line}
 use Rattle.feed_commands.proofs.SummaryLemmas.{joins_number}

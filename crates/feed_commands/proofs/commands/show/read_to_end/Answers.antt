@@ -1,22 +1,5 @@
-use Rattle.std.proofs.Common.{
-  ◌≡◌,
-  ℕ,
-  ◌-◌,
-  ◌<◌,
-  ◌≤◌,
-  List,
-  ◌++◌,
-  length,
-  take,
-  drop,
-  ap,
-  sym,
-  ◌∙◌,
-  arith,
-  append-nil,
-  length-append,
-  length-take,
-}
+use Rattle.std.proofs.Common.{◌≡◌, ℕ, ◌-◌, ◌<◌, ◌≤◌, List, ◌++◌, length, take, drop, ap, sym, ◌∙◌, arith, append-nil}
+use Rattle.std.proofs.Common.{length-append, length-take}
 use Rattle.feed_commands.specs.Show.{document_limit}
 use Rattle.feed_commands.proofs.ShowLemmas.{bytes_past, bytes_more, written_whole}
 use Rattle.feed_commands.proofs.commands.show.read_to_end.Goals as goal

@@ -1,0 +1,11 @@
+-- What a command with two defined ends prints.
+use Rattle.coverage_certificate.specs.Text.{certificate_text}
+use Rattle.feed_commands.specs.declared.commands.printed.Printed.{Printed}
+use Rattle.feed_commands.specs.declared.commands.printed.Printed.TheVariants.{Certificate, Text}
+use Rattle.feed_commands.specs.declared.status.Status.TheVariants.{Done}
+use Rattle.feed_commands.specs.Answer.{Answer}
+
+-- the status, and the bytes that are printed
+abbrev pub printed_answer : Printed → Answer
+printed_answer (Text status text) = record { status = status; printed = text.items }
+printed_answer (Certificate certificate) = record { status = Done; printed = certificate_text certificate }
