@@ -227,6 +227,54 @@ complete 5 5
 TEXT
 mirrored --base http://other.example/ --report
 echo 'other base http://feed.example/' | compare 'mirror of another base' 12
+# without --report it prints its certificate; the digests are those of sha256sum, of the documents and of the member documents
+digest() { sha256sum "$1" | cut -d ' ' -f 1; }
+for number in 1 2 3 4 5; do
+    stored show member $number
+    cat "$work/output"
+done >"$work/members"
+{
+    echo 'coverage 1'
+    echo 'feed 6d1f0c5a-93be-4c27-8d10-2b7f9e4a5c36 http://feed.example/'
+    echo 'version 5'
+    echo "document http://feed.example/feed $(digest "$work/feed")"
+    echo "document http://feed.example/archive/1 $(digest "$work/archive")"
+    echo "live 5 $(digest "$work/members")"
+    echo 'end'
+} >"$work/certificate"
+mirrored --base http://feed.example/
+compare 'the certificate of a mirror' 0 <"$work/certificate"
+# an audit of the certificate over the pile, in another order of the documents, and of changed ones
+stored show pile
+cp "$work/output" "$work/documents"
+cat "$work/certificate" "$work/documents" >"$work/input"
+ran audit
+echo 'accepted 5 5' | compare 'audit' 0
+{ cat "$work/certificate"; echo 'pile 1'; offered archive/1 "$work/archive"; offered feed "$work/feed"; } >"$work/input"
+ran audit
+echo 'accepted 5 5' | compare 'audit of another order' 0
+{ cat "$work/certificate"; echo 'pile 1'; offered feed "$work/feed"; } >"$work/input"
+ran audit
+echo 'no document http://feed.example/archive/1' | compare 'audit without a document' 3
+sed 's/<title>a</<title>A</' "$work/archive" >"$work/changed"
+{ cat "$work/certificate"; echo 'pile 1'; offered feed "$work/feed"; offered archive/1 "$work/changed"; } >"$work/input"
+ran audit
+echo "digest differs http://feed.example/archive/1 $(digest "$work/changed")" | compare 'audit of a changed document' 3
+{ grep -v archive/1 "$work/certificate"; cat "$work/documents"; } >"$work/input"
+ran audit
+echo 'not the first 5' | compare 'audit of a certificate without its last line' 3
+{ sed 's/^live 5/live 4/' "$work/certificate"; cat "$work/documents"; } >"$work/input"
+ran audit
+echo "live differs 5 $(digest "$work/members")" | compare 'audit of another number of entries' 3
+{ sed 's/^version/Version/' "$work/certificate"; cat "$work/documents"; } >"$work/input"
+ran audit
+echo 'bad certificate 3' | compare 'audit of a bad certificate' 10
+cp "$work/certificate" "$work/input"
+ran audit
+echo 'bad pile 0' | compare 'audit without a pile' 10
+{ cat "$work/certificate"; echo 'pile 1'; awk 'BEGIN { while (count++ <= 100000) print "a 0\n" }'; } >"$work/input"
+ran audit
+echo 'too many offers' | compare 'audit of too many documents' 10
 rm "$work/mirror/mirror"
 { echo 'pile 1'; offered feed "$work/feed"; offered feed "$work/feed"; offered feed "$work/archive"; } >"$work/input"
 mirrored --report --base=http://feed.example/
@@ -238,9 +286,15 @@ TEXT
 { echo 'pile 1'; offered feed "$work/feed"; echo 'http://feed.example/archive/1 9'; } >"$work/input"
 mirrored --base http://feed.example/ --report
 echo "bad pile $(($(wc -c <"$work/input") - 32))" | compare 'mirror of a pile that is cut' 10
-: >"$work/input"
+{ echo 'pile 1'; offered feed "$work/feed"; } >"$work/input"
+rm "$work/mirror/mirror"
 mirrored --base http://feed.example/
-echo "$usage" | compare 'mirror without --report' 2
+echo 'missing http://feed.example/archive/1' | compare 'no certificate without the archive' 3
+: >"$work/input"
+mirrored --base http://feed.example/ --report=yes
+echo "$usage" | compare 'mirror with a value for --report' 2
+ran audit 5
+echo "$usage" | compare 'audit with a number' 2
 printf 'remove 5\nsubtract\nadd f\n' >"$work/input"
 stored apply
 echo 'bad line 2' | compare 'a bad line on a store' 10
