@@ -15,7 +15,7 @@ static LINES: [&str; 6] = [
     "end\n",
 ];
 
-/// How many lines of the certificate are kept, what follows them, and the line that can't stand there.
+/// How many lines of the certificate are kept, what follows them, and the number of the line that is refused.
 static BAD: [(usize, &str, u32); 12] = [
     (0, "", 1),
     (0, "coverage 2\n", 1),

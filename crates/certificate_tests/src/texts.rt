@@ -44,7 +44,7 @@ live 3 97e340a34e473a06d3e588433364a3860f42e1cd81f6077a8ce22051c2704d5c\n\
 end\n\
 ";
 
-/// What a text is read as.
+/// Reads a text of at most `MAX_CERTIFICATE` bytes as a certificate.
 pub fn read(rt: &impl Abort, alloc: Global, text: &str) -> Result<Certificate, CertificateFault> {
     assert!(rt; text.len() <= MAX_CERTIFICATE);
     Certificate::read(alloc, text.as_bytes())

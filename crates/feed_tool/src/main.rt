@@ -50,7 +50,7 @@ fn main(rt: HostRuntime) -> ExitCode {
         (Err(error), _, _) | (_, Err(error), _) => {
             end_with(rt.alloc(), &mut output, Fault::from(error))
         }
-        // A buffer can't be had for want of memory alone.
+        // `BufReader` fails only if there is no memory for its buffer.
         (_, _, Err(_)) => end_with(rt.alloc(), &mut output, Fault::NoMemory),
     };
     ExitCode::from(ended.status)
