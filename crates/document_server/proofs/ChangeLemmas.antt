@@ -79,6 +79,10 @@ four-or-more : (seal : Option (List ℕ)) → 4 ≤ commit_calls seal
 four-or-more None = omega arith
 four-or-more (Some seal) = omega arith
 
+eight-or-less : (seal : Option (List ℕ)) → commit_calls seal ≤ 8
+eight-or-less None = omega arith
+eight-or-less (Some seal) = omega arith
+
 -- Where the number of seals is that of the sealed archives after the operation, the seal that was due and missing was
 -- made.
 sealed-by : WindowsSealInTurn → (old : StoreValue) (operation : Op) (seals : ℕ) → IsHead old.head
@@ -228,6 +232,7 @@ module _ (old prepared : StoreValue) (members journal seals spare : ℕ)
     history = grows.history ∙ ap (λ (p : StoreValue). p.history ++ grows.operation ∷ []) same;
     number = grows.number;
     some = grows.some;
+    most = grows.most;
     calls = subst (λ (n : ℕ). MakesCalls s t n (call_count new) grows.number) (ap call_count same) grows.calls;
   }
 
@@ -268,6 +273,7 @@ module _ (turn : WindowsSealInTurn) (s t : DiskState) (old new : StoreValue) (re
     history = history;
     number = commit_calls ready.seal;
     some = four-or-more ready.seal;
+    most = eight-or-less ready.seal;
     calls = calls;
   }
 

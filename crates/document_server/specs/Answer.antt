@@ -62,12 +62,20 @@ IsAnswer outcomes old new reply failed =
 abbrev pub IsDone : Reply → Type 0
 IsDone reply = (reply.status ≡ 200) ⊎ (reply.status ≡ 201)
 
--- the history gains an operation, which takes at least four device calls
+-- the device calls of a change: those of one append, or of two
+abbrev pub least_change_calls : ℕ
+least_change_calls = 4
+
+abbrev pub most_change_calls : ℕ
+most_change_calls = 8
+
+-- the history gains an operation, which takes these device calls
 pub record Grows (before after : DiskState) (old new : StoreValue) : Type 0 where
   pub operation : Op
   pub history : new.history ≡ old.history ++ operation ∷ []
   pub number : ℕ
-  pub some : 4 ≤ number
+  pub some : least_change_calls ≤ number
+  pub most : number ≤ most_change_calls
   pub calls : MakesCalls before after (call_count old) (call_count new) number
 
 -- What a crash leaves

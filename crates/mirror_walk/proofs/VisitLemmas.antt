@@ -42,6 +42,7 @@ sound-joins told s m t one two three first second = record {
   unspent = second.unspent;
   stands = second.stands;
   rests = λ tells rest. second.rests tells (first.rests tells rest);
+  most = omega (arith, first.most, second.most);
 }
 
 -- images

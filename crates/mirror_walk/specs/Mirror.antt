@@ -1,5 +1,5 @@
 -- A mirror over the log of its area, as contracts see it.
-use Rattle.std.specs.Prelude.{◌≡◌, ◌⊎◌, ℕ, ◌≤◌, Bool, false, List, [], ◌∷◌, ◌++◌, map, length, slice_get}
+use Rattle.std.specs.Prelude.{◌≡◌, ◌⊎◌, ℕ, ◌+◌, ◌*◌, ◌≤◌, Bool, false, List, [], ◌∷◌, ◌++◌, map, length, slice_get}
 use Rattle.std.specs.Prelude.{Option}
 use Rattle.std.specs.Prelude.{Some, Ok, MatchOption}
 use Rattle.feed_disk.specs.Disk.{DiskState}
@@ -57,6 +57,14 @@ pub record StandsFor (disk : DiskState) (mirror : MirrorValue) : Type 0 where
 -- rest after a load of a whole area, and after each offer without a failed device call.
 abbrev pub IsAtRest : DiskState → List KeptValue → Type 0
 IsAtRest disk kept = NowOnly disk MirrorArea (Begins (payloads_of kept))
+
+-- the device calls by which a document is taken: those of one append
+abbrev pub take_calls : ℕ
+take_calls = 4
+
+-- the calls of the disk's clock are at most those of the documents that were taken
+abbrev pub TakesFew : DiskState → DiskState → List KeptValue → List KeptValue → Type 0
+TakesFew before after kept now = after.clock + take_calls * length kept ≤ before.clock + take_calls * length now
 
 -- a whole image of the area, which loads to these documents
 pub record LoadsTo (base : List ℕ) (kept : List KeptValue) (image : List ℕ) : Type 0 where

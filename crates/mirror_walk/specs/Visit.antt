@@ -23,7 +23,7 @@ use Rattle.mirror_walk.specs.declared.walk.WalkFault.{WalkFault}
 use Rattle.mirror_walk.specs.declared.walk.WalkFault.TheVariants as faults
 use Rattle.mirror_walk.specs.Accept.{Answer, IsAnswerWithin}
 use Rattle.mirror_walk.specs.Holding.{KeptValue, best_of, first_missing}
-use Rattle.mirror_walk.specs.Mirror.{IsAtRest, LoadsTo, MirrorValue, StandsFor, is_spent}
+use Rattle.mirror_walk.specs.Mirror.{IsAtRest, LoadsTo, MirrorValue, StandsFor, TakesFew, is_spent}
 use Rattle.mirror_walk.specs.Walk.{EndsAt, HasRefusal, IsAnswered, WalkEnding, WalkSetting, WalksFromFeed}
 use Rattle.mirror_walk.specs.Walk.{is_known, is_stale, is_taken}
 use Rattle.mirror_walk.specs.Walk.WalkEnding.{not_there, refused, fetch_failed, filled, cut_short}
@@ -83,11 +83,13 @@ pub record KeepsSetting (s t : DiskState) (before after : MirrorValue) : Type 0 
   pub capacity : after.capacity ≡ before.capacity
   pub others : (a : Area) → a ≢ MirrorArea → LeavesAlone s t a
 
--- no device call failed: the mirror is of use, and the disk is at rest again if it was
+-- no device call failed: the mirror is of use, the disk is at rest again if it was, and its calls are those of
+-- the documents that were taken
 pub record StaysSound (told : Type 0) (s t : DiskState) (before after : MirrorValue) : Type 0 where
   pub unspent : is_spent after ≡ false
   pub stands : told → StandsFor t after
   pub rests : told → IsAtRest s before.kept → IsAtRest t after.kept
+  pub most : TakesFew s t before.kept after.kept
 
 -- the counts of faults of the disk and of the source: each rose where its fault is the result, and stayed
 -- otherwise

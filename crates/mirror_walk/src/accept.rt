@@ -113,10 +113,11 @@ impl Held {
         }
     }
 
-    /// Compares the document with the held one that has the same place in the chain.
+    /// Compares the document with the held one that has the same place in the chain, by their digests: `Known`
+    /// if they are equal, and the refusal `Conflict` if they differ.
     ///
-    /// `Known` if their digests are equal, `Conflict` if they differ, and `Stale` if the best subscription
-    /// document has a greater `last`. `None` if no document is held in that place.
+    /// If no document is held in that place: `Stale` if the best subscription document has a greater `last`
+    /// than this subscription document, else `None`.
     #[tactic(auto, unfolding(crate::specs::Accept::counterpart, crate::specs::Accept::known, crate::specs::Accept::stale, crate::specs::Accept::conflict))]
     fn compare(&self, given: &Kept) -> Result<Option<Accepted>, Offered>
         ensures answer { let kept = self.now.kept in Compares (first_of (known kept given.now

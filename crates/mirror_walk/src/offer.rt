@@ -10,7 +10,7 @@ ghost use Rattle.member_rules.specs.Served.{Served};
 ghost use Rattle.member_rules.specs.declared.operation.Op.{Op};
 ghost use Rattle.mirror_walk.specs.Accept.{IsAnswerWithin, IsForRoom, IsKeptOf, accept_within};
 ghost use Rattle.mirror_walk.specs.Holding.{KeptValue};
-ghost use Rattle.mirror_walk.specs.Mirror.{IsAtRest, IsOfferStep, StandsFor, is_spent};
+ghost use Rattle.mirror_walk.specs.Mirror.{IsAtRest, IsOfferStep, StandsFor, TakesFew, is_spent};
 ghost use Rattle.mirror_walk.specs.Offers.{AreServed, AreTakenOf, Offering};
 ghost use Rattle.mirror_walk.specs.Taking.{IsChecked, IsNoRoom, IsTakenNext, IsTakeStep};
 
@@ -94,6 +94,8 @@ impl Mirror {
             → D.told → IsAtRest (D.state disk.old) self.old.kept → IsAtRest (D.state disk.new) self.new.kept }
         ensures others { (a : AreaValue) → a ≢ MirrorArea
             → LeavesAlone (D.state disk.old) (D.state disk.new) a }
+        ensures most { result ≢ Err Offered.DiskFault
+            → TakesFew (D.state disk.old) (D.state disk.new) self.old.kept self.new.kept }
 
         ensures later { (D.state disk.old).faults ≤ (D.state disk.new).faults }
         ensures failed { result ≡ Err Offered.DiskFault
@@ -179,6 +181,8 @@ impl Mirror {
             → D.told → IsAtRest (D.state disk.old) self.old.kept → IsAtRest (D.state disk.new) self.new.kept }
         ensures others { (a : AreaValue) → a ≢ MirrorArea
             → LeavesAlone (D.state disk.old) (D.state disk.new) a }
+        ensures most { result ≢ Err Offered.DiskFault
+            → TakesFew (D.state disk.old) (D.state disk.new) self.old.kept self.new.kept }
         ensures later { (D.state disk.old).faults ≤ (D.state disk.new).faults }
         ensures failed { result ≡ Err Offered.DiskFault
             → Rose (D.state disk.old).faults (D.state disk.new).faults }

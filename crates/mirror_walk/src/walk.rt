@@ -8,7 +8,7 @@ ghost use Rattle.feed_disk.specs.declared.area.Area.TheVariants.{Mirror as Mirro
 ghost use Rattle.member_rules.specs.Head.{HeadValue};
 ghost use Rattle.member_rules.specs.declared.operation.Op.{Op};
 ghost use Rattle.mirror_walk.specs.Listing.{is_complete, outcome_of};
-ghost use Rattle.mirror_walk.specs.Mirror.{IsAtRest, StandsFor, is_spent};
+ghost use Rattle.mirror_walk.specs.Mirror.{IsAtRest, StandsFor, TakesFew, is_spent};
 ghost use Rattle.mirror_walk.specs.Offers.{AreServed, AreTakenOf, Offering};
 ghost use Rattle.mirror_walk.specs.Visit.{AcceptsAt, CountsFaults, HasAsked, HasVisited, IsVisit};
 ghost use Rattle.mirror_walk.specs.Visit.{IsVisitStep, KeepsSetting, StaysSound, counted_answer, visit_of};
@@ -222,6 +222,9 @@ impl Mirror {
             → D.told → IsAtRest (D.state disk.old) self.old.kept → IsAtRest (D.state disk.new) self.new.kept }
         ensures others { (a : AreaValue) → a ≢ MirrorArea
             → LeavesAlone (D.state disk.old) (D.state disk.new) a }
+
+        ensures most { result ≢ Err WalkFault.DiskFault
+            → TakesFew (D.state disk.old) (D.state disk.new) self.old.kept self.new.kept }
 
         // The source's answers stay. The counts of faults rose exactly where a call failed.
         ensures answers { (F.state fetch.new).answers ≡ (F.state fetch.old).answers }

@@ -1,4 +1,5 @@
 use Rattle.std.proofs.Common.{◌≡◌, ℕ, List, [], ◌∷◌, ◌++◌, false, length, refl, sym, ◌∙◌, ap, subst, arith}
+use Rattle.std.proofs.Common.{length-append}
 use Rattle.feed_disk.specs.Moments.{AlwaysLeaves}
 use Rattle.feed_disk.specs.declared.area.Area.TheVariants.{Mirror as MirrorArea}
 use Rattle.feed_journal.specs.Log.{LogValue}
@@ -127,3 +128,10 @@ returns-clause-others g c =
     others-alone (g.D.Disk.state c.args.disk.now) (g.D.Disk.state c.append.new.disk) c.reserve.new.self.area
     (area g d)
     c.append.ensures.others
+
+pub returns-clause-most : goal.returns-clause-most
+returns-clause-most g c = λ other.
+    let calls = c.append.ensures.most in
+    let kept : c.take.new.self.kept ≡ c.args.self.now.kept ++ c.args.given ∷ [] =
+    c.in_ok-take.ensures.kept ∙ ap (λ (m : MirrorValue). m.kept ++ c.args.given ∷ []) c.self.view_is in
+    omega (arith, calls.within, calls.makes.clock, simp length-append at (ap length kept))

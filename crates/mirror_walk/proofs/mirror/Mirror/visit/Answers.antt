@@ -33,6 +33,7 @@ returns-clause-sound g c = λ works.
       unspent = c.offer.ensures.unspent answers;
       stands = c.offer.ensures.stands answers;
       rests = c.offer.ensures.rests answers;
+      most = c.offer.ensures.most answers;
     }
 
 pub returns-clause-moments : goal.returns-clause-moments

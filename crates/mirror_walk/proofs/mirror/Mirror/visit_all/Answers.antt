@@ -30,6 +30,7 @@ addresses-init g c =
         unspent = c.requires.unspent;
         stands = c.requires.stands;
         rests = λ told rest. rest;
+        most = omega arith;
       };
       answers = refl;
       disk_faults = refl;
