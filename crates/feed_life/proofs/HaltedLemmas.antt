@@ -1,0 +1,74 @@
+-- A life after a request that was stopped.
+use Rattle.std.proofs.Common.{◌≡◌, ◌⊎◌, inl, inr, ℕ, List, All, false, sym, subst}
+use Rattle.std.specs.List.{AllZip}
+use Rattle.document_server.specs.Answer.{added}
+use Rattle.feed_disk.specs.Memory.{MemoryValue}
+use Rattle.feed_life.specs.Life.{IsMirrorOf, IsSentBy, IsStoreOf, LifeValue, Lives}
+use Rattle.feed_life.specs.Asks.{Gains, IsHalted, IsLeft, LeavesStopped}
+use Rattle.feed_life.specs.declared.sent.SentDoc.{SentDoc}
+use Rattle.feed_life.proofs.StayLemmas.{all-sent-later, mirrors-later}
+use Rattle.http_face.specs.Request.{RequestValue}
+use Rattle.member_rules.specs.Head.{HeadValue}
+use Rattle.member_rules.specs.History.{IsLawful}
+use Rattle.member_rules.specs.declared.operation.Op.{Op}
+use Rattle.mirror_walk.specs.Holding.{KeptValue}
+
+-- what was sent, and what the mirrors hold, with the history that a stop leaves
+record Stays (head : HeadValue) (later : List Op) (docs : List SentDoc) (disks : List MemoryValue)
+    (held : List (List KeptValue)) : Type 0 where
+  sent : All (IsSentBy head later) docs
+  mirrors : AllZip (IsMirrorOf head later) disks held
+
+stays-stopped : (head : HeadValue) (request : RequestValue) (now : ℕ) (history later : List Op) (docs : List SentDoc)
+    (disks : List MemoryValue) (held : List (List KeptValue)) → IsLawful head later
+    → (later ≡ history) ⊎ Gains head request now history later → All (IsSentBy head history) docs
+    → AllZip (IsMirrorOf head history) disks held → Stays head later docs disks held
+stays-stopped head request now history later docs disks held lawful (inl same) sent mirrors =
+    subst (λ (l : List Op). Stays head l docs disks held) (sym same) record { sent = sent; mirrors = mirrors }
+stays-stopped head request now history later docs disks held lawful (inr gains) sent mirrors =
+    let lawful_more = subst (IsLawful head) gains.history_is lawful in
+    subst (λ (l : List Op). Stays head l docs disks held) (sym gains.history_is) record {
+      sent = all-sent-later head history (added gains.outcome.adds) lawful_more docs sent;
+      mirrors = mirrors-later head history (added gains.outcome.adds) lawful_more disks held mirrors;
+    }
+
+halted-inside : (old : LifeValue) (request : RequestValue) (now call : ℕ) (history : List Op)
+    (held : List (List KeptValue)) (left disk : MemoryValue) (version sealed stops : ℕ) → Lives old history held
+    → LeavesStopped old.head request now call history left
+    → ((later : List Op) → IsStoreOf old.head later left → IsLeft old.head later disk version sealed)
+    → IsHalted old (record old { disk = disk; version = version; sealed = sealed; stops = stops; lost = false }) request
+    now call history held
+halted-inside old request now call history held left disk version sealed stops lives stopped load =
+    let loaded = load stopped.later stopped.store in
+    let stays = stays-stopped old.head request now history stopped.later old.sent old.mirrors held
+    loaded.store.opens.is_journal.lawful stopped.stopped.gains lives.sent lives.mirrors in
+    record {
+      later = stopped.later;
+      stopped = stopped.stopped;
+      lives = record {
+        store = loaded.store;
+        version = loaded.version_is;
+        sealed = loaded.sealed_is;
+        sent = stays.sent;
+        mirrors = stays.mirrors;
+      };
+    }
+
+pub life-halted : (inside old : LifeValue) (request : RequestValue) (now call : ℕ) (history : List Op)
+    (held : List (List KeptValue)) (left disk : MemoryValue) (version sealed stops : ℕ) → inside ≡ old
+    → Lives old history held
+    → (IsStoreOf inside.head history inside.disk → LeavesStopped inside.head request now call history left)
+    → ((later : List Op) → IsStoreOf inside.head later left → IsLeft inside.head later disk version sealed)
+    → IsHalted old (record inside { disk = disk; version = version; sealed = sealed; stops = stops; lost = false })
+    request now call history held
+life-halted inside old request now call history held left disk version sealed stops view lives stopped load =
+    let before = subst (λ (l : LifeValue). Lives l history held) (sym view) lives in
+    subst (λ (l : LifeValue). IsHalted l (record inside {
+      disk = disk;
+      version = version;
+      sealed = sealed;
+      stops = stops;
+      lost = false;
+    }) request now call history held) view
+    (halted-inside inside request now call history held left disk version sealed stops before (stopped before.store)
+    load)

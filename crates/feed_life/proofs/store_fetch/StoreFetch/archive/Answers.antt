@@ -1,0 +1,47 @@
+use Rattle.std.proofs.Common.{◌≡◌, false, length, vec_len, ap, ◌∙◌, refl, arith}
+use Rattle.doc_source.specs.Pile.{offer_limit}
+use Rattle.feed_recovery.specs.Store.{is_spent}
+use Rattle.feed_life.proofs.GetsLemmas.{disk-inside, gets-changed, gets-limited, gets-read, reads-inside}
+use Rattle.feed_life.proofs.ShortLemmas.{seal-fits}
+use Rattle.feed_life.proofs.store_fetch.StoreFetch.archive.Goals as goal
+
+pub returns-in-Ok-clause-gets : goal.returns-in-Ok-clause-gets
+returns-in-Ok-clause-gets g c =
+    gets-limited g.D.Disk.told g.D.Disk.state _ _ _ _ _ offer_limit (vec_len c.in-Ok.written)
+    (reads-inside g.D.Disk.state _ _ c.archive.new.self c.archive.new.disk c.self.view_is (c.in-Ok.ensures.same (λ e. cc))
+    c.in-Ok.ensures.areas (c.in-Ok.ensures.unfailed (λ e. cc)))
+    (λ told.
+    let unspent : is_spent c.self.inside.store ≡ false = ap (λ f. is_spent f.store) c.self.view_is ∙ c.requires in
+    let fits = seal-fits _ _ (c.self.invariant unspent told) c.args.number c.in-Ok.ensures.sealed in
+    let is = ap length (c.in-Ok.ensures.document told) in
+    omega (arith, fits, is, c.in-Ok.written.ok))
+    c.within_limit.ensures.same c.within_limit.ensures.fault c.within_limit.ensures.long c.within_limit.ensures.failures
+
+pub returns-in-Err-NotSealed-clause-gets : goal.returns-in-Err-NotSealed-clause-gets
+returns-in-Err-NotSealed-clause-gets g c =
+    gets-read _ _ _ _ _ _
+    (reads-inside g.D.Disk.state _ _ c.archive.new.self c.archive.new.disk c.self.view_is
+    (c.in-Err-NotSealed.ensures.same (λ e. cc)) c.in-Err-NotSealed.ensures.areas
+    (c.in-Err-NotSealed.ensures.unfailed (λ e. cc))) (λ e. cc)
+
+pub returns-in-Err-DiskFault-clause-gets : goal.returns-in-Err-DiskFault-clause-gets
+returns-in-Err-DiskFault-clause-gets g c =
+    disk-inside _ g.D.Disk.state _ _ _ c.archive.new.self c.archive.new.disk c.self.view_is c.requires
+    (c.in-Err-DiskFault.ensures.spent (cc)) c.in-Err-DiskFault.ensures.areas c.in-Err-DiskFault.ensures.later
+    (c.in-Err-DiskFault.ensures.failed (cc)) refl
+
+pub returns-in-Err-Changed-clause-gets : goal.returns-in-Err-Changed-clause-gets
+returns-in-Err-Changed-clause-gets g c =
+    gets-changed g.D.Disk.told g.D.Disk.state _ _ _ _ _
+    (reads-inside g.D.Disk.state _ _ c.archive.new.self c.archive.new.disk c.self.view_is
+    (c.in-Err-Changed.ensures.same (λ e. cc)) c.in-Err-Changed.ensures.areas
+    (c.in-Err-Changed.ensures.unfailed (λ e. cc)))
+    (λ told. c.in-Err-Changed.ensures.never told c.in-Err-Changed.field-0-0 (cc))
+    c.fail.ensures.failures (cc (c.fail.ensures.fault))
+
+pub returns-in-Err-NoMemory-clause-gets : goal.returns-in-Err-NoMemory-clause-gets
+returns-in-Err-NoMemory-clause-gets g c =
+    gets-read _ _ _ _ _ _
+    (reads-inside g.D.Disk.state _ _ c.archive.new.self c.archive.new.disk c.self.view_is
+    (c.in-Err-NoMemory.ensures.same (λ e. cc)) c.in-Err-NoMemory.ensures.areas
+    (c.in-Err-NoMemory.ensures.unfailed (λ e. cc))) (λ e. cc)

@@ -1,0 +1,125 @@
+ghost use Rattle.std.specs.Prelude.{◌≡◌, ◌≤◌, ◌<◌, false, IfOk, List, OnOk};
+ghost use Rattle.feed_disk.specs.Memory.{state_of};
+ghost use Rattle.feed_life.specs.Life.{IsStoreOf};
+ghost use Rattle.feed_life.specs.Asks.{IsCrash, IsCrashFrom, IsLeft, IsOpened, LeavesStopped, Runs};
+ghost use Rattle.feed_recovery.specs.Store.{StandsFor, is_spent};
+ghost use Rattle.member_rules.specs.Head.{HeadValue};
+ghost use Rattle.member_rules.specs.declared.operation.Op.{Op as Operation};
+
+use crate::ask::{NO_MEMORY, open};
+use crate::event::Stop;
+use atom_values::NoMemory;
+use document_server::answer;
+use feed_disk::{Area, Choice, Disk, MemoryDisk};
+use feed_recovery::Store;
+use http_face::Request;
+use std::alloc::Global;
+
+/// The number of operations of a store and that of its sealed archives.
+#[derive(Debug, Drop)]
+pub(crate) struct Numbers {
+    pub(crate) version: u32,
+    pub(crate) sealed: u32,
+}
+
+/// Crashes within a device call that was made.
+fn crash_at(disk: &MemoryDisk, call: u64, choice: &Choice) -> Result<MemoryDisk, NoMemory>
+    requires { call ≤ (state_of disk.now).clock }
+    ensures { IfOk result (IsCrash (λ a. (state_of disk.now).image_at a call)) }
+{
+    disk.image(call, choice)
+}
+
+/// Crashes after the last device call that was made, within one that changes nothing.
+pub(crate) fn crash_after(disk: &mut MemoryDisk, choice: &Choice) -> Result<MemoryDisk, NoMemory>
+    ensures { IfOk result (IsCrash (state_of disk.old).image_now) }
+{
+    let before = disk.calls();
+    if before == u64::MAX {
+        return Err(NoMemory);
+    }
+    match disk.size(Area::Journal) {
+        Ok(_) => crash_at(disk, before + 1, choice),
+        Err(_) => Err(NoMemory),
+    }
+}
+
+/// Crashes within the call of the stop, of those since `begun`, or after the last one.
+pub(crate) fn crash_from(
+    disk: &mut MemoryDisk,
+    begun: u64,
+    stop: &Stop,
+) -> Result<MemoryDisk, NoMemory>
+    requires begun { begun ≤ (state_of disk.old).clock }
+    requires some { 0 < stop.now.call }
+    ensures { IfOk result (IsCrashFrom begun stop.now.call disk.old) }
+{
+    let ended = disk.calls();
+    if ended == u64::MAX {
+        return Err(NoMemory);
+    }
+    if stop.call > ended - begun {
+        let left = crash_after(disk, &stop.choice)?;
+        return Ok(left);
+    }
+    let left = crash_at(disk, begun + stop.call, &stop.choice)?;
+    Ok(left)
+}
+
+/// Answers a request, without the reply.
+fn run(
+    alloc: Global,
+    store: &mut Store,
+    disk: &mut MemoryDisk,
+    request: &Request,
+    now: u64,
+) -> Result<(), NoMemory>
+    requires unspent { is_spent store.old ≡ false }
+    requires stands { StandsFor (state_of disk.old) store.old }
+    ensures runs { OnOk result ((head : HeadValue) (history : List Operation)
+        → IsOpened head history disk.old store.old
+        → Runs head request.now now history disk.old disk.new) }
+    ensures later { (state_of disk.old).clock ≤ (state_of disk.new).clock }
+{
+    let reply = answer(alloc, store, disk, request, now);
+    if reply.status == NO_MEMORY || store.is_spent() {
+        return Err(NoMemory);
+    }
+    Ok(())
+}
+
+/// Answers a request on the store of a disk, and crashes within one of its device calls.
+pub(crate) fn ask_into(
+    alloc: Global,
+    disk: &mut MemoryDisk,
+    request: &Request,
+    now: u64,
+    stop: &Stop,
+) -> Result<MemoryDisk, NoMemory>
+    ensures stopped { IfOk result (λ left. (head : HeadValue) (history : List Operation)
+        → IsStoreOf head history disk.old
+        → LeavesStopped head request.now now stop.now.call history left) }
+{
+    let mut store = open(alloc, disk)?;
+    if stop.call == 0 {
+        let left = crash_after(disk, &stop.choice)?;
+        return Ok(left);
+    }
+    let begun = disk.calls();
+    run(alloc, &mut store, disk, request, now)?;
+    let left = crash_from(disk, begun, stop)?;
+    Ok(left)
+}
+
+/// Loads the store of a disk, for its numbers.
+pub(crate) fn load_numbers(alloc: Global, disk: &mut MemoryDisk) -> Result<Numbers, NoMemory>
+    ensures { IfOk result (λ given. (head : HeadValue) (history : List Operation)
+        → IsStoreOf head history disk.old
+        → IsLeft head history disk.new given.version given.sealed) }
+{
+    let store = open(alloc, disk)?;
+    Ok(Numbers {
+        version: store.version(),
+        sealed: store.sealed(),
+    })
+}
