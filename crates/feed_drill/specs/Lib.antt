@@ -1,0 +1,6 @@
+pub mod Draws
+pub mod Turn
+pub mod Drilled
+pub mod Requests
+pub mod Summary
+pub mod Effects
