@@ -9,7 +9,7 @@ use Rattle.feed_disk.specs.declared.area.Area.TheVariants.{Journal, Sealed, Mirr
 use Rattle.feed_journal.specs.Records.{records}
 use Rattle.feed_recovery.specs.Opening.{OpensInOneWay}
 use Rattle.tool_words.specs.declared.command.Command.{Command}
-use Rattle.tool_words.specs.declared.command.Command.TheVariants.{Init, Apply, Audit, Serve, Show, Mirror}
+use Rattle.tool_words.specs.declared.command.Command.TheVariants.{Init, Apply, Audit, Drill, Serve, Show, Mirror}
 use Rattle.tool_words.specs.declared.command.Show.TheVariants.{Document, Feed, Archive, Member, Pile}
 use Rattle.feed_commands.specs.Answer.{Answer}
 use Rattle.feed_commands.specs.Fault.{refusal_answer}
@@ -93,6 +93,7 @@ answer_once law (Serve listen requests) outside one other p q = absurd p
 answer_once law (Mirror base fetch report capacity) outside one other p q =
     of_mirror_once base fetch report capacity outside one other p q
 answer_once law Audit outside one other p q = one-audited outside.input one other p q
+answer_once law (Drill seed count) outside one other p q = p ∙ sym q
 answer_once law (Show Document) outside one other p q = shown_once outside.input one other p q
 answer_once law (Show Feed) outside one other p q = of_store_once law (Show Feed) outside one other p q
 answer_once law (Show (Archive number)) outside one other p q =

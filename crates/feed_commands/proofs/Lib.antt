@@ -96,3 +96,5 @@ pub mod OnePileLemmas
 pub mod PartLemmas
 -- `audit`: the line of a verdict, and what its status says
 pub mod VerdictSoundLemmas
+-- `drill`: `answered`
+pub mod DrillEndLemmas

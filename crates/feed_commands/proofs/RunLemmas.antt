@@ -3,13 +3,14 @@ use Rattle.std.proofs.Common.{◌≡◌, ◌⊎◌, inl, inr, ⊎_elim, ℕ, Boo
 use Rattle.tool_words.specs.Words.{IsCommandOf}
 use Rattle.tool_words.specs.declared.command.Command.{Command}
 use Rattle.tool_words.specs.declared.fault.WordsFault.{WordsFault}
-use Rattle.tool_words.specs.declared.command.Command.TheVariants.{Serve, Mirror}
+use Rattle.tool_words.specs.declared.command.Command.TheVariants.{Drill, Serve, Mirror}
 use Rattle.tool_words.specs.declared.fault.WordsFault.TheVariants.{NoMemory, Usage}
 use Rattle.feed_commands.specs.declared.fault.Fault.{Fault}
 use Rattle.feed_commands.specs.declared.status.Status.TheVariants.{Done}
 use Rattle.feed_commands.specs.declared.status.Status.TheVariants as ends
 use Rattle.feed_commands.specs.Answer.{Prints}
 use Rattle.feed_commands.specs.Audit.{MayEndAudit}
+use Rattle.feed_commands.specs.Drill.{MayEndDrill}
 use Rattle.feed_commands.specs.Fault.{fault_answer}
 use Rattle.doc_source.specs.Outside.{SinkState}
 use Rattle.feed_commands.specs.FetchEnds.{MayEndFetched}
@@ -162,6 +163,24 @@ audit-status n (inr (inr (inl e))) = (ends.NoMemory, e)
 audit-status n (inr (inr (inr (inl e)))) = (ends.OutputFault, e)
 audit-status n (inr (inr (inr (inr (inl e))))) = (ends.InputFault, e)
 audit-status n (inr (inr (inr (inr (inr e))))) = (ends.BadInput, e)
+
+-- the status of `drill` is one of the program's
+pub drill-status : (n : ℕ) → MayEndDrill n → IsStatus n
+drill-status n (inl e) = (ends.Done, e)
+drill-status n (inr (inl e)) = (ends.OutputFault, e)
+drill-status n (inr (inr e)) = (ends.NoMemory, e)
+
+-- the words of `drill` have one seed and one count
+pub same_drill : (P : ℕ → ℕ → Type 0) (words : List (List ℕ)) (result : Result Command WordsFault) (read : Command)
+    (seed count : ℕ) → result ≡ Ok read → read ≡ Drill seed count
+    → ((command : Command) → IsCommandOf words command → (result ≡ Ok command) ⊎ (result ≡ Err NoMemory))
+    → P seed count → (other number : ℕ) → IsCommandOf words (Drill other number) → P other number
+same_drill P words result read seed count is drills only holds other number of_words =
+    let same : Drill seed count ≡ Drill other number =
+    read_only words result read (Drill seed count) is drills only (Drill other number) of_words in
+    let seed_is : seed ≡ other = cc in
+    let count_is : count ≡ number = cc in
+    subst (λ (s : ℕ). P s number) seed_is (subst (P seed) count_is holds)
 
 -- the words of `mirror` have one base and one capacity, and say in one way whether to fetch and to report
 pub same_mirror : (P : List ℕ → Bool → Bool → ℕ → Type 0) (words : List (List ℕ)) (result : Result Command WordsFault)

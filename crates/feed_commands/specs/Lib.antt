@@ -22,6 +22,7 @@ pub mod FetchEnds
 pub mod Mirroring
 pub mod Printed
 pub mod Audit
+pub mod Drill
 pub mod AuditedPile
 pub mod AuditEnds
 pub mod CertificatePart

@@ -15,6 +15,7 @@ use Rattle.feed_commands.specs.Answer.{Answer, Prints, usage_line}
 use Rattle.feed_commands.specs.Applied.{IsUnrefused}
 use Rattle.feed_commands.specs.Apply.{answer, history_step, test_head}
 use Rattle.feed_commands.specs.Audit.{IsAuditUnrefused, IsAudited}
+use Rattle.feed_commands.specs.Drill.{drill_answer}
 use Rattle.feed_commands.specs.Fault.{fault_answer}
 use Rattle.feed_commands.specs.Mirror.{IsMirrored, ReadsWithinPile}
 use Rattle.feed_commands.specs.MirrorFaults.{IsBadMirror, IsHeldIn, report_answer}
@@ -27,7 +28,7 @@ use Rattle.feed_commands.specs.Stored.{IsBadStore, IsInitAnswer, apply_answer, a
 use Rattle.member_rules.specs.Head.{window_limit, capacity_floor, capacity_limit, title_limit}
 use Rattle.tool_words.specs.Words.{IsCommandOf, request_limit}
 use Rattle.tool_words.specs.declared.command.Command.{Command}
-use Rattle.tool_words.specs.declared.command.Command.TheVariants.{Init, Apply, Serve, Show, Mirror, Audit}
+use Rattle.tool_words.specs.declared.command.Command.TheVariants.{Init, Apply, Serve, Show, Mirror, Audit, Drill}
 use Rattle.tool_words.specs.declared.command.Show.TheVariants.{Document, Feed, Archive, Member, Pile}
 
 -- the ranges of a command's values
@@ -59,6 +60,7 @@ abbrev pub UsesDisk : Command → Type 0
 UsesDisk (Apply (Some window)) = ⊥
 UsesDisk (Show Document) = ⊥
 UsesDisk Audit = ⊥
+UsesDisk (Drill seed count) = ⊥
 UsesDisk _ = Unit {0}
 
 -- whether the command asks the source of documents
@@ -78,10 +80,12 @@ IsAtOnce (Serve listen requests) = ⊥
 IsAtOnce (Show Pile) = ⊥
 IsAtOnce _ = Unit {0}
 
--- whether the command has one defined end, with the status 0: each but `mirror` and `audit`
+-- whether the command has one defined end, with the status 0, and returns nothing but what it prints: each but `mirror`,
+-- `audit` and `drill`
 abbrev pub IsTextual : Command → Type 0
 IsTextual (Mirror base fetch report capacity) = ⊥
 IsTextual Audit = ⊥
+IsTextual (Drill seed count) = ⊥
 IsTextual _ = Unit {0}
 
 -- the words are those of a command that prints at once, or of none
@@ -96,6 +100,10 @@ ServesNot words = (listen : List ℕ) (requests : ℕ) → ¬ IsCommandOf words 
 abbrev pub MirrorsNot : List (List ℕ) → Type 0
 MirrorsNot words =
     (base : List ℕ) (fetch report : Bool) (capacity : ℕ) → ¬ IsCommandOf words (Mirror base fetch report capacity)
+
+-- the words are those of another command than `drill`, or of none
+abbrev pub DrillsNot : List (List ℕ) → Type 0
+DrillsNot words = (seed count : ℕ) → ¬ IsCommandOf words (Drill seed count)
 
 -- the words are those of a command that doesn't ask the source of documents, or of none
 abbrev pub FetchesNot : List (List ℕ) → Type 0
@@ -148,6 +156,7 @@ IsAnswer (Show Document) outside given = IsShown outside.input given
 IsAnswer (Mirror base fetch report capacity) outside given =
     IsOfMirror base fetch report capacity outside given ⊎ IsBadMirror base outside.content given
 IsAnswer Audit outside given = IsAudited outside.input given
+IsAnswer (Drill seed count) outside given = given ≡ drill_answer seed count
 IsAnswer (Serve listen requests) outside given = ⊥
 IsAnswer command outside given = IsOfStore command outside given ⊎ IsBadStore outside.content given
 
@@ -159,6 +168,7 @@ IsDueAnswer (Apply (Some window)) outside given = answer (test_head window) outs
 IsDueAnswer (Show Document) outside given = IsShown outside.input given
 IsDueAnswer (Mirror base fetch report capacity) outside given = IsOfMirror base fetch report capacity outside given
 IsDueAnswer Audit outside given = IsAudited outside.input given
+IsDueAnswer (Drill seed count) outside given = given ≡ drill_answer seed count
 IsDueAnswer (Serve listen requests) outside given = ⊥
 IsDueAnswer command outside given = IsOfStore command outside given
 

@@ -4,6 +4,7 @@ pub mod apply;
 pub mod audit;
 mod audited_pile;
 mod certificate_part;
+pub mod drill;
 pub mod fetched;
 pub mod init;
 mod line;

@@ -10,23 +10,26 @@ ghost use Rattle.doc_source.specs.Fetch.{FetchState};
 ghost use Rattle.feed_recovery.specs.Settled.{LeavesStores};
 ghost use Rattle.feed_recovery.specs.Stored.{OpensTo, Stored};
 ghost use Rattle.feed_commands.specs.Crash.{AddsNothing, AppliesSafely, MakesStoreAt, OpensToApplied};
+ghost use Rattle.feed_commands.specs.Drill.{EndsDrilling};
 ghost use Rattle.feed_commands.specs.Fault.{fault_answer, HasAnswer, IsRefusal};
 ghost use Rattle.feed_commands.specs.Run.{HasRange, IsDueAnswer, IsGiven, IsSeen, IsUnrefusedBy, IsStatus, IsAnswered};
 ghost use Rattle.feed_commands.specs.Mirroring.{EndsFetching, EndsMirroring};
 ghost use Rattle.feed_commands.specs.Outside.{outside_of};
 ghost use Rattle.feed_commands.specs.Pile.{EndsCut};
 ghost use Rattle.feed_commands.specs.Run.{EndsWith, IsAtOnce, IsComplete, IsAlone, IsDone, IsTextual, PrintsAtOnce, alone_line};
-ghost use Rattle.feed_commands.specs.Run.{FetchesNot, IsSeenUnfetched, MirrorsNot, ServesNot};
+ghost use Rattle.feed_commands.specs.Run.{DrillsNot, FetchesNot, IsSeenUnfetched, MirrorsNot, ServesNot, UsesDisk};
 ghost use Rattle.feed_commands.specs.Serve.{EndsServing, IsServedWhole};
 ghost use Rattle.feed_commands.specs.Status.{code_of};
 ghost use Rattle.tool_words.specs.Words.{IsCommandOf};
 ghost use Rattle.tool_words.specs.declared.command.Command.{Command as CommandValue};
-ghost use Rattle.tool_words.specs.declared.command.Command.TheVariants.{Init, Apply, Audit, Serve, Show as ShowOf};
+ghost use Rattle.tool_words.specs.declared.command.Command.TheVariants.{Init, Apply, Audit, Drill, Serve};
+ghost use Rattle.tool_words.specs.declared.command.Command.TheVariants.{Show as ShowOf};
 ghost use Rattle.tool_words.specs.declared.command.Command.TheVariants.{Mirror as MirrorOf};
 ghost use Rattle.tool_words.specs.declared.command.Show.TheVariants.{Pile};
 
 use crate::commands::apply::apply;
 use crate::commands::audit::audit;
+use crate::commands::drill::drill;
 use crate::commands::fetched::mirror_fetched;
 use crate::commands::init::init;
 use crate::commands::mirror::mirror;
@@ -40,6 +43,7 @@ use atom_values::{Failed, Many};
 use doc_source::{Fetch, Sink, Source, write_all};
 use document_server::{Clock, Door, Line};
 use feed_disk::Disk;
+use feed_life::Life;
 use std::alloc::Global;
 use tool_words::{Command, Show, WordsFault, read_words};
 
@@ -50,6 +54,8 @@ pub struct Ended {
     pub status: u8,
     /// The connections that `serve` served, in order. Empty for each other command.
     pub lines: Many<Line, 1_000_000>,
+    /// The life that a `drill` ran, if its summary was printed. `None` for each other command.
+    pub life: Option<Life>,
 }
 
 /// Runs the command that the words name, and returns the exit status, which docs/FORMATS.md lists with what is
@@ -67,6 +73,8 @@ pub struct Ended {
 ///   with `--fetch`.
 /// - `audit` reads a certificate and a pile from the input, and prints whether the documents of the pile cover the
 ///   certificate.
+/// - `drill` runs a store and a mirror with generated requests, crashes and gifts on disks in memory, and prints a summary
+///   of their life.
 ///
 /// At any other end the line of that end is printed. A failure to print that line changes no status.
 pub fn run<D: Disk, C: Clock, L: Door, F: Fetch, I: Source, O: Sink>(
@@ -186,6 +194,15 @@ pub fn run<D: Disk, C: Clock, L: Door, F: Fetch, I: Source, O: Sink>(
     // `audit`: what the status says of the certificate and the documents.
     ensures audits { IsCommandOf (map string_bytes words.now) Audit → I.told
         → EndsAuditing (I.state input.old).left result.status }
+
+    // `drill`: the life whose summary is printed. No other command has one.
+    ensures drills { (seed count : ℕ) → IsCommandOf (map string_bytes words.now) (Drill seed count)
+        → EndsDrilling seed count result.life result.status }
+    ensures no_life { DrillsNot (map string_bytes words.now) → result.life ≡ None }
+
+    // A command that has no use for the disk leaves it as it is.
+    ensures no_disk { (command : CommandValue) → IsCommandOf (map string_bytes words.now) command
+        → ¬ UsesDisk command → disk.new ≡ disk.old }
 {
     let command = match read_words(alloc, words) {
         Ok(command) => command,
@@ -214,6 +231,7 @@ pub fn run<D: Disk, C: Clock, L: Door, F: Fetch, I: Source, O: Sink>(
             capacity,
         } => mirror_fetched(alloc, &base, report, capacity, disk, fetch, output),
         Command::Audit => audit(alloc, input, output),
+        Command::Drill { seed, count } => drill(alloc, seed, count, output),
         command => match answer(alloc, command, disk, clock, input) {
             Ok(text) => match write_all(output, text.as_slice()) {
                 Ok(()) => end_as(alloc, Status::Done),
@@ -224,20 +242,23 @@ pub fn run<D: Disk, C: Clock, L: Door, F: Fetch, I: Source, O: Sink>(
     }
 }
 
-/// The end of a command that served nothing.
+/// The end of a command that served nothing and ran no life.
 pub(crate) fn end_as(alloc: Global, status: Status) -> Ended
     ensures status { result.status ≡ code_of status }
     ensures lines { result.lines.items ≡ [] }
+    ensures life { result.life ≡ None }
 {
     Ended {
         status: status.code(),
         lines: Many::new(alloc),
+        life: None,
     }
 }
 
 /// Prints the line of a fault, in one call of the output unless the output takes only a part of it.
 pub fn end_with<O: Sink>(alloc: Global, output: &mut O, fault: Fault) -> Ended
     ensures lines { result.lines.items ≡ [] }
+    ensures life { result.life ≡ None }
     ensures status { result.status ≡ code_of (fault_answer fault).status }
     ensures prints { O.told → Prints (O.state output.old) (O.state output.new) (fault_answer fault).printed }
     ensures faults { (O.state output.old).faults ≤ (O.state output.new).faults }
@@ -250,7 +271,8 @@ pub fn end_with<O: Sink>(alloc: Global, output: &mut O, fault: Fault) -> Ended
 /// The line for words that name no command. Its names are those of the finished program.
 const USAGE: &[u8] = b"usage: feed_tool init, apply, show, serve, mirror, audit, drill\n";
 
-/// Returns what the command prints at its defined end. `serve`, `show pile`, `mirror` and `audit` print by themselves.
+/// Returns what the command prints at its defined end. `serve`, `show pile`, `mirror`, `audit` and `drill` print by
+/// themselves.
 fn answer<D: Disk, C: Clock, I: Source>(
     alloc: Global,
     command: Command,
@@ -286,6 +308,7 @@ fn answer<D: Disk, C: Clock, I: Source>(
     ensures opens { command ≡ Apply None → D.told → C.told → I.told → HasAnswer result
         → OpensToApplied (D.state disk.old) (D.state disk.new) (C.coming clock.old) (I.state input.old).left }
     ensures mirror { LeavesAlone (D.state disk.old) (D.state disk.new) Mirror }
+    ensures no_disk { ¬ UsesDisk command → disk.new ≡ disk.old }
 {
     match command {
         Command::Init {
@@ -304,6 +327,7 @@ fn answer<D: Disk, C: Clock, I: Source>(
             Show::Member(number) => store::show_member(alloc, number, disk),
             Show::Pile => unreachable!(),
         },
-        Command::Serve { .. } | Command::Mirror { .. } | Command::Audit => unreachable!(),
+        Command::Serve { .. } | Command::Mirror { .. } | Command::Audit | Command::Drill { .. } =>
+            unreachable!(),
     }
 }

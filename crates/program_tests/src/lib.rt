@@ -14,6 +14,8 @@ mod covered;
 #[cfg(test)]
 mod documents;
 #[cfg(test)]
+mod drills;
+#[cfg(test)]
 mod faults;
 #[cfg(test)]
 mod fetches;

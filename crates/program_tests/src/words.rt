@@ -18,7 +18,7 @@ static NEEDED: [(&str, &str); 4] = [
 ///
 /// Each row has words, separated by single spaces, and what they are read as. An empty row has no words. `*` means all
 /// options that `init` needs, `*title` only the title, and so on. `_` means a space within a word.
-static LONE: [(&str, &str); 63] = [
+static LONE: [(&str, &str); 91] = [
     ("apply", "apply"),
     ("apply 1", "apply 1"),
     ("apply 100", "apply 100"),
@@ -75,7 +75,41 @@ static LONE: [(&str, &str); 63] = [
     ("audit --report", "usage"),
     ("audit *base", "usage"),
     ("Audit", "usage"),
-    ("drill 0 1", "usage"),
+    ("drill 0 1", "drill 0 1"),
+    ("drill 7 1000", "drill 7 1000"),
+    ("drill 007 0001000", "drill 7 1000"),
+    (
+        "drill 18446744073709551615 2000",
+        "drill 18446744073709551615 2000",
+    ),
+    (
+        "drill 00018446744073709551615 1",
+        "drill 18446744073709551615 1",
+    ),
+    ("drill 18446744073709551616 1", "usage"),
+    ("drill 36893488147419103239 1", "usage"),
+    ("drill 340282366920938463463374607431768211463 1", "usage"),
+    ("drill 7 0", "usage"),
+    ("drill 7 2001", "usage"),
+    ("drill 7 4294967297", "usage"),
+    ("drill 7 18446744073709551617", "usage"),
+    ("drill", "usage"),
+    ("drill 7", "usage"),
+    ("drill 7 1 1", "usage"),
+    ("drill  1", "usage"),
+    ("drill 7 ", "usage"),
+    ("drill -7 1", "usage"),
+    ("drill 7 -1", "usage"),
+    ("drill +7 1", "usage"),
+    ("drill 7 1_", "usage"),
+    ("drill seven 1", "usage"),
+    ("drill --seed 7 --count 1", "usage"),
+    ("drill --seed=7 1", "usage"),
+    ("drill -- 7 1", "usage"),
+    ("drill 7 1 --", "usage"),
+    ("drill 7 1 --help", "usage"),
+    ("drill 7 --report", "usage"),
+    ("Drill 7 1", "usage"),
     ("Apply 4", "usage"),
     ("appl 4", "usage"),
     ("show --fetch", "usage"),
@@ -421,6 +455,7 @@ fn reading(rt: &impl Abort, alloc: Global, words: &[String]) -> Result<String, F
             format!(in alloc; "mirror {base} {fetch}{report}{capacity}")?
         }
         Command::Audit => String::from_str(alloc, "audit")?,
+        Command::Drill { seed, count } => format!(in alloc; "drill {seed} {count}")?,
         Command::Init {
             name,
             window,

@@ -129,83 +129,174 @@ window_value (w ∷ []) m are has =
     (window_walk w is))
 window_value (w ∷ u ∷ more) m are has = absurd (omega (arith, are.few))
 
+-- ---- words of few places
+
+no_word : (words : List Text) → slice_get words 0 ≡ None → words ≡ []
+no_word [] h = refl
+no_word (w ∷ words) h = absurd (cc)
+
+one_word : (words : List Text) (o : Option Text) → length words ≤ 1 → slice_get words 0 ≡ o
+    → words ≡ cons_option o []
+one_word [] None few h = refl
+one_word [] (Some w) few h = absurd (cc)
+one_word (x ∷ []) None few h = absurd (cc)
+one_word (x ∷ []) (Some w) few h = cc
+one_word (x ∷ y ∷ words) o few h = absurd (omega arith)
+
+two_words : (words : List Text) (k : Text) (o : Option Text) → length words ≤ 2 → slice_get words 0 ≡ Some k →
+    slice_get words 1 ≡ o → words ≡ k ∷ cons_option o []
+two_words [] k o few first second = absurd (cc)
+two_words (x ∷ []) k None few first second = cc
+two_words (x ∷ []) k (Some n) few first second = absurd (cc)
+two_words (x ∷ y ∷ []) k None few first second = absurd (cc)
+two_words (x ∷ y ∷ []) k (Some n) few first second = cc
+two_words (x ∷ y ∷ z ∷ words) k o few first second = absurd (omega arith)
+
+-- ---- two places
+
+abbrev pub two_rules : Text → Text → List Rule
+two_rules first second = place_rule first ∷ place_rule second ∷ []
+
+abbrev pub two_built : Text → Text → List Rule
+two_built first second = built_place 1 first ∷ built_place 2 second ∷ []
+
+abbrev pub after_one : Text → Text → Walk
+after_one first w = at_rest (Some (first, w ∷ [])) [] 0 2
+
+abbrev pub after_two : Text → Text → Text → Text → Walk
+after_two first second w u =
+    at_rest (Some (second, u ∷ [])) (settled_rows (two_built first second) (Some (first, w ∷ [])) []) 0 3
+
+-- the first word is there, or it isn't, and the second one too
+pub record Values (first second : Text) (words : List Text) (value : Text → Option Text) : Type 0 where
+  pub first_is : value first ≡ slice_get words 0
+  pub second_is : value second ≡ slice_get words 1
+
+-- The steps of `clap` that depend on the names of the places. Each computes if the names are literals.
+pub record AreTwoNames (first second : Text) : Type 0 where
+  pub simple : is_simple (app_with (two_rules first second)) ≡ true
+  pub made : built (app_with (two_rules first second)) ≡ built_app (two_built first second)
+  pub first_at : arg_by_index (two_built first second) 1 ≡ Some (built_place 1 first)
+  pub second_at : arg_by_index (two_built first second) 2 ≡ Some (built_place 2 second)
+  pub settles_none : settle_passes (two_built first second) false (at_rest None [] 0 1).held ≡ true
+  pub settles_one : (w : Text) → settle_passes (two_built first second) false (after_one first w).held ≡ true
+  pub rests_one : (w : Text) → rest_passes (two_built first second) (after_one first w) ≡ true
+  pub rests_two : (w u : Text) → rest_passes (two_built first second) (after_two first second w u) ≡ true
+  pub none_taken : takes (app_with (two_rules first second)) [] ≡ true
+  pub none_found : matches_of (app_with (two_rules first second)) [] ≡ []
+  pub one_found : (w : Text) → Values first second (w ∷ [])
+      (λ name. first_of name (finished (two_built first second) (after_one first w).held))
+  pub two_found : (w u : Text) → Values first second (w ∷ u ∷ [])
+      (λ name. first_of name (finished (two_built first second) (after_two first second w u).held))
+
+module _ (first second : Text) (are_two : AreTwoNames first second) where
+  abbrev two : List Rule
+  two = two_built first second
+
+  first_walk : (w : Text) → is_value w ≡ true → walk two [] nothing_held (w ∷ []) ≡ after_one first w
+  first_walk w is = place_walk two None [] 0 1 first w is are_two.first_at
+
+  second_walk : (w u : Text) → is_value w ≡ true → is_value u ≡ true →
+      walk two [] nothing_held (w ∷ u ∷ []) ≡ after_two first second w u
+  second_walk w u is is_too =
+      ap (λ s. walked two [] s u) (first_walk w is)
+      ∙ place_walk two (Some (first, w ∷ [])) [] 0 2 second u is_too are_two.second_at
+
+  second_passes : (w u : Text) → is_value w ≡ true → is_value u ≡ true →
+      walk_passes (built_shape two) [] (walk_from nothing_held) (w ∷ u ∷ []) ≡ true
+  unfolding walk_passes
+  second_passes w u is is_too =
+      both_true _ _ (place_passes two None [] 0 1 first w is are_two.first_at are_two.settles_none)
+      (ap (λ s. turn_passes (built_shape two) [] s u) (first_walk w is)
+      ∙ place_passes two (Some (first, w ∷ [])) [] 0 2 second u is_too are_two.second_at (are_two.settles_one w))
+
+  pub two_taken : (words : List Text) → ArePlaces (first ∷ second ∷ []) words →
+      takes (places_app (first ∷ second ∷ [])) words ≡ true
+  unfolding walk_passes
+  two_taken [] are = are_two.none_taken
+  two_taken (w ∷ []) are =
+      let is : is_value w ≡ true = All-head (λ word. IsTrue (is_value word)) w [] are.values in
+      place_takes (two_rules first second) two (w ∷ []) (after_one first w) are_two.simple are_two.made
+      (rw (place_passes two None [] 0 1 first w is are_two.first_at are_two.settles_none)) (first_walk w is)
+      (are_two.rests_one w)
+  two_taken (w ∷ u ∷ []) are =
+      let is : is_value w ≡ true = All-head (λ word. IsTrue (is_value word)) w (u ∷ []) are.values in
+      let is_too : is_value u ≡ true = All-head (λ word. IsTrue (is_value word)) u []
+      (All-tail (λ word. IsTrue (is_value word)) w (u ∷ []) are.values) in
+      place_takes (two_rules first second) two (w ∷ u ∷ []) (after_two first second w u) are_two.simple are_two.made
+      (second_passes w u is is_too) (second_walk w u is is_too) (are_two.rests_two w u)
+  two_taken (w ∷ u ∷ v ∷ more) are = absurd (omega (arith, are.few))
+
+  values_of_rows : (words : List Text) (m : ArgMatches) (rows : List Row)
+      → HasMatchesOf (places_app (first ∷ second ∷ [])) words m
+      → matches_of (app_with (two_rules first second)) words ≡ rows
+      → Values first second words (λ name. first_of name rows) → Values first second words (value_in m)
+  values_of_rows words m rows has is values = record {
+    first_is = value_of_rows (app_with (two_rules first second)) words m rows first are_two.simple has is
+        ∙ values.first_is;
+    second_is = value_of_rows (app_with (two_rules first second)) words m rows second are_two.simple has is
+        ∙ values.second_is;
+  }
+
+  two_values : (words : List Text) (m : ArgMatches) → ArePlaces (first ∷ second ∷ []) words →
+      HasMatchesOf (places_app (first ∷ second ∷ [])) words m → Values first second words (value_in m)
+  two_values [] m are has =
+      values_of_rows [] m [] has are_two.none_found (record { first_is = refl; second_is = refl })
+  two_values (w ∷ []) m are has =
+      let is : is_value w ≡ true = All-head (λ word. IsTrue (is_value word)) w [] are.values in
+      values_of_rows (w ∷ []) m (finished two (after_one first w).held) has
+      (place_matches (two_rules first second) two (w ∷ []) (after_one first w) are_two.made (first_walk w is))
+      (are_two.one_found w)
+  two_values (w ∷ u ∷ []) m are has =
+      let is : is_value w ≡ true = All-head (λ word. IsTrue (is_value word)) w (u ∷ []) are.values in
+      let is_too : is_value u ≡ true = All-head (λ word. IsTrue (is_value word)) u []
+      (All-tail (λ word. IsTrue (is_value word)) w (u ∷ []) are.values) in
+      values_of_rows (w ∷ u ∷ []) m (finished two (after_two first second w u).held) has
+      (place_matches (two_rules first second) two (w ∷ u ∷ []) (after_two first second w u) are_two.made
+      (second_walk w u is is_too)) (are_two.two_found w u)
+  two_values (w ∷ u ∷ v ∷ more) m are has = absurd (omega (arith, are.few))
+
+  -- the words are the values
+  pub words_of_two : (words : List Text) (m : ArgMatches) (kind : Text) (word : Option Text)
+      → ArePlaces (first ∷ second ∷ []) words → HasMatchesOf (places_app (first ∷ second ∷ [])) words m
+      → value_in m first ≡ Some kind → value_in m second ≡ word → words ≡ kind ∷ cons_option word []
+  words_of_two words m kind word are has first_is second_is =
+      let values = two_values words m are has in
+      two_words words kind word are.few (sym values.first_is ∙ first_is) (sym values.second_is ∙ second_is)
+
+  pub words_of_none : (words : List Text) (m : ArgMatches) → ArePlaces (first ∷ second ∷ []) words
+      → HasMatchesOf (places_app (first ∷ second ∷ [])) words m → value_in m first ≡ None → words ≡ []
+  words_of_none words m are has none = no_word words (sym (two_values words m are has).first_is ∙ none)
+
+  -- two words are the values of the matches
+  pub both_values : (w u : Text) (m : ArgMatches) → ArePlaces (first ∷ second ∷ []) (w ∷ u ∷ [])
+      → HasMatchesOf (places_app (first ∷ second ∷ [])) (w ∷ u ∷ []) m
+      → (value_in m first ≡ Some w) × (value_in m second ≡ Some u)
+  both_values w u m are has =
+      let values = two_values (w ∷ u ∷ []) m are has in (values.first_is, values.second_is)
+
 -- ---- `show`
 
-abbrev kind_rules : List Rule
-kind_rules = place_rule (codes "kind") ∷ place_rule (codes "number") ∷ []
-
-abbrev kind_built : List Rule
-kind_built = built_place 1 (codes "kind") ∷ built_place 2 (codes "number") ∷ []
-
-abbrev after_one : Text → Walk
-after_one w = at_rest (Some (codes "kind", w ∷ [])) [] 0 2
-
-abbrev after_two : Text → Text → Walk
-after_two w u = at_rest (Some (codes "number", u ∷ [])) (settled_rows kind_built (Some (codes "kind", w ∷ [])) []) 0 3
-
-kind_walk : (w : Text) → is_value w ≡ true → walk kind_built [] nothing_held (w ∷ []) ≡ after_one w
-kind_walk w is = place_walk kind_built None [] 0 1 (codes "kind") w is refl
-
-number_walk : (w u : Text) → is_value w ≡ true → is_value u ≡ true →
-    walk kind_built [] nothing_held (w ∷ u ∷ []) ≡ after_two w u
-number_walk w u is is_too =
-    ap (λ s. walked kind_built [] s u) (kind_walk w is)
-    ∙ place_walk kind_built (Some (codes "kind", w ∷ [])) [] 0 2 (codes "number") u is_too refl
-
-number_passes : (w u : Text) → is_value w ≡ true → is_value u ≡ true →
-    walk_passes (built_shape kind_built) [] (walk_from nothing_held) (w ∷ u ∷ []) ≡ true
-unfolding walk_passes
-number_passes w u is is_too =
-    both_true _ _ (place_passes kind_built None [] 0 1 (codes "kind") w is refl refl)
-    (ap (λ s. turn_passes (built_shape kind_built) [] s u) (kind_walk w is)
-    ∙ place_passes kind_built (Some (codes "kind", w ∷ [])) [] 0 2 (codes "number") u is_too refl refl)
+kind_and_number : AreTwoNames (codes "kind") (codes "number")
+unfolding clap_on_literals
+kind_and_number = record {
+  simple = refl;
+  made = refl;
+  first_at = refl;
+  second_at = refl;
+  settles_none = refl;
+  settles_one = λ w. refl;
+  rests_one = λ w. refl;
+  rests_two = λ w u. refl;
+  none_taken = refl;
+  none_found = refl;
+  one_found = λ w. record { first_is = refl; second_is = refl };
+  two_found = λ w u. record { first_is = refl; second_is = refl };
+}
 
 pub show_takes : (words : List Text) → ArePlaces (codes "kind" ∷ codes "number" ∷ []) words →
     takes (places_app (codes "kind" ∷ codes "number" ∷ [])) words ≡ true
-unfolding clap_on_literals
-show_takes [] are = refl
-show_takes (w ∷ []) are =
-    let is : is_value w ≡ true = All-head (λ word. IsTrue (is_value word)) w [] are.values in
-    place_takes kind_rules kind_built (w ∷ []) (after_one w) refl refl
-    (rw (place_passes kind_built None [] 0 1 (codes "kind") w is refl refl)) (kind_walk w is) refl
-show_takes (w ∷ u ∷ []) are =
-    let is : is_value w ≡ true = All-head (λ word. IsTrue (is_value word)) w (u ∷ []) are.values in
-    let is_too : is_value u ≡ true = All-head (λ word. IsTrue (is_value word)) u []
-    (All-tail (λ word. IsTrue (is_value word)) w (u ∷ []) are.values) in
-    place_takes kind_rules kind_built (w ∷ u ∷ []) (after_two w u) refl refl (number_passes w u is is_too)
-    (number_walk w u is is_too) refl
-show_takes (w ∷ u ∷ v ∷ more) are = absurd (omega (arith, are.few))
-
-record Shows (words : List Text) (m : ArgMatches) : Type 0 where
-  pub kind : value_in m (codes "kind") ≡ slice_get words 0
-  pub number : value_in m (codes "number") ≡ slice_get words 1
-
-show_values : (words : List Text) (m : ArgMatches) → ArePlaces (codes "kind" ∷ codes "number" ∷ []) words →
-    HasMatchesOf (places_app (codes "kind" ∷ codes "number" ∷ [])) words m → Shows words m
-unfolding clap_on_literals
-show_values [] m are has = record {
-  kind = value_of_rows (app_with kind_rules) [] m [] (codes "kind") refl has refl;
-  number = value_of_rows (app_with kind_rules) [] m [] (codes "number") refl has refl;
-}
-show_values (w ∷ []) m are has =
-    let is : is_value w ≡ true = All-head (λ word. IsTrue (is_value word)) w [] are.values in
-    let rows = finished kind_built (after_one w).held in
-    let matches = place_matches kind_rules kind_built (w ∷ []) (after_one w) refl (kind_walk w is) in
-    record {
-      kind = value_of_rows (app_with kind_rules) (w ∷ []) m rows (codes "kind") refl has matches;
-      number = value_of_rows (app_with kind_rules) (w ∷ []) m rows (codes "number") refl has matches;
-    }
-show_values (w ∷ u ∷ []) m are has =
-    let is : is_value w ≡ true = All-head (λ word. IsTrue (is_value word)) w (u ∷ []) are.values in
-    let is_too : is_value u ≡ true = All-head (λ word. IsTrue (is_value word)) u []
-    (All-tail (λ word. IsTrue (is_value word)) w (u ∷ []) are.values) in
-    let rows = finished kind_built (after_two w u).held in
-    let matches = place_matches kind_rules kind_built (w ∷ u ∷ []) (after_two w u) refl (number_walk w u is is_too) in
-    record {
-      kind = value_of_rows (app_with kind_rules) (w ∷ u ∷ []) m rows (codes "kind") refl has matches;
-      number = value_of_rows (app_with kind_rules) (w ∷ u ∷ []) m rows (codes "number") refl has matches;
-    }
-show_values (w ∷ u ∷ v ∷ more) m are has = absurd (omega (arith, are.few))
+show_takes = two_taken (codes "kind") (codes "number") kind_and_number
 
 -- ---- `placed`
 
@@ -232,28 +323,7 @@ pub places_values : (names : List Text) {X : Type 0} (text : X → Text) (words 
 places_values names text words are =
     sym (list_all-map is_value text words) ∙ list_all-from_AllPass is_value (map text words) are.values
 
--- ---- words of few places
-
-no_word : (words : List Text) → slice_get words 0 ≡ None → words ≡ []
-no_word [] h = refl
-no_word (w ∷ words) h = absurd (cc)
-
-one_word : (words : List Text) (o : Option Text) → length words ≤ 1 → slice_get words 0 ≡ o
-    → words ≡ cons_option o []
-one_word [] None few h = refl
-one_word [] (Some w) few h = absurd (cc)
-one_word (x ∷ []) None few h = absurd (cc)
-one_word (x ∷ []) (Some w) few h = cc
-one_word (x ∷ y ∷ words) o few h = absurd (omega arith)
-
-two_words : (words : List Text) (k : Text) (o : Option Text) → length words ≤ 2 → slice_get words 0 ≡ Some k →
-    slice_get words 1 ≡ o → words ≡ k ∷ cons_option o []
-two_words [] k o few first second = absurd (cc)
-two_words (x ∷ []) k None few first second = cc
-two_words (x ∷ []) k (Some n) few first second = absurd (cc)
-two_words (x ∷ y ∷ []) k None few first second = absurd (cc)
-two_words (x ∷ y ∷ []) k (Some n) few first second = cc
-two_words (x ∷ y ∷ z ∷ words) k o few first second = absurd (omega arith)
+-- ---- numbers as values
 
 -- a number may be a value
 digit_first : (x : ℕ) → is_ascii_digit x ≡ true → not (x == 45) ≡ true
@@ -300,16 +370,16 @@ no_kind words Pile e i = absurd (cc)
 no_kind words (Archive n) e (word, spelt, number) = absurd (cc)
 no_kind words (Member n) e (word, spelt, number) = absurd (cc)
 
-two_values : (kind word : Text) → is_value kind ≡ true → is_value word ≡ true →
+pub two_are_values : (kind word : Text) → is_value kind ≡ true → is_value word ≡ true →
     All (λ w. IsTrue (is_value w)) (kind ∷ word ∷ [])
-two_values kind word k h = All-cons (λ w. IsTrue (is_value w)) kind (word ∷ []) k (one_value word h)
+two_are_values kind word k h = All-cons (λ w. IsTrue (is_value w)) kind (word ∷ []) k (one_value word h)
 
 numbered_are : (kind : Text) (words : List Text) (n : ℕ) → is_value kind ≡ true → IsNumbered kind words n →
     ArePlaces (codes "kind" ∷ codes "number" ∷ []) words
 numbered_are kind words n k (word, e, number) =
     subst (ArePlaces (codes "kind" ∷ codes "number" ∷ [])) (sym e) (record {
       few = omega arith;
-      values = two_values kind word k (number_value word number.digits);
+      values = two_are_values kind word k (number_value word number.digits);
     })
 
 pub show_are : (words : List Text) (shown : Shown) → IsShow words shown →
@@ -333,13 +403,14 @@ pub kind_words : (words : List Text) (m : ArgMatches) (kind : Text) (word : Opti
     → Some kind ≡ value_in m (codes "kind") → option_copied word ≡ value_in m (codes "number")
     → words ≡ kind ∷ cons_option (option_copied word) []
 kind_words words m kind word are has first second =
-    let values = show_values words m are has in
-    two_words words kind (option_copied word) are.few (sym values.kind ∙ sym first) (sym values.number ∙ sym second)
+    words_of_two (codes "kind") (codes "number") kind_and_number words m kind (option_copied word) are has (sym first)
+    (sym second)
 
 pub no_words : (words : List Text) (m : ArgMatches) → ArePlaces (codes "kind" ∷ codes "number" ∷ []) words
     → HasMatchesOf (places_app (codes "kind" ∷ codes "number" ∷ [])) words m → None ≡ value_in m (codes "kind")
     → words ≡ []
-no_words words m are has none = no_word words (sym (show_values words m are has).kind ∙ sym none)
+no_words words m are has none =
+    words_of_none (codes "kind") (codes "number") kind_and_number words m are has (sym none)
 
 pub same_window : (a b : Option ℕ) → ◌≡◌ {A = Result (Option ℕ) WordsFault} (Ok a) (Ok b)
     → ◌≡◌ {A = Result Command WordsFault} (Ok (Apply a)) (Ok (Apply b))

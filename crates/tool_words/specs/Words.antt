@@ -9,7 +9,7 @@ use Rattle.deleted_entries.specs.FeedId.{version, member_version}
 use Rattle.tool_words.specs.Numbers.{IsNumber}
 use Rattle.tool_words.specs.Options.{Given, AreOptions, is_given, value_of}
 use Rattle.tool_words.specs.declared.command.Command.{Command}
-use Rattle.tool_words.specs.declared.command.Command.TheVariants.{Init, Apply, Show, Serve, Mirror, Audit}
+use Rattle.tool_words.specs.declared.command.Command.TheVariants.{Init, Apply, Show, Serve, Mirror, Audit, Drill}
 use Rattle.tool_words.specs.declared.command.Show.{Show as Shown}
 use Rattle.tool_words.specs.declared.command.Show.TheVariants.{Document, Feed, Archive, Member, Pile}
 
@@ -41,6 +41,13 @@ listen_limit = 255
 -- how many requests may be asked for
 abbrev pub request_limit : ℕ
 request_limit = 1_000_000
+
+-- the greatest seed of a drill, and how many requests it may make
+abbrev pub seed_limit : ℕ
+seed_limit = 2 ^ 64 - 1
+
+abbrev pub count_limit : ℕ
+count_limit = 2_000
 
 abbrev pub init_options : List (List ℕ)
 init_options =
@@ -142,6 +149,14 @@ pub record IsMirror (words : List (List ℕ)) (base : List ℕ) (fetch report : 
   pub is_capacity :
       IsNumberOr default_capacity capacity_floor capacity_limit (value_of (codes "capacity") options) capacity
 
+-- the words after `drill`
+pub record IsDrill (words : List (List ℕ)) (seed count : ℕ) : Type 0 where
+  pub seed_word : List ℕ
+  pub count_word : List ℕ
+  pub words_are : words ≡ seed_word ∷ count_word ∷ []
+  pub is_seed : IsNumber 0 seed_limit seed_word seed
+  pub is_count : IsNumber 1 count_limit count_word count
+
 abbrev pub IsCommandOf : List (List ℕ) → Command → Type 0
 IsCommandOf words (Init name window capacity) =
     (rest : List (List ℕ)) × (words ≡ codes "init" ∷ rest) × IsInit rest name window capacity
@@ -154,3 +169,5 @@ IsCommandOf words (Serve listen requests) =
 IsCommandOf words (Mirror base fetch report capacity) =
     (rest : List (List ℕ)) × (words ≡ codes "mirror" ∷ rest) × IsMirror rest base fetch report capacity
 IsCommandOf words Audit = words ≡ codes "audit" ∷ []
+IsCommandOf words (Drill seed count) =
+    (rest : List (List ℕ)) × (words ≡ codes "drill" ∷ rest) × IsDrill rest seed count

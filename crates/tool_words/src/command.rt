@@ -39,6 +39,12 @@ pub enum Command {
     },
     /// `audit`: checks a mirror's certificate against a pile of documents.
     Audit,
+    /// `drill`: runs a store and a mirror with `count` generated requests, which are from 1 to 2,000. `seed` is the
+    /// first state of the generator.
+    Drill {
+        seed: u64,
+        count: u32,
+    },
 }
 
 /// What `show` prints.

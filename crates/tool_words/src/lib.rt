@@ -10,6 +10,7 @@
 //!     Ok(Command::Serve { listen, requests }) => ..,
 //!     Ok(Command::Mirror { base, fetch, report, capacity }) => ..,
 //!     Ok(Command::Audit) => ..,
+//!     Ok(Command::Drill { seed, count }) => ..,
 //!     Err(WordsFault::Usage) => println!(rt; "usage: ..")?,
 //!     Err(WordsFault::NoMemory) => ..,
 //! }
@@ -30,6 +31,7 @@
 mod base;
 mod capacity;
 mod command;
+mod drill;
 mod fault;
 mod init;
 mod line;

@@ -1,20 +1,19 @@
-ghost use Rattle.std.specs.Prelude.{◌≡◌, ◌≤◌, ◌<◌, ◌^◌, ℕ, IfSome, min};
+ghost use Rattle.std.specs.Prelude.{◌≡◌, ◌≤◌, ◌^◌, ℕ, IfSome, min};
 ghost use Rattle.std.specs.List.{list_all};
 ghost use Rattle.std.specs.Char.{is_ascii_digit};
 ghost use Rattle.tool_words.specs.Numbers.{IsNumber, is_number, number_value};
 
 /// Reads a number from `least` to `most`. `None` if the word isn't one.
 pub(crate) fn number(word: &[u8], least: u64, most: u64) -> Option<u64>
-    requires { most < 2 ^ 60 }
     ensures found { IfSome result (IsNumber least most word.now) }
     ensures only { (n : ℕ) → IsNumber least most word.now n → result ≡ Some n }
 {
     if !is_number(word) {
         return None;
     }
-    let value = capped_value(word, most + 1);
-    if least <= value && value <= most {
-        Some(value)
+    let value = capped_value(word, u128::from(most) + 1);
+    if u128::from(least) <= value && value <= u128::from(most) {
+        Some(value as u64)
     } else {
         None
     }
@@ -35,13 +34,13 @@ fn are_digits(word: &[u8]) -> bool
 }
 
 /// The value of the digits, or `cap` if it is greater.
-fn capped_value(digits: &[u8], cap: u64) -> u64
-    requires { cap ≤ 2 ^ 60 }
+fn capped_value(digits: &[u8], cap: u128) -> u128
+    requires { cap ≤ 2 ^ 64 }
     ensures { result ≡ min (number_value digits.now) cap }
 {
-    let mut value = 0u64;
+    let mut value = 0u128;
     for digit in digits {
-        value = (value * 10 + u64::from(digit.saturating_sub(b'0'))).min(cap);
+        value = (value * 10 + u128::from(digit.saturating_sub(b'0'))).min(cap);
     }
     value
 }

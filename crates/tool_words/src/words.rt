@@ -6,6 +6,7 @@ ghost use Rattle.tool_words.specs.declared.command.Command.{Command as CommandVa
 ghost use Rattle.tool_words.specs.declared.command.Show.{Show as ShowValue};
 
 use crate::command::{Command, Show, WINDOW_LIMIT};
+use crate::drill::drill;
 use crate::fault::WordsFault;
 use crate::init::init;
 use crate::mirror::mirror;
@@ -43,6 +44,7 @@ pub fn read_words(alloc: Global, words: &[String]) -> Result<Command, WordsFault
         "serve" => serve(alloc, rest),
         "mirror" => mirror(alloc, rest),
         "audit" => audit(rest),
+        "drill" => drill(alloc, rest),
         _ => Err(WordsFault::Usage),
     }
 }

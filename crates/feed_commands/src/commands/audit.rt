@@ -1,4 +1,4 @@
-ghost use Rattle.std.specs.Prelude.{◌≡◌, ◌≢◌, ◌⊎◌, [], Err, IfErr, IfOk};
+ghost use Rattle.std.specs.Prelude.{◌≡◌, ◌≢◌, ◌⊎◌, [], Err, IfErr, IfOk, None};
 ghost use Rattle.atom_values.specs.Counts.{Rose};
 ghost use Rattle.coverage_certificate.specs.Certificate.{IsCertificate};
 ghost use Rattle.feed_commands.specs.declared.status.Status.TheVariants as status;
@@ -45,6 +45,7 @@ impl From<CertificateFault> for Fault {
 /// certificate is read to its line `end` first. It and the pile are in memory.
 pub fn audit<I: Source, O: Sink>(alloc: Global, input: &mut I, output: &mut O) -> Ended
     ensures lines { result.lines.items ≡ [] }
+    ensures life { result.life ≡ None }
     ensures statuses { MayEndAudit result.status }
     ensures answered { I.told → IsAnswered result.status → (outside : Outside)
         → outside.input ≡ (I.state input.old).left

@@ -1,4 +1,4 @@
-ghost use Rattle.std.specs.Prelude.{◌≡◌, ◌≢◌, ◌⊎◌, ◌≤◌, ℕ, List, [], Err, IfOk, IfErr, IsOk, true};
+ghost use Rattle.std.specs.Prelude.{◌≡◌, ◌≢◌, ◌⊎◌, ◌≤◌, ℕ, List, [], Err, IfOk, IfErr, IsOk, true, None};
 ghost use Rattle.atom_values.specs.Counts.{Rose};
 ghost use Rattle.doc_source.specs.Outside.{SourceState};
 ghost use Rattle.feed_commands.specs.declared.status.Status.TheVariants as status;
@@ -53,6 +53,7 @@ pub fn mirror_fetched<D: Disk, F: Fetch, O: Sink>(
 ) -> Ended
     requires { capacity ≤ area_limit }
     ensures lines { result.lines.items ≡ [] }
+    ensures life { result.life ≡ None }
     ensures statuses { MayEndFetched result.status }
     ensures answered { D.told → F.told → IsAnswered result.status → (moments : ℕ → ℕ) (input : SourceState)
         → EndsWith (MirrorOf base.now true report capacity)

@@ -72,6 +72,7 @@ pub fn mirror<D: Disk, I: Source, O: Sink>(
 ) -> Ended
     requires { capacity ≤ area_limit }
     ensures lines { result.lines.items ≡ [] }
+    ensures life { result.life ≡ None }
     ensures statuses { MayEndMirror result.status }
     ensures answered { D.told → I.told → IsAnswered result.status → (moments : ℕ → ℕ) (source : FetchState)
         → EndsWith (MirrorOf base.now false report capacity)
@@ -115,6 +116,7 @@ pub fn mirror<D: Disk, I: Source, O: Sink>(
 /// Prints the line of a fault, in one call of the output unless the output takes only a part of it.
 pub(crate) fn end_unreported<O: Sink>(alloc: Global, output: &mut O, fault: &ReportFault) -> Ended
     ensures lines { result.lines.items ≡ [] }
+    ensures life { result.life ≡ None }
     ensures status { result.status ≡ code_of (report_answer fault.now).status }
     ensures prints { O.told → Prints (O.state output.old) (O.state output.new) (report_answer fault.now).printed }
     ensures faults { (O.state output.old).faults ≤ (O.state output.new).faults }

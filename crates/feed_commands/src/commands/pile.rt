@@ -1,4 +1,4 @@
-ghost use Rattle.std.specs.Prelude.{◌≡◌, ◌≢◌, ◌⊎◌, ◌++◌, ℕ, List, [], false, Ok, Err, IfOk, IfErr, OnOk};
+ghost use Rattle.std.specs.Prelude.{◌≡◌, ◌≢◌, ◌⊎◌, ◌++◌, ℕ, List, [], false, Ok, Err, IfOk, IfErr, OnOk, None};
 ghost use Rattle.atom_values.specs.Counts.{HasCause, Rose};
 ghost use Rattle.doc_source.specs.Fetch.{FetchState};
 ghost use Rattle.doc_source.specs.Outside.{SourceState, TakesPrefix};
@@ -104,6 +104,7 @@ pub fn show_pile<D: Disk, O: Sink>(alloc: Global, disk: &mut D, output: &mut O) 
     ensures safe { D.told → LeavesStores (D.state disk.old) (D.state disk.new) }
     ensures mirror { LeavesAlone (D.state disk.old) (D.state disk.new) Mirror }
     ensures lines { result.lines.items ≡ [] }
+    ensures life { result.life ≡ None }
 {
     match print_pile(alloc, disk, output) {
         Ok(()) => end_as(alloc, Status::Done),

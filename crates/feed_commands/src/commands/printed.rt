@@ -1,4 +1,4 @@
-ghost use Rattle.std.specs.Prelude.{◌≡◌, ◌≢◌, ◌⊎◌, ◌++◌, [], OnOk};
+ghost use Rattle.std.specs.Prelude.{◌≡◌, ◌≢◌, ◌⊎◌, ◌++◌, [], OnOk, None};
 ghost use Rattle.atom_values.specs.Counts.{HasCause, Rose};
 ghost use Rattle.feed_commands.specs.declared.status.Status.TheVariants as status;
 ghost use Rattle.feed_commands.specs.Answer.{Prints};
@@ -53,6 +53,7 @@ impl Printed {
 pub(crate) fn end_printed<O: Sink>(alloc: Global, output: &mut O, printed: Printed) -> Ended
     requires { IsDone (code_of (printed_answer printed).status) }
     ensures lines { result.lines.items ≡ [] }
+    ensures life { result.life ≡ None }
     ensures ends { (result.status ≡ code_of (printed_answer printed).status)
         ⊎ (result.status ≡ code_of status.OutputFault) }
     ensures prints { O.told

@@ -1,4 +1,4 @@
-ghost use Rattle.std.specs.Prelude.{◌≡◌, ◌≢◌, ◌⊎◌, ◌≤◌, ◌++◌, OnOk};
+ghost use Rattle.std.specs.Prelude.{◌≡◌, ◌≢◌, ◌⊎◌, ◌≤◌, ◌++◌, OnOk, None};
 ghost use Rattle.atom_values.specs.Counts.{HasCause, Rose};
 ghost use Rattle.feed_disk.specs.Moments.{LeavesAlone};
 ghost use Rattle.feed_disk.specs.declared.area.Area.TheVariants.{Mirror};
@@ -97,6 +97,7 @@ pub fn serve<D: Disk, C: Clock, L: Door, O: Sink>(
     ensures output_whole { result.status ≡ code_of status.Done
         → (O.state output.new).faults ≡ (O.state output.old).faults }
     ensures mirror { LeavesAlone (D.state disk.old) (D.state disk.new) Mirror }
+    ensures life { result.life ≡ None }
 {
     let session = document_server::serve(alloc, disk, clock, door, listen, requests);
     let fault = SessionFault::of(session.end);
@@ -104,6 +105,7 @@ pub fn serve<D: Disk, C: Clock, L: Door, O: Sink>(
     Ended {
         status: status_of(fault, printed).code(),
         lines: session.lines,
+        life: None,
     }
 }
 

@@ -1,11 +1,12 @@
 use Rattle.std.proofs.Common.{rules, ◌≡◌, ◌⊎◌, inl, ⊎_elim, ℕ, Bool, None, Err, true, false, refl, sym, subst, ap, ◌∙◌, arith}
 use Rattle.std.proofs.lemmas.Result.{on_ok_weaker}
-use Rattle.tool_words.specs.declared.command.Command.TheVariants.{Init, Apply, Audit, Mirror, Serve, Show}
+use Rattle.tool_words.specs.declared.command.Command.TheVariants.{Init, Apply, Audit, Drill, Mirror, Serve, Show}
 use Rattle.tool_words.specs.declared.command.Show.TheVariants.{Pile}
 use Rattle.feed_commands.specs.declared.commands.report_fault.ReportFault.TheVariants.{Other}
 use Rattle.feed_commands.specs.declared.fault.Fault.TheVariants.{Disk, Input, NoMemory}
 use Rattle.feed_commands.specs.Answer.{Answer}
 use Rattle.feed_commands.specs.Crash.{AddsNothing}
+use Rattle.feed_commands.specs.Drill.{EndsDrilling}
 use Rattle.feed_commands.specs.Fault.{fault_answer}
 use Rattle.feed_commands.specs.Mirroring.{EndsFetching, EndsMirroring}
 use Rattle.feed_commands.specs.Outside.{outside_of}
@@ -17,7 +18,7 @@ use Rattle.feed_commands.proofs.PileEndLemmas.{cut-at-once, pile-is_status}
 use Rattle.feed_commands.proofs.PrintLemmas.{alone-fault, prints-from}
 use Rattle.feed_commands.proofs.RunLemmas.{ends-done, ends-refused, ends-unsent, no_command, read_all, read_as, same_requests}
 use Rattle.feed_commands.proofs.RunLemmas.{audit-status, fetched-status, mirror-status, same_mirror, seen-unfetched}
-use Rattle.feed_commands.proofs.RunLemmas.{serve-status, usage}
+use Rattle.feed_commands.proofs.RunLemmas.{drill-status, same_drill, serve-status, usage}
 use Rattle.feed_commands.proofs.dispatch.run.Goals as goal
 
 pub returns-in-Err-Usage-clause-made : goal.returns-in-Err-Usage-clause-made
@@ -391,3 +392,35 @@ returns-clause-audits g c = λ of_words told.
       served = λ head history certificate offers input served ended.
           absurd (no_end c.in-Err.fault (sym c.end_with-in-Err.ensures.status ∙ ended));
     }
+
+-- `drill`
+
+pub returns-in-Drill-clause-statuses : goal.returns-in-Drill-clause-statuses
+returns-in-Drill-clause-statuses g c = drill-status c.drill.result.status c.drill.ensures.statuses
+
+pub returns-in-Drill-clause-answered : goal.returns-in-Drill-clause-answered
+returns-in-Drill-clause-answered g c =
+    read_all _ c.read_words.result c.in-Ok.command _ c.in-Ok.is
+    c.read_words.ensures.only (rw c.in-Drill.is (λ seen answered.
+    c.drill.ensures.answered answered
+    (outside_of (g.C.Clock.coming c.args.clock.now) (g.I.Source.state c.args.input.now)
+    (g.D.Disk.state c.args.disk.now) (g.F.Fetch.state c.args.fetch.now))))
+
+pub returns-in-Drill-clause-complete : goal.returns-in-Drill-clause-complete
+returns-in-Drill-clause-complete g c =
+    read_all _ c.read_words.result c.in-Ok.command _ c.in-Ok.is
+    c.read_words.ensures.only (rw c.in-Drill.is (λ seen given due. record {
+      ends = λ disk fetch input output.
+          subst (λ (a : Answer). (c.drill.result.status ≡ code_of a.status) ⊎ (c.drill.result.status ≡ 5))
+          (sym due) (c.drill.ensures.complete output);
+    }))
+
+pub returns-in-Drill-clause-drills : goal.returns-in-Drill-clause-drills
+returns-in-Drill-clause-drills g c =
+    same_drill (λ s n. EndsDrilling s n c.drill.result.life c.drill.result.status) _ c.read_words.result c.in-Ok.command _ _
+    c.in-Ok.is c.in-Drill.is c.read_words.ensures.only c.drill.ensures.drills
+
+pub returns-in-Drill-clause-no_life : goal.returns-in-Drill-clause-no_life
+returns-in-Drill-clause-no_life g c = λ others.
+    absurd (others _ _ (read_as _ c.read_words.result c.in-Ok.command _ c.in-Ok.is c.in-Drill.is
+    c.read_words.ensures.found))

@@ -1,0 +1,37 @@
+-- How `drill` ends.
+use Rattle.std.proofs.Common.{◌≡◌, ◌≢◌, ◌⊎◌, inl, inr, ⊎_elim, ℕ, List, ◌++◌, refl, ◌∙◌, ap, subst, arith}
+use Rattle.doc_source.specs.Outside.{SinkState}
+use Rattle.feed_commands.specs.Answer.{Prints}
+use Rattle.feed_commands.specs.Drill.{drill_answer, drill_head, drill_text}
+use Rattle.feed_commands.specs.Outside.{Outside}
+use Rattle.feed_commands.specs.Run.{EndsWith, IsDone}
+use Rattle.feed_drill.specs.Drilled.{operations}
+use Rattle.feed_drill.specs.Summary.{SummaryValue, summary_of, summary_text}
+use Rattle.member_rules.specs.Head.{HeadValue}
+use Rattle.tool_words.specs.declared.command.Command.TheVariants.{Drill}
+
+-- the text of a drill's summary is the answer
+pub drill-text : (head : HeadValue) (seed count : ℕ) (summary : SummaryValue) (text : List ℕ) → head ≡ drill_head
+    → summary ≡ summary_of head (operations head seed count) count → text ≡ summary_text summary
+    → text ≡ drill_text seed count
+unfolding drill_text
+drill-text head seed count summary text head_is is printed =
+    printed
+    ∙ ap summary_text (is ∙ ap (λ (h : HeadValue). summary_of h (operations h seed count) count) head_is)
+
+not-failed : (ended : ℕ) → IsDone ended → ended ≢ 8
+not-failed ended done failed = ⊎_elim (λ e. absurd (omega (arith, e, failed))) (λ e. absurd (omega (arith, e, failed))) done
+
+-- the text was printed, or the output failed
+pub drill-ends : (seed count : ℕ) (outside : Outside) (told : Type 0) (before after : SinkState) (ended : ℕ)
+    (text : List ℕ) → text ≡ drill_text seed count → (ended ≡ 0) ⊎ (ended ≡ 8)
+    → (told → Prints before after text) → (ended ≢ 8 → told → after.taken ≡ before.taken ++ text)
+    → EndsWith (Drill seed count) outside told before after ended
+drill-ends seed count outside told before after ended text is ends prints whole = record {
+  answer = drill_answer seed count;
+  is = refl;
+  status = ⊎_elim (λ e. inl e) (λ e. inr (e, inl refl)) ends;
+  prints = λ sink. subst (λ (t : List ℕ). Prints before after t) is (prints sink);
+  whole = λ sink done. subst (λ (t : List ℕ). after.taken ≡ before.taken ++ t) is
+      (whole (not-failed ended done) sink);
+}

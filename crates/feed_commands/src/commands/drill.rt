@@ -1,0 +1,78 @@
+ghost use Rattle.std.specs.Prelude.{◌≡◌, ◌≢◌, ◌⊎◌, ◌++◌, [], IfOk, None, Some};
+ghost use Rattle.atom_values.specs.Counts.{Rose};
+ghost use Rattle.feed_commands.specs.declared.status.Status.TheVariants as status;
+ghost use Rattle.feed_commands.specs.Answer.{Answer, Prints};
+ghost use Rattle.feed_commands.specs.Drill.{EndsDrilling, MayEndDrill, drill_head, drill_text};
+ghost use Rattle.feed_commands.specs.Outside.{Outside};
+ghost use Rattle.feed_commands.specs.Run.{EndsWith, IsAlone, IsAnswered, IsDone, alone_line};
+ghost use Rattle.feed_commands.specs.Status.{code_of};
+ghost use Rattle.feed_drill.specs.Drilled.{IsDrilled};
+ghost use Rattle.tool_words.specs.declared.command.Command.TheVariants.{Drill as DrillOf};
+
+use crate::commands::apply::test_head;
+use crate::dispatch::{Ended, end_as, end_with};
+use crate::fault::Fault;
+use crate::status::Status;
+use atom_values::{Failed, Many, NoMemory};
+use doc_source::{Sink, write_all};
+use feed_life::Life;
+use std::alloc::Global;
+
+/// How many operations a window of a drill's feed has.
+const DRILL_WINDOW: u32 = 16;
+
+/// Runs a drill of `count` turns on disks in memory, and prints the summary of its life, which it returns.
+pub fn drill<O: Sink>(alloc: Global, seed: u64, count: u32, output: &mut O) -> Ended
+    ensures lines { result.lines.items ≡ [] }
+    ensures statuses { MayEndDrill result.status }
+    ensures drills { EndsDrilling seed count result.life result.status }
+    ensures answered { IsAnswered result.status → (outside : Outside)
+        → EndsWith (DrillOf seed count) outside O.told (O.state output.old) (O.state output.new) result.status }
+    ensures alone { O.told → IsAlone result.status
+        → Prints (O.state output.old) (O.state output.new) (alone_line result.status) }
+    ensures output_fault { result.status ≡ code_of status.OutputFault
+        → Rose (O.state output.old).faults (O.state output.new).faults }
+    ensures output_whole { IsDone result.status
+        → (O.state output.new).faults ≡ (O.state output.old).faults }
+    ensures complete { ¬ Rose (O.state output.old).faults (O.state output.new).faults
+        → (result.status ≡ code_of status.Done) ⊎ (result.status ≡ code_of status.NoMemory) }
+{
+    match drilled(alloc, seed, count) {
+        Ok((life, text)) => end_drilled(alloc, output, life, text.as_slice()),
+        Err(NoMemory) => end_with(alloc, output, Fault::NoMemory),
+    }
+}
+
+/// The life of a drill, and the text of its summary.
+fn drilled(alloc: Global, seed: u64, count: u32) -> Result<(Life, Vec<u8>), NoMemory>
+    ensures life { IfOk result (λ x. IsDrilled drill_head seed count x.0) }
+    ensures text { IfOk result (λ x. x.1.items ≡ drill_text seed count) }
+{
+    let head = test_head(alloc, DRILL_WINDOW)?;
+    let drill = feed_drill::drill(alloc, &head, seed, count)?;
+    let text = drill.summary.print(alloc)?;
+    Ok((drill.life, text))
+}
+
+/// Prints the summary of a drill.
+fn end_drilled<O: Sink>(alloc: Global, output: &mut O, life: Life, text: &[u8]) -> Ended
+    ensures lines { result.lines.items ≡ [] }
+    ensures ends { ((result.status ≡ code_of status.Done) × (result.life ≡ Some life))
+        ⊎ ((result.status ≡ code_of status.OutputFault) × (result.life ≡ None)) }
+    ensures prints { O.told → Prints (O.state output.old) (O.state output.new) text.now }
+    ensures whole { result.status ≢ code_of status.OutputFault → O.told
+        → (O.state output.new).taken ≡ (O.state output.old).taken ++ text.now }
+    ensures fault { result.status ≡ code_of status.OutputFault
+        → Rose (O.state output.old).faults (O.state output.new).faults }
+    ensures no_fault { result.status ≢ code_of status.OutputFault
+        → (O.state output.new).faults ≡ (O.state output.old).faults }
+{
+    match write_all(output, text) {
+        Ok(()) => Ended {
+            status: Status::Done.code(),
+            lines: Many::new(alloc),
+            life: Some(life),
+        },
+        Err(Failed) => end_as(alloc, Status::OutputFault),
+    }
+}
