@@ -1,0 +1,162 @@
+//! Lives, and their events as data, for the other modules.
+//!
+//! A function that owns a life or an event has few exits, since the proof drops each of its values at each exit.
+
+use atom_values::{AtomText, Bytes, Stamp};
+use atom_writer::FeedName;
+use chain_links::{Address, Base};
+use deleted_entries::FeedId;
+use document_server::Line;
+use feed_disk::Choice;
+use feed_life::{Event, Life, Stop};
+use http_face::{Request, Verb};
+use member_rules::Head;
+use std::alloc::Global;
+use std::process::Abort;
+
+/// The moment of the clock: 2023-11-14T22:13:20Z.
+pub const NOW: u64 = 1_700_000_000_000;
+
+/// What unsynced bytes become in a crash.
+#[derive(Clone, Copy, Debug, PartialEq, Eq)]
+pub enum Left {
+    Old,
+    New,
+    Filled,
+    /// Three bytes past the old end, of which the first is given.
+    Given,
+}
+
+/// A crash: the device call, and what unsynced bytes become.
+pub type Crash = (u64, Left);
+
+/// An event, without its crash.
+#[derive(Clone, Copy, Debug, PartialEq, Eq)]
+pub enum Does {
+    /// A POST of an entry with the title `t` and this number.
+    Make(u32),
+    /// A PUT of the member with this number, to the title `t` and this number.
+    Replace(u32, u32),
+    /// A DELETE of the member with this number.
+    Delete(u32),
+    /// A GET of the feed.
+    Feed,
+    /// A GET of the archive with this number.
+    Archive(u32),
+    /// To this mirror, the sent document of this index.
+    Give(u32, u32),
+    /// This mirror walks.
+    Walk(u32),
+}
+
+/// The head of a feed with windows of this many operations.
+pub fn head(rt: &impl Abort, alloc: Global, window: u32, capacity: u64) -> Head {
+    assert!(rt; (1..=100).contains(&window));
+    assert!(rt; (4_096..=68_719_476_736).contains(&capacity));
+    Head {
+        name: FeedName {
+            base: Base::parse(alloc, b"http://feed.example/").expect(rt, "a base"),
+            id: FeedId::parse(b"6d1f0c5a-93be-4c27-8d10-2b7f9e4a5c36").expect(rt, "an identifier"),
+            title: AtomText::of(alloc, b"Feed").expect(rt, "a title"),
+            author: AtomText::of(alloc, b"Editor").expect(rt, "an author"),
+        },
+        window,
+        capacity,
+        created: Stamp::new(0).expect(rt, "a timestamp"),
+    }
+}
+
+/// A life whose store has windows of this many operations, with this many mirrors.
+pub fn life(rt: &impl Abort, alloc: Global, window: u32, capacity: u64, mirrors: u32) -> Life {
+    assert!(rt; mirrors <= 100);
+    let head = head(rt, alloc, window, capacity);
+    Life::new(alloc, &head, mirrors).expect(rt, "memory")
+}
+
+fn bytes(rt: &impl Abort, alloc: Global, from: &[u8]) -> Bytes {
+    Bytes::of(alloc, from).expect(rt, "memory")
+}
+
+/// The entry document with the title `t` and this number.
+fn body(rt: &impl Abort, alloc: Global, title: u32) -> Bytes {
+    let text = format!(in alloc;
+        "<entry xmlns=\"http://www.w3.org/2005/Atom\"><title>t{title}</title></entry>"
+    ).expect(rt, "memory");
+    bytes(rt, alloc, text.as_bytes())
+}
+
+/// The path of an address.
+fn path(rt: &impl Abort, alloc: Global, address: Address) -> Bytes {
+    let text = match address {
+        Address::Feed => format!(in alloc; "/feed"),
+        Address::Archive(number) => format!(in alloc; "/archive/{number}"),
+        Address::Member(number) => format!(in alloc; "/member/{number}"),
+    };
+    bytes(rt, alloc, text.expect(rt, "memory").as_bytes())
+}
+
+/// A request of an address, with this body.
+pub fn request(
+    rt: &impl Abort,
+    alloc: Global,
+    verb: Verb,
+    address: Address,
+    title: Option<u32>,
+) -> Request {
+    let body = match title {
+        Some(title) => body(rt, alloc, title),
+        None => bytes(rt, alloc, b""),
+    };
+    assert!(rt; body.slice().len() <= 65_536);
+    Request {
+        verb,
+        target: path(rt, alloc, address),
+        media: None,
+        body,
+    }
+}
+
+fn stop(rt: &impl Abort, alloc: Global, (call, left): Crash) -> Stop {
+    let choice = match left {
+        Left::Old => Choice::Old,
+        Left::New => Choice::New,
+        Left::Filled => Choice::Fill(165),
+        Left::Given => Choice::Given {
+            size: 3,
+            bytes: bytes(rt, alloc, b"x"),
+        },
+    };
+    Stop { call, choice }
+}
+
+/// An event.
+pub fn event(rt: &impl Abort, alloc: Global, does: Does, crash: Option<Crash>) -> Event {
+    let stop = crash.map(|crash| stop(rt, alloc, crash));
+    let (verb, address, title) = match does {
+        Does::Give(mirror, sent) => return Event::Give { mirror, sent, stop },
+        Does::Walk(mirror) => return Event::Walk { mirror, stop },
+        Does::Make(title) => (Verb::Post, Address::Feed, Some(title)),
+        Does::Replace(number, title) => (Verb::Put, Address::Member(number), Some(title)),
+        Does::Delete(number) => (Verb::Delete, Address::Member(number), None),
+        Does::Feed => (Verb::Get, Address::Feed, None),
+        Does::Archive(number) => (Verb::Get, Address::Archive(number), None),
+    };
+    let request = request(rt, alloc, verb, address, title);
+    Event::Ask {
+        request,
+        now: NOW,
+        stop,
+    }
+}
+
+/// One step of a life.
+pub fn step(
+    rt: &impl Abort,
+    alloc: Global,
+    life: &mut Life,
+    does: Does,
+    crash: Option<Crash>,
+) -> Option<Line> {
+    let event = event(rt, alloc, does, crash);
+    life.step(event).expect(rt, "memory")
+}

@@ -1,0 +1,15 @@
+//! Tests of the public calls of `feed_life` and `feed_drill`.
+//!
+//! They are in a crate of their own, so that these crates are proved once, without their tests.
+#![tactic(auto)]
+
+#[cfg(test)]
+mod crashes;
+#[cfg(test)]
+mod draws;
+#[cfg(test)]
+mod events;
+#[cfg(test)]
+mod fetches;
+#[cfg(test)]
+mod generated;
