@@ -1,10 +1,12 @@
 #!/usr/bin/env python3
-"""Measures what the gate costs: runs `rt ci --anew` and adds up the processor seconds of each crate.
+"""Measures what the gate costs: runs `rt ci` and adds up the processor seconds of each crate.
 
-Usage: bench/gate.py [--kept [NAME ..]]. With --kept it runs `rt ci NAME ..`, which doesn't prove again what an earlier run
-on this machine proved. It prints a line for each crate with the seconds of its check, its tests and its must-fail edits, and their sums;
-the gate's own lines go to standard error. The seconds are read from /proc every quarter of a second, so a process loses at
-most its last quarter.
+Usage: bench/gate.py [WORD ..]. The words go to `rt ci`. Some kits keep what an earlier run proved, unless the word is --anew,
+and others take no word and prove all from nothing.
+
+It prints a line for each crate with the seconds of its check, its tests and its must-fail edits, and their sums. The gate's own
+lines go to standard error. The seconds are read from /proc every quarter of a second, so a process loses at most its last
+quarter.
 """
 
 import os
@@ -46,7 +48,7 @@ def processes(top):
 
 def kind_of(words, folder):
     text = " ".join(words) + folder
-    if "rt-edits" in text:
+    if "rt-edit" in text:
         return "edits"
     return "tests" if "--test" in words else "check"
 
@@ -65,7 +67,7 @@ def passed_on(output):
 def main():
     seen = {}
     began = time.time()
-    words = ["rt", "ci"] + (sys.argv[2:] if sys.argv[1:2] == ["--kept"] else ["--anew"])
+    words = ["rt", "ci"] + sys.argv[1:]
     gate = subprocess.Popen(words, stdout=subprocess.PIPE, stderr=subprocess.STDOUT, text=True)
     os.set_blocking(gate.stdout.fileno(), False)
     last = ""

@@ -295,6 +295,31 @@ mirrored --base http://feed.example/ --report=yes
 echo "$usage" | compare 'mirror with a value for --report' 2
 ran audit 5
 echo "$usage" | compare 'audit with a number' 2
+# a drill, whose summary a program in Python computed from the rules
+ran drill 0 1
+compare 'drill' 0 <<'TEXT'
+operations 1
+version 1
+archives 0
+stops 0
+mirror stops 0
+complete 1 1
+live 5fa094a926c9a685f0f41fd7a4b7e10c64c1a00d8be3a06016db5cea897a38b6
+TEXT
+ran drill 7 1000
+compare 'a long drill' 0 <<'TEXT'
+operations 1000
+version 1000
+archives 62
+stops 142
+mirror stops 66
+complete 1000 253
+live b95f954e46e0fa7b5a90c593265cf1314a870918bdd5cb3af1022db69e038114
+TEXT
+ran drill 7
+echo "$usage" | compare 'drill without a number of requests' 2
+ran drill 7 2001
+echo "$usage" | compare 'drill of too many requests' 2
 printf 'remove 5\nsubtract\nadd f\n' >"$work/input"
 stored apply
 echo 'bad line 2' | compare 'a bad line on a store' 10
