@@ -17,7 +17,7 @@ use http_face::{Body, Media, Reply, Request};
 use member_rules::Head;
 use std::alloc::Global;
 
-/// The status of a reply for want of memory.
+/// The status of the reply that memory ran out.
 pub(crate) const NO_MEMORY: u16 = 503;
 
 /// An answered request.
@@ -29,7 +29,7 @@ pub(crate) struct Answered {
     pub(crate) sealed: u32,
 }
 
-/// Loads the store of a disk. A disk without listed calls fails only for want of memory.
+/// Loads the store of a disk. A disk without listed calls fails only if memory runs out.
 pub(crate) fn open(alloc: Global, disk: &mut MemoryDisk) -> Result<Store, NoMemory>
     ensures fresh { IfOk result (λ store. is_spent store ≡ false) }
     ensures stands { IfOk result (λ store. StandsFor (state_of disk.new) store) }

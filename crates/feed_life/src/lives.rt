@@ -233,7 +233,7 @@ fn store_disk(alloc: Global, head: &Head) -> Result<MemoryDisk, NoMemory>
     let mut disk = new_disk(alloc);
     match Store::init(alloc, &mut disk, head) {
         Ok(()) => Ok(disk),
-        // A call of a disk in memory fails only for want of memory.
+        // A call of a disk without listed calls fails only if memory runs out.
         Err(_) => Err(NoMemory),
     }
 }

@@ -38,7 +38,7 @@ pub(crate) fn open_mirror(
     let base = head.name.base.copy(alloc)?;
     match Mirror::load(alloc, disk, base, head.capacity) {
         Ok(mirror) => Ok(mirror),
-        // A disk without listed calls fails only for want of memory.
+        // A disk without listed calls fails only if memory runs out.
         Err(_) => Err(NoMemory),
     }
 }
@@ -69,7 +69,7 @@ fn answered(answer: Result<Accepted, Offered>) -> Result<(), NoMemory>
     ensures { OnOk result ((answer ≢ Err Offered.NoMemory) × (answer ≢ Err Offered.DiskFault)) }
 {
     match answer {
-        // A call of a disk in memory fails only for want of memory.
+        // A call of a disk without listed calls fails only if memory runs out.
         Err(Offered::NoMemory) | Err(Offered::DiskFault) => Err(NoMemory),
         _ => Ok(()),
     }

@@ -56,7 +56,7 @@ fn documents_of(
 }
 
 /// The end of a walk, where nothing is missing or the mirror's area is full. The disks and the documents have no listed
-/// calls, so another fault is for want of memory.
+/// calls, so another fault means that memory ran out.
 fn end_of(walked: Result<Walked, WalkFault>) -> Result<(), NoMemory>
     ensures { OnOk result (IsOver walked) }
 {

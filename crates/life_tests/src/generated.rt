@@ -17,7 +17,7 @@ struct Fold {
 }
 
 impl Fold {
-    /// What becomes of the fold by an event whose operation is there. Returns whether it has one.
+    /// Adds the operation of an event to the fold. Returns whether the event has one.
     fn take(&mut self, rt: &impl Abort, does: Does) -> bool {
         match does {
             Does::Make(_) => {
