@@ -1,4 +1,4 @@
--- What an accepted certificate says of documents that one feed served.
+-- The statement of an accepted certificate over documents that one feed served.
 use Rattle.std.specs.Prelude.{◌≡◌, List, map, take}
 use Rattle.atom_writer.specs.Doc.{DocValue}
 use Rattle.coverage_certificate.specs.Certificate.{CertificateValue}

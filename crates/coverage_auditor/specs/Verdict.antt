@@ -1,4 +1,4 @@
--- The verdict on a certificate, and what it means that a pile covers it.
+-- The verdict on a certificate, and the relation that a pile covers it.
 use Rattle.std.specs.Prelude.{◌≡◌, ◌⊎◌, ◌≤◌, List, ◌∷◌, ◌++◌, All, length}
 use Rattle.std.specs.List.{AllZip}
 use Rattle.doc_source.specs.Pile.{offer_limit}

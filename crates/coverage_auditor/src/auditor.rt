@@ -50,7 +50,7 @@ pub fn audit(alloc: Global, certificate: &Certificate, pile: &[Offer]) -> Result
     ensures verdict { IfOk result (IsVerdict certificate.now pile.now) }
     ensures covers { IfOk result (λ verdict.
         (verdict ≡ accepted certificate.now) ↔ Covers certificate.now pile.now) }
-    // Over documents that one feed served.
+    // If one feed served all documents of the pile, an accepted certificate states the feed's own chain.
     ensures served { (head : HeadValue) (history : List Op) → IsServedPile head history pile.now
         → IfOk result (λ verdict. verdict ≡ accepted certificate.now
         → ShowsCertified head history certificate.now pile.now) }

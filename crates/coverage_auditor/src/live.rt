@@ -104,6 +104,7 @@ fn entry_at(chain: &Chain, place: EntryPlace) -> &Entry
 {
     match &chain.document(place.document).items.as_slice()[place.item] {
         Item::Kept(entry) => entry,
+        // The place is that of an entry, so it has no tombstone.
         Item::Gone(_) => unreachable!(),
     }
 }

@@ -1,6 +1,6 @@
 use chain_links::Address;
 
-/// What an auditor found of a certificate. Each variant but `Accepted` is a refusal.
+/// The verdict on a certificate. Each variant but `Accepted` is a refusal.
 #[derive(Clone, Copy, Debug, PartialEq, Eq)]
 pub enum Verdict {
     /// The documents cover the certificate. `version` and `live` are the certificate's.

@@ -1,4 +1,4 @@
--- The fields of a line: a text that has none of them is no such line.
+-- The fields of a line: a text without them isn't a line of that form.
 use Rattle.std.proofs.Common.{◌≡◌, ◌≢◌, ℕ, ◌-◌, ◌<◌, ◌≤◌, ◌^◌, List, [], ◌∷◌, ◌++◌, length, take, drop, codes, decimal, Option, Some, None, Result, Ok, Bor, option_copied, sym, ap, ◌∙◌, arith, length-append}
 use Rattle.std.proofs.lemmas.Fmt.{decimal_digit, decimal_injective}
 use Rattle.std.proofs.lemmas.List.{append_cancel_left, drop_at, take-append-drop, take_at}
@@ -77,7 +77,7 @@ spaced_parts text front digest one behind is p q =
       q ∙ ap (drop (length text - 65)) is.whole ∙ drop_at front (32 ∷ encode_lower digest) (length text - 65) size,
     )
 
--- the front and the digest of a line behind its word
+-- the part before the digest of a line, and the digest, after the line's word
 pub spaced_behind : (word line rest front digest : List ℕ) → line ≡ word ++ rest → IsDigest digest
     → line ≡ word ++ (front ++ 32 ∷ encode_lower digest) → IsSpacedDigest rest front digest
 spaced_behind word line rest front digest split is e = record {

@@ -1,4 +1,4 @@
--- The lines of a text: where two lists of lines begin alike, and the first line that can't stand.
+-- The lines of a text: where two lists of lines begin alike, and the first line that isn't allowed.
 use Rattle.std.proofs.Common.{◌≡◌, ◌≢◌, ◌⊎◌, ℕ, ◌+◌, ◌≤◌, List, [], ◌∷◌, ◌++◌, length, take, drop, inl, inr, refl, sym, ap, subst, ◌∙◌, arith, append_assoc, append-nil, length-append}
 use Rattle.std.specs.Prelude.{All}
 use Rattle.std.proofs.lemmas.Bool.{cases_lt}
@@ -32,7 +32,7 @@ text-append (x ∷ xs) ys =
     ap (λ (t : List ℕ). (x ++ 10 ∷ []) ++ t) (text-append xs ys)
     ∙ sym (append_assoc (x ++ 10 ∷ []) (text_of_lines xs) (text_of_lines ys))
 
--- the longer of two lists of lines goes on behind the shorter one
+-- the longer of two lists of lines goes on after the shorter one
 pub record GoesOn (shorter longer : List (List ℕ)) (x y : List ℕ) : Type 0 where
   pub more : List (List ℕ)
   pub lines : longer ≡ shorter ++ more
@@ -87,7 +87,7 @@ pub record Begins (lines : List (List ℕ)) : Type 0 where
   pub more : List (List ℕ)
   pub whole : certificate_lines certificate ≡ lines ++ more
 
--- no certificate goes on behind these lines with a line that the rest begins with
+-- no certificate goes on after these lines with a line that the rest begins with
 abbrev pub EndsHere : List (List ℕ) → List ℕ → Type 0
 EndsHere lines rest = (c : CertificateValue) → IsCertificate c → (line : List ℕ) (more : List (List ℕ))
     → certificate_lines c ≡ lines ++ line ∷ more → (after : List ℕ) → rest ≢ line ++ 10 ∷ after
@@ -172,7 +172,7 @@ no_certificate text lines rest front ends not_whole c is e =
           whole_ends c is lines rest ends not_whole g.more g.lines g.rest
     ]
 
--- the line behind these lines is the first that can't stand
+-- the line after these lines is the first that isn't allowed
 pub first_bad : (text : List ℕ) (lines : List (List ℕ)) (rest : List ℕ) → Front text lines rest
     → ((lines ≡ []) ⊎ Begins lines) → EndsHere lines rest → IsNotWhole lines rest
     → IsFirstBadLine text (length lines + 1)
@@ -191,7 +191,7 @@ first_bad text lines rest front begins ends not_whole = record {
 pub none_text : (Is : List ℕ → Type 0) (text : List ℕ) → HasNoLf text → HasNoLine Is text
 none_text Is text none line rest is e = no_cut text line rest none e
 
--- the first line of a text isn't such a line
+-- the first line of a text has another form
 pub none_line : (Is : List ℕ → Type 0) → ((line : List ℕ) → Is line → HasNoLf line) → (text line rest : List ℕ)
     → IsNextLine text line rest → ¬ Is line → HasNoLine Is text
 none_line Is lacks text line rest next not other after is e =

@@ -1,4 +1,4 @@
--- The line that a certificate can go on with, behind its first lines.
+-- The line that may come next in a certificate, after its first lines.
 use Rattle.std.proofs.Common.{◌≡◌, ◌≢◌, ◌⊎◌, ℕ, List, [], ◌∷◌, ◌++◌, length, get_or, codes, inl, inr, refl, sym, ap, ◌∙◌, arith}
 use Rattle.std.specs.Prelude.{All, map}
 use Rattle.std.proofs.lemmas.List.{append_cancel_left}
@@ -61,7 +61,7 @@ abbrev pub IsAfter : (CoverValue → Type 0) → List ℕ → ℕ → List ℕ �
 IsAfter P base count digest line =
     ((cover : CoverValue) × P cover × (line ≡ document_line base cover)) ⊎ (line ≡ live_line count digest)
 
--- behind some documents comes another one, or the line of the live entries
+-- after some documents comes another one, or the line of the live entries
 pub after_documents : (P : CoverValue → Type 0) (base : List ℕ) (covers read : List CoverValue) (count : ℕ)
     (digest line : List ℕ) (more : List (List ℕ)) → All P covers
     → map (document_line base) covers ++ live_line count digest ∷ end_line ∷ []
@@ -76,7 +76,7 @@ after_documents P base (c ∷ covers) (r ∷ read) count digest line more all e 
     ≡ map (document_line base) read ++ line ∷ more = cc in
     after_documents P base covers read count digest line more (All-tail P c covers all) tails
 
--- behind the documents and the line of the live entries comes the last line
+-- after the documents and the line of the live entries comes the last line
 pub after_live : (base : List ℕ) (covers read : List CoverValue) (count : ℕ) (digest : List ℕ) (count' : ℕ)
     (digest' line : List ℕ) (more : List (List ℕ))
     → map (document_line base) covers ++ live_line count digest ∷ end_line ∷ []
@@ -91,7 +91,7 @@ after_live base (c ∷ covers) (r ∷ read) count digest count' digest' line mor
     ≡ map (document_line base) read ++ live_line count' digest' ∷ line ∷ more = cc in
     after_live base covers read count digest count' digest' line more tails
 
--- and nothing behind that
+-- and nothing after that
 pub after_end : (base : List ℕ) (covers read : List CoverValue) (count : ℕ) (digest : List ℕ) (count' : ℕ)
     (digest' line : List ℕ) (more : List (List ℕ))
     → map (document_line base) covers ++ live_line count digest ∷ end_line ∷ []

@@ -1,4 +1,4 @@
--- What is read behind the first lines of a text, put together.
+-- The result of reading a text, from the results after its first lines.
 use Rattle.std.proofs.Common.{◌≡◌, ℕ, ◌+◌, ◌<◌, true, false, List, [], ◌∷◌, ◌++◌, length, Option, Some, Result, Ok, Err, Bor, inl, inr, sym, subst, arith}
 use Rattle.std.specs.Prelude.{IfSome, IsErrAnd, map}
 use Rattle.chain_links.specs.Base.{IsBase}
@@ -41,7 +41,7 @@ pub later_none : (base : List ℕ) (lines : List CoverValue) (rest : List ℕ) �
 later_none base [] rest some none = absurd (omega arith)
 later_none base (line ∷ lines) rest some none = none
 
--- the line at which the text behind the documents is refused
+-- the line at which the text after the documents is refused
 pub bad_ending : (text feed base : List ℕ) (version : ℕ) (lines : List CoverValue) (r3 r4 : List ℕ)
     → IsOpened text feed base version r3 → HasDocuments base lines r3 r4
     → HasNoLine (IsDocumentLine base false) r4 → (line : ℕ) → line ≡ 4 + length lines → (fault : CertificateFault)

@@ -65,7 +65,7 @@ print_first before mid c made is prefix =
     (text_parts c ∙ ap (λ (t : List ℕ). t ++ (documents_text c.base c.lines ++ ending_text c)) (sym is))
     (sym (append-nil before.taken)) prefix
 
--- behind it the documents are written
+-- after it the documents are written
 pub print_second : (before mid after : SinkState) (c : CertificateValue) (made : List ℕ) → made ≡ opening_text c
     → mid.taken ≡ before.taken ++ made → TakesPrefix mid after (documents_text c.base c.lines)
     → TakesPrefix before after (certificate_text c)
@@ -81,7 +81,7 @@ print_both before mid after c made is taken next =
     took_more before mid after (opening_text c) (documents_text c.base c.lines)
     (taken ∙ ap (λ (t : List ℕ). before.taken ++ t) is) next
 
--- behind them the ending is written
+-- after them the ending is written
 pub print_third : (before after last : SinkState) (c : CertificateValue) (made : List ℕ) → made ≡ ending_text c
     → after.taken ≡ before.taken ++ (opening_text c ++ documents_text c.base c.lines) → TakesPrefix after last made
     → TakesPrefix before last (certificate_text c)

@@ -1,4 +1,4 @@
--- The first line of a text that can't stand there, by the line up to which it was read.
+-- The first line of a text that isn't allowed, by the line up to which the text was read.
 use Rattle.std.proofs.Common.{◌≡◌, ◌≢◌, ℕ, ◌+◌, ◌<◌, ◌≤◌, ◌^◌, true, false, List, [], ◌∷◌, ◌++◌, length, replicate, codes, inl, inr, refl, sym, ap, subst, ◌∙◌, arith, append_assoc, append-nil, length-append}
 use Rattle.std.specs.Prelude.{All, None, map}
 use Rattle.std.proofs.lemmas.List.{length-map, length-replicate}
@@ -224,7 +224,7 @@ bad_document text feed base version r3 o none =
     none line after (first_cover base c.lines _ line more is.lines is.digests t.tail) split)
     (few_lines (opening_lines feed base version) r3 (omega arith))
 
--- the text behind the opening begins with these documents
+-- the text after the opening begins with these documents
 pub record HasDocuments (base : List ℕ) (lines : List CoverValue) (text rest : List ℕ) : Type 0 where
   pub are : AreCovers lines
   pub split : text ≡ text_of_lines (map (document_line base) lines) ++ rest
@@ -248,7 +248,7 @@ begins_documents feed base version lines parts are = record {
   whole = lines_made feed base version lines 0 (zeros 32);
 }
 
--- what is behind an opening and documents, in a certificate
+-- the text after an opening and documents, in a certificate
 tail_from : (c : CertificateValue) (feed base : List ℕ) (version : ℕ) (lines : List CoverValue)
     (more : List (List ℕ)) → certificate_lines c ≡ with_documents feed base version lines ++ more
     → HasTail c base (map (document_line base) lines ++ more)

@@ -1,4 +1,4 @@
--- The lines that can stand at a place of a certificate's text.
+-- The lines that are allowed at a place of a certificate's text.
 use Rattle.std.specs.Prelude.{◌≡◌, ◌≢◌, ◌⊎◌, ℕ, ◌+◌, ◌<◌, ◌^◌, List, [], ◌∷◌, ◌++◌, All, Bool, true, false, Result, Ok, Err}
 use Rattle.hex.specs.Hex.{encode_lower}
 use Rattle.atom_values.specs.Ascii.{lf, space}
@@ -21,7 +21,7 @@ pub record IsNextLine (text line rest : List ℕ) : Type 0 where
   pub no_lf : HasNoLf line
   pub split : text ≡ line ++ lf ∷ rest
 
--- no such line is the first one of the text
+-- the first line of the text has another form
 abbrev pub HasNoLine : (List ℕ → Type 0) → List ℕ → Type 0
 HasNoLine Is text = (line rest : List ℕ) → Is line → text ≢ line ++ lf ∷ rest
 
@@ -42,7 +42,7 @@ abbrev pub Fits : Bool → Address → Type 0
 Fits true address = address ≡ Feed
 Fits false address = IsArchive address
 
--- a document line that can stand as the first one, or as a later one
+-- a document line that is allowed as the first one, or as a later one
 pub record IsDocumentLine (base : List ℕ) (is_first : Bool) (line : List ℕ) : Type 0 where
   pub cover : CoverValue
   pub fits : Fits is_first cover.address
@@ -61,12 +61,12 @@ abbrev pub AreLinesSoFar : List CoverValue → Type 0
 AreLinesSoFar [] = Unit {0}
 AreLinesSoFar (line ∷ lines) = AreCoverLines (line ∷ lines)
 
--- the text is this front, a space and the digits of the digest
+-- the text is this prefix, a space and the digits of the digest
 pub record IsSpacedDigest (text front digest : List ℕ) : Type 0 where
   pub is_digest : IsDigest digest
   pub whole : text ≡ front ++ space ∷ encode_lower digest
 
--- a text behind the documents that lacks the last line of a certificate
+-- a text after the documents that lacks the last line of a certificate
 pub record LacksEnd (text : List ℕ) : Type 0 where
   pub count : ℕ
   pub digest : List ℕ
@@ -76,7 +76,7 @@ pub record LacksEnd (text : List ℕ) : Type 0 where
   pub split : text ≡ live_line count digest ++ lf ∷ rest
   pub no_end : (after : List ℕ) → rest ≢ end_line ++ lf ∷ after
 
--- a text behind the documents that goes on behind the last line of a certificate
+-- a text after the documents that goes on after the last line of a certificate
 pub record GoesPastEnd (text : List ℕ) : Type 0 where
   pub count : ℕ
   pub digest : List ℕ
@@ -86,7 +86,7 @@ pub record GoesPastEnd (text : List ℕ) : Type 0 where
   pub split : text ≡ live_line count digest ++ lf ∷ (end_line ++ lf ∷ rest)
   pub more : rest ≢ []
 
--- the refusal of a text behind the documents, whose first line has this number
+-- the refusal of a text after the documents, whose first line has this number
 abbrev pub IsBadEnding : ℕ → List ℕ → CertificateFault → Type 0
 IsBadEnding line text (BadCertificate at) =
     ((at ≡ line) × HasNoLine IsLiveLine text)

@@ -64,7 +64,7 @@ IsNoCertificate text = (c : CertificateValue) → IsCertificate c → certificat
 
 -- The text is no certificate's, and `line` is the number of the first line that is refused, counted from 1: the
 -- lines before it begin some certificate, and together with it none. A text that lacks lines or the LF of its
--- last line is refused at the line that isn't whole, and bytes behind the last line of a certificate are one
+-- last line is refused at the line that isn't whole, and bytes after the last line of a certificate are one
 -- line more.
 pub record IsFirstBadLine (text : List ℕ) (line : ℕ) : Type 0 where
   pub no_certificate : IsNoCertificate text

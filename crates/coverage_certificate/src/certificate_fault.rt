@@ -5,7 +5,7 @@ use std::fmt;
 /// Why a text was not read as a certificate.
 #[derive(Clone, Copy, Debug, PartialEq, Eq)]
 pub enum CertificateFault {
-    /// The text is no certificate's. `line` is the first line that is refused, counted from 1.
+    /// The text isn't that of a certificate. `line` is the first line that is refused, counted from 1.
     BadCertificate { line: u32 },
     /// Memory ran out.
     NoMemory,

@@ -29,7 +29,7 @@ pub(crate) fn digest_fits(digest: &[u8; 32])
     ensures { IsDigest digest.now }
 {
     'bytes: for i in 0..32 {
-        // The read tells the proof that the byte is below 256.
+        // By the read the proof knows that the byte is below 256.
         let _ = digest[i];
     }
 }

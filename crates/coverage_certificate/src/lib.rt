@@ -1,4 +1,4 @@
-//! Coverage certificates: a text by which a mirror shows to others what it holds.
+//! Coverage certificates: a mirror's certificate shows to others which documents the mirror holds.
 //!
 //! Begin with [`Certificate::of`], and give the text to others with [`Certificate::print`]. They read it with
 //! [`Certificate::read`]:

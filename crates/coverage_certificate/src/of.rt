@@ -56,12 +56,12 @@ impl Certificate {
         requires stands { D.told → StandsFor (D.state disk.old) mirror.old }
         ensures certificate { IfOk result (λ made. D.told
             → certificate_of made.base mirror.old.kept ≡ Some made) }
-        // Of any disk, all but the digest of the live entries is that of what is held.
+        // On any disk, all but the digest of the live entries is that of what is held.
         ensures parts { IfOk result (λ made. option_map (with_digest made.live_digest)
             (certificate_of made.base mirror.old.kept) ≡ Some made) }
         ensures base { IfOk result (λ made. option_map (λ name. name.base) (name_of_best mirror.old.kept)
             ≡ Some made.base) }
-        // Of documents that one feed served: the feed's own certificate at this version.
+        // If one feed served all documents held, it is the feed's own certificate at this version.
         ensures served { IfOk result (λ made. D.told → (head : HeadValue) (history : List Op)
             → mirror.old.base ≡ head.name.base → HoldsServed head history mirror.old.kept
             → made ≡ served_certificate head (take made.version history)) }
@@ -83,6 +83,7 @@ impl Certificate {
         ensures unfailed { result ≢ Err LogFault.DiskFault
             → (D.state disk.new).faults ≡ (D.state disk.old).faults }
     {
+        // A complete mirror has a best subscription document, and with it a name.
         let best = mirror.best().unwrap();
         let name = mirror.name().unwrap().copy(alloc)?;
         let lines = held_lines(alloc, mirror, best.prev)?;

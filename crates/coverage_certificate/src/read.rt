@@ -44,8 +44,8 @@ impl Certificate {
     ///
     /// Errors:
     ///
-    /// - `BadCertificate` exactly if the text is no certificate's. `line` is the first line that is refused,
-    ///   counted from 1. A text that lacks lines, or the LF of its last line, is refused at the line that isn't
+    /// - `BadCertificate` exactly if the text isn't that of a certificate. `line` is the first line that is
+    ///   refused, counted from 1. A text that lacks lines, or the LF of its last line, is refused at the line that isn't
     ///   whole. Bytes after the last line are one line more.
     /// - `NoMemory`.
     pub fn read(alloc: Global, text: &[u8]) -> Result<Certificate, CertificateFault>
@@ -72,7 +72,7 @@ fn read_head(text: &[u8]) -> Option<&[u8]>
     after(text, b"coverage 1\n")
 }
 
-/// The identifier of a line with the feed's name, and the text after it. `None` if it is no such line.
+/// The identifier of a line with the feed's name, and the text after it. `None` for any other line.
 fn named_feed(line: &[u8]) -> Option<(FeedId, &[u8])>
     ensures found { IfSome result (λ x. IsFeedId x.0 × (line.now ≡ feed_line x.0 x.1.now)) }
     ensures none { result ≡ None → (feed base : List ℕ) → IsFeedId feed → line.now ≢ feed_line feed base }
@@ -83,7 +83,7 @@ fn named_feed(line: &[u8]) -> Option<(FeedId, &[u8])>
     Some((feed, after(behind, b" ")?))
 }
 
-/// The name of a line with the feed's name. `None` if it is no such line.
+/// The name of a line with the feed's name. `None` for any other line.
 fn name_of(alloc: Global, line: &[u8]) -> Result<Option<Named>, NoMemory>
     ensures found { IfOk result (λ found. IfSome found (λ named. IsFeedId named.feed × IsBase named.base
         × (line.now ≡ feed_line named.feed named.base))) }
@@ -147,7 +147,7 @@ fn fits(is_first: bool, address: Address) -> bool
     }
 }
 
-/// The document of a line that may be the first one, or a later one. `None` if it is no such line.
+/// The document of a line that may be the first one, or a later one. `None` for any other line.
 fn document_of(base: &Base, is_first: bool, line: &[u8]) -> Option<CoverLine>
     ensures found { IfSome result (λ cover. Fits is_first cover.address × IsDigest cover.digest
         × (line.now ≡ document_line base.now cover)) }
@@ -162,7 +162,7 @@ fn document_of(base: &Base, is_first: bool, line: &[u8]) -> Option<CoverLine>
     }
 }
 
-/// Reads a document line. `None` if the text doesn't begin with one that may stand there.
+/// Reads a document line. `None` if the text doesn't begin with one that is allowed in this place.
 fn read_document<'a>(base: &Base, is_first: bool, text: &'a [u8]) -> Option<(CoverLine, &'a [u8])>
     ensures found { IfSome result (λ x. Fits is_first x.0.address × IsDigest x.0.digest
         × (text.now ≡ document_line base.now x.0 ++ lf ∷ x.1.now)) }
@@ -174,7 +174,7 @@ fn read_document<'a>(base: &Base, is_first: bool, text: &'a [u8]) -> Option<(Cov
     Some((document_of(base, is_first, line)?, rest))
 }
 
-/// Reads the document lines, up to the first line that isn't one that may stand there.
+/// Reads the document lines, up to the first line that isn't one or isn't allowed in its place.
 fn read_documents<'a>(
     alloc: Global,
     base: &Base,
@@ -198,7 +198,7 @@ fn read_documents<'a>(
     Ok((lines, rest))
 }
 
-/// The live entries of a line. `None` if it is no such line.
+/// The live entries of a line. `None` for any other line.
 fn live_of(line: &[u8]) -> Option<Live>
     ensures found { IfSome result (λ live. (live.count < 2 ^ 32) × IsDigest live.digest
         × (line.now ≡ live_line live.count live.digest)) }

@@ -74,15 +74,6 @@ counts-full full sealed seals (inl is) none = elim (cases_eq full sealed) [
 ]
 counts-full full sealed seals (inr is) none = sym is
 
--- the device calls of a commit
-four-or-more : (seal : Option (List ℕ)) → 4 ≤ commit_calls seal
-four-or-more None = omega arith
-four-or-more (Some seal) = omega arith
-
-eight-or-less : (seal : Option (List ℕ)) → commit_calls seal ≤ 8
-eight-or-less None = omega arith
-eight-or-less (Some seal) = omega arith
-
 -- Where the number of seals is that of the sealed archives after the operation, the seal that was due and missing was
 -- made.
 sealed-by : WindowsSealInTurn → (old : StoreValue) (operation : Op) (seals : ℕ) → IsHead old.head
@@ -107,6 +98,10 @@ module _ (old prepared : StoreValue) (members journal seals spare : ℕ)
   due-roomy None due = due
   due-roomy (Some seal) due = due
 
+  due-before : (seal : Option (List ℕ)) → IsDueSeal (roomy old members journal seals spare) seal → IsDueSeal old seal
+  due-before None due = due
+  due-before (Some seal) due = due
+
   fits-roomy : (seal : Option (List ℕ)) → SealFits (roomy old members journal seals spare) seal → SealFits old seal
   fits-roomy None fits = tt
   fits-roomy (Some seal) fits = fits
@@ -118,7 +113,7 @@ module _ (old prepared : StoreValue) (members journal seals spare : ℕ)
     seals = record { list = stands.seals.list; long = stands.seals.long };
   })
 
-  -- what becomes of the store with more room becomes of the store
+  -- a fact on the store with more room holds of the store
   pub steps-roomy : (told : Type 0) (s t : DiskState) (new : StoreValue) (failed : Type 0)
       → Steps told s t prepared new failed → Steps told s t old new failed
   steps-roomy told s t new failed steps =
@@ -230,10 +225,10 @@ module _ (old prepared : StoreValue) (members journal seals spare : ℕ)
   grows-roomy s t new grows = record {
     operation = grows.operation;
     history = grows.history ∙ ap (λ (p : StoreValue). p.history ++ grows.operation ∷ []) same;
-    number = grows.number;
-    some = grows.some;
-    most = grows.most;
-    calls = subst (λ (n : ℕ). MakesCalls s t n (call_count new) grows.number) (ap call_count same) grows.calls;
+    seal = grows.seal;
+    due = due-before grows.seal (subst (λ (p : StoreValue). IsDueSeal p grows.seal) same grows.due);
+    calls = subst (λ (n : ℕ). MakesCalls s t n (call_count new) (commit_calls grows.seal)) (ap call_count same)
+        grows.calls;
   }
 
 -- an ask that isn't prepared
@@ -265,16 +260,6 @@ module _ (turn : WindowsSealInTurn) (s t : DiskState) (old new : StoreValue) (re
       seals = sealed-by turn old ready.operation (seal_count new) stands.opens.is_journal.is_head stands.opens.count
           (sealed ∙ windows-same new.head old.head new.history (old.history ++ ready.operation ∷ []) head history);
     };
-  }
-
-  pub grows-done : MakesCalls s t (call_count old) (call_count new) (commit_calls ready.seal) → Grows s t old new
-  grows-done calls = record {
-    operation = ready.operation;
-    history = history;
-    number = commit_calls ready.seal;
-    some = four-or-more ready.seal;
-    most = eight-or-less ready.seal;
-    calls = calls;
   }
 
 pub commits : (told : Type 0) (s t : DiskState) (old new : StoreValue) (operation : Op) (failed : Type 0)

@@ -90,7 +90,7 @@ module _ (stays : ServedStays) (prefixes : PrefixesAreLawful) (head : HeadValue)
     ];
   }
 
-  -- an exchange on this history, whose line has the version behind it
+  -- an exchange on this history, whose line has the version after it
   module _ (shown : ShownAreServed) (store : StoreValue) (now : ℕ) (is_head : IsHead store.head)
       (was_lawful : IsLawful store.head store.history) (exchange : Exchange) (turn : Turn)
       (same : store.head ≡ head) (of : store.history ≡ history)

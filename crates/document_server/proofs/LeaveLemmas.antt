@@ -1,4 +1,4 @@
--- What a crash leaves of a store whose request was answered.
+-- The images that a crash leaves of a store whose request was answered.
 use Rattle.std.proofs.Common.{inl, inr, refl, sym, ap, ◌∙◌, List, [], ◌∷◌, length, subst}
 use Rattle.std.proofs.lemmas.List.{append-nil}
 use Rattle.feed_disk.specs.Disk.{DiskState, IsDisk}

@@ -8,15 +8,15 @@ pub mod RowLemmas
 pub mod ChangeLemmas
 -- the parts of `answer`: `steps`
 pub mod StepLemmas
--- the law of documents in replies
+-- `shown_are_served`
 pub mod ServedLemmas
--- the law of the one outcome
+-- `requests_have_one_outcome`
 pub mod OutcomeLemmas
 -- `serve`: a connection that is served
 pub mod LinkLemmas
 -- `serve`: the order of the lines, and the device calls that they count
 pub mod OrderLemmas
--- `serve`: what a crash amid the session leaves
+-- `serve`: the images that a crash during the session leaves
 pub mod OpensLemmas
 -- `serve`: the documents that were sent
 pub mod DocumentLemmas
@@ -24,7 +24,7 @@ pub mod DocumentLemmas
 pub mod SessionLemmas
 -- `serve`: the connections that were served so far, and one more
 pub mod ServingLemmas
--- `serve`: the operation of a request behind which the disk failed
+-- `serve`: the operation of a request after which the disk failed
 pub mod PendingLemmas
 -- `serve`: the load before the connections
 pub mod LoadLemmas

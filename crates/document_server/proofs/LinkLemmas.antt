@@ -30,7 +30,7 @@ use Rattle.http_face.specs.declared.request.Verb.{Verb}
 use Rattle.http_face.specs.declared.request.Verb.TheVariants.{Get, Head, Post, Put, Delete, Options, Patch, Other}
 use Rattle.member_rules.specs.declared.operation.Op.{Op}
 
--- What a request may add
+-- The operations that a request may add
 
 added-one : (adds : Option Op) → length (added adds) ≤ 1
 added-one None = omega arith
@@ -111,7 +111,7 @@ pub none-since : {T : Type 0} (given : Option T) → ((value : T) → given ≡ 
 none-since None other = refl
 none-since (Some value) other = absurd (other value refl)
 
--- a turn is the same behind the sending of its reply
+-- a turn is the same after its reply was sent
 pub turn-sent : (store : StoreValue) (now : ℕ) (given read back : ConnState) (reply : Reply) (line line' : Line)
     (turn : _) → IsTurn store now (exchange_of given read (Some reply) line) turn
     → IsTurn store now (exchange_of given back (Some reply) line') turn

@@ -1,4 +1,4 @@
--- What a crash amid a session leaves, when a connection more was served.
+-- The images that a crash during a session leaves, after one more connection was served.
 use Rattle.std.proofs.Common.{inl, inr, ℕ, ◌+◌, ◌-◌, ◌^◌, ◌<◌, ◌≤◌, List, [], ◌∷◌, ◌++◌, length, All, arith}
 use Rattle.std.proofs.Common.{sym, subst, length-append}
 use Rattle.std.proofs.lemmas.Bool.{cases_lt}

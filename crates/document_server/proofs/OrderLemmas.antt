@@ -1,11 +1,13 @@
 -- The order of the lines of a session, and the device calls that they count.
 use Rattle.std.proofs.Common.{◌≡◌, ◌⊎◌, inl, inr, refl, ap, ℕ, ◌+◌, ◌<◌, ◌≤◌, List, [], ◌∷◌, ◌++◌, length, All, arith}
 use Rattle.std.proofs.Common.{length-append}
+use Rattle.std.specs.Prelude.{Option, None, Some}
 use Rattle.std.proofs.lemmas.List.Elements.{All-cons, All-nil, All-weaker}
 use Rattle.atom_values.specs.Counts.{counter_limit}
 use Rattle.feed_disk.specs.Disk.{DiskState}
 use Rattle.feed_disk.specs.Raised.{raised}
 use Rattle.feed_journal.specs.Log.{MakesSome}
+use Rattle.feed_recovery.specs.Prepare.{commit_calls}
 use Rattle.feed_recovery.specs.Store.{StoreValue, call_count}
 use Rattle.document_server.specs.Answer.{Grows}
 use Rattle.document_server.specs.Serving.{AreInOrder, Follows}
@@ -82,6 +84,11 @@ follows-by old new before after line version calls later (inr (one, four)) = rec
   grown = λ more. omega arith;
 }
 
+-- the device calls of a commit
+four-or-more : (seal : Option (List ℕ)) → 4 ≤ commit_calls seal
+four-or-more None = omega arith
+four-or-more (Some seal) = omega arith
+
 grown-or-same : (s t : DiskState) (start : ℕ) (old new : StoreValue) → t.clock < counter_limit
     → start + call_count old ≡ s.clock → (new.history ≡ old.history) ⊎ Grows s t old new
     → (length new.history ≡ length old.history)
@@ -91,8 +98,8 @@ grown-or-same s t start old new below counted (inr grows) =
     let one : length new.history ≡ length (old.history ++ grows.operation ∷ []) = ap length grows.history in
     inr (
       omega (arith, one, length-append old.history (grows.operation ∷ [])),
-      raised-four s.clock t.clock start (call_count old) (call_count new) grows.number grows.some grows.calls.clock
-          grows.calls.calls below counted,
+      raised-four s.clock t.clock start (call_count old) (call_count new) (commit_calls grows.seal)
+          (four-or-more grows.seal) grows.calls.clock grows.calls.calls below counted,
     )
 
 -- the line of a connection that was served follows those before it

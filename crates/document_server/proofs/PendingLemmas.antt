@@ -96,7 +96,7 @@ normal-entry draft number moment stored is counted small stamp also = record {
   content = shown-text draft.content (has_alternate (without_edit draft.links)) is.content;
 }
 
--- What is decided
+-- The decision
 
 split-ok : {A : Type 0} (r : Result A RuleFault) (f : A → Result Op RuleFault) (operation : Op)
     → (r >>= f) ≡ Ok operation → (x : A) × (r ≡ Ok x) × (f x ≡ Ok operation)

@@ -1,4 +1,4 @@
--- What serving leaves of a store and of its disk so far, and what one more connection makes of it.
+-- The store and its disk after the connections so far, and after one more connection.
 use Rattle.std.proofs.Common.{◌≡◌, ◌≢◌, ◌⊎◌, refl, sym, ap, ◌∙◌, subst, ℕ, ◌+◌, ◌-◌, ◌<◌, ◌≤◌, List, [], ◌∷◌}
 use Rattle.std.proofs.Common.{◌++◌, length, All, arith, length-append, true, false}
 use Rattle.std.specs.Prelude.{Option, Some, None}
@@ -370,7 +370,7 @@ module _ (start : ℕ) (before amid after : DiskState) (moments coming later : �
             session = λ see. exchanged-more see (going.session see);
           }
 
-    -- the disk failed behind its request
+    -- the disk failed after its request
     module _ (failed : Type 0) (fails : failed) (spent : is_spent new ≡ true) (stayed : new.history ≡ store.history)
         (pending_lawful : seen → IsLawful opened.head (store.history ++ linked.serves.operations))
         (counts : CountsFrom start before after opened) where

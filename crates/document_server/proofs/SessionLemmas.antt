@@ -40,7 +40,7 @@ session-more first moments (earlier ∷ served) store next coming later exchange
   session-more then (λ k. moments (one.moments + k)) served store next coming later exchange turn session is on,
 )
 
--- the session ends as it stands
+-- the session ends with the connections so far
 pub session-ends : (ends : StoreValue → (ℕ → ℕ) → Type 0) (first : StoreValue) (moments : ℕ → ℕ)
     (served : List Exchange) (store : StoreValue) (coming : ℕ → ℕ)
     → ((last : StoreValue) (now : ℕ → ℕ) → IsAt store coming last now → ends last now)

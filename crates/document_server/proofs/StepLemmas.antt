@@ -1,4 +1,4 @@
--- What a part of the answer makes of the store and of the disk.
+-- The store and the disk after a part of the answer.
 use Rattle.std.proofs.Common.{◌≡◌, inl, refl, sym, ap, ◌∙◌, ℕ, ◌≤◌, ◌||◌, Bool, true, false, arith}
 use Rattle.std.specs.Prelude.{None}
 use Rattle.std.proofs.lemmas.List.{append-nil}

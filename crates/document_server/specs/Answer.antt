@@ -1,4 +1,4 @@
--- What an answered request makes of a store and of its disk.
+-- The store and its disk after a request was answered.
 use Rattle.std.specs.Prelude.{◌≡◌, ◌⊎◌, ℕ, ◌+◌, ◌≤◌, List, [], ◌∷◌, ◌++◌, length, Option, Some, None, Result, Ok, Err}
 use Rattle.std.specs.Prelude.{true, false}
 use Rattle.atom_values.specs.Counts.{Rose}
@@ -11,7 +11,7 @@ use Rattle.feed_disk.specs.Moments.{LeavesAlone}
 use Rattle.feed_disk.specs.declared.area.Area.{Area}
 use Rattle.feed_disk.specs.declared.area.Area.TheVariants.{Mirror}
 use Rattle.feed_journal.specs.Log.{MakesCalls, MakesSome}
-use Rattle.feed_recovery.specs.Prepare.{IsMissing}
+use Rattle.feed_recovery.specs.Prepare.{IsDueSeal, IsMissing, commit_calls}
 use Rattle.feed_recovery.specs.Settled.{AlwaysLeavesBoth, IsAtRest, OpensPast}
 use Rattle.feed_recovery.specs.Store.{StandsFor, StoreValue, call_count, is_spent, seal_count}
 use Rattle.http_face.specs.Reply.{HasPhrase}
@@ -26,7 +26,7 @@ use Rattle.member_rules.specs.declared.operation.Op.{Op}
 use Rattle.member_rules.specs.declared.state.State.{State}
 use Rattle.member_rules.specs.declared.state.State.TheVariants as member
 
--- What becomes of the store
+-- The store afterwards
 
 abbrev pub added : Option Op → List Op
 added None = []
@@ -62,23 +62,16 @@ IsAnswer outcomes old new reply failed =
 abbrev pub IsDone : Reply → Type 0
 IsDone reply = (reply.status ≡ 200) ⊎ (reply.status ≡ 201)
 
--- the device calls of a change: those of one append, or of two
-abbrev pub least_change_calls : ℕ
-least_change_calls = 4
-
-abbrev pub most_change_calls : ℕ
-most_change_calls = 8
-
--- the history gains an operation, which takes these device calls
+-- The history gains an operation. Its commit makes the device calls of its append, and those of the append of the seal
+-- that was due and missing, if one was.
 pub record Grows (before after : DiskState) (old new : StoreValue) : Type 0 where
   pub operation : Op
   pub history : new.history ≡ old.history ++ operation ∷ []
-  pub number : ℕ
-  pub some : least_change_calls ≤ number
-  pub most : number ≤ most_change_calls
-  pub calls : MakesCalls before after (call_count old) (call_count new) number
+  pub seal : Option (List ℕ)
+  pub due : IsDueSeal old seal
+  pub calls : MakesCalls before after (call_count old) (call_count new) (commit_calls seal)
 
--- What a crash leaves
+-- Crashes
 
 -- the operations that a request adds to the history if its commit works: none, or that of an outcome
 abbrev pub MayAdd : (Outcome → Type 0) → List Op → Type 0
@@ -96,14 +89,14 @@ pub record LeavesAnswered (outcomes : Outcome → Type 0) (before after : DiskSt
 
 -- The parts of an answer
 
--- what a part of the answer comes to
+-- the result of a part of the answer
 abbrev pub ComesTo : (Outcome → Type 0) → StoreValue → StoreValue → Result Reply Stop → Type 0
 ComesTo outcomes old new (Ok reply) = IsReplied outcomes old new reply
 ComesTo outcomes old new (Err Disk) = Unit {0}
 ComesTo outcomes old new (Err Changed) = ⊥
 ComesTo outcomes old new (Err NoMemory) = Gains old new None
 
--- what a part of the answer makes of the store and of the disk; it fails where a device call failed
+-- the store and the disk after a part of the answer, which fails exactly if a device call failed
 pub record Steps (told : Type 0) (before after : DiskState) (old new : StoreValue) (failed : Type 0) : Type 0 where
   pub head : new.head ≡ old.head
   pub later : before.faults ≤ after.faults
@@ -143,13 +136,13 @@ abbrev pub Acknowledges : Result Reply Stop → Type 0
 Acknowledges (Ok reply) = IsDone reply
 Acknowledges (Err stop) = ⊥
 
--- a reply that no failed device call and no lack of memory makes
+-- a reply other than `disk`, whose status is 503 only for `no memory`
 pub record IsOwn (reply : Reply) : Type 0 where
   pub phrase : HasPhrase reply.status
   pub memory : reply.status ≡ 503 → reply ≡ no_memory
   pub undisk : ¬ (reply ≡ disk_fault)
 
--- such a reply that acknowledges no change
+-- the same of a reply that acknowledges no change
 pub record IsRefusal (reply : Reply) : Type 0 where
   pub own : IsOwn reply
   pub undone : ¬ IsDone reply

@@ -1,4 +1,4 @@
--- What contracts see of a door.
+-- The state of a door, as contracts see it.
 use Rattle.std.specs.Prelude.{◌≡◌, ℕ, ◌+◌, ◌-◌, List, [], ◌∷◌, ◌++◌, Option, Some, None}
 use Rattle.http_face.specs.Conn.{ConnState}
 

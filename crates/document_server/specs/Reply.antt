@@ -141,7 +141,7 @@ done_reply name (Add entry) = record {
 done_reply name (Change entry) = document_reply media.Entry (member_text name entry)
 done_reply name (Remove removal) = line_reply 200 line.Deleted
 
--- What a request becomes
+-- The outcome of a request
 
 -- the reply, and the operation that the history gains, if it gains one
 pub record Outcome : Type 0 where
@@ -265,7 +265,7 @@ IsOfTarget store request now given =
     ⊎ ((address : Address) × IsAddress address × IsTarget store.head.name.base address request.target
     × IsAtAddress store request now address given)
 
--- what a request on a store becomes at a moment of the clock, memory and disk permitting
+-- the outcome of a request on a store at a moment of the clock, if neither memory nor disk fails
 abbrev pub IsOutcome : StoreValue → RequestValue → ℕ → Outcome → Type 0
 IsOutcome store request now given =
     ((request.verb ≡ Other) × (given ≡ unchanged (line_reply 501 line.NotImplemented)))

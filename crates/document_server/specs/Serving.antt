@@ -1,4 +1,4 @@
--- What serving leaves of a store and of its disk, and what the lines tell of it.
+-- The store and its disk after connections were served, and the facts that the lines state of them.
 use Rattle.std.specs.Prelude.{◌≡◌, ℕ, ◌+◌, ◌<◌, ◌≤◌, List, [], ◌∷◌, ◌++◌, length, map, All, Option, Some, true, false}
 use Rattle.std.specs.Prelude.{Result, Ok, Err}
 use Rattle.atom_values.specs.Counts.{counter_limit}
@@ -30,7 +30,7 @@ end_of (Err end) = end
 
 -- The lines
 
--- A line behind this version and this number of device calls. An operation more took at least four calls.
+-- A line after this version and this number of device calls. Each operation more took at least four calls.
 pub record Follows (version calls : ℕ) (line : Line) : Type 0 where
   pub no_fewer : version ≤ line.version
   pub one_more : line.version ≤ version + 1
@@ -41,7 +41,7 @@ abbrev pub AreInOrder : ℕ → ℕ → List Line → Type 0
 AreInOrder version calls [] = Unit {0}
 AreInOrder version calls (line ∷ lines) = Follows version calls line × AreInOrder line.version line.calls lines
 
--- What a crash leaves
+-- Crashes
 
 -- A crash at moment c, where `start` is the moment from which device calls are counted. The areas open to the first
 -- operations of the history. All that a reply acknowledged are among them if the reply was begun before the moment. None
@@ -52,7 +52,7 @@ pub record OpensAt (start c : ℕ) (head : HeadValue) (history : List Op) (least
   pub acknowledged : All (λ (line : Line). start + line.calls < c → line.version ≤ past.version) lines
   pub not_early : All (λ (line : Line). c ≤ start + line.calls → past.version ≤ line.version) unbroken
 
--- a crash behind the session: all operations that were acknowledged are there
+-- a crash after the session: all operations that were acknowledged are there
 pub record OpensBehind (head : HeadValue) (history : List Op) (least : ℕ) (lines : List Line)
     (journal sealed : List ℕ) : Type 0 where
   pub past : OpensPast head history least journal sealed
@@ -131,7 +131,7 @@ pub record ServesFrom (start : ℕ) (before after : DiskState) (moments : ℕ �
       → LeavesServing start before after store.head (length store.history) history lines unbroken failed
   pub session : seen → HasSession start after moments door rest (stored_of store) history unbroken broken failed
 
--- the store has made its device calls since this moment, unless the clock has come to its end
+-- the store has made its device calls since this moment, unless the clock is at the greatest u64
 abbrev pub CountsFrom : ℕ → DiskState → DiskState → StoreValue → Type 0
 CountsFrom start before after store = after.clock < counter_limit → start + call_count store ≡ before.clock
 
@@ -144,7 +144,7 @@ exchange_of given back reply line = record { given = given; back = back; reply =
 abbrev pub GoesOn : (ℕ → ℕ) → (ℕ → ℕ) → ℕ → Type 0
 GoesOn moments coming taken = (k : ℕ) → coming k ≡ moments (taken + k)
 
--- A connection came to this reply, which isn't sent yet. `read` is the connection behind its request.
+-- A connection has this reply, which isn't sent yet. `read` is the connection after its request.
 pub record IsReplyOn (moments coming : ℕ → ℕ) (store : StoreValue) (given read : ConnState) (reply : Option Reply)
     (next : StoreValue) : Type 0 where
   pub turn : Turn
@@ -152,7 +152,7 @@ pub record IsReplyOn (moments coming : ℕ → ℕ) (store : StoreValue) (given 
   pub gains : Gains store next turn.adds
   pub clock : GoesOn moments coming turn.moments
 
--- the disk failed behind the request of a connection, which may have added these operations
+-- the disk failed after the request of a connection, which may have added these operations
 pub record IsFaultOn (store : StoreValue) (now : ℕ) (given : ConnState) (operations : List Op) (reply : Option Reply)
     : Type 0 where
   pub request : RequestValue
@@ -161,7 +161,7 @@ pub record IsFaultOn (store : StoreValue) (now : ℕ) (given : ConnState) (opera
   pub may : MayAdd (IsOutcome store request now) operations
   pub is : reply ≡ Some disk_fault
 
--- The request of a connection was read and answered, or the disk failed behind it. `operations` are those that the
+-- The request of a connection was read and answered, or the disk failed after it. `operations` are those that the
 -- request may have added.
 pub record RepliesOne (before after : DiskState) (moments coming : ℕ → ℕ) (given read : ConnState) (seen : Type 0)
     (old new : StoreValue) (reply : Option Reply) : Type 0 where
@@ -181,7 +181,7 @@ pub record IsServedOn (moments coming : ℕ → ℕ) (store : StoreValue) (excha
   pub served : IsServed store (moments 0) exchange turn next
   pub clock : GoesOn moments coming turn.moments
 
--- A connection was served on a store, or the disk failed behind its request. `operations` are those that its request
+-- A connection was served on a store, or the disk failed after its request. `operations` are those that its request
 -- may have added.
 pub record ServesOne (before after : DiskState) (moments coming : ℕ → ℕ) (given back : ConnState) (seen : Type 0)
     (old new : StoreValue) (line : Line) : Type 0 where

@@ -42,8 +42,8 @@ pub record Exchange : Type 0 where
   pub reply : Option Reply
   pub line : Line
 
--- what a connection makes of the rest: the operation that the history gains, if it gains one, and the number of moments
--- that were taken of the clock
+-- the effect of a connection: the operation that the history gains, if it gains one, and the number of moments that
+-- were taken of the clock
 pub record Turn : Type 0 where
   pub adds : Option Op
   pub moments : ℕ
@@ -75,13 +75,13 @@ pub record IsAnswered (store : StoreValue) (now : ℕ) (exchange : Exchange) (tu
   pub reply : exchange.reply ≡ Some outcome.reply
   pub is : turn ≡ record { adds = outcome.adds; moments = 1 }
 
--- memory ran out, while the request was read or behind it
+-- memory ran out, while the request was read or after it
 pub record IsForgotten (exchange : Exchange) (turn : Turn) : Type 0 where
   pub reply : exchange.reply ≡ Some no_memory
   pub is : (turn ≡ unheard)
       ⊎ ((request : RequestValue) × IsHeard exchange.given.left request × (turn ≡ record { adds = None; moments = 1 }))
 
--- what a connection comes to
+-- the case of a connection
 abbrev pub IsTurn : StoreValue → ℕ → Exchange → Turn → Type 0
 IsTurn store now exchange turn =
     IsLost exchange turn ⊎ IsRefused exchange turn ⊎ IsAnswered store now exchange turn ⊎ IsForgotten exchange turn
@@ -94,8 +94,8 @@ abbrev pub bytes_of : Option Reply → List ℕ
 bytes_of None = []
 bytes_of (Some reply) = reply_bytes reply
 
--- The line has the status of the reply. The bytes of the reply were sent, or a front of them if a call of the connection
--- failed.
+-- The line has the status of the reply. The bytes of the reply were sent, or a prefix of them if a call of the
+-- connection failed.
 pub record IsSent (exchange : Exchange) : Type 0 where
   pub status : exchange.line.status ≡ status_of exchange.reply
   pub front : List ℕ
@@ -116,14 +116,14 @@ pub record IsServed (store : StoreValue) (now : ℕ) (exchange : Exchange) (turn
   pub version : exchange.line.version ≡ length next.history
 
 -- Connections are served one after the other from a store on, each at the next moment of the clock if its request was
--- read. Behind them the last store and the coming moments satisfy `ends`.
+-- read. After them the last store and the coming moments satisfy `ends`.
 abbrev pub IsSession : (StoreValue → (ℕ → ℕ) → Type 0) → StoreValue → (ℕ → ℕ) → List Exchange → Type 0
 IsSession ends store moments [] = ends store moments
 IsSession ends store moments (exchange ∷ later) =
     (turn : Turn) × (next : StoreValue) × IsServed store (moments 0) exchange turn next
     × IsSession ends next (λ k. moments (turn.moments + k)) later
 
--- The disk failed behind the request of a connection, which ends the session. The history has the operations of the
+-- The disk failed after the request of a connection, which ends the session. The history has the operations of the
 -- store, and the one that the request may have added.
 pub record IsBrokenOff (store : StoreValue) (now : ℕ) (exchange : Exchange) (history : List Op) : Type 0 where
   pub sized : IsSized store

@@ -18,7 +18,7 @@ use http_face::{Line7, Reply, Request};
 use member_rules::{Ask, State, windows_seal_in_turn};
 use std::alloc::Global;
 
-/// What a part of a request is: a value, or the reply that refuses it.
+/// A value that a part of a request has, or the reply that refuses that part.
 type Read<T> = Result<T, Reply>;
 
 /// The draft in the body of a request, or the reply that refuses the body.
@@ -177,7 +177,7 @@ fn commit<D: Disk>(
     ensures grows { Acknowledges result → Grows (D.state disk.old) (D.state disk.new) store.old store.new }
     ensures same { ¬ Acknowledges result → store.new.history ≡ store.old.history }
 {
-    // A law, which does nothing.
+    // Its contract is a law that the proof uses.
     windows_seal_in_turn();
     let reply = made_change(alloc, &store.head().name, ready.op())?;
     store.commit(disk, ready)?;

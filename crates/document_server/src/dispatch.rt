@@ -68,12 +68,12 @@ pub fn answer<D: Disk>(
     ensures mirror { LeavesAlone (D.state disk.old) (D.state disk.new) Mirror }
 
     ensures calls { MakesSome (D.state disk.old) (D.state disk.new) (call_count store.old) (call_count store.new) }
-    // The history grows where the reply acknowledges a change, and only there.
+    // The history grows exactly if the reply acknowledges a change.
     ensures grows { request.now.verb ≢ Get → IsDone result
         → Grows (D.state disk.old) (D.state disk.new) store.old store.new }
     ensures same { (request.now.verb ≡ Get) ⊎ (¬ IsDone result) → store.new.history ≡ store.old.history }
 {
-    // A law, which does nothing.
+    // Its contract is a law that the proof uses.
     begun_images_are_whole();
     match reply_of(alloc, store, disk, request, now) {
         Ok(reply) => reply,

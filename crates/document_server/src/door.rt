@@ -5,7 +5,7 @@ ghost use Rattle.document_server.specs.Door.{DoorState, SameLinks, Gives, with_b
 use atom_values::Failed;
 use http_face::Conn;
 
-/// Where clients come in: it gives their connections one after the other, and takes each back when it was served.
+/// Accepts clients: gives their connections one after the other, and takes each back after it was served.
 ///
 /// A failed call is counted as a fault.
 pub trait Door {

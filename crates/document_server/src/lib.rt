@@ -10,7 +10,7 @@
 //! ```
 //!
 //! The reply and the store are those of `specs/Reply.antt`, unless memory ran out or the disk failed. A reply that
-//! acknowledges a change is returned behind the commit of the change, so no crash loses it.
+//! acknowledges a change is returned after the commit of the change, so no crash loses it.
 //!
 //! Stands on `feed_recovery` for the store, on `http_face` for requests and replies, and on `entry_reader` for the
 //! entries that clients write.

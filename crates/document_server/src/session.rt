@@ -56,7 +56,7 @@ pub struct ServeEnd {
 /// after the other.
 ///
 /// Each request is answered by [`answer`] at one moment of the clock. A connection that fails ends alone. The session
-/// ends early if a device call fails, behind the reply 500 to its request, or if a call on the door fails. Takes the
+/// ends early if a device call fails, after the reply 500 to its request, or if a call on the door fails. Takes the
 /// memory for all lines before it opens the door.
 pub fn serve<D: Disk, C: Clock, L: Door>(
     alloc: Global,
@@ -145,7 +145,7 @@ fn serve_into<D: Disk, C: Clock, L: Door>(
     ensures no_hidden_door_fault { result ≢ Err End.DoorFault
         → (L.state door.new).faults ≡ (L.state door.old).faults }
 {
-    // Laws, which do nothing.
+    // Their contracts are laws that the proof uses.
     stores_open_in_one_way();
     begun_images_are_whole();
     let mut store = Store::load(alloc, disk)?;
@@ -189,7 +189,7 @@ fn serve_links<D: Disk, C: Clock, L: Door>(
     ensures no_hidden_door_fault { result ≢ Err End.DoorFault
         → (L.state door.new).faults ≡ (L.state door.old).faults }
 {
-    // Laws, which do nothing.
+    // Their contracts are laws that the proof uses.
     shown_are_served();
     served_stays_served();
     prefixes_are_lawful();
@@ -197,13 +197,14 @@ fn serve_links<D: Disk, C: Clock, L: Door>(
         let Some(mut link) = door.next()? else {
             return Ok(());
         };
-        // Says the rules of the logs, so that the history has room for one more operation.
+        // The result isn't used. The contract of `calls` states the rules of the logs, which bound the history. The
+        // proof needs them here: the history has room for one more operation.
         let _ = store.calls();
         let line = serve_link(alloc, store, disk, clock, &mut link);
         door.back(link);
         match lines.push(line) {
             Ok(()) => {}
-            // There is room for a line of each connection.
+            // `serve` reserved room for `requests` lines, so the push doesn't fail.
             Err(_) => unreachable!(),
         }
         if store.is_spent() {
@@ -233,7 +234,7 @@ fn serve_link<D: Disk, C: Clock, K: Conn>(
     ensures makes { MakesSome (D.state disk.old) (D.state disk.new) (call_count store.old) (call_count store.new) }
     ensures grows { (store.new.history ≡ store.old.history)
         ⊎ Grows (D.state disk.old) (D.state disk.new) store.old store.new }
-    // The mark of the reply.
+    // The connection keeps the disk's clock as the mark of the reply, if one was begun.
     ensures begun { result.status ≢ 0 → (K.state link.new).begun ≡ Some (D.state disk.new).clock }
     ensures unbegun { result.status ≡ 0 → (K.state link.new).begun ≡ None }
 
@@ -245,7 +246,7 @@ fn serve_link<D: Disk, C: Clock, K: Conn>(
     ensures failed { is_spent store.new ≡ true → Rose (D.state disk.old).faults (D.state disk.new).faults }
     ensures unfailed { is_spent store.new ≡ false → (D.state disk.new).faults ≡ (D.state disk.old).faults }
 {
-    // A law, which does nothing.
+    // Its contract is a law that the proof uses.
     begun_images_are_whole();
     let Some(reply) = reply_to(alloc, store, disk, clock, link) else {
         return line_of(store, 0, false);
@@ -278,9 +279,10 @@ fn reply_to<D: Disk, C: Clock, K: Conn>(
     ensures lost { result ≡ None → Rose (K.state link.old).faults (K.state link.new).faults }
     ensures unfailed { IsSome result → (K.state link.new).faults ≡ (K.state link.old).faults }
 {
-    // A law, which does nothing.
+    // Its contract is a law that the proof uses.
     begun_images_are_whole();
-    // Says the rules of the logs, so that their sizes are those of their payloads.
+    // The result isn't used. The contract of `calls` states that the sizes of the logs are those of their payloads,
+    // and the proof needs that here.
     let _ = store.calls();
     match read_request(alloc, link) {
         Ok(request) => Some(answer(alloc, store, disk, &request, clock.now())),

@@ -1,7 +1,7 @@
 use atom_values::NoMemory;
 use feed_journal::DiskFault;
 
-/// Why a request gets no reply by its own contents.
+/// Why a request isn't answered by its content: the disk or the memory failed.
 #[derive(Clone, Copy, Debug, PartialEq, Eq)]
 pub(crate) enum Stop {
     /// A device call failed. The store is spent.

@@ -1,4 +1,4 @@
--- What a command answers of a store that was loaded, or wasn't.
+-- The answer of a command on a store that was loaded, and on a disk without a store.
 use Rattle.std.proofs.Common.{◌≡◌, ◌⊎◌, inl, inr, ℕ, ◌≤◌, ◌&&◌, true, false, nat_le, List, refl, sym, ◌∙◌, ap, subst, rules, tests}
 use Rattle.std.specs.Prelude.{Option, Some, None}
 use Rattle.std.proofs.lemmas.Bool.{cases_lt}
@@ -159,7 +159,7 @@ module _ (moments : ℕ → ℕ) (input : List ℕ) (opened made : Stored) where
   unfolding apply_answer
   apply-refused fault e = ap (λ (a : Applied Stored). answer_by a.feed.head a.feed.history a.fault) (sym e)
 
-  -- what the content opens to then
+  -- the store that the content then opens to
   pub opens-applied : (content after : Area → List ℕ) (fault : Option Fault) → OpensInOneWay → OpensTo content opened
       → applied_store moments opened input ≡ record { feed = made; fault = fault } → OpensTo after made
       → (stored : Stored) → OpensTo content stored → OpensTo after (applied_store moments stored input).feed

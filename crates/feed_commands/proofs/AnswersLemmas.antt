@@ -164,7 +164,7 @@ module _ (capacity : ℕ) (base : List ℕ) where
   answers-plain kept (offer ∷ offers) (answer ∷ answers) left (fits, (next, one, more)) =
       (next, answer-plain kept offer.address offer.bytes answer next fits one, answers-plain next offers answers left more)
 
--- the capacity in a refusal for want of room is the mirror's
+-- the capacity in the refusal `Full` is the mirror's
 
 full-test : (test : Bool) (size needed most capacity other more : ℕ)
     → (let full : MirrorAnswer = Err (refusals.Full size needed most) in

@@ -95,7 +95,7 @@ text-refused before after text part within (certificates.BadCertificate line) ba
     part-bad before after text part within line (bad line refl)
 text-refused before after text part within certificates.NoMemory bad refusal = absurd refusal
 
--- the pile behind it
+-- the pile after it
 
 module _ (input : List ℕ) (c : CertificateValue) (pile : List ℕ) (room : ℕ) (begins : BeginsCertified input c pile)
     (same : room ≡ pile_room c) where

@@ -1,4 +1,4 @@
--- `audit`: how the program ends behind its answer.
+-- `audit`: how the program ends after its answer.
 use Rattle.std.proofs.Common.{◌≡◌, ◌≢◌, ◌⊎◌, inl, inr, ⊎_elim, ℕ, List, ◌++◌, refl, ap, subst, ◌∙◌, arith}
 use Rattle.doc_source.specs.Outside.{SinkState}
 use Rattle.tool_words.specs.declared.command.Command.TheVariants.{Audit}

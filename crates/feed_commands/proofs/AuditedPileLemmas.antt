@@ -17,7 +17,7 @@ use Rattle.feed_commands.specs.AuditedPile.{HasOneMore, RefusesPile, StopsAmidPi
 use Rattle.feed_commands.specs.Fault.{IsRefusal}
 use Rattle.feed_commands.specs.Mirror.{ReadsToWithin, pile_fault}
 
--- a reader amid the offers of a pile; `told` is whether contracts can see the pile
+-- a reader between two offers of a pile; `told` is whether contracts can see the pile
 pub record IsReading (told : Type 0) (limit : ℕ) (first now : SourceState) (reader : PileState) (offers : List Offer)
     : Type 0 where
   pub fresh : reader.refusal ≡ None

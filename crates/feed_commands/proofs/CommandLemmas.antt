@@ -1,4 +1,4 @@
--- The answer of a command, by what is said of its own function.
+-- The answer of a command, from the contract of its own function.
 use Rattle.std.proofs.Common.{ℕ}
 use Rattle.atom_writer.specs.declared.doc.FeedName.{FeedName}
 use Rattle.tool_words.specs.declared.command.Command.TheVariants.{Init, Show}

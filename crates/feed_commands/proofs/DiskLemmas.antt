@@ -1,4 +1,4 @@
--- What a command that is not done, or that failed, leaves of a store.
+-- The store after a command that isn't done, or that failed.
 use Rattle.std.proofs.Common.{ℕ, List, inl, inr, ⊎_elim, refl}
 use Rattle.feed_disk.specs.Disk.{DiskState, IsDisk}
 use Rattle.feed_recovery.specs.Settled.{IsUnused}
@@ -26,7 +26,7 @@ makes-none s name window capacity told moment done is never = record {
   };
 }
 
--- what is said where all is done holds where it is less often said to be done
+-- a statement on the ends at which all is done holds if there are fewer of them
 pub makes-weaker : (before after : DiskState) (name : FeedName) (window capacity : ℕ) (told : Type 0) (moment : ℕ)
     (done less : Type 0) → (less → done) → MakesStoreAt before after name window capacity told moment done →
     MakesStoreAt before after name window capacity told moment less
@@ -40,7 +40,7 @@ makes-weaker before after name window capacity told moment done less h m = recor
   };
 }
 
--- and likewise where a failed call is said of more ends
+-- the same, if there are more ends with a failed call
 pub applies-weaker : (before after : DiskState) (moments : ℕ → ℕ) (input : List ℕ) (told failed more : Type 0) →
     (failed → more) → AppliesSafely before after moments input told failed →
     AppliesSafely before after moments input told more

@@ -1,12 +1,14 @@
 -- How `drill` ends.
-use Rattle.std.proofs.Common.{◌≡◌, ◌≢◌, ◌⊎◌, inl, inr, ⊎_elim, ℕ, List, ◌++◌, refl, ◌∙◌, ap, subst, arith}
+use Rattle.std.proofs.Common.{◌≡◌, ◌≢◌, ◌⊎◌, inl, inr, ⊎_elim, ℕ, List, ◌++◌, Option, Some, None, refl, ◌∙◌, ap, subst}
+use Rattle.std.proofs.Common.{arith}
 use Rattle.doc_source.specs.Outside.{SinkState}
 use Rattle.feed_commands.specs.Answer.{Prints}
-use Rattle.feed_commands.specs.Drill.{drill_answer, drill_head, drill_text}
+use Rattle.feed_commands.specs.Drill.{EndsDrilling, drill_answer, drill_head, drill_text}
 use Rattle.feed_commands.specs.Outside.{Outside}
-use Rattle.feed_commands.specs.Run.{EndsWith, IsDone}
-use Rattle.feed_drill.specs.Drilled.{operations}
+use Rattle.feed_commands.specs.Run.{EndsWith, IsAlone, IsDone}
+use Rattle.feed_drill.specs.Drilled.{IsDrilled, operations}
 use Rattle.feed_drill.specs.Summary.{SummaryValue, summary_of, summary_text}
+use Rattle.feed_life.specs.Life.{LifeValue}
 use Rattle.member_rules.specs.Head.{HeadValue}
 use Rattle.tool_words.specs.declared.command.Command.TheVariants.{Drill}
 
@@ -35,3 +37,29 @@ drill-ends seed count outside told before after ended text is ends prints whole 
   whole = λ sink done. subst (λ (t : List ℕ). after.taken ≡ before.taken ++ t) is
       (whole (not-failed ended done) sink);
 }
+
+-- the life is returned, or the output failed
+pub ends-drilling : (seed count : ℕ) (life : LifeValue) (given : Option LifeValue) (ended : ℕ)
+    → IsDrilled drill_head seed count life → ((ended ≡ 0) × (given ≡ Some life)) ⊎ ((ended ≡ 8) × (given ≡ None))
+    → EndsDrilling seed count given ended
+ends-drilling seed count life given ended drilled (inl (done, is)) = record {
+  done = λ same. record { given = life; life_is = is; drilled = drilled };
+  undone = λ other. absurd (other done);
+}
+ends-drilling seed count life given ended drilled (inr (failed, none)) = record {
+  done = λ same. let is : ended ≡ 0 = same in absurd (omega (arith, is, failed));
+  undone = λ other. none;
+}
+
+-- neither end is one whose line stands alone
+pub not-alone : (ended : ℕ) → (ended ≡ 0) ⊎ (ended ≡ 8) → IsAlone ended → ⊥
+not-alone ended ends (inl alone) = let is : ended ≡ 2 = alone in
+    ⊎_elim (λ e. absurd (omega (arith, e, is))) (λ e. absurd (omega (arith, e, is))) ends
+not-alone ended ends (inr (inl alone)) = let is : ended ≡ 4 = alone in
+    ⊎_elim (λ e. absurd (omega (arith, e, is))) (λ e. absurd (omega (arith, e, is))) ends
+not-alone ended ends (inr (inr (inl alone))) = let is : ended ≡ 5 = alone in
+    ⊎_elim (λ e. absurd (omega (arith, e, is))) (λ e. absurd (omega (arith, e, is))) ends
+not-alone ended ends (inr (inr (inr (inl alone)))) = let is : ended ≡ 7 = alone in
+    ⊎_elim (λ e. absurd (omega (arith, e, is))) (λ e. absurd (omega (arith, e, is))) ends
+not-alone ended ends (inr (inr (inr (inr alone)))) = let is : ended ≡ 9 = alone in
+    ⊎_elim (λ e. absurd (omega (arith, e, is))) (λ e. absurd (omega (arith, e, is))) ends

@@ -22,7 +22,7 @@ use Rattle.feed_commands.specs.Fault.{fault_answer, refusal_answer, IsRefusal}
 use Rattle.feed_commands.specs.Run.{IsAnswered, IsDone}
 use Rattle.feed_commands.specs.Status.{code_of}
 
--- a status behind an answer is one of seven
+-- a status after an answer is one of seven
 answered_at : (P : ℕ → Type 0) → P 0 → P 3 → P 6 → P 8 → P 10 → P 11 → P 12 → (n : ℕ) → IsAnswered n → P n
 answered_at P p0 p3 p6 p8 p10 p11 p12 n (inl (inl e)) = rw e p0
 answered_at P p0 p3 p6 p8 p10 p11 p12 n (inl (inr (inl e))) = rw e p3
@@ -32,7 +32,7 @@ answered_at P p0 p3 p6 p8 p10 p11 p12 n (inl (inr (inr (inr (inr (inl e)))))) = 
 answered_at P p0 p3 p6 p8 p10 p11 p12 n (inl (inr (inr (inr (inr (inr e)))))) = rw e p12
 answered_at P p0 p3 p6 p8 p10 p11 p12 n (inr e) = rw e p8
 
--- a status of these is not behind an answer
+-- none of these statuses comes after an answer
 no_four : IsAnswered 4 → ⊥
 no_four h = answered_at (λ n. n ≡ 4 → ⊥) (λ e. omega (arith, e)) (λ e. omega (arith, e)) (λ e. omega (arith, e))
     (λ e. omega (arith, e)) (λ e. omega (arith, e)) (λ e. omega (arith, e)) (λ e. omega (arith, e)) 4 h refl
@@ -45,7 +45,7 @@ no_nine : IsAnswered 9 → ⊥
 no_nine h = answered_at (λ n. n ≡ 9 → ⊥) (λ e. omega (arith, e)) (λ e. omega (arith, e)) (λ e. omega (arith, e))
     (λ e. omega (arith, e)) (λ e. omega (arith, e)) (λ e. omega (arith, e)) (λ e. omega (arith, e)) 9 h refl
 
--- behind an answer the fault is a refusal
+-- after an answer the fault is a refusal
 pub answered-refusal : (fault : Fault) → IsAnswered (code_of (fault_answer fault).status) → IsRefusal fault
 answered-refusal NoMemory h = absurd (no_five h)
 answered-refusal Input h = absurd (no_nine h)

@@ -1,4 +1,4 @@
--- `mirror` from a pile: a mirror amid the offers, with the disk that it takes them on.
+-- `mirror` from a pile: a mirror between two offers, with the disk on which it takes them.
 use Rattle.std.proofs.Common.{◌≡◌, ◌≢◌, ℕ, ◌+◌, ◌≤◌, List, [], ◌∷◌, ◌++◌, Bool, Some, None}
 use Rattle.std.proofs.Common.{Result, Ok, Err}
 use Rattle.std.proofs.Common.{IsOk, length, refl, sym, subst, ◌∙◌, arith}

@@ -1,4 +1,4 @@
--- What `init` answers.
+-- The answers of `init`.
 use Rattle.std.proofs.Common.{◌≡◌, inl, ℕ, List, ℤ, pos, min, refl, subst}
 use Rattle.atom_writer.specs.declared.doc.FeedName.{FeedName}
 use Rattle.feed_disk.specs.Disk.{DiskState}

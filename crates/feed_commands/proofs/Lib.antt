@@ -1,100 +1,100 @@
--- `commands_have_one_answer`
+-- serves `commands_have_one_answer`
 pub mod AnswerLemmas
--- the commands on a store: what they answer
+-- serves `run`, `answered` and `complete`: the commands on a store
 pub mod AnswerOnLemmas
--- `dispatch::answer`, the answer of each command
+-- serves `run`, `answered`: the answer of each command, from the contract of its function
 pub mod CommandLemmas
--- `run` and `dispatch::answer`, the clauses on the disk
+-- serves `run`, `made` and `applied`: a command that makes no store, or that failed
 pub mod DiskLemmas
--- `run`
+-- serves `run`, `statuses` and `answered`: the exit statuses of faults
 pub mod EndLemmas
--- `commands_have_one_answer`: offers one after another have one list of answers
+-- serves `commands_have_one_answer`: offers one after another have one list of answers
 pub mod AnswersLemmas
--- `mirror`: the live entries in order of number
+-- serves `run`, `answered` and `mirrors`: the live entries in order of number
 pub mod EntriesLemmas
--- `history_of`, clauses `refused` and `unrefused`
+-- serves `run`, `answered` and `first_fault`: the faults that end the lines of `apply`
 pub mod FaultLemmas
--- `mirror`: the certificate of a complete mirror
+-- serves `run`, `answered` and `mirrors`: the certificate of a complete mirror
 pub mod CertifiedLemmas
--- `mirror`: a mirror amid the offers of a pile
+-- serves `run`, `answered` and `mirrors`: a mirror between two offers of a pile
 pub mod GivingLemmas
--- `history_of`, clauses `history` and `lawful`
+-- serves `run`, `answered`: the history that the lines of `apply W` make
 pub mod HistoryLemmas
--- `init`
+-- serves `run`, `answered` and `made`: `init`
 pub mod InitLemmas
--- `line_ask`, the lines of an input, and the prefix of a line that decides what it asks
+-- serves `run`, `answered`: the lines of an input, and the prefix of a line that decides what it asks
 pub mod LineLemmas
--- `Lines::next`
+-- serves `run`, `answered` and `first_fault`: `Lines::next`
 pub mod LinesLemmas
--- `mirror`: the lines of the live entries
+-- serves `run`, `answered`: the lines of the live entries
 pub mod ListingLemmas
--- `mirror`: what is left of the disk
+-- serves `run`, `safe`, `mirrors` and `fetches`: the disk after a mirror was loaded
 pub mod LoadedLemmas
--- the commands on a store: what a crash leaves
+-- serves `run`, `applied`: a crash within the lines of `apply`
 pub mod MomentsLemmas
--- `mirror`: the offers of a pile, one after another
+-- serves `run`, `answered`: the offers of a pile, one after another
 pub mod OffersLemmas
--- `commands_have_one_answer`: a walk of `mirror --fetch` has one answer
+-- serves `commands_have_one_answer`: a walk of `mirror --fetch` has one answer
 pub mod OneFetchedLemmas
--- `commands_have_one_answer`: an input of `mirror` has one answer
+-- serves `commands_have_one_answer`: an input of `mirror` has one answer
 pub mod OneMirroredLemmas
--- `commands_have_one_answer`: bytes are refused at one place
+-- serves `commands_have_one_answer`: bytes are refused at one place
 pub mod PlaceLemmas
--- `show pile`: how the program ends
+-- serves `run`, `cut` and `complete`: how `show pile` ends
 pub mod PileEndLemmas
--- `show pile`: the documents that the output took
+-- serves `run`, `answered` and `cut`: the documents that the output took
 pub mod PileLemmas
--- `run`
+-- serves `run`, `answered` and `alone`: the part of a text that the output took
 pub mod PrintLemmas
--- the loops over the lines of an input
+-- serves `run`, `answered`: the loops over the lines of an input
 pub mod ProgressLemmas
--- `apply` on a store: what a line makes
+-- serves `run`, `answered` and `applied`: a store after a line of `apply`
 pub mod RoomLemmas
--- `run`
+-- serves `run`, `statuses`, `usage` and `answered`: the words that were read, and how the command ended
 pub mod RunLemmas
--- `serve`: what is printed, and how the program ends
+-- serves `run`, `serves` and `serves_whole`
 pub mod ServeLemmas
--- `mirror`, clause `mirrors`: what is held of documents that one feed served
+-- serves `run`, `mirrors`: the documents held, if one feed served them
 pub mod HeldLemmas
--- `mirror`, clause `mirrors`: what is printed of documents that one feed served
+-- serves `run`, `mirrors`: the output over documents that one feed served
 pub mod ServedReportLemmas
--- `show`, clause `shown`
+-- serves `run`, `answered`: the input of `show`, a buffer at a time
 pub mod ShowLemmas
--- the loops over the lines of an input
+-- serves `run`, `answered`: a history and a store after a line of `apply`
 pub mod StepLemmas
--- the commands on a store
+-- serves `run`, `answered` and `applied`: a loaded store and the content of its disk
 pub mod StoreLemmas
--- `summary`
+-- serves `run`, `answered`: the bytes of lines, which are added one after another
 pub mod SummaryLemmas
--- `mirror`: what a crash leaves
+-- serves `run`, `mirrors` and `fetches`: the images that a crash leaves while documents are taken
 pub mod TakingLemmas
--- `mirror --fetch`: documents that one feed served
+-- serves `run`, `fetches`: the output over documents that one feed served
 pub mod WalkedReportLemmas
--- `mirror --fetch`: how a walk ended
+-- serves `run`, `answered` and `fetches`: how a walk ended
 pub mod WalkEndLemmas
--- `mirror`: the exit statuses of its faults
+-- serves `run`, `statuses` and `answered`: the exit statuses of the faults of `mirror`
 pub mod ReportFaultLemmas
--- `mirror`: how it ends
+-- serves `run`, `answered`, `complete`, `mirrors` and `fetches`: how `mirror` ends
 pub mod MirrorEndLemmas
--- `mirror`: the answers that end a report
+-- serves `run`, `answered`: the answers to offers that end a report
 pub mod RoomFaultLemmas
--- `mirror` and `mirror --fetch`
+-- serves `run`, `mirrors` and `fetches`: the capacity and the base with which a mirror was loaded
 pub mod MovedLemmas
--- `audit`: how it ends, and what its status says
+-- serves `run`, `answered` and `audits`: how `audit` ends, and what its status says
 pub mod AuditEndLemmas
--- `audit`: how the program ends
+-- serves `run`, `answered` and `complete`: the exit status and the output of `audit`
 pub mod AuditRunLemmas
--- `audit`: the offers of the pile
+-- serves `run`, `answered`: the offers of the pile of `audit`
 pub mod AuditedPileLemmas
--- `audit`: the text of a certificate has one line `end`
+-- serves `commands_have_one_answer`: the text of a certificate has one line `end`
 pub mod CertificateEndLemmas
--- `commands_have_one_answer`: an input of `audit` has one answer
+-- serves `commands_have_one_answer`: an input of `audit` has one answer
 pub mod OneAuditedLemmas
--- `commands_have_one_answer`: a pile is read in one way
+-- serves `commands_have_one_answer`: a pile is read in one way
 pub mod OnePileLemmas
--- `audit`: the part of the input before the pile
+-- serves `run`, `answered`: the part of the input of `audit` before the pile
 pub mod PartLemmas
--- `audit`: the line of a verdict, and what its status says
+-- serves `run`, `audits`: the line of a verdict, and what its status says
 pub mod VerdictSoundLemmas
--- `drill`: `answered`
+-- serves `run`, `answered` and `drills`: how `drill` ends
 pub mod DrillEndLemmas

@@ -29,7 +29,7 @@ later_bytes b line h = All-tail (λ x. x ≢ 10) b line h
 pub lines-nil : lines [] ≡ []
 lines-nil = refl
 
--- a line that ends with LF, in front of others
+-- a line that ends with LF, before others
 pub lines-ended : (line rest : List ℕ) → HasNoLf line → lines (line ++ 10 ∷ rest) ≡ line ∷ lines rest
 lines-ended [] rest h = refl
 lines-ended (b ∷ line) rest h = goes_on b _ _ (first_byte b line h)

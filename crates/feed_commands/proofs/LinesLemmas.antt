@@ -45,7 +45,7 @@ TakesEnd-met piece start end at line after allowed ended f prefix =
       line = prefix;
     }
 
--- the front of a line that goes on
+-- the beginning of a line that goes on
 pub take_over : (k : ℕ) (line part : List ℕ) →
     take k line ++ take (k - length (take k line)) part ≡ take k (line ++ part)
 take_over zero line part = refl
@@ -58,7 +58,7 @@ pub prefix-more : (front line part : List ℕ) → front ≡ take prefix_limit l
     with_prefix front part ≡ take prefix_limit (line ++ part)
 prefix-more front line part e = rw e (take_over prefix_limit line part)
 
--- so much of a line was read, and it did not end
+-- this part of a line was read, and the line did not end
 pub record GoesOn (T : Type 0) (before : LinesState) (input : SourceState) (now : LinesState)
     (rest : SourceState) : Type 0 where
   pub so_far : List ℕ

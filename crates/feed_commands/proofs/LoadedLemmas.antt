@@ -1,4 +1,4 @@
--- `mirror`: what is left of the disk by a mirror that was loaded and took documents, and by one that wasn't loaded.
+-- `mirror`: the disk after a mirror was loaded and took documents, and after one that wasn't loaded.
 use Rattle.std.proofs.Common.{◌≢◌, ◌⊎◌, inl, inr, ℕ, List, Option, refl}
 use Rattle.feed_disk.specs.Disk.{DiskState, IsDisk}
 use Rattle.feed_disk.specs.Moments.{AlwaysLeaves, LeavesAlone, NowOnly}
@@ -45,7 +45,7 @@ load-never_later (loads.BadRecord index at) later = later
 load-never_later loads.DiskFault later = later
 load-never_later loads.NoMemory later = later
 
--- images of a load and of the steps behind it
+-- images of a load and of the steps after it
 steps-join : (before mid after : DiskState) (IsStep : List ℕ → Type 0)
     → AlwaysLeaves before mid MirrorArea (StandsFor (before.image_now MirrorArea))
     → AlwaysLeaves mid after MirrorArea IsStep → LeavesSteps before after IsStep
@@ -97,7 +97,7 @@ module _ {told : Type 0} (before mid after : DiskState) (disk : IsDisk told befo
     now = λ none. walk.now none at-rest;
   }
 
--- what is said of fewer failures and reports
+-- a statement on some failures and reports holds of fewer of them
 pub mirrored-weaker : (capacity : ℕ) (base input : List ℕ) (before after : DiskState) (failed more all less : Type 0)
     → (failed → more) → (less → all) → LeavesMirrored capacity base input before after failed all
     → LeavesMirrored capacity base input before after more less

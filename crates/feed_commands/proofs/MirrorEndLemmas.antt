@@ -51,7 +51,7 @@ use Rattle.feed_commands.proofs.ServedReportLemmas.{served-report}
 use Rattle.feed_commands.proofs.WalkEndLemmas.{refusal-over}
 use Rattle.feed_commands.proofs.WalkedReportLemmas.{walked-report}
 
--- the exit statuses behind a report
+-- the exit statuses after a report
 
 pub outcome-done : (outcome : Outcome) → IsDone (code_of (status_of outcome))
 outcome-done (Missing address) = inr refl
@@ -74,7 +74,7 @@ printed-fetched status ended (inl done) (inl is) = inl (is ∙ done)
 printed-fetched status ended (inr done) (inl is) = inr (inl (is ∙ done))
 printed-fetched status ended done (inr is) = inr (inr (inr (inr (inr (inr (inl is))))))
 
--- such a status is none of a fault
+-- none of these statuses is that of a fault
 pub printed-never : (n : ℕ) (status : Status) (ended : ℕ) → (n ≡ 0 → ⊥) → (n ≡ 3 → ⊥) → (n ≡ 8 → ⊥)
     → IsDone (code_of status) → (ended ≡ code_of status) ⊎ (ended ≡ code_of ends.OutputFault) → ended ≡ n → ⊥
 printed-never n status ended zero three eight (inl done) (inl is) same = zero (sym same ∙ is ∙ done)
@@ -252,7 +252,7 @@ walk-served report capacity base before answers answer head history kept told ou
       };
     }
 
--- what a crash leaves, by the exit status
+-- the images that a crash leaves, by the exit status
 
 module _ (before after : DiskState) (ended : ℕ) where
   pub pile-left : (capacity : ℕ) (base input : List ℕ) (result : Result Printed ReportFault)

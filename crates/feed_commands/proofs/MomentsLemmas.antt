@@ -1,4 +1,4 @@
--- What a run of device calls leaves of the two areas of a store.
+-- The images of the two areas of a store after a run of device calls.
 use Rattle.std.proofs.Common.{◌≡◌, inl, inr, refl, ℕ, ◌-◌, ◌^◌, ◌<◌, List, [], ◌∷◌, ◌++◌, length, subst, arith}
 use Rattle.feed_disk.specs.Disk.{DiskState, IsDisk}
 use Rattle.feed_disk.specs.declared.area.Area.TheVariants.{Journal, Sealed}
@@ -42,7 +42,7 @@ module _ (s t : DiskState) (moments : ℕ → ℕ) (input : List ℕ) (seen fail
     whole = λ worked. absurd (worked fails);
   }
 
--- A store that is loaded, and what its disk leaves
+-- A store that is loaded, and the images that a crash leaves of its disk
 
 -- the load, and then the lines
 loaded-leaves : (s m t : DiskState) (moments : ℕ → ℕ) (input : List ℕ) (seen : Type 0) (head : HeadValue)

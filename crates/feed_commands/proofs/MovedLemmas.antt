@@ -1,4 +1,4 @@
--- What holds at a mirror's capacity and base holds at those that it was loaded with.
+-- A statement on a mirror's capacity and base holds of those with which it was loaded.
 use Rattle.std.proofs.Common.{◌≡◌, ℕ, List, subst}
 
 pub moved : (P : ℕ → List ℕ → Type 0) (capacity given : ℕ) (base other : List ℕ) → capacity ≡ given → base ≡ other

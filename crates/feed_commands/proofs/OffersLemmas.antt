@@ -106,7 +106,7 @@ total-counted counts (Ok Known) = omega arith
 total-counted counts (Ok Stale) = omega arith
 total-counted counts (Err refusal) = omega arith
 
--- a mirror amid the offers of a pile; `told` is whether contracts can see the pile
+-- a mirror between two offers of a pile; `told` is whether contracts can see the pile
 pub record IsAmid (told : Type 0) (detailed : Bool) (capacity : ℕ) (base : List ℕ) (start : List KeptValue)
     (pile : List ℕ)
     (offers : List Offer) (reader : PileState) (source : SourceState) (kept : List KeptValue) (report : Report)

@@ -87,7 +87,7 @@ bad-long input one other p q = elim p.bad [
 
 -- the pile
 
--- the answer behind a pile that was read as far as it can be
+-- the answer after a pile that was read as far as it can be
 abbrev IsGivenBy : CertificateValue → List Offer → Result (Option Offer) PileFault → Answer → Type 0
 IsGivenBy c offers (Ok None) given =
     (verdict : Verdict) × IsVerdict c offers verdict × (given ≡ verdict_answer c.base verdict)

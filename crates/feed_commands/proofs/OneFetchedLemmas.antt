@@ -130,7 +130,7 @@ module _ (setting : WalkSetting) where
         ]
       ]
 
-  -- a walk that ends at an address doesn't go on behind it
+  -- a walk that ends at an address doesn't go on after it
   ends-not_on : (kept : List KeptValue) (address : Address) (ending : WalkEnding) (answer : Accepted)
       (after : List KeptValue) → IsSure ending → EndsAt setting kept address ending
       → IsAnswered setting kept address (Ok answer) after → ⊥

@@ -52,7 +52,7 @@ both-read (o ∷ one) (v ∷ other) a b p q e =
     (sym (append_assoc pile_head (flat_map offer_text (o ∷ one)) a) ∙ e
     ∙ append_assoc pile_head (flat_map offer_text (v ∷ other)) b))
 
--- what is read with one more offer and others behind it
+-- the offers that are read, with one more and others after it
 read-more : (first rest : List Offer) (offer : Offer) (used : ℕ) → used ≡ length (read_text first)
     → read_text (first ++ offer ∷ rest)
     ≡ read_text first ++ ((head_at used ++ offer_text offer) ++ flat_map offer_text rest)

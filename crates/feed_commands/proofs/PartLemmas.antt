@@ -173,12 +173,12 @@ amid-line text start h differs =
       at = ap length is;
     }
 
--- what is behind an offset
+-- the bytes after an offset
 pub rest-of : (text : List ℕ) (start : ℕ) → take (length text - start) (drop start text) ≡ drop start text
 rest-of text start =
     ap (λ (n : ℕ). take n (drop start text)) (sym (length-drop start text)) ∙ take-length (drop start text)
 
--- how the reading of the part ends, amid lines of which none is `end`
+-- how the reading of the part ends, within lines of which none is `end`
 module _ (before now after : SourceState) (text : List ℕ) (start : ℕ) (h : IsAmid text start)
     (within : length text ≤ audit_limit) (left : before.left ≡ text ++ now.left) where
   pub part-stops : after.left ≡ now.left → StopsInCertificate before after

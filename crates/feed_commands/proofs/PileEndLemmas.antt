@@ -1,4 +1,4 @@
--- `show pile`: how the program ends behind a pile.
+-- `show pile`: how the program ends after a pile.
 use Rattle.std.proofs.Common.{◌≡◌, ◌⊎◌, inl, inr, ⊎_elim, ℕ, List, [], ◌++◌, Result, Err, refl, sym, ap, subst, ◌∙◌, append-nil, arith}
 use Rattle.atom_values.specs.Counts.{Rose}
 use Rattle.doc_source.specs.Outside.{SinkState, TakesPrefix}
@@ -71,7 +71,7 @@ module _ (outside : Outside) (told : Type 0) (before after : SinkState) (ended :
     whole = λ seen done. absurd (no_done fault (subst IsDone is done));
   }
 
--- memory ran out before the store was loaded: the line stands alone
+-- memory ran out before the store was loaded: the line is all that is printed
 pub cut-at-once : (content : Area → List ℕ) (told : Type 0) (before after : SinkState) (fault : Fault) (ended : ℕ)
     → ended ≡ code_of (fault_answer fault).status → Prints before after (fault_answer fault).printed
     → EndsCut content told before after ended
@@ -96,7 +96,7 @@ only-memory (BadStore bad) ended may refusal disk is = absurd (refusal tt)
 only-memory (Full area size needed capacity) ended may refusal disk is = absurd may
 only-memory (Refused refused) ended may refusal disk is = absurd may
 
--- the statuses behind a pile
+-- the statuses after a pile
 abbrev pub IsPileCode : ℕ → Type 0
 IsPileCode n = (n ≡ 0) ⊎ (n ≡ 4) ⊎ (n ≡ 5) ⊎ (n ≡ 6) ⊎ (n ≡ 8)
 

@@ -55,7 +55,7 @@ next-archive stored zero some = absurd (omega (arith, some))
 next-archive stored (suc number) some =
     let e : suc number - 1 ≡ number = omega arith in rw e refl
 
--- a pile is cut behind its first offers
+-- a pile is cut after its first offers
 pile-split : (first left : List Offer) → pile_text (first ++ left) ≡ pile_text first ++ flat_map offer_text left
 pile-split first left = ap (λ (x : List ℕ). pile_head ++ x) (flat_map-append offer_text first left)
     ∙ sym (append_assoc pile_head (flat_map offer_text first) (flat_map offer_text left))

@@ -1,4 +1,4 @@
--- What an output took of a text.
+-- The part of a text that an output took.
 use Rattle.std.proofs.Common.{◌≡◌, ◌⊎◌, inl, inr, ⊎_elim, arith, ℕ, ◌≤◌, List, ◌++◌, Result, Ok, Err, refl, OnOk}
 use Rattle.atom_values.specs.Counts.{HasCause}
 use Rattle.feed_commands.specs.declared.commands.report_fault.ReportFault.{ReportFault}

@@ -303,7 +303,7 @@ module _ {F : Type 0} (step : Step F) where
       (ended_lines-none (take (allowance reader) (stream reader input)) t.no_lf)
   Progress-long start whole reader input before feed (inr s) t = absurd (omega (arith, ap length s.nothing, t.more))
 
-  -- a call on the input failed amid a line
+  -- a call on the input failed within a line
   pub Progress-amid : (start : F) (begin : SourceState) (reader : LinesState) (input : SourceState)
       (rest : SourceState) (before : ℕ) (feed : F) →
       Progress step start begin.left reader input before feed → StopsAmid reader input rest →

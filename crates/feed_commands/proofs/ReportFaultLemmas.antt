@@ -67,7 +67,7 @@ report-unreported fault (inl e) = report-no_done fault (inl e)
 report-unreported fault (inr (inl e)) = report-no_done fault (inr e)
 report-unreported fault (inr (inr e)) = report-no_output fault e
 
--- behind an answer the fault is a refusal
+-- after an answer the fault is a refusal
 seven-unanswered : IsAnswered 7 → ⊥
 seven-unanswered (inl (inl e)) = omega (arith, e)
 seven-unanswered (inl (inr (inl e))) = omega (arith, e)
@@ -83,7 +83,7 @@ answered-report Fetch h = absurd (seven-unanswered h)
 answered-report (OtherBase base) h = tt
 answered-report (Other fault) h = answered-refusal fault h
 
--- a status that comes only after the load is that of such a fault
+-- a status that comes only after the load is that of a fault that comes only then
 early : (n : ℕ) → (n ≡ 4 → ⊥) → IsAfterLoad n → (n ≡ 5) → ⊥
 early n four (inl (inl e)) five = omega (arith, e, five)
 early n four (inl (inr (inl e))) five = omega (arith, e, five)

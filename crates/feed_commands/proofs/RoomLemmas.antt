@@ -1,4 +1,4 @@
--- What a line makes of a store, by the room of its two areas.
+-- The store after a line, by the room of its two areas.
 use Rattle.std.proofs.Common.{◌≡◌, ◌≢◌, ◌⊎◌, inl, inr, ℕ, ◌+◌, ◌<◌, ◌≤◌, ◌==◌, ◌||◌, not, true, false, nat_le, List, [], ◌∷◌}
 use Rattle.std.proofs.Common.{◌++◌, length, Ok, Err, refl, sym, ◌∙◌, ap, subst, arith, rules, tests}
 use Rattle.std.specs.Prelude.{Option, Some, None, if◌then◌else◌, option_and_then}

@@ -1,4 +1,4 @@
--- What the output took of the lines of a session, and how the program ends behind it.
+-- The lines of a session that the output took, and how the program ends after the session.
 use Rattle.std.proofs.Common.{◌≡◌, ℕ, suc, ◌<◌, List, [], ◌++◌, length, take, drop, get_or, flat_map, ap, sym, ◌∙◌}
 use Rattle.std.proofs.Common.{append_assoc, append-nil, subst, ◌≤◌, ◌⊎◌, inl, inr, ⊎_elim, refl, OnOk, Result, Ok, Err, arith}
 use Rattle.std.specs.Prelude.{Option}
@@ -20,7 +20,7 @@ use Rattle.feed_commands.specs.Serve.{IsOpened, end_fault, fault_status, fault_t
 use Rattle.feed_commands.specs.Status.{code_of}
 use Rattle.feed_commands.proofs.PrintLemmas.{prints-from}
 
--- the lines before one, that line, and those behind it
+-- the lines before one, that line, and those after it
 lines-split : (lines : List Line) (i : ℕ) (d : Line) → i < length lines
     → flat_map session_line lines
     ≡ flat_map session_line (take i lines) ++ (session_line (get_or lines i d) ++ flat_map session_line (drop (suc i) lines))
@@ -65,7 +65,7 @@ session-prints r before after shown lines told fault same_lines same_fault prefi
     ap (λ (l : List Line). session_text l told) same_lines ∙ ap (session_text lines) same_fault in
     subst (Prints before after) same (prints-from r before after (session_text shown told) prefix whole cause)
 
--- the status of the session's end, or that of a failed output behind the defined end
+-- the status of the session's end, or that of a failed output after the defined end
 pub session-status : (end : End) (told : Option SessionFault) (printed : Result (Unit {0}) Failed) (ended : ℕ)
     → told ≡ end_fault end → ended ≡ code_of (session_status told printed)
     → (ended ≡ code_of (fault_status (end_fault end))) ⊎ ((end ≡ session.Done) × (ended ≡ 8))
@@ -117,7 +117,7 @@ served-whole session.NoMemory told printed ended before after same is only disk 
 
 -- The exit status says how the session ended
 
--- the code of the status behind this end
+-- the code of the status after this end
 abbrev pub code_at : End → Result (Unit {0}) Failed → ℕ
 code_at end printed = code_of (session_status (end_fault end) printed)
 

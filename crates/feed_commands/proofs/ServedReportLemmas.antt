@@ -1,4 +1,4 @@
--- What a mirror prints of documents that one feed served: the report, or else the certificate.
+-- The output of a mirror over documents that one feed served: the report, or else the certificate.
 use Rattle.std.proofs.Common.{◌≡◌, ◌⊎◌, inl, inr, ℕ, ◌+◌, List, [], ◌∷◌, ◌++◌, Bool, true, false, Option, None, Some}
 use Rattle.std.proofs.Common.{Ok, Err, All, IsOk}
 use Rattle.std.proofs.Common.{flat_map, length, map, take, refl, sym, ap, ap₂, subst, ◌∙◌, arith}
@@ -102,7 +102,7 @@ entries-of_fold head history version kept lawful shows =
     (λ number above. sym (shows.fold.live number) ∙ live_of-past (chain_of kept) number above)
     (λ number above. (members.none_past number above).0)
 
--- what is shown behind the counts
+-- the outcome after the counts
 abbrev pub shown_in : Bool → List ℕ → List KeptValue → Outcome → List ℕ
 shown_in true base kept outcome = ending base (live_entries kept) outcome
 shown_in false base kept outcome = certified_ending base kept outcome
@@ -117,7 +117,7 @@ shown-missing : (report : Bool) (base : List ℕ) (kept : List KeptValue) (addre
 shown-missing true base kept address = refl
 shown-missing false base kept address = refl
 
--- what is shown of what is held ends in one of the three ways
+-- the outcome of the documents held is one of three
 abbrev pub Ends : Bool → HeadValue → List Op → List Offering → List KeptValue → Outcome → Type 0
 Ends report head history offers kept outcome =
     let said = shown_in report head.name.base kept outcome in
@@ -207,7 +207,7 @@ All-served head history first rest p q =
 
 module _ (report : Bool) (head : HeadValue) (history : List Op) (held : List KeptValue) (payloads : List (List ℕ))
     (loaded : IsLoadedOf head.name.base payloads held) (own : AreServed head history (own_offers held)) where
-  -- what is shown of documents that were taken behind those that were held
+  -- the outcome of documents that were taken after those that were held
   pub ends-taken : (offers : List Offering) (kept : List KeptValue) → AreServed head history offers
       → AreTakenOf head.name.base (own_offers held ++ offers) kept
       → IsLoadedOf head.name.base (payloads_of kept) kept
@@ -217,7 +217,7 @@ module _ (report : Bool) (head : HeadValue) (history : List Op) (held : List Kep
       let mirrors = law-of_mirror head history (own_offers held ++ offers) taken.answers kept all taken.answered in
       ends-served head history (own_offers held ++ offers) kept all taken left report (best_of kept) refl mirrors.shows
 
-  -- what is printed ends so, and nothing was refused
+  -- the output ends with this outcome, and nothing was refused
   served-all : (offers : List Offering) (answers : List MirrorAnswer) (kept : List KeptValue)
       → AreServed head history offers → AreAnswered head.name.base held offers answers kept
       → IsLoadedOf head.name.base (payloads_of kept) kept

@@ -1,4 +1,4 @@
--- What a line makes of a history and of a store, by what was asked of it.
+-- The history and the store after a line, by what the line asks for.
 use Rattle.std.proofs.Common.{◌≡◌, ℕ, ◌+◌, List, [], ◌∷◌, ◌++◌, take, Result, Ok, ap, ◌∙◌}
 use Rattle.member_rules.specs.declared.operation.Op.{Op}
 use Rattle.member_rules.specs.Head.{HeadValue}
@@ -27,7 +27,7 @@ stored_step-prefix moments stored before line prefix e =
     ap (λ made. made >>= stored_operation stored)
     (operation-prefix stored.head moments stored.history before line prefix e)
 
--- what a line makes, by what was asked of it
+-- the result of a line, by what the line asks for
 pub line_operation-is : (head : HeadValue) (moments : ℕ → ℕ) (history : List Op) (before : ℕ) (line read : List ℕ)
     (number now : ℕ) (made : Result Op Fault) →
     read ≡ line → number ≡ before + 1 → now ≡ moments before →

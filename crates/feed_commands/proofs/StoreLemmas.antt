@@ -1,4 +1,4 @@
--- What a loaded store opens to, and the sizes of its two logs.
+-- The content to which a loaded store belongs, and the sizes of its two logs.
 use Rattle.std.proofs.Common.{◌≡◌, ◌⊎◌, inl, inr, Result, ℕ, ◌+◌, List, length, refl}
 use Rattle.std.proofs.Common.{sym, ◌∙◌, ap, subst}
 use Rattle.feed_disk.specs.declared.area.Area.{Area}
@@ -24,7 +24,7 @@ opens-same content other stored same o = record {
   count = o.count;
 }
 
--- what a line makes of a store, by what was asked of it
+-- the store after a line, by what the line asks for
 pub line-is : (moments : ℕ → ℕ) (store : StoreValue) (before : ℕ) (line read : List ℕ) (number now : ℕ)
     (made : Result Stored Fault) → read ≡ line → number ≡ before + 1 → now ≡ moments before
     → line_made store number now read ≡ made → stored_step moments (stored_of store) before line ≡ made

@@ -1,4 +1,4 @@
--- What is added one after another.
+-- Bytes that are added one after another.
 use Rattle.std.proofs.Common.{◌≡◌, ℕ, List, ◌++◌, ap, sym, ◌∙◌, append_assoc, Ok, Err}
 use Rattle.std.specs.Prelude.{Result, OnOk}
 

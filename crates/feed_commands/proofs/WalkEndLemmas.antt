@@ -24,6 +24,7 @@ use Rattle.mirror_walk.specs.declared.walk.WalkFault.{WalkFault}
 use Rattle.mirror_walk.specs.declared.walk.WalkFault.TheVariants as faults
 use Rattle.mirror_walk.specs.declared.walk.Walked.{Walked}
 use Rattle.mirror_walk.proofs.StepLemmas.{rest-loads}
+use Rattle.mirror_walk.proofs.WalkServedLemmas.{walks-loaded}
 use Rattle.feed_commands.specs.declared.commands.report.Counts.{Counts}
 use Rattle.feed_commands.specs.declared.commands.report.Report.{Report}
 use Rattle.feed_commands.specs.Answer.{Answer}
@@ -33,21 +34,6 @@ use Rattle.feed_commands.specs.Report.{EndsReport, ending_in, status_of, walk_co
 use Rattle.feed_commands.specs.Walked.{IsFetched, IsOver, IsWalkReport, walk_setting}
 use Rattle.feed_commands.proofs.AnswersLemmas.{full-capacity}
 use Rattle.feed_commands.proofs.TakingLemmas.{loaded-after}
-
--- the documents that a walk leaves held were taken one after another
-pub walks-loaded : (setting : WalkSetting) (asked : List Address) (accepted : List Accepted)
-    (kept left : List KeptValue) (next : Option Address) (ended : WalkEnding)
-    → Walks setting kept next asked accepted left ended → IsLoadedOf setting.base (payloads_of kept) kept
-    → IsLoadedOf setting.base (payloads_of left) left
-walks-loaded setting [] [] kept left next ended walks loaded =
-    subst (λ (ks : List KeptValue). IsLoadedOf setting.base (payloads_of ks) ks) (sym walks.0) loaded
-walks-loaded setting [] (answer ∷ accepted) kept left next ended walks loaded = absurd walks
-walks-loaded setting (address ∷ asked) [] kept left next ended (is, none, same, ends) loaded =
-    subst (λ (ks : List KeptValue). IsLoadedOf setting.base (payloads_of ks) ks) (sym same) loaded
-walks-loaded setting (address ∷ asked) (answer ∷ accepted) kept left next ended (is, (after, answered, walks)) loaded =
-    walks-loaded setting asked accepted after left (first_missing after) ended walks
-    (loaded-after setting.capacity setting.base kept (printed setting.base address) answered.bytes after loaded
-    (Ok answer) answered.answered)
 
 -- the capacity of a walk that ended at a document without room is the mirror's
 pub filled-capacity : (setting : WalkSetting) (asked : List Address) (accepted : List Accepted)

@@ -1,4 +1,4 @@
--- What is printed of a walk over the documents that one feed served: the report, or else the certificate.
+-- The output of a walk over the documents that one feed served: the report, or else the certificate.
 use Rattle.std.proofs.Common.{◌≡◌, ℕ, ◌+◌, List, [], ◌∷◌, ◌++◌, Option, None, Some, Ok, length, map, unwrap_or}
 use Rattle.std.proofs.Common.{Bool, refl, sym, ap, ap₂, subst, arith}
 use Rattle.std.specs.Prelude.{count_by, if◌then◌else◌}
@@ -18,36 +18,12 @@ use Rattle.mirror_walk.specs.Walk.{HasWalked, IsServedBy, WalkEnding, WalkSettin
 use Rattle.mirror_walk.specs.Walk.{is_known, is_stale, is_taken}
 use Rattle.mirror_walk.specs.declared.answer.Accepted.{Accepted}
 use Rattle.mirror_walk.specs.declared.answer.Accepted.TheVariants.{Taken, Known, Stale}
-use Rattle.mirror_walk.proofs.WalkServedLemmas.{walk-taken, walked-served}
+use Rattle.mirror_walk.proofs.WalkServedLemmas.{accepted-served, walk-taken, walked-served, walks-loaded}
 use Rattle.feed_commands.specs.Answer.{Answer}
 use Rattle.feed_commands.specs.Report.{refused_count, walk_counts, walk_line_in, walk_report}
 use Rattle.feed_commands.specs.Served.{IsServedReport, own_offers}
 use Rattle.feed_commands.specs.Walked.{IsWalkReport, walk_setting}
 use Rattle.feed_commands.proofs.ServedReportLemmas.{ends-taken, shown-in, shown_in}
-use Rattle.feed_commands.proofs.WalkEndLemmas.{walks-loaded}
-
-some-bytes : (found : Option (List ℕ)) (bytes : List ℕ) → found ≡ Some bytes → unwrap_or found [] ≡ bytes
-some-bytes None bytes e = cc
-some-bytes (Some other) bytes e = cc
-
--- the documents that a walk accepted were served
-accepted-served : (head : HeadValue) (history : List Op) (setting : WalkSetting)
-    → IsServedBy head history setting.answers → (asked : List Address) (accepted : List Accepted)
-    (kept left : List KeptValue) (next : Option Address) (ending : WalkEnding)
-    → Walks setting kept next asked accepted left ending
-    → AreServed head history (accepted_offers setting asked accepted)
-accepted-served head history setting served [] [] kept left next ending walks =
-    All-nil (λ (offer : Offering). Served head history offer.address offer.bytes)
-accepted-served head history setting served [] (answer ∷ accepted) kept left next ending walks = absurd walks
-accepted-served head history setting served (address ∷ asked) [] kept left next ending walks =
-    All-nil (λ (offer : Offering). Served head history offer.address offer.bytes)
-accepted-served head history setting served (address ∷ asked) (answer ∷ accepted) kept left next ending
-    (is, (after, answered, walks)) =
-    let there = printed setting.base address in
-    All-cons (λ (offer : Offering). Served head history offer.address offer.bytes) _ _
-    (subst (Served head history there) (sym (some-bytes (answer_at setting address) answered.bytes answered.there))
-    (served there answered.bytes answered.there))
-    (accepted-served head history setting served asked accepted after left (first_missing after) ending walks)
 
 offers-length : (setting : WalkSetting) (asked : List Address) (accepted : List Accepted) (kept left : List KeptValue)
     (next : Option Address) (ending : WalkEnding) → Walks setting kept next asked accepted left ending

@@ -1,4 +1,4 @@
--- What all commands share: an answer, and how the output takes what it prints.
+-- Answers, which all commands have, and how the output takes their bytes.
 use Rattle.std.specs.Prelude.{◌≡◌, ℕ, List, ◌++◌, codes}
 use Rattle.atom_values.specs.Counts.{Rose}
 use Rattle.feed_commands.specs.declared.status.Status.{Status}

@@ -1,4 +1,4 @@
--- What the lines of an input make of a feed, step by step.
+-- A feed after each line of an input, step by step.
 use Rattle.std.specs.Prelude.{◌≡◌, ℕ, ◌+◌, ◌≤◌, List, [], ◌∷◌, ◌++◌, length, take, nat_le, if◌then◌else◌}
 use Rattle.std.specs.Prelude.{Option, Some, None, Result, Ok, Err}
 use Rattle.feed_commands.specs.declared.fault.Fault.{Fault}
@@ -7,7 +7,7 @@ use Rattle.feed_commands.specs.declared.fault.Refusal.TheVariants.{TooLong}
 use Rattle.feed_commands.specs.Lines.{lines as lines_of, ended_lines, input_limit}
 use Rattle.doc_source.specs.Outside.{SourceState}
 
--- what a line after `before` other lines makes of a feed
+-- a feed after a line that comes after `before` other lines
 abbrev pub Step : Type 0 → Type 0
 Step F = F → ℕ → List ℕ → Result F Fault
 
@@ -34,7 +34,7 @@ or_too_long (Some fault) = Some fault
 abbrev pub then_too_long : {F : Type 0} → Applied F → Applied F
 then_too_long applied = record { feed = applied.feed; fault = or_too_long applied.fault }
 
--- what an input makes of a feed. If the input is over the limit, the lines within the limit come first
+-- a feed after the lines of an input. If the input is over the limit, the lines within the limit come first
 unfoldable pub applied : {F : Type 0} → Step F → F → List ℕ → Applied F
 applied step feed input =
     if nat_le (length input) input_limit

@@ -1,4 +1,4 @@
--- The history that the lines of an input make, and what the command `apply W` answers.
+-- The history that the lines of an input make, and the answer of `apply W`.
 use Rattle.std.specs.Prelude.{ℕ, ◌+◌, List, [], ◌∷◌, ◌++◌, pos, Option, Some, None, Result, Ok, Err, codes}
 use Rattle.atom_writer.specs.Pieces.{text}
 use Rattle.feed_commands.specs.declared.commands.lines.LinesFault.{LinesFault}

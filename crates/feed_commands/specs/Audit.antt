@@ -1,4 +1,4 @@
--- `audit`: what it answers to its input, which is a certificate and the pile of documents behind it.
+-- `audit`: its answer to its input, which is a certificate and the pile of documents after it.
 use Rattle.std.specs.Prelude.{◌≡◌, ◌≢◌, ◌⊎◌, ℕ, ◌-◌, ◌<◌, ◌≤◌, List, [], ◌∷◌, ◌++◌, All, None, Ok, Err, codes, decimal}
 use Rattle.std.specs.Prelude.{length, take}
 use Rattle.hex.specs.Hex.{encode_lower}
@@ -55,7 +55,7 @@ pub record EndsOnce (text : List ℕ) : Type 0 where
 abbrev pub HasNoEnd : List ℕ → Type 0
 HasNoEnd text = (first rest : List ℕ) → EndsOnce first → text ≡ first ++ rest → ⊥
 
--- the input up to its first line `end`, which lies within the limit, and what is behind it
+-- the input up to its first line `end`, which lies within the limit, and the rest after it
 pub record IsParted (input first pile : List ℕ) : Type 0 where
   pub ends : EndsOnce first
   pub within : length first ≤ audit_limit
@@ -90,7 +90,7 @@ abbrev pub verdict_status : Verdict → Status
 verdict_status (Accepted version live) = Done
 verdict_status _ = Rejected
 
--- the words of a verdict, and an address or a number behind them
+-- the words of a verdict, and an address or a number after them
 abbrev pub addressed : List ℕ → List ℕ → Address → List ℕ
 addressed words base address = words ++ printed base address
 
@@ -204,7 +204,7 @@ pub record StopsInPile (before after : SourceState) : Type 0 where
 abbrev pub IsAuditUnrefused : SourceState → SourceState → Type 0
 IsAuditUnrefused before after = StopsInCertificate before after ⊎ StopsInPile before after
 
--- What an auditor's status says
+-- The meaning of an auditor's status
 
 -- the exit statuses of `audit`
 abbrev pub MayEndAudit : ℕ → Type 0

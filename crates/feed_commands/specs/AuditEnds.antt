@@ -1,4 +1,4 @@
--- `audit`: what it makes of a certificate and of the pile behind it.
+-- `audit`: how it ends by a certificate and the pile after it.
 use Rattle.std.specs.Prelude.{◌≡◌, ℕ, ◌≤◌, List, None, Ok, length}
 use Rattle.coverage_auditor.specs.Verdict.{IsVerdict}
 use Rattle.coverage_auditor.specs.declared.verdict.Verdict.{Verdict}

@@ -14,11 +14,11 @@ pub record IsAmid (text : List ℕ) (start : ℕ) : Type 0 where
   pub is : text ≡ text_of_lines before ++ line
   pub at : start ≡ length (text_of_lines before)
 
--- the text ends with the input's first line `end`, or is all of an input without such a line
+-- the text ends with the input's first line `end`, or is all of an input without a line `end`
 abbrev pub IsPartOf : List ℕ → List ℕ → Type 0
 IsPartOf text left = EndsOnce text ⊎ (HasNoEnd text × (left ≡ []))
 
--- this part of the input was read, and no byte behind it
+-- this part of the input was read, and no byte after it
 pub record ReadsPart (before after : SourceState) (text : List ℕ) : Type 0 where
   pub part : IsPartOf text after.left
   pub from : before.left ≡ text ++ after.left

@@ -1,4 +1,4 @@
--- What a crash within a command, or after it, may leave of a store.
+-- The images that a crash within a command, or after it, may leave of a store.
 use Rattle.std.specs.Prelude.{◌≡◌, ◌⊎◌, ℕ, ◌<◌, ◌≤◌, min, List, [], ◌∷◌, ◌++◌, length, pos, None}
 use Rattle.atom_writer.specs.declared.doc.FeedName.{FeedName}
 use Rattle.feed_disk.specs.Disk.{DiskState}

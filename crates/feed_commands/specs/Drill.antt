@@ -1,4 +1,4 @@
--- What the command `drill` runs, and what it answers.
+-- The life that the command `drill` runs, and its answer.
 use Rattle.std.specs.Prelude.{◌≡◌, ◌≢◌, ◌⊎◌, ℕ, List, Option, Some, None}
 use Rattle.feed_commands.specs.declared.status.Status.TheVariants as ends
 use Rattle.feed_commands.specs.Answer.{Answer}

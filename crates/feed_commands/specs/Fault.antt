@@ -23,7 +23,7 @@ numbered front number back = front ++ decimal number ++ back
 abbrev pub member_line : ℕ → List ℕ → ℕ → List ℕ
 member_line line why member = numbered (codes "line ") line why ++ decimal member ++ codes "\n"
 
--- a number behind other words
+-- a number after other words
 abbrev pub spaced : ℕ → List ℕ
 spaced number = codes " " ++ decimal number
 

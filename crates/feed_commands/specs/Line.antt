@@ -1,4 +1,4 @@
--- What a line of `apply` asks of a feed.
+-- The ask of a line of `apply`.
 use Rattle.std.specs.Prelude.{ℕ, ◌+◌, List, Option, option_map}
 use Rattle.atom_values.specs.Entry.{titled}
 use Rattle.member_rules.specs.declared.ask.Ask.{Ask}
@@ -14,7 +14,7 @@ ask_of (Add title) = Create (titled title)
 ask_of (Change number title) = Replace number (titled title)
 ask_of (Remove number) = Delete number
 
--- what the line asks for; a bad line asks for nothing
+-- the ask of a line; a bad line has none
 unfoldable pub line_ask : List ℕ → Option Ask
 line_ask line = option_map ask_of (words.line_ask line)
 

@@ -6,7 +6,7 @@ use Rattle.feed_commands.specs.Line.{prefix_limit}
 use Rattle.doc_source.specs.Outside.{SourceState}
 use Rattle.tool_words.specs.Line.{HasNo}
 
--- a byte in front of the first line
+-- a byte put before the first line
 abbrev pub onto_first : ℕ → List (List ℕ) → List (List ℕ)
 onto_first b [] = (b ∷ []) ∷ []
 onto_first b (line ∷ lines) = (b ∷ line) ∷ lines
@@ -16,7 +16,7 @@ abbrev pub lines : List ℕ → List (List ℕ)
 lines [] = []
 lines (b ∷ bytes) = if b == lf then [] ∷ lines bytes else onto_first b (lines bytes)
 
--- a byte in front of the first line, if there is a line
+-- a byte put before the first line, if there is a line
 abbrev pub onto_ended : ℕ → List (List ℕ) → List (List ℕ)
 onto_ended b [] = []
 onto_ended b (line ∷ lines) = (b ∷ line) ∷ lines

@@ -1,4 +1,4 @@
--- What lines make of a store that was loaded.
+-- A store that was loaded, after lines were applied to it.
 use Rattle.std.specs.Prelude.{◌≡◌, ℕ, List, length, Result}
 use Rattle.feed_disk.specs.Disk.{DiskState}
 use Rattle.feed_recovery.specs.Settled.{AlwaysLeavesBoth, OpensPast, Settled}
@@ -12,7 +12,7 @@ use Rattle.feed_commands.specs.Line.{line_ask}
 use Rattle.feed_commands.specs.Stored.{stored_operation, stored_step}
 use Rattle.member_rules.specs.declared.operation.Op.{Op}
 
--- what the line of this number makes of a loaded store, with the clock at `now`
+-- a loaded store after the line of this number, with the clock at `now`
 abbrev pub line_made : StoreValue → ℕ → ℕ → List ℕ → Result Stored Fault
 line_made store number now line =
     asked store.head store.history number now (line_ask line) >>= stored_operation (stored_of store)

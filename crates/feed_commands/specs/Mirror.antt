@@ -1,4 +1,4 @@
--- `mirror` from a pile: what it answers to its input and to the documents that it held.
+-- `mirror` from a pile: its answer to its input and to the documents that it held.
 use Rattle.std.specs.Prelude.{◌≡◌, ◌⊎◌, ℕ, ◌≤◌, List, [], ◌∷◌, ◌++◌, Bool, Option, None, Result, Ok, Err, length, map}
 use Rattle.doc_source.specs.Laws.{HasRead}
 use Rattle.doc_source.specs.Outside.{SourceState}

@@ -1,4 +1,4 @@
--- What a crash within `mirror`, or after it, leaves of the mirror's area.
+-- The images that a crash within `mirror`, or after it, leaves of the mirror's area.
 use Rattle.std.specs.Prelude.{◌≡◌, ◌⊎◌, ℕ, List, ◌++◌, Option, None, Ok}
 use Rattle.chain_links.specs.declared.address.Address.{Address}
 use Rattle.doc_source.specs.declared.offer.Offer.{Offer}

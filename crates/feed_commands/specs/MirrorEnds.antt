@@ -1,4 +1,4 @@
--- How `mirror` ends, and the parts of its way there.
+-- How `mirror` ends, and the steps before its end.
 use Rattle.std.specs.Prelude.{◌≡◌, ◌⊎◌, ℕ, List, Bool, None, Result, Ok, Err}
 use Rattle.doc_source.specs.declared.offer.Offer.{Offer}
 use Rattle.feed_disk.specs.Disk.{DiskState}
@@ -88,7 +88,7 @@ IsLaterFault (Other Input) = Unit {0}
 IsLaterFault (Other (Full area size needed capacity)) = Unit {0}
 IsLaterFault (Other (Refused refusal)) = Unit {0}
 
--- a report, or such a fault
+-- a report, or a fault that comes only after the mirror was loaded
 abbrev pub IsLater : {T : Type 0} → Result T ReportFault → Type 0
 IsLater (Ok printed) = Unit {0}
 IsLater (Err fault) = IsLaterFault fault

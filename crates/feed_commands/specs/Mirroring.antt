@@ -1,4 +1,5 @@
--- What `mirror` promises beside its answer: the images of its area, and what it prints of documents that one feed served.
+-- The clauses of `mirror` beside its answer: the images of its area, and its output over documents that one feed
+-- served.
 use Rattle.std.specs.Prelude.{◌≡◌, ℕ, List, Bool, map}
 use Rattle.doc_source.specs.Fetch.{FetchState}
 use Rattle.doc_source.specs.Outside.{SinkState}

@@ -1,4 +1,4 @@
--- What the answer of a command may depend on, beside its words.
+-- The outside of a command: all that its answer may depend on, beside its words.
 use Rattle.std.specs.Prelude.{ℕ, List, Option}
 use Rattle.doc_source.specs.Fetch.{FetchState}
 use Rattle.doc_source.specs.Outside.{SourceState}

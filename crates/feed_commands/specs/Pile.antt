@@ -1,4 +1,4 @@
--- `show pile`: the documents of a store as a pile, and what the output took of it.
+-- `show pile`: the documents of a store as a pile, and the part of it that the output took.
 use Rattle.std.specs.Prelude.{◌≡◌, ◌⊎◌, ℕ, List, [], ◌++◌, map}
 use Rattle.atom_writer.specs.Doc.{DocValue}
 use Rattle.atom_writer.specs.Pieces.{own_address, text}
@@ -33,13 +33,13 @@ pile_of stored = pile_text (offers_of stored)
 abbrev pub pile_answer : Stored → Answer
 pile_answer stored = record { status = Done; printed = pile_of stored }
 
--- the front is the pile of the offers before those that are left
+-- `front` is the pile of the offers before those that are left
 pub record IsFront (offers left : List Offer) (front : List ℕ) : Type 0 where
   pub first : List Offer
   pub split : offers ≡ first ++ left
   pub is : front ≡ pile_text first
 
--- the output took that front; `told` is whether contracts can see the offers
+-- the output took that part of the pile; `told` is whether contracts can see the offers
 pub record TakesFront (told : Type 0) (offers left : List Offer) (before after : SinkState) : Type 0 where
   pub front : List ℕ
   pub taken : after.taken ≡ before.taken ++ front

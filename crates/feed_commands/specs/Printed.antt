@@ -1,4 +1,4 @@
--- What a command with two defined ends prints.
+-- The output of a command with two defined ends.
 use Rattle.coverage_certificate.specs.Text.{certificate_text}
 use Rattle.feed_commands.specs.declared.commands.printed.Printed.{Printed}
 use Rattle.feed_commands.specs.declared.commands.printed.Printed.TheVariants.{Certificate, Text}

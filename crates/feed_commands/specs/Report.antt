@@ -53,7 +53,7 @@ refused_lines [] answers = []
 refused_lines (offer ∷ offers) [] = []
 refused_lines (offer ∷ offers) (answer ∷ answers) = refused_line offer.address answer ++ refused_lines offers answers
 
--- the same, in the form that is printed: a certificate has no such lines
+-- the same, in the form that is printed: a certificate has no lines of refused offers
 abbrev pub refused_line_in : Bool → List ℕ → MirrorAnswer → List ℕ
 refused_line_in report address (Ok accepted) = []
 refused_line_in true address (Err refusal) = refused_line address (Err refusal)
@@ -91,7 +91,7 @@ missing_line base address = codes "missing " ++ printed base address ++ codes "\
 unfoldable pub complete_line : ℕ → ℕ → List ℕ
 complete_line version live = codes "complete " ++ decimal version ++ codes " " ++ decimal live ++ codes "\n"
 
--- what the mirror shows: the missing document alone, or a line for each live entry and the last line
+-- the outcome: the missing document alone, or a line for each live entry and the last line
 abbrev pub ending : List ℕ → List EntryValue → Outcome → List ℕ
 ending base entries (Missing address) = missing_line base address
 ending base entries (Complete version live) = flat_map entry_line entries ++ complete_line version live
@@ -101,12 +101,12 @@ abbrev pub optional_text : Option CertificateValue → List ℕ
 optional_text None = []
 optional_text (Some certificate) = certificate_text certificate
 
--- what the mirror shows without a report: the missing document alone, or the certificate of what it holds
+-- the outcome without a report: the missing document alone, or the certificate of what the mirror holds
 abbrev pub certified_ending : List ℕ → List KeptValue → Outcome → List ℕ
 certified_ending base kept (Missing address) = missing_line base address
 certified_ending base kept (Complete version live) = optional_text (certificate_of base kept)
 
--- the counts, and what a mirror that holds `kept` shows
+-- the counts, and the outcome of a mirror that holds `kept`
 abbrev pub ending_in : Bool → List ℕ → Counts → List KeptValue → List ℕ
 ending_in true base counts kept = counts_line counts ++ ending base (live_entries kept) (outcome_of kept)
 ending_in false base counts kept = certified_ending base kept (outcome_of kept)
@@ -115,12 +115,12 @@ abbrev pub status_of : Outcome → Status
 status_of (Missing address) = Incomplete
 status_of (Complete version live) = Done
 
--- An answer that the report has: it isn't for want of room or memory, and no device call failed.
+-- An answer that the report counts: it isn't `Full`, `NoMemory` or `DiskFault`.
 abbrev pub IsReportable : MirrorAnswer → Type 0
 IsReportable (Ok accepted) = Unit {0}
 IsReportable (Err refusal) = ¬ IsForRoom refusal
 
--- the fault by which an answer that the report hasn't ends it
+-- the fault with which any other answer ends the report
 abbrev pub room_fault : MirrorAnswer → Option Fault
 room_fault (Err (Full size needed capacity)) = Some (full_fault size needed capacity)
 room_fault (Err DiskFault) = Some faults.Disk
@@ -189,7 +189,7 @@ pub record Reports (report : Bool) (capacity : ℕ) (base : List ℕ) (kept : Li
   pub text : made.text.items ≡ refused_lines_in report offers answers
   pub counts : made.counts ≡ counts_of answers
 
--- What is printed at the end of a report, or else the certificate. `told` is whether contracts can see the disk, and
+-- The end of a report, or else the certificate. `told` is whether contracts can see the disk, and
 -- the documents held were taken one after another.
 pub record EndsReport (told : Type 0) (base : List ℕ) (made : Report) (kept : List KeptValue) (given : Answer)
     : Type 0 where

@@ -1,4 +1,4 @@
--- What a report needs of a mirror and its disk, and the faults by which it may end.
+-- The conditions of a report on its mirror and its disk, and the faults by which it may end.
 use Rattle.std.specs.Prelude.{◌≡◌, false}
 use Rattle.feed_disk.specs.Disk.{DiskState}
 use Rattle.feed_disk.specs.declared.area.Area.TheVariants.{Mirror}
@@ -7,7 +7,7 @@ use Rattle.feed_commands.specs.declared.fault.BadStore.TheVariants.{Changed}
 use Rattle.feed_commands.specs.declared.fault.Fault.{Fault}
 use Rattle.feed_commands.specs.declared.fault.Fault.TheVariants.{BadStore, Disk, Full, NoMemory}
 
--- no call of the mirror failed, and it stands for the content of its disk
+-- no call of the mirror failed, and it agrees with the content of its disk
 pub record IsUsable (told : Type 0) (disk : DiskState) (mirror : MirrorValue) : Type 0 where
   pub unspent : is_spent mirror ≡ false
   pub stands : told → StandsFor disk mirror

@@ -1,4 +1,4 @@
--- What each command answers, and how the program ends.
+-- The answer of each command, and how the program ends.
 use Rattle.std.specs.Prelude.{◌≡◌, ◌⊎◌, ℕ, ◌≤◌, List, ◌++◌, length, ◌==◌, if◌then◌else◌, Some, None, [], Bool, true, false}
 use Rattle.atom_values.specs.Counts.{Rose}
 use Rattle.feed_disk.specs.Disk.{DiskState}
@@ -40,7 +40,7 @@ HasRange (Apply (Some window)) = (1 ≤ window) × (window ≤ window_limit)
 HasRange (Serve listen requests) = (1 ≤ requests) × (requests ≤ request_limit)
 HasRange _ = Unit {0}
 
--- What each command depends on
+-- The objects that each command depends on
 
 -- whether the command reads the input
 abbrev pub ReadsInput : Command → Type 0
@@ -62,6 +62,13 @@ UsesDisk (Show Document) = ⊥
 UsesDisk Audit = ⊥
 UsesDisk (Drill seed count) = ⊥
 UsesDisk _ = Unit {0}
+
+-- whether the command uses the clock
+abbrev pub UsesClock : Command → Type 0
+UsesClock (Init name window capacity) = Unit {0}
+UsesClock (Apply window) = Unit {0}
+UsesClock (Serve listen requests) = Unit {0}
+UsesClock _ = ⊥
 
 -- whether the command asks the source of documents
 abbrev pub Fetches : Command → Type 0
@@ -216,7 +223,7 @@ IsDetermined ended =
     (ended ≡ code_of ends.Done) ⊎ (ended ≡ code_of ends.Incomplete) ⊎ (ended ≡ code_of ends.BadStore) ⊎ (ended ≡ code_of ends.BadInput)
     ⊎ (ended ≡ code_of ends.Full) ⊎ (ended ≡ code_of ends.Refused)
 
--- the exit statuses behind an answer: these, and a failure of the output
+-- the exit statuses after an answer: these, and a failure of the output
 abbrev pub IsAnswered : ℕ → Type 0
 IsAnswered ended = IsDetermined ended ⊎ (ended ≡ code_of ends.OutputFault)
 

@@ -1,4 +1,4 @@
--- `serve`: what is printed behind a session, and how the program ends.
+-- `serve`: the lines that are printed after a session, and how the program ends.
 use Rattle.std.specs.Prelude.{◌≡◌, ◌⊎◌, ℕ, ◌≤◌, List, [], ◌++◌, length, flat_map, codes, decimal, Option, Some, None}
 use Rattle.std.specs.Prelude.{Result, Ok, Err}
 use Rattle.atom_values.specs.Counts.{Rose}
@@ -48,7 +48,7 @@ abbrev pub fault_text : Option SessionFault → List ℕ
 fault_text None = []
 fault_text (Some fault) = (session_answer fault).printed
 
--- the status is that of the fault, or without one says whether the lines could be printed
+-- the status is that of the fault, or if there is none says whether the lines could be printed
 abbrev pub session_status : Option SessionFault → Result (Unit {0}) Failed → Status
 session_status (Some fault) printed = (session_answer fault).status
 session_status None (Ok printed) = ends.Done
@@ -75,8 +75,8 @@ pub record ServesNothing (before after : DiskState) (door rest : DoorState) (tol
   pub same_door : rest ≡ door
   pub safe : told → LeavesStores before after
 
--- How the program ends behind a session of at most so many requests: by the end of the session, or by a failure of the
--- output behind a session that came to its defined end.
+-- How the program ends after a session of at most `requests` connections: by the end of the session, or by a failure
+-- of the output after a session that came to its defined end.
 pub record EndsServing (requests : ℕ) (before after : DiskState) (moments : ℕ → ℕ) (door rest : DoorState)
     (disk_told clock_told door_told output_told : Type 0) (output taken : SinkState) (lines : List Line) (ended : ℕ)
     : Type 0 where

@@ -1,4 +1,4 @@
--- What `mirror` prints of documents that one feed served.
+-- The output of `mirror` over documents that one feed served.
 use Rattle.std.specs.Prelude.{◌≡◌, ◌⊎◌, ℕ, ◌+◌, ◌≤◌, List, [], ◌++◌, All, Bool, true, false, flat_map, length, map, take}
 use Rattle.atom_values.specs.Entry.{EntryValue}
 use Rattle.atom_writer.specs.Doc.{DocValue}
@@ -49,7 +49,7 @@ pub record MissesArchive (head : HeadValue) (offers : List Offering) (status : S
   pub ends : status ≡ Incomplete
   pub prints : ending ≡ missing_line head.name.base (Archive number)
 
--- what is shown of a feed at a version: a line for each live entry and the last line, or the certificate of its documents
+-- the outcome of a feed at a version: a line for each live entry and the last line, or the certificate of its documents
 abbrev pub shown_at : Bool → HeadValue → ℕ → List Op → List ℕ
 shown_at true head version operations =
     flat_map entry_line (entries_after operations) ++ complete_line version (live_count operations)
@@ -91,7 +91,7 @@ pub record IsServedReport (report : Bool) (head : HeadValue) (history : List Op)
 abbrev pub IsReported : ℕ → Type 0
 IsReported ended = (ended ≡ code_of Done) ⊎ (ended ≡ code_of Incomplete) ⊎ (ended ≡ code_of OutputFault)
 
--- the program ended with such a report, of which the output took a prefix if a call on it failed
+-- the program ended with this report, of which the output took a prefix if a call on it failed
 pub record EndsServed (report : Bool) (head : HeadValue) (history : List Op) (kept : List KeptValue) (offers : List Offering)
     (told : Type 0) (before after : SinkState) (ended : ℕ) : Type 0 where
   pub answer : Answer

@@ -1,4 +1,4 @@
--- What `show` prints of a document, and how it ends.
+-- The summary that `show` prints of a document, and how it ends.
 use Rattle.std.specs.Prelude.{◌≡◌, ◌⊎◌, ℕ, ◌<◌, ◌≤◌, List, ◌++◌, length, flat_map, codes, decimal, true}
 use Rattle.atom_values.specs.Entry.{EntryValue}
 use Rattle.atom_values.specs.Escape.{escaped}

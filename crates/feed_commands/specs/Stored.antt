@@ -1,4 +1,4 @@
--- What the commands do with a store.
+-- The answers of the commands on a store.
 use Rattle.std.specs.Prelude.{◌≡◌, ◌≢◌, ◌⊎◌, ℕ, ◌+◌, List, [], ◌∷◌, ◌++◌, length, ◌==◌, ◌||◌, ◌&&◌, not, nat_le}
 use Rattle.std.specs.Prelude.{if◌then◌else◌, Option, Some, None, option_map, option_and_then, unwrap_or, Result, Ok, Err, codes}
 use Rattle.atom_writer.specs.Members.{member_text}
@@ -74,7 +74,7 @@ abbrev pub stored_step : (ℕ → ℕ) → Step Stored
 stored_step moments stored before line =
     line_operation stored.head moments stored.history before line >>= stored_operation stored
 
--- what an input makes of a store
+-- the store after the lines of an input
 abbrev pub applied_store : (ℕ → ℕ) → Stored → List ℕ → Applied Stored
 applied_store moments stored input = applied (stored_step moments) stored input
 
@@ -119,13 +119,13 @@ pub record IsBadStore (content : Area → List ℕ) (given : Answer) : Type 0 wh
 abbrev pub HasRecords : (Area → List ℕ) → Type 0
 HasRecords content = (records (content Journal) ≢ []) ⊎ (records (content Sealed) ≢ [])
 
--- what `init` answers
+-- the answer of `init`
 abbrev pub IsInitAnswer : (Area → List ℕ) → Answer → Type 0
 IsInitAnswer content given =
     (HasRecords content × (given ≡ fault_answer (BadStore AlreadyInit)))
     ⊎ (¬ HasRecords content × (given ≡ record { status = Done; printed = codes "ready\n" }))
 
--- What a command answers on a disk that should have a store: the content opens to a store or is a bad one, and if it
+-- The answer of a command on a disk that should have a store: the content opens to a store or is a bad one, and if it
 -- opens, the answer is that on the store.
 pub record IsAnswerOn (content : Area → List ℕ) (on : Stored → Answer) (given : Answer) : Type 0 where
   pub loaded : ((stored : Stored) × OpensTo content stored) ⊎ IsBadStore content given

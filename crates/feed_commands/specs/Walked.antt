@@ -1,4 +1,4 @@
--- `mirror --fetch`: what it answers to the documents of a source and to those that it held.
+-- `mirror --fetch`: its answer to the documents of a source and to those that it held.
 use Rattle.std.specs.Prelude.{◌≡◌, ◌⊎◌, ℕ, List, Bool, Option}
 use Rattle.chain_links.specs.declared.address.Address.{Address}
 use Rattle.mirror_walk.specs.Holding.{KeptValue}

@@ -17,7 +17,8 @@ ghost use Rattle.feed_commands.specs.Mirroring.{EndsFetching, EndsMirroring};
 ghost use Rattle.feed_commands.specs.Outside.{outside_of};
 ghost use Rattle.feed_commands.specs.Pile.{EndsCut};
 ghost use Rattle.feed_commands.specs.Run.{EndsWith, IsAtOnce, IsComplete, IsAlone, IsDone, IsTextual, PrintsAtOnce, alone_line};
-ghost use Rattle.feed_commands.specs.Run.{DrillsNot, FetchesNot, IsSeenUnfetched, MirrorsNot, ServesNot, UsesDisk};
+ghost use Rattle.feed_commands.specs.Run.{DrillsNot, FetchesNot, IsSeenUnfetched, MirrorsNot, ReadsInput, ServesNot};
+ghost use Rattle.feed_commands.specs.Run.{UsesClock, UsesDisk};
 ghost use Rattle.feed_commands.specs.Serve.{EndsServing, IsServedWhole};
 ghost use Rattle.feed_commands.specs.Status.{code_of};
 ghost use Rattle.tool_words.specs.Words.{IsCommandOf};
@@ -105,12 +106,12 @@ pub fn run<D: Disk, C: Clock, L: Door, F: Fetch, I: Source, O: Sink>(
     ensures alone { O.told → PrintsAtOnce (map string_bytes words.now) → IsAlone result.status
         → Prints (O.state output.old) (O.state output.new) (alone_line result.status) }
 
-    // `show pile` prints its documents as they are made. The line of a fault comes behind those that were printed.
+    // `show pile` prints its documents as they are made. The line of a fault comes after those that were printed.
     ensures cut { IsCommandOf (map string_bytes words.now) (ShowOf Pile) → O.told
         → result.status ≢ code_of status.Done → result.status ≢ code_of status.OutputFault
         → EndsCut (D.state disk.old).content D.told (O.state output.old) (O.state output.new) result.status }
 
-    // A fault comes only where the object's count of faults rose, and nothing that was read before it is refused.
+    // A fault comes only if the object's count of faults rose, and nothing that was read before it is refused.
     ensures disk_fault { result.status ≡ code_of status.DiskFault
         → Rose (D.state disk.old).faults (D.state disk.new).faults }
     ensures no_hidden_disk_fault { result.status ≢ code_of status.DiskFault
@@ -200,14 +201,18 @@ pub fn run<D: Disk, C: Clock, L: Door, F: Fetch, I: Source, O: Sink>(
         → EndsDrilling seed count result.life result.status }
     ensures no_life { DrillsNot (map string_bytes words.now) → result.life ≡ None }
 
-    // A command that has no use for the disk leaves it as it is.
+    // A command that has no use for the disk, the clock or the input leaves it as it is.
     ensures no_disk { (command : CommandValue) → IsCommandOf (map string_bytes words.now) command
         → ¬ UsesDisk command → disk.new ≡ disk.old }
+    ensures no_clock { (command : CommandValue) → IsCommandOf (map string_bytes words.now) command
+        → ¬ UsesClock command → clock.new ≡ clock.old }
+    ensures no_input { (command : CommandValue) → IsCommandOf (map string_bytes words.now) command
+        → ¬ ReadsInput command → input.new ≡ input.old }
 {
     let command = match read_words(alloc, words) {
         Ok(command) => command,
         Err(WordsFault::Usage) => {
-            // The status doesn't depend on whether its line could be printed.
+            // The result isn't used: the status is the same, whether or not the line could be printed.
             let _ = write_all(output, USAGE);
             return end_as(alloc, Status::Usage);
         }
@@ -263,7 +268,7 @@ pub fn end_with<O: Sink>(alloc: Global, output: &mut O, fault: Fault) -> Ended
     ensures prints { O.told → Prints (O.state output.old) (O.state output.new) (fault_answer fault).printed }
     ensures faults { (O.state output.old).faults ≤ (O.state output.new).faults }
 {
-    // The status tells of the first fault, so it doesn't depend on whether its line could be printed.
+    // The result isn't used: the status is that of the first fault, whether or not its line could be printed.
     let _ = write_all(output, fault.line().as_str().as_bytes());
     end_as(alloc, fault.status())
 }
@@ -309,6 +314,8 @@ fn answer<D: Disk, C: Clock, I: Source>(
         → OpensToApplied (D.state disk.old) (D.state disk.new) (C.coming clock.old) (I.state input.old).left }
     ensures mirror { LeavesAlone (D.state disk.old) (D.state disk.new) Mirror }
     ensures no_disk { ¬ UsesDisk command → disk.new ≡ disk.old }
+    ensures no_clock { ¬ UsesClock command → clock.new ≡ clock.old }
+    ensures no_input { ¬ ReadsInput command → input.new ≡ input.old }
 {
     match command {
         Command::Init {
@@ -325,8 +332,10 @@ fn answer<D: Disk, C: Clock, I: Source>(
             Show::Feed => store::show_feed(alloc, disk),
             Show::Archive(number) => store::show_archive(alloc, number, disk),
             Show::Member(number) => store::show_member(alloc, number, disk),
+            // `run` calls `show_pile` itself.
             Show::Pile => unreachable!(),
         },
+        // `run` calls the functions of these commands itself.
         Command::Serve { .. } | Command::Mirror { .. } | Command::Audit | Command::Drill { .. } =>
             unreachable!(),
     }

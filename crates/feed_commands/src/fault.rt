@@ -32,11 +32,11 @@ pub enum Fault {
         needed: u64,
         capacity: u64,
     },
-    /// The input is refused, or the store has no such document.
+    /// The input is refused, or the store doesn't have the document that the words name.
     Refused(Refusal),
 }
 
-/// What is wrong with a store.
+/// Why the store of a disk can't be opened, made or read.
 #[derive(Clone, Copy, Debug, PartialEq, Eq)]
 pub enum BadStore {
     /// The disk has no store.
@@ -64,7 +64,7 @@ pub enum Refusal {
     BadPile { at: u64 },
     /// The input doesn't begin with a certificate: this line of it is the first that no certificate has there.
     BadCertificate { line: u32 },
-    /// The pile behind a certificate has more offers than are audited.
+    /// The pile after a certificate has more offers than are audited.
     TooManyOffers,
     /// The line is none of the command's.
     BadLine { line: u64 },

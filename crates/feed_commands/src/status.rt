@@ -10,7 +10,8 @@ pub enum Status {
     Usage,
     /// A document of the mirror is missing: 3.
     Incomplete,
-    /// The documents don't cover the certificate that is audited: 3, as for a mirror that isn't complete. No command ends with both.
+    /// The documents don't cover the certificate that is audited: 3, as for a mirror that isn't complete. No command
+    /// ends with both.
     Rejected,
     /// A call on the disk failed: 4.
     DiskFault,
@@ -30,7 +31,8 @@ pub enum Status {
     BadInput,
     /// An area of the store has no room: 11.
     Full,
-    /// The rules of the feed refuse a line of the input, the store has no such document, or the mirror has another base: 12.
+    /// The rules of the feed refuse a line of the input, the store doesn't have the document that the words name, or
+    /// the mirror has another base: 12.
     Refused,
 }
 

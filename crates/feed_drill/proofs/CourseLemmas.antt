@@ -9,7 +9,9 @@ use Rattle.atom_values.specs.Entry.{EntryValue, titled}
 use Rattle.feed_drill.specs.Draws.{drawn}
 use Rattle.feed_drill.specs.Drilled.{Drilled, after_turn, decided}
 use Rattle.feed_drill.specs.Effects.{CourseValue, IsDone, IsTurned, ask_of, course_of, noted, stops_after}
-use Rattle.feed_drill.specs.Turn.{Asked, asked, clock_at, has_crash, live_numbers, state_past, title_of, turn_of}
+use Rattle.feed_drill.specs.Events.{IsRequested, moment_of}
+use Rattle.feed_drill.specs.Turn.{Asked, Turn, asked, clock_at, crash_after, has_crash, live_numbers, state_past}
+use Rattle.feed_drill.specs.Turn.{title_of, turn_of}
 use Rattle.feed_drill.specs.declared.wish.Wish.{Wish}
 use Rattle.feed_drill.specs.declared.wish.Wish.TheVariants as variant
 use Rattle.feed_drill.proofs.MemberLemmas.{create-is, delete-is, is_live, live-add, live-change, live-remove, made-add}
@@ -90,15 +92,18 @@ noted-at head history turn now state (variant.Delete number) operation decided =
 pub record StopsAt (turn state : ℕ) (stop : Option Stop) (next : ℕ) : Type 0 where
   pub counts : (stops : ℕ) → with_stop stop stops ≡ stops_after turn stops
   pub next_is : next ≡ (if has_crash turn then drawn (drawn state) else state)
+  pub stop_is : stop ≡ (if has_crash turn then Some (crash_after state) else None)
 
 pub stops-some : (turn state next : ℕ) (stop : Option Stop) (crash : Stop) → turn % 7 ≡ 0 → stop ≡ Some crash
-    → next ≡ drawn (drawn state) → StopsAt turn state stop next
-stops-some turn state next stop crash seventh is after =
+    → crash ≡ crash_after state → next ≡ drawn (drawn state) → StopsAt turn state stop next
+stops-some turn state next stop crash seventh is drawn_is after =
     let test : has_crash turn ≡ true = grind (arith, nat_tests) in
     record {
       counts = λ stops. ap (λ (s : Option Stop). with_stop s stops) is
           ∙ ap (λ (b : Bool). if b then counted stops else stops) (sym test);
       next_is = after ∙ ap (λ (b : Bool). if b then drawn (drawn state) else state) (sym test);
+      stop_is = is ∙ ap (λ (s : Stop). Some s) drawn_is
+          ∙ ap (λ (b : Bool). if b then Some (crash_after state) else None) (sym test);
     }
 
 pub stops-none : (turn state next : ℕ) (stop : Option Stop) → turn % 7 ≢ 0 → stop ≡ None → next ≡ state
@@ -109,16 +114,30 @@ stops-none turn state next stop other is after =
       counts = λ stops. ap (λ (s : Option Stop). with_stop s stops) is
           ∙ ap (λ (b : Bool). if b then counted stops else stops) (sym test);
       next_is = after ∙ ap (λ (b : Bool). if b then drawn (drawn state) else state) (sym test);
+      stop_is = is ∙ ap (λ (b : Bool). if b then Some (crash_after state) else None) (sym test);
     }
 
 -- Turns
+
+turn-is : (live : List ℕ) (turn state : ℕ) (ask : Ask) (next : ℕ) (stop : Option Stop)
+    → asked live turn state ≡ record { ask = ask; state = next }
+    → stop ≡ (if has_crash turn then Some (crash_after next) else None)
+    → ◌≡◌ {A = Turn} (record { ask = ask; now = clock_at turn; crash = stop }) (turn_of live turn state)
+unfolding turn_of
+turn-is live turn state ask next stop e is =
+    ap (λ (s : Option Stop). record { ask = ask; now = clock_at turn; crash = s }) is
+    ∙ ap (λ (a : Asked). record {
+      ask = a.ask;
+      now = clock_at turn;
+      crash = if has_crash turn then Some (crash_after a.state) else None;
+    }) (sym e)
 
 turn-ask : (live : List ℕ) (turn state : ℕ) (ask : Ask) (next : ℕ)
     → asked live turn state ≡ record { ask = ask; state = next } → (turn_of live turn state).ask ≡ ask
 unfolding turn_of
 turn-ask live turn state ask next e = ap (λ (a : Asked). a.ask) e
 
-turn-now : (live : List ℕ) (turn state : ℕ) → (turn_of live turn state).now ≡ clock_at turn
+pub turn-now : (live : List ℕ) (turn state : ℕ) → (turn_of live turn state).now ≡ clock_at turn
 unfolding turn_of
 turn-now live turn state = refl
 
@@ -151,7 +170,7 @@ pub turned : (old new : LifeValue) (course after : CourseValue) (head : HeadValu
     → course ≡ course_of before → suc (length before.history) ≡ turn
     → asked course.live turn course.state ≡ record { ask = ask_of turn wish; state = next }
     → StopsAt turn next stop last
-    → IsDone old new (ask_of turn wish) (clock_at turn) (with_stop stop old.stops) before.history held
+    → IsDone old new turn (ask_of turn wish) (clock_at turn) stop before.history held
     → after ≡ noted (record course { state = last }) wish → IsTurned old new after head turn before held
 turned old new course after head turn before held wish next last stop same is count asks stops done notes =
     let operation = done.gained.operation in
@@ -180,6 +199,19 @@ turned old new course after head turn before held wish next last stop same is co
         sealed = new.sealed;
         stops = n;
       }) (stops.counts old.stops) done.rest;
+      kept = done.kept;
+      requested = subst (λ (l : List Op). IsRequested head.name.base turn (turn_of
+          (live_numbers before.history) turn before.state) done.kept (moment_of old before.history held)
+          (moment_of new l held)) later
+          (subst (λ (t : Turn). IsRequested head.name.base turn t done.kept (moment_of old before.history held)
+          (moment_of new done.later held))
+          (turn-is (live_numbers before.history) turn before.state (ask_of turn wish) next stop asks_before
+          stops.stop_is)
+          (subst (λ (h : HeadValue). IsRequested h.name.base turn (record {
+            ask = ask_of turn wish;
+            now = clock_at turn;
+            crash = stop;
+          }) done.kept (moment_of old before.history held) (moment_of new done.later held)) same done.requested));
     }
   where
     more : length before.history + 1 ≡ turn

@@ -1,23 +1,27 @@
 -- A life that has the turns of a drill.
 use Rattle.std.proofs.Common.{◌≡◌, ◌≢◌, ℕ, zero, suc, ◌+◌, ◌%◌, ◌/◌, ◌^◌, ◌<◌, ◌≤◌, List, [], ◌∷◌, ◌++◌}
-use Rattle.std.proofs.Common.{Bool, true, false, map, length, refl, sym, ap, subst, ◌∙◌, arith}
+use Rattle.std.proofs.Common.{Bool, true, false, map, length, length-append, refl, sym, ap, subst, ◌∙◌, ◌-◌, arith}
 use Rattle.std.specs.Prelude.{All, filter, if◌then◌else◌, is_some}
 use Rattle.std.specs.List.{range_with_len}
 use Rattle.std.proofs.Math.Nat.{min-eq_left}
 use Rattle.std.proofs.lemmas.Bool.Decides.{nat_tests}
-use Rattle.std.proofs.lemmas.List.{append-nil, map-append, take-append-le}
+use Rattle.std.proofs.lemmas.List.{append-nil, length-map, map-append, take-append-le}
 use Rattle.std.proofs.lemmas.List.Elements.{All-filter}
 use Rattle.std.proofs.lemmas.List.FromFn.{get_or-range_with_len, length-range_with_len}
 use Rattle.atom_values.specs.Counts.{counted}
 use Rattle.atom_writer.specs.Pieces.{text}
 use Rattle.feed_disk.specs.Memory.{MemoryValue}
-use Rattle.feed_drill.specs.Drilled.{Drilled, IsDrilledTo, after_turn, drilled, has_offer, operations, sent_doc}
-use Rattle.feed_drill.specs.Drilled.{sent_docs, sent_versions}
+use Rattle.feed_drill.specs.Drilled.{Drilled, HadTurns, IsDrilledTo, after_turn, drilled, operations, sent_doc}
+use Rattle.feed_drill.specs.Drilled.{sent_docs, sent_versions, turn_at}
 use Rattle.feed_drill.specs.Effects.{CourseValue, IsFed, IsLived, IsReached, IsTurned, course_of, offer_stops_after}
 use Rattle.feed_drill.specs.Effects.{stops_after}
+use Rattle.feed_drill.specs.Events.{Goes, IsTurnOf, Moment, moment_of, offer_events, shown_events}
 use Rattle.feed_drill.specs.Requests.{has_offer_crash}
-use Rattle.feed_drill.specs.Turn.{has_crash, live_numbers}
+use Rattle.feed_drill.specs.Turn.{Turn, clock_at, has_crash, has_offer, live_numbers, turn_of}
+use Rattle.feed_drill.proofs.CourseLemmas.{turn-now}
 use Rattle.feed_drill.proofs.MemberLemmas.{filter-more}
+use Rattle.feed_drill.proofs.PathLemmas.{moment-is, no-offers, some-offers, turn-at-more, turn-had}
+use Rattle.feed_life.specs.Events.{IsBorn}
 use Rattle.feed_life.specs.Life.{LifeValue, Lives}
 use Rattle.feed_life.specs.declared.sent.SentDoc.{SentDoc}
 use Rattle.member_rules.specs.Documents.{subscription}
@@ -61,6 +65,29 @@ versions-more : (count : ℕ)
     → sent_versions (suc count) ≡ sent_versions count ++ (if has_offer (suc count) then suc count ∷ [] else [])
 unfolding sent_versions
 versions-more count = filter-more has_offer count
+
+no-versions : length (sent_versions 0) ≡ 0
+unfolding sent_versions
+no-versions = refl
+
+-- each fifth turn sent one document
+length-versions : (count : ℕ) → length (sent_versions count) ≡ count / 5
+length-versions zero = no-versions
+length-versions (suc count) =
+    ap length (versions-more count) ∙ by (has_offer (suc count)) refl (length-versions count)
+  where
+    by : (fifth : Bool) → fifth ≡ has_offer (suc count) → length (sent_versions count) ≡ count / 5
+        → length (sent_versions count ++ (if fifth then suc count ∷ [] else [])) ≡ suc count / 5
+    by true is before =
+        let rest : suc count % 5 ≡ 0 = grind (arith, nat_tests) in
+        length-append (sent_versions count) (suc count ∷ []) ∙ omega (arith, rest, before)
+    by false is before =
+        let some : 0 < suc count % 5 = some-rest (suc count % 5) (λ none.
+        let test : has_offer (suc count) ≡ true = grind (arith, nat_tests) in cc) in
+        ap length (append-nil (sent_versions count)) ∙ omega (arith, some, before)
+
+length-sent : (head : HeadValue) (history : List Op) (count : ℕ) → length (sent_docs head history count) ≡ count / 5
+length-sent head history count = length-map (sent_versions count) (sent_doc head history) ∙ length-versions count
 
 module _ (head : HeadValue) (history more : List Op) where
   -- documents of versions that are no later stay
@@ -150,7 +177,8 @@ no-crash turn other =
     let rest : 0 < turn % 15 = omega (arith, some) in grind (arith, nat_tests)
 
 module _ (head : HeadValue) (seed count : ℕ) (old between : LifeValue) (course : CourseValue) (kept : List KeptValue)
-    (is : IsDrilledTo head seed count old kept) (few : suc count < 2 ^ 32)
+    (is : IsDrilledTo head seed count old kept)
+    (had : HadTurns head seed count (moment_of old (operations head seed count) (kept ∷ []))) (few : suc count < 2 ^ 32)
     (turned : IsTurned old between course head (suc count) (drilled head seed count) (kept ∷ [])) where
   abbrev history : List Op
   history = operations head seed count
@@ -179,10 +207,44 @@ module _ (head : HeadValue) (seed count : ℕ) (old between : LifeValue) (course
   sent-between : between.sent ≡ sent_docs head history count
   sent-between = ap (λ (l : LifeValue). l.sent) turned.rest ∙ is.sent
 
+  abbrev turn : Turn
+  turn = turn_of (live_numbers history) (suc count) (drilled head seed count).state
+
+  -- the turn's offers come behind its requests
+  had-more : (life : LifeValue) (held : List KeptValue)
+      → Goes (moment_of between later (kept ∷ [])) (offer_events head.name.base (suc count) (clock_at (suc count)))
+      (moment_of life later (held ∷ []))
+      → HadTurns head seed (suc count) (moment_of life later (held ∷ []))
+  had-more life held offers =
+      let before : Moment = moment_of old history (kept ∷ []) in
+      let after : Moment = moment_of life later (held ∷ []) in
+      let one : IsTurnOf head.name.base (suc count) turn turned.kept before after
+      = turn-had head.name.base (suc count) turn turned.kept before (moment_of between later (kept ∷ [])) after
+      turned.requested
+      (subst (λ (n : ℕ). Goes (moment_of between later (kept ∷ [])) (offer_events head.name.base (suc count) n) after)
+      (sym (turn-now (live_numbers history) (suc count) (drilled head seed count).state)) offers) in
+      record {
+        keeps = turned.kept ∷ had.keeps;
+        each = ap suc had.each;
+        begun = had.begun;
+        born = had.born;
+        turns = (
+          before,
+          had.turns,
+          subst (λ (n : ℕ). IsTurnOf head.name.base (suc n) (turn_at head seed (suc n)) turned.kept before after)
+              (sym had.each)
+              (subst (λ (t : Turn). IsTurnOf head.name.base (suc count) t turned.kept before after)
+              (sym (turn-at-more head seed count)) one),
+        );
+      }
+
   lived-by : (life : LifeValue) (held : List KeptValue) → life.head ≡ head → Lives life later (held ∷ [])
       → life.stops ≡ suc count / 7 → life.mirror_stops ≡ suc count / 15
-      → life.sent ≡ sent_docs head later (suc count) → IsReached head seed (suc count) life course
-  lived-by life held head_is lives stops mirror_stops sent =
+      → life.sent ≡ sent_docs head later (suc count)
+      → Goes (moment_of between later (kept ∷ [])) (offer_events head.name.base (suc count) (clock_at (suc count)))
+      (moment_of life later (held ∷ []))
+      → IsReached head seed (suc count) life course
+  lived-by life held head_is lives stops mirror_stops sent offers =
       let same = sym (operations-more head seed count) in
       record {
         lived = record {
@@ -195,6 +257,8 @@ module _ (head : HeadValue) (seed count : ℕ) (old between : LifeValue) (course
             mirror_stops = mirror_stops;
             sent = sent ∙ ap (λ (l : List Op). sent_docs head l (suc count)) same;
           };
+          had = subst (λ (l : List Op). HadTurns head seed (suc count) (moment_of life l (held ∷ []))) same
+              (had-more life held offers);
         };
         course_is = course-is;
       }
@@ -205,8 +269,16 @@ module _ (head : HeadValue) (seed count : ℕ) (old between : LifeValue) (course
       (ap (λ (b : Bool). if b then counted between.mirror_stops else between.mirror_stops)
       (sym (no-crash (suc count) other)) ∙ mirror-stops-is)
       (sent-between ∙ sym (docs-none head history _ count within (no-offer (suc count) other)))
+      (no-offers head.name.base (suc count) (clock_at (suc count)) (moment_of between later (kept ∷ []))
+      (no-offer (suc count) other))
 
-  offer-reached : (new : LifeValue) → suc count % 5 ≡ 0 → IsFed between new (suc count) later
+  -- the document that was sent last is that of the turn
+  place-is : suc count % 5 ≡ 0 → length between.sent ≡ suc count / 5 - 1
+  place-is fifth =
+      let sent : length between.sent ≡ count / 5 = ap length sent-between ∙ length-sent head history count in
+      omega (arith, fifth, sent)
+
+  offer-reached : (new : LifeValue) → suc count % 5 ≡ 0 → IsFed between new (suc count) later kept
       → IsReached head seed (suc count) new course
   offer-reached new fifth fed =
       let head_is : new.head ≡ head = ap (λ (l : LifeValue). l.head) fed.rest ∙ head-between in
@@ -217,6 +289,14 @@ module _ (head : HeadValue) (seed count : ℕ) (old between : LifeValue) (course
       ∙ ap (λ (h : HeadValue). sent_docs head history count ++ sent_doc h later (length later) ∷ []) head-between
       ∙ ap (λ (n : ℕ). sent_docs head history count ++ sent_doc head later n ∷ []) turned.whole
       ∙ sym (docs-one head history _ count within (an-offer (suc count) fifth)))
+      (some-offers head.name.base (suc count) (clock_at (suc count)) (moment_of between later (kept ∷ []))
+      (moment_of new later (fed.kept ∷ [])) (an-offer (suc count) fifth)
+      (subst (λ (n : ℕ). Goes (moment_of between later (kept ∷ []))
+      (shown_events head.name.base (suc count) (clock_at (suc count)) n) (moment_of new later (fed.kept ∷ [])))
+      (place-is fifth)
+      (subst (λ (h : HeadValue). Goes (moment_of between later (kept ∷ []))
+      (shown_events h.name.base (suc count) (clock_at (suc count)) (length between.sent))
+      (moment_of new later (fed.kept ∷ []))) head-between fed.goes)))
 
 -- one more turn
 pub have-reached : (head : HeadValue) (seed count turn : ℕ) (old between : LifeValue) (before course : CourseValue)
@@ -229,7 +309,7 @@ have-reached head seed count turn old between before course reached next few tur
     let made = turns (drilled head seed count) (reached.lived.kept ∷ []) is.lives is.head_is reached.course_is
     (ap suc is.whole ∙ next) in
     subst (λ (n : ℕ). IsReached head seed n between course) next
-    (turn-reached head seed count old between course reached.lived.kept is (omega (arith, next, few))
+    (turn-reached head seed count old between course reached.lived.kept is reached.lived.had (omega (arith, next, few))
     (subst (λ (n : ℕ). IsTurned old between course head n (drilled head seed count) (reached.lived.kept ∷ []))
     (sym next)
     made)
@@ -242,7 +322,7 @@ pub feed-reached : (head : HeadValue) (seed count turn : ℕ) (old between new :
     → before ≡ course_of drill → suc (length drill.history) ≡ turn → IsTurned old between course head turn drill held)
     → turn % 5 ≡ 0
     → ((history : List Op) (kept : List KeptValue) → Lives between history (kept ∷ []) → between.head ≡ head
-    → IsFed between new turn history)
+    → IsFed between new turn history kept)
     → IsReached head seed turn new course
 feed-reached head seed count turn old between new before course reached next few turns fifth feeds =
     let is = reached.lived.drilled in
@@ -254,9 +334,10 @@ feed-reached head seed count turn old between new before course reached next few
     let fed = feeds (after_turn head (suc count) (drilled head seed count)).history reached.lived.kept turned.lives
     (ap (λ (l : LifeValue). l.head) turned.rest ∙ is.head_is) in
     subst (λ (n : ℕ). IsReached head seed n new course) next
-    (offer-reached head seed count old between course reached.lived.kept is (omega (arith, next, few)) turned new
-    (ap (λ (n : ℕ). n % 5) next ∙ fifth)
-    (subst (λ (n : ℕ). IsFed between new n (after_turn head (suc count) (drilled head seed count)).history)
+    (offer-reached head seed count old between course reached.lived.kept is reached.lived.had (omega (arith, next, few))
+    turned new (ap (λ (n : ℕ). n % 5) next ∙ fifth)
+    (subst (λ (n : ℕ). IsFed between new n (after_turn head (suc count) (drilled head seed count)).history
+    reached.lived.kept)
     (sym next) fed))
 
 -- Before the first turn
@@ -275,21 +356,28 @@ sent-none : (head : HeadValue) (list : List Op) → sent_docs head list 0 ≡ []
 unfolding sent_versions
 sent-none head list = refl
 
-pub born-lived : (head : HeadValue) (seed : ℕ) (life : LifeValue) → life.head ≡ head → length life.mirrors ≡ 1
-    → Lives life [] (map (λ _. []) life.mirrors) → life.sent ≡ [] → (life.stops ≡ 0) × (life.mirror_stops ≡ 0)
-    → IsLived head seed 0 life
-born-lived head seed life head_is one lives sent stops =
+pub born-lived : (head : HeadValue) (seed : ℕ) (life : LifeValue) → IsBorn head 1 life → IsLived head seed 0 life
+born-lived head seed life born =
     let none : [] ≡ operations head seed 0 = sym (ap (λ (d : Drilled). d.history) (drilled-none head seed)) in
     record {
       kept = [];
       drilled = record {
-        head_is = head_is;
+        head_is = born.head_is;
         lives = subst (λ (l : List Op). Lives life l ([] ∷ [])) none
-            (subst (λ (h : List (List KeptValue)). Lives life [] h) (none-held life.mirrors one) lives);
+            (subst (λ (h : List (List KeptValue)). Lives life [] h) (none-held life.mirrors born.mirrors_are)
+            born.lives);
         whole = ap length (sym none);
-        stops = stops.0;
-        mirror_stops = stops.1;
-        sent = sent ∙ sym (sent-none head (operations head seed 0));
+        stops = born.stops.0;
+        mirror_stops = born.stops.1;
+        sent = born.sent ∙ sym (sent-none head (operations head seed 0));
+      };
+      had = record {
+        keeps = [];
+        each = refl;
+        begun = life;
+        born = born;
+        turns = moment-is life [] (operations head seed 0) (map (λ _. []) life.mirrors) ([] ∷ []) (sym none)
+            (sym (none-held life.mirrors born.mirrors_are));
       };
     }
 

@@ -1,23 +1,87 @@
 -- The end of a drill: the summary is made.
-use Rattle.std.proofs.Common.{◌≡◌, ℕ, List, [], ◌∷◌, Option, Some, length, take, refl, sym, ap}
-use Rattle.std.proofs.Common.{subst}
-use Rattle.std.proofs.Common.{◌∙◌}
+use Rattle.std.proofs.Common.{◌≡◌, inl, inr, ℕ, List, [], ◌∷◌, Option, Some, None, false, length, take, refl, sym, ap}
+use Rattle.std.proofs.Common.{subst, ◌∙◌, arith}
 use Rattle.std.specs.Prelude.{slice_get}
 use Rattle.std.proofs.Math.Seq.{take-length}
+use Rattle.document_server.specs.declared.line.Line.{Line}
 use Rattle.coverage_certificate.specs.Certificate.{CertificateValue}
 use Rattle.coverage_certificate.specs.Live.{live_digest_of}
 use Rattle.coverage_certificate.specs.Served.{served_certificate}
-use Rattle.feed_drill.specs.Drilled.{IsDrilled, IsDrilledTo, operations}
-use Rattle.feed_drill.specs.Effects.{IsLived}
+use Rattle.feed_drill.specs.Drilled.{IsDrilled, IsDrilledTo, drill_events, first_of, operations, turns_events}
+use Rattle.feed_drill.specs.Drilled.{walk_events}
+use Rattle.feed_drill.specs.Effects.{IsLived, IsWalked}
+use Rattle.feed_drill.specs.Events.{Goes, Moment, moment_of}
 use Rattle.feed_drill.specs.Summary.{SummaryValue, live_entries, summary_of}
+use Rattle.feed_drill.proofs.OfferLemmas.{one-mirror}
+use Rattle.feed_drill.proofs.PathLemmas.{goes-append, goes-lives, step-goes, turns-go}
+use Rattle.feed_life.specs.Events.{IsStep, StepsAnyMirror}
 use Rattle.feed_life.specs.Life.{LifeValue, Lives}
-use Rattle.feed_life.specs.Mirrors.{IsCertified}
+use Rattle.feed_life.specs.Mirrors.{IsCertified, IsWalk}
+use Rattle.feed_life.specs.declared.event.Event.TheVariants.{Walk}
 use Rattle.member_rules.specs.Fold.{live_count}
 use Rattle.member_rules.specs.Head.{HeadValue}
 use Rattle.member_rules.specs.Windows.{windows_of}
 use Rattle.member_rules.specs.declared.operation.Op.{Op}
 use Rattle.mirror_walk.specs.Holding.{KeptValue}
 use Rattle.mirror_walk.specs.declared.answer.Outcome.TheVariants.{Complete}
+
+-- The walk
+
+walk-done : (head : HeadValue) (seed count : ℕ) (old new : LifeValue) (line : Option Line)
+    (lived : IsLived head seed count old)
+    (step : IsStep old new (Walk 0 None) (operations head seed count) (lived.kept ∷ []) line) → new.lost ≡ false
+    → StepsAnyMirror old new (operations head seed count) step.later (lived.kept ∷ []) step.left 0 None
+    (IsWalk old.head (operations head seed count) None)
+    → IsWalked head seed count new
+walk-done head seed count old new line lived step alive (inl (few, nothing)) =
+    let one = one-mirror old.head (operations head seed count) old.mirrors lived.kept lived.drilled.lives.mirrors in
+    absurd (omega (arith, one, few))
+walk-done head seed count old new line lived step alive (inr steps) =
+    let history = operations head seed count in
+    let held = steps.changed.after in
+    let had = lived.had in
+    let turned : Moment = moment_of old history (lived.kept ∷ []) in
+    let last : Moment = moment_of new history (held ∷ []) in
+    let walked : Goes turned walk_events last
+    = step-goes old new (Walk 0 None) history (lived.kept ∷ []) line step history (held ∷ []) (sym steps.history_is)
+    (sym steps.changed.left_is) in
+    record {
+      kept = held;
+      drilled = record {
+        head_is = ap (λ (l : LifeValue). l.head) steps.stays ∙ lived.drilled.head_is;
+        lives = subst (λ (h : List (List KeptValue)). Lives new history h) steps.changed.left_is
+            (subst (λ (l : List Op). Lives new l step.left) steps.history_is step.lives);
+        whole = lived.drilled.whole;
+        stops = ap (λ (l : LifeValue). l.stops) steps.stays ∙ lived.drilled.stops;
+        mirror_stops = ap (λ (l : LifeValue). l.mirror_stops) steps.stays ∙ lived.drilled.mirror_stops;
+        sent = ap (λ (l : LifeValue). l.sent) steps.stays ∙ lived.drilled.sent;
+      };
+      had = record {
+        turned = turned;
+        turns = had;
+        last = last;
+        walked = walked;
+        life_is = refl;
+        lived = record {
+          begun = had.begun;
+          born = had.born;
+          lived = goes-lives (first_of had.begun) last (drill_events head seed had.keeps)
+              (goes-append (first_of had.begun) turned last (turns_events head seed had.keeps) walk_events
+              (turns-go head seed had.keeps (first_of had.begun) turned had.turns) walked);
+        };
+      };
+      alive = alive;
+    }
+
+pub walk-drilled : (head : HeadValue) (seed count : ℕ) (old new : LifeValue) (line : Option Line)
+    → ((history : List Op) (held : List (List KeptValue)) → Lives old history held
+    → IsStep old new (Walk 0 None) history held line) → new.lost ≡ false
+    → IsLived head seed count old → IsWalked head seed count new
+walk-drilled head seed count old new line stepped alive lived =
+    let step = stepped (operations head seed count) (lived.kept ∷ []) lived.drilled.lives in
+    walk-done head seed count old new line lived step alive step.steps.1
+
+-- The certificate
 
 -- the certificate of the mirror
 abbrev pub Certifies : LifeValue → CertificateValue → Type 0
@@ -35,7 +99,7 @@ certifies-found life found certificate is certified history held kept lives ther
     (certified history held kept lives there)
 
 module _ (head : HeadValue) (seed count : ℕ) (old new : LifeValue) (certificate : CertificateValue)
-    (lived : IsLived head seed count old) (certifies : Certifies old certificate)
+    (lived : IsWalked head seed count old) (certifies : Certifies old certificate)
     (lives : (history : List Op) (held : List (List KeptValue)) → Lives old history held → Lives new history held)
     (same : new ≡ record old { mirrors = new.mirrors }) (whole : certificate.version ≡ count) where
   abbrev history : List Op
@@ -82,6 +146,10 @@ module _ (head : HeadValue) (seed count : ℕ) (old new : LifeValue) (certificat
     drilled = later;
     complete = certified.0 ∙ ap (λ (n : ℕ). Complete n certificate.live_count) whole
         ∙ ap (λ (n : ℕ). Complete count n) count-is;
+    before = old;
+    had = lived.had;
+    same = same;
+    alive = ap (λ (l : LifeValue). l.lost) same ∙ lived.alive;
   }
 
   pub summary-is : (version archives stops mirror_stops : ℕ) → version ≡ new.version → archives ≡ new.sealed

@@ -4,6 +4,8 @@ pub mod WishLemmas
 pub mod RequestLemmas
 -- `ask`, `crash` and `show`: the outcome of a request
 pub mod OutcomeLemmas
+-- the events of a turn
+pub mod PathLemmas
 -- `ask`, `crash` and `make`
 pub mod TurnLemmas
 -- `have_turn`: the live members

@@ -1,5 +1,5 @@
 -- The outcomes of a drill's requests.
-use Rattle.std.proofs.Common.{◌≡◌, ◌≢◌, inl, inr, ℕ, Option, Some, None, Ok, refl, sym, ap, subst, ◌∙◌}
+use Rattle.std.proofs.Common.{◌≡◌, ◌≢◌, inl, inr, ℕ, List, ◌++◌, Option, Some, None, Ok, refl, sym, ap, subst, ◌∙◌}
 use Rattle.atom_values.specs.Entry.{DraftValue, titled}
 use Rattle.atom_writer.specs.Pieces.{text}
 use Rattle.atom_writer.specs.declared.doc.FeedName.{FeedName}
@@ -7,6 +7,7 @@ use Rattle.chain_links.specs.Address.{IsAddress, printed}
 use Rattle.chain_links.specs.declared.address.Address.{Address}
 use Rattle.chain_links.specs.declared.address.Address.TheVariants.{Feed, Member}
 use Rattle.chain_links.proofs.TargetLemmas.{target_of_address}
+use Rattle.document_server.specs.Answer.{added}
 use Rattle.document_server.specs.Reply.{IsAsked, IsAtAddress, IsOfState, IsOutcome, IsSent}
 use Rattle.document_server.specs.Reply.{Outcome, document_reply, done, done_reply, unchanged}
 use Rattle.entry_reader.specs.Spells.{Spells}
@@ -22,12 +23,24 @@ use Rattle.http_face.specs.declared.reply.Media.TheVariants as media
 use Rattle.http_face.specs.declared.reply.Reply.{Reply}
 use Rattle.member_rules.specs.Documents.{subscription}
 use Rattle.member_rules.specs.Fold.{state_of}
+use Rattle.member_rules.specs.Head.{HeadValue}
 use Rattle.member_rules.specs.declared.ask.Ask.{Ask}
 use Rattle.member_rules.specs.declared.ask.Ask.TheVariants as ask
 use Rattle.member_rules.specs.declared.operation.Op.{Op}
 use Rattle.member_rules.specs.declared.operation.Op.TheVariants.{Add, Change, Remove}
 use Rattle.member_rules.specs.declared.state.State.{State}
 use Rattle.member_rules.specs.declared.state.State.TheVariants as member
+
+-- the outcome of a request by a store with this head and this history, with the history and the reply after it
+pub record Comes (head : HeadValue) (request : RequestValue) (now : ℕ) (history later : List Op) (reply : Reply)
+    : Type 0 where
+  pub store : StoreValue
+  pub same_head : store.head ≡ head
+  pub same_history : store.history ≡ history
+  pub outcome : Outcome
+  pub is_outcome : IsOutcome store request now outcome
+  pub history_is : later ≡ history ++ added outcome.adds
+  pub reply_is : reply ≡ outcome.reply
 
 -- the ask became this operation, which was done
 pub record Does (store : StoreValue) (ask : Ask) (now : ℕ) (outcome : Outcome) (operation : Op) : Type 0 where

@@ -1,6 +1,7 @@
 pub mod Draws
 pub mod Turn
-pub mod Drilled
 pub mod Requests
+pub mod Events
+pub mod Drilled
 pub mod Summary
 pub mod Effects

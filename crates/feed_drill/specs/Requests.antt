@@ -4,8 +4,8 @@ use Rattle.std.specs.Prelude.{codes}
 use Rattle.chain_links.specs.Address.{printed}
 use Rattle.chain_links.specs.declared.address.Address.TheVariants.{Feed, Member}
 use Rattle.feed_disk.specs.declared.choice.Choice.TheVariants.{Old}
-use Rattle.feed_drill.specs.Drilled.{has_offer}
-use Rattle.feed_drill.specs.Turn.{Crash, Turn, title_of}
+use Rattle.feed_drill.specs.Turn.{title_of}
+use Rattle.feed_life.specs.declared.event.Stop.{Stop}
 use Rattle.http_face.specs.Request.{RequestValue}
 use Rattle.http_face.specs.declared.request.Verb.TheVariants.{Get, Post, Put, Delete}
 use Rattle.member_rules.specs.declared.ask.Ask.{Ask}
@@ -44,20 +44,24 @@ request_of base turn (ask.Delete number) = record {
 unfoldable pub feed_request : List ℕ → RequestValue
 feed_request base = record { verb = Get; target = printed base Feed; media = None; body = [] }
 
--- The crashes of a turn's requests, in order. A request whose crash left the history without its operation is made
--- again without a crash.
-abbrev pub request_crashes : Turn → Bool → List (Option Crash)
-request_crashes turn true = turn.crash ∷ []
-request_crashes turn false = turn.crash ∷ None ∷ []
+-- A request whose crash left the history without its operation is made again without a crash. `kept` says whether the
+-- operation outlived the crash.
+abbrev pub request_again : Option Stop → Bool → List (Option Stop)
+request_again None kept = []
+request_again (Some crash) true = []
+request_again (Some crash) false = None ∷ []
+
+-- the crashes of a turn's requests, in order
+abbrev pub request_crashes : Option Stop → Bool → List (Option Stop)
+request_crashes crash kept = crash ∷ request_again crash kept
 
 -- each third offer has a crash within its first device call
 abbrev pub has_offer_crash : ℕ → Bool
 has_offer_crash turn = turn % 15 == 0
 
-abbrev pub offer_crash : Crash
+abbrev pub offer_crash : Stop
 offer_crash = record { call = 1; choice = Old }
 
 -- the crashes of a turn's offers, in order; an offer with a crash is made again
-unfoldable pub offer_crashes : ℕ → List (Option Crash)
-offer_crashes turn =
-    if has_offer_crash turn then Some offer_crash ∷ None ∷ [] else if has_offer turn then None ∷ [] else []
+abbrev pub offer_crashes : ℕ → List (Option Stop)
+offer_crashes turn = if has_offer_crash turn then Some offer_crash ∷ None ∷ [] else None ∷ []

@@ -6,6 +6,7 @@ use Rattle.atom_values.specs.Entry.{titled}
 use Rattle.feed_disk.specs.declared.choice.Choice.{Choice}
 use Rattle.feed_disk.specs.declared.choice.Choice.TheVariants.{Old, New, Fill}
 use Rattle.feed_drill.specs.Draws.{drawn, number_of}
+use Rattle.feed_life.specs.declared.event.Stop.{Stop}
 use Rattle.member_rules.specs.Fold.{fold_of, made}
 use Rattle.member_rules.specs.declared.ask.Ask.{Ask}
 use Rattle.member_rules.specs.declared.ask.Ask.TheVariants.{Create, Replace, Delete}
@@ -49,11 +50,6 @@ asked live turn state =
 
 -- Crashes
 
--- a crash within a request or an offer: the device call, counted from 1, and what unsynced bytes become
-pub record Crash : Type 0 where
-  pub call : ℕ
-  pub choice : Choice
-
 -- each seventh request has a crash
 abbrev pub has_crash : ℕ → Bool
 has_crash turn = turn % 7 == 0
@@ -62,10 +58,14 @@ abbrev pub choice_by : ℕ → Choice
 choice_by d = if d % 3 == 0 then Old else if d % 3 == 1 then New else Fill 165
 
 -- the crash by two draws after this state
-unfoldable pub crash_after : ℕ → Crash
+unfoldable pub crash_after : ℕ → Stop
 crash_after state =
     let first = drawn state in
     record { call = 1 + number_of first % 4; choice = choice_by (number_of (drawn first)) }
+
+-- after each fifth turn the feed's document is asked for, and offered to the mirror
+abbrev pub has_offer : ℕ → Bool
+has_offer turn = turn % 5 == 0
 
 -- Turns
 
@@ -73,7 +73,7 @@ crash_after state =
 pub record Turn : Type 0 where
   pub ask : Ask
   pub now : ℕ
-  pub crash : Option Crash
+  pub crash : Option Stop
 
 abbrev pub clock_at : ℕ → ℕ
 clock_at turn = 1_700_000_000_000 + 1_000 * turn

@@ -1,8 +1,11 @@
-ghost use Rattle.std.specs.Prelude.{◌≡◌, ◌<◌, ◌∷◌, [], ℕ, List, IfOk, OnOk, length};
+ghost use Rattle.std.specs.Prelude.{◌≡◌, ◌<◌, ◌∷◌, [], ℕ, suc, List, IfOk, None, OnOk, Some, length};
 ghost use Rattle.atom_values.specs.Counts.{counted};
 ghost use Rattle.feed_drill.specs.Effects.{IsFed, IsOffered, IsShownFeed};
+ghost use Rattle.feed_drill.specs.Requests.{offer_crash};
+ghost use Rattle.feed_drill.specs.Turn.{clock_at};
 ghost use Rattle.feed_life.specs.Events.{with_stop};
 ghost use Rattle.feed_life.specs.Life.{Lives};
+ghost use Rattle.feed_life.specs.declared.event.Event.TheVariants.{Give};
 ghost use Rattle.member_rules.specs.declared.operation.Op.{Op as Operation};
 ghost use Rattle.mirror_walk.specs.Holding.{KeptValue};
 
@@ -18,7 +21,7 @@ use std::alloc::Global;
 fn show(alloc: Global, life: &mut Life, head: &Head, turn: u32) -> Result<(), NoMemory>
     ensures { OnOk result ((history : List Operation) (held : List (List KeptValue))
         → Lives life.old history held → life.old.head ≡ head.now
-        → IsShownFeed life.old life.new history held) }
+        → IsShownFeed life.old life.new (clock_at turn) history held) }
 {
     let request = show_request(alloc, &head.name.base)?;
     life.step(Event::Ask {
@@ -33,7 +36,8 @@ fn show(alloc: Global, life: &mut Life, head: &Head, turn: u32) -> Result<(), No
 fn offer(life: &mut Life, sent: u32, stop: Option<Stop>) -> Result<(), NoMemory>
     ensures { OnOk result ((history : List Operation) (kept : List KeptValue)
         → Lives life.old history (kept ∷ []) → sent < length life.old.sent
-        → IsOffered life.old life.new history (with_stop stop life.old.mirror_stops)) }
+        → IsOffered life.old life.new history kept (with_stop stop life.old.mirror_stops)
+        (Give 0 sent stop ∷ [])) }
 {
     life.step(Event::Give {
         mirror: 0,
@@ -45,7 +49,7 @@ fn offer(life: &mut Life, sent: u32, stop: Option<Stop>) -> Result<(), NoMemory>
 
 /// The place of the document that was sent last.
 fn last_sent(life: &Life) -> Result<u32, NoMemory>
-    ensures { IfOk result (λ sent. sent < length life.now.sent) }
+    ensures { IfOk result (λ sent. suc sent ≡ length life.now.sent) }
 {
     let Some(last) = life.sent().len().checked_sub(1) else {
         return Err(NoMemory);
@@ -58,7 +62,8 @@ fn last_sent(life: &Life) -> Result<u32, NoMemory>
 fn offer_again(life: &mut Life, sent: u32) -> Result<(), NoMemory>
     ensures { OnOk result ((history : List Operation) (kept : List KeptValue)
         → Lives life.old history (kept ∷ []) → sent < length life.old.sent
-        → IsOffered life.old life.new history (counted life.old.mirror_stops)) }
+        → IsOffered life.old life.new history kept (counted life.old.mirror_stops)
+        (Give 0 sent (Some offer_crash) ∷ Give 0 sent None ∷ [])) }
 {
     let stop = Stop {
         call: 1,
@@ -77,7 +82,7 @@ pub(crate) fn feed_mirror(
 ) -> Result<(), NoMemory>
     ensures { OnOk result ((history : List Operation) (kept : List KeptValue)
         → Lives life.old history (kept ∷ []) → life.old.head ≡ head.now
-        → IsFed life.old life.new turn history) }
+        → IsFed life.old life.new turn history kept) }
 {
     show(alloc, life, head, turn)?;
     let last = last_sent(life)?;

@@ -1,6 +1,6 @@
 ghost use Rattle.std.specs.Prelude.{◌≡◌, ◌≤◌, All, IfOk, OnOk, ℕ, suc};
 ghost use Rattle.feed_drill.specs.Drilled.{IsDrilled, operations};
-ghost use Rattle.feed_drill.specs.Effects.{IsLived, IsReached};
+ghost use Rattle.feed_drill.specs.Effects.{IsLived, IsReached, IsWalked};
 ghost use Rattle.feed_drill.specs.Summary.{summary_of};
 ghost use Rattle.member_rules.specs.Head.{HeadValue};
 
@@ -53,7 +53,7 @@ fn have_turns(
 /// The mirror walks over the documents of the store.
 fn walk(life: &mut Life) -> Result<(), NoMemory>
     ensures { OnOk result ((head : HeadValue) (seed count : ℕ) → IsLived head seed count life.old
-        → IsLived head seed count life.new) }
+        → IsWalked head seed count life.new) }
 {
     life.step(Event::Walk {
         mirror: 0,
@@ -64,7 +64,7 @@ fn walk(life: &mut Life) -> Result<(), NoMemory>
 
 /// The summary of a life that had `count` turns. Its values are those of the life and of its mirror's certificate.
 fn summarize(life: &mut Life, head: &Head, seed: u64, count: u32) -> Result<Summary, NoMemory>
-    requires { IsLived head.now seed count life.old }
+    requires { IsWalked head.now seed count life.old }
     ensures drilled { OnOk result (IsDrilled head.now seed count life.new) }
     ensures summary { IfOk result (λ summary.
         summary ≡ summary_of head.now (operations head.now seed count) count) }
@@ -90,9 +90,9 @@ fn summarize(life: &mut Life, head: &Head, seed: u64, count: u32) -> Result<Summ
 }
 
 /// Has a drill: a life of a feed with this head and of one mirror, with the turns 1 to `count` that the seed gives. The
-/// mirror then walks.
+/// mirror then walks. The life goes through the events of `drill_events`, in order.
 ///
-/// `NoMemory`: memory ran out, or an area of a disk is full.
+/// `NoMemory`: memory ran out, or an area of a disk is full. No clause says that there is no other cause.
 pub fn drill(alloc: Global, head: &Head, seed: u64, count: u32) -> Result<Drill, NoMemory>
     ensures drilled { IfOk result (λ drill. IsDrilled head.now seed count drill.life) }
     ensures summary { IfOk result (λ drill.

@@ -51,7 +51,9 @@ impl Model for Summary {
 /// A life that had a drill.
 #[derive(Debug, Drop)]
 pub struct Drill {
+    /// The life, after the certificate of its mirror was made.
     pub life: Life,
+    /// The numbers of that life.
     pub summary: Summary,
 }
 

@@ -1,8 +1,7 @@
-ghost use Rattle.std.specs.Prelude.{◌≡◌, ◌≤◌, ℕ, suc, All, List, Option, OnOk, length};
+ghost use Rattle.std.specs.Prelude.{◌≡◌, ◌≤◌, ℕ, suc, All, List, None, OnOk, length};
 ghost use Rattle.feed_drill.specs.Drilled.{Drilled};
 ghost use Rattle.feed_drill.specs.Effects.{IsCrashed, IsDone, IsTurned, IsWish, ask_of, course_of};
 ghost use Rattle.feed_drill.specs.Turn.{clock_at};
-ghost use Rattle.feed_life.specs.Events.{with_stop};
 ghost use Rattle.feed_life.specs.Life.{Lives};
 ghost use Rattle.member_rules.specs.declared.operation.Op.{Op as Operation};
 ghost use Rattle.mirror_walk.specs.Holding.{KeptValue};
@@ -27,7 +26,7 @@ fn ask(alloc: Global, life: &mut Life, head: &Head, turn: u32, wish: Wish) -> Re
     requires { IsWish wish }
     ensures { OnOk result ((history : List Operation) (held : List (List KeptValue))
         → Lives life.old history held → life.old.head ≡ head.now → suc (length history) ≡ turn
-        → IsDone life.old life.new (ask_of turn wish) (clock_at turn) life.old.stops history held) }
+        → IsDone life.old life.new turn (ask_of turn wish) (clock_at turn) None history held) }
 {
     let request = wish_request(alloc, &head.name.base, turn, wish)?;
     life.step(Event::Ask {
@@ -54,7 +53,7 @@ fn crash(
     requires { IsWish wish }
     ensures { OnOk result ((history : List Operation) (held : List (List KeptValue))
         → Lives life.old history held → life.old.head ≡ head.now
-        → IsCrashed life.old life.new (ask_of turn wish) (clock_at turn) history held) }
+        → IsCrashed life.old life.new turn (ask_of turn wish) (clock_at turn) stop history held) }
 {
     let request = wish_request(alloc, &head.name.base, turn, wish)?;
     life.step(Event::Ask {
@@ -78,8 +77,7 @@ fn make(
     requires { IsWish wish }
     ensures { OnOk result ((history : List Operation) (held : List (List KeptValue))
         → Lives life.old history held → life.old.head ≡ head.now → suc (length history) ≡ turn
-        → IsDone life.old life.new (ask_of turn wish) (clock_at turn) (with_stop stop life.old.stops) history
-        held) }
+        → IsDone life.old life.new turn (ask_of turn wish) (clock_at turn) stop history held) }
 {
     if let Some(stop) = stop {
         crash(alloc, life, head, turn, wish, stop)?;

@@ -1,6 +1,6 @@
 ghost use Rattle.std.specs.Prelude.{◌≡◌, ◌≤◌, ℕ, All};
 ghost use Rattle.feed_drill.specs.Draws.{drawn};
-ghost use Rattle.feed_drill.specs.Effects.{IsWish, ask_of, stop_of};
+ghost use Rattle.feed_drill.specs.Effects.{IsWish, ask_of};
 ghost use Rattle.feed_drill.specs.Turn.{asked, crash_after};
 
 use crate::draws::Draws;
@@ -39,7 +39,7 @@ pub(crate) fn draw_wish(draws: &mut Draws, live: &[u32]) -> Wish
 
 /// Draws the crash within a turn's request.
 pub(crate) fn draw_stop(draws: &mut Draws) -> Stop
-    ensures stop { result ≡ stop_of (crash_after draws.old) }
+    ensures stop { result ≡ crash_after draws.old }
     ensures next { draws.new ≡ drawn (drawn draws.old) }
 {
     let call = 1 + draws.draw() % 4;

@@ -81,9 +81,9 @@ shown-at store head history request reply same_head same_history shown =
     (subst (λ (l : List Op). IsShown store.head l request (body_text reply.body)) same_history
     record { address = shown.address; named = shown.named; served = shown.served })
 
-module _ (head : HeadValue) (request : RequestValue) (now : ℕ) (history later : List Op) (reply : Reply)
-    (is_head : IsHead head) (lawful : IsLawful head history) (replied : IsReplied head request now history later reply)
-    (lawful_later : IsLawful head later) where
+module _ (head : HeadValue) (request : RequestValue) (now : ℕ) (history later : List Op) (before after : MemoryValue)
+    (reply : Reply) (is_head : IsHead head) (lawful : IsLawful head history)
+    (replied : IsReplied head request now history later before after reply) (lawful_later : IsLawful head later) where
   abbrev more : List Op
   more = history ++ added replied.outcome.adds
 
@@ -141,7 +141,7 @@ module _ (head : HeadValue) (request : RequestValue) (now : ℕ) (history later 
 -- a life whose fields are these
 asked-inside : (old : LifeValue) (request : RequestValue) (now : ℕ) (history : List Op) (held : List (List KeptValue))
     (disk : MemoryValue) (reply : Reply) (line : Line) (sealed : ℕ) (found : Option SentDoc) (sent : List SentDoc)
-    → Lives old history held → IsAnswered old.head request now history disk reply line sealed
+    → Lives old history held → IsAnswered old.head request now history old.disk disk reply line sealed
     → Sends old.head.name.base request reply line.version found → sent ≡ old.sent ++ docs_of found
     → CountsCalls old.disk disk line
     → IsAsked old (record old { disk = disk; sent = sent; version = line.version; sealed = sealed; lost = false }) request
@@ -163,11 +163,11 @@ asked-inside old request now history held disk reply line sealed found sent live
         sealed = given.sealed_is;
         sent =
             subst (All (IsSentBy old.head given.later)) (sym sent_is)
-            (docs-later old.head request now history given.later reply journal.is_head journal.lawful given.replied
-            lawful_later old.sent found lives.sent sends_later);
+            (docs-later old.head request now history given.later old.disk disk reply journal.is_head journal.lawful
+            given.replied lawful_later old.sent found lives.sent sends_later);
         mirrors =
-            disks-later old.head request now history given.later reply journal.is_head journal.lawful given.replied
-            lawful_later old.mirrors held lives.mirrors;
+            disks-later old.head request now history given.later old.disk disk reply journal.is_head journal.lawful
+            given.replied lawful_later old.mirrors held lives.mirrors;
       };
       status = given.status;
       version = given.version;
@@ -178,7 +178,8 @@ asked-inside old request now history held disk reply line sealed found sent live
 pub life-asked : (inside old : LifeValue) (request : RequestValue) (now : ℕ) (history : List Op)
     (held : List (List KeptValue)) (disk : MemoryValue) (reply : Reply) (line : Line) (sealed : ℕ)
     (found : Option SentDoc) (sent : List SentDoc) → inside ≡ old → Lives old history held
-    → (IsStoreOf inside.head history inside.disk → IsAnswered inside.head request now history disk reply line sealed)
+    → (IsStoreOf inside.head history inside.disk
+    → IsAnswered inside.head request now history inside.disk disk reply line sealed)
     → Sends inside.head.name.base request reply line.version found → sent ≡ inside.sent ++ docs_of found
     → CountsCalls inside.disk disk line
     → IsAsked old (record inside { disk = disk; sent = sent; version = line.version; sealed = sealed; lost = false })

@@ -1,5 +1,5 @@
 -- What a crash within a request leaves.
-use Rattle.std.proofs.Common.{◌≡◌, inl, inr, ℕ, ◌<◌, List, [], length, take, refl, sym}
+use Rattle.std.proofs.Common.{◌≡◌, inl, inr, ℕ, ◌+◌, ◌<◌, List, [], length, take, refl, sym, ◌∙◌, ap}
 use Rattle.std.proofs.Common.{subst, arith}
 use Rattle.std.specs.Prelude.{Result, Ok, Err, IfOk}
 use Rattle.std.proofs.Math.Seq.{take-length}
@@ -9,12 +9,12 @@ use Rattle.feed_disk.specs.AreaRecord.{MayLeave}
 use Rattle.feed_disk.specs.Disk.{PassesBy}
 use Rattle.feed_disk.specs.Image.{crashed_disk, image_in}
 use Rattle.feed_disk.specs.DiskLaw.{memory_is_disk}
-use Rattle.feed_disk.specs.Memory.{MemoryValue, fresh_disk, state_of}
+use Rattle.feed_disk.specs.Memory.{MemoryValue, fresh_disk, state_of, worked}
 use Rattle.feed_disk.specs.declared.area.Area.{Area}
 use Rattle.feed_disk.specs.declared.area.Area.TheVariants.{Journal, Sealed, Mirror}
 use Rattle.feed_disk.specs.declared.choice.Choice.{Choice}
 use Rattle.feed_life.specs.Life.{IsStoreOf}
-use Rattle.feed_life.specs.Asks.{IsCrash}
+use Rattle.feed_life.specs.Crashes.{IsCrash, IsImageAfter, clock_of}
 use Rattle.feed_recovery.specs.Opening.{Opens}
 use Rattle.feed_recovery.specs.Settled.{OpensPast, Settled}
 use Rattle.member_rules.specs.Head.{HeadValue}
@@ -82,6 +82,15 @@ crash-made (Ok left) m call choice is among = record {
       (image_in m call choice Mirror) []);
 }
 crash-made (Err fault) m call choice is among = tt
+
+-- A call that writes nothing leaves the image after the last call.
+pub image-last : {E : Type 0} (result : Result MemoryValue E) (before after : MemoryValue) (call : ℕ)
+    (choice : Choice) → call ≡ clock_of before + 1 → after ≡ worked before before.areas
+    → IfOk result (λ left. left ≡ crashed_disk after call choice) → IfOk result (IsImageAfter before choice)
+image-last (Ok left) before after call choice at is image =
+    image ∙ ap (λ (d : MemoryValue). crashed_disk d call choice) is
+    ∙ ap (λ (n : ℕ). crashed_disk before n choice) at
+image-last (Err fault) before after call choice at is image = tt
 
 -- within one call that changes nothing
 pub crash-last : {E : Type 0} (result : Result MemoryValue E) (before after : MemoryValue) (call : ℕ)

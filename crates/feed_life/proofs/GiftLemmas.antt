@@ -9,9 +9,9 @@ use Rattle.feed_disk.specs.Moments.{AlwaysLeaves, LeavesOnly}
 use Rattle.feed_disk.specs.declared.area.Area.TheVariants.{Mirror as MirrorArea}
 use Rattle.feed_disk.proofs.MomentLemmas.{leaves_weaker}
 use Rattle.feed_journal.specs.Laws.{BegunAreWhole}
-use Rattle.feed_life.specs.Asks.{IsCrash, IsCrashAt, IsCrashFrom}
+use Rattle.feed_life.specs.Crashes.{HasPayloadsOf, IsCrash, IsCrashAt, IsCrashFrom, IsImageAfter, IsImageBy, clock_of}
 use Rattle.feed_life.specs.Life.{IsSentBy}
-use Rattle.feed_life.specs.Mirrors.{IsOpenedMirror, LeavesGiven, LoadsGiven, RunsGift}
+use Rattle.feed_life.specs.Mirrors.{IsGivenInto, IsOpenedMirror, LeavesGiven, LoadsGiven, RunsGift}
 use Rattle.feed_life.specs.declared.event.Stop.{Stop}
 use Rattle.feed_life.specs.declared.sent.SentDoc.{SentDoc}
 use Rattle.feed_life.proofs.GivenLemmas.{after-few, after-loaded, after-served, held-after}
@@ -134,39 +134,56 @@ module _ (head : HeadValue) (history : List Op) (doc : SentDoc) (kept : List Kep
 
 -- the disk after a whole gift
 pub gift-left : (head : HeadValue) (history : List Op) (doc : SentDoc) (kept : List KeptValue)
-    (before after : MemoryValue) → RunsGift head history doc kept before after
-    → LeavesGiven head history doc None kept after
-gift-left head history doc kept before after runs =
+    (disk before after : MemoryValue) → RunsGift head history doc kept before after
+    → LeavesGiven head history doc None kept disk after
+gift-left head history doc kept disk before after runs =
     record { after = runs.now; gift = runs.given; mirror = runs.mirror }
 
 -- a crash before the first call
 pub gift-before : (head : HeadValue) (history : List Op) (doc : SentDoc) (stop : Stop) (kept : List KeptValue)
-    (disk left : MemoryValue) (mirror : MirrorValue) → stop.call ≡ 0
-    → IsOpenedMirror head kept disk mirror → AreServed head history (map own_offer kept)
-    → IsCrash (state_of disk).image_now left → LeavesGiven head history doc (Some stop) kept left
-gift-before head history doc stop kept disk left mirror none opened served crash = record {
+    (disk loaded left : MemoryValue) (mirror : MirrorValue) → stop.call ≡ 0 → HasPayloadsOf disk loaded
+    → IsOpenedMirror head kept loaded mirror → AreServed head history (map own_offer kept)
+    → IsImageAfter loaded stop.choice left → IsCrash (state_of loaded).image_now left
+    → LeavesGiven head history doc (Some stop) kept disk left
+gift-before head history doc stop kept disk loaded left mirror none same opened served image crash = record {
   after = kept;
   gift = record {
     either = inl refl;
     before = λ _. refl;
     past = λ great. absurd (omega arith);
+    cut = λ _. record { loaded = loaded; same = same; image = image };
+    within = λ some. absurd (omega arith);
   };
   mirror = record {
-    loads = left-loads (state_of disk).image_now left (LoadsTo head.name.base kept) crash
+    loads = left-loads (state_of loaded).image_now left (LoadsTo head.name.base kept) crash
         (opened.loads ((state_of left).content MirrorArea) (crash.among MirrorArea));
     served = served;
   };
 }
 
 module _ (head : HeadValue) (history : List Op) (doc : SentDoc) (stop : Stop) (kept : List KeptValue)
-    (before after left : MemoryValue) (runs : RunsGift head history doc kept before after) (some : 0 < stop.call) where
-  gift-past : IsCrash (state_of after).image_now left → LeavesGiven head history doc (Some stop) kept left
+    (disk before after left : MemoryValue) (same : HasPayloadsOf disk before)
+    (runs : RunsGift head history doc kept before after) (some : 0 < stop.call)
+    (image : IsImageBy stop (clock_of before) after left) where
+  given-into : IsGivenInto head history doc stop kept disk left
+  given-into = record {
+    whole = runs.now;
+    given = runs.given;
+    ran = after;
+    mirror = runs.mirror;
+    cut = record { loaded = before; same = same; later = runs.leaves.later; image = image };
+    few = runs.few;
+  }
+
+  gift-past : IsCrash (state_of after).image_now left → LeavesGiven head history doc (Some stop) kept disk left
   gift-past crash = record {
     after = runs.now;
     gift = record {
       either = inr runs.given;
       before = λ none. absurd (omega arith);
       past = λ _. runs.given;
+      cut = λ none. absurd (omega arith);
+      within = λ _. given-into;
     };
     mirror = record {
       loads = left-loads (state_of after).image_now left (LoadsTo head.name.base runs.now) crash
@@ -175,7 +192,8 @@ module _ (head : HeadValue) (history : List Op) (doc : SentDoc) (stop : Stop) (k
     };
   }
 
-  gift-at : IsCrashAt (state_of before).clock stop.call after left → LeavesGiven head history doc (Some stop) kept left
+  gift-at : IsCrashAt (state_of before).clock stop.call after left
+      → LeavesGiven head history doc (Some stop) kept disk left
   gift-at at =
       let image = (state_of left).content MirrorArea in
       let found = moment-leaves before after (LoadsGiven head history doc kept) at.moment image runs.leaves at.after
@@ -186,6 +204,8 @@ module _ (head : HeadValue) (history : List Op) (doc : SentDoc) (stop : Stop) (k
           either = found.either;
           before = λ none. absurd (omega arith);
           past = λ great. absurd (omega (arith, runs.few, at.at, at.made, great));
+          cut = λ none. absurd (omega arith);
+          within = λ _. given-into;
         };
         mirror = record {
           loads = left-loads (λ a. (state_of after).image_at a at.moment) left (LoadsTo head.name.base found.after)
@@ -196,6 +216,6 @@ module _ (head : HeadValue) (history : List Op) (doc : SentDoc) (stop : Stop) (k
 
   -- a crash within the calls of the gift, or after them
   pub gift-from : IsCrashFrom (state_of before).clock stop.call after left
-      → LeavesGiven head history doc (Some stop) kept left
+      → LeavesGiven head history doc (Some stop) kept disk left
   gift-from (inl past) = gift-past past.1
   gift-from (inr at) = gift-at at

@@ -5,6 +5,8 @@ use Rattle.document_server.specs.Answer.{added}
 use Rattle.feed_disk.specs.Memory.{MemoryValue}
 use Rattle.feed_life.specs.Life.{IsMirrorOf, IsSentBy, IsStoreOf, LifeValue, Lives}
 use Rattle.feed_life.specs.Asks.{Gains, IsHalted, IsLeft, LeavesStopped}
+use Rattle.feed_life.specs.Crashes.{HasPayloadsOf}
+use Rattle.feed_life.specs.declared.event.Stop.{Stop}
 use Rattle.feed_life.specs.declared.sent.SentDoc.{SentDoc}
 use Rattle.feed_life.proofs.StayLemmas.{all-sent-later, mirrors-later}
 use Rattle.http_face.specs.Request.{RequestValue}
@@ -20,31 +22,34 @@ record Stays (head : HeadValue) (later : List Op) (docs : List SentDoc) (disks :
   mirrors : AllZip (IsMirrorOf head later) disks held
 
 stays-stopped : (head : HeadValue) (request : RequestValue) (now : ℕ) (history later : List Op) (docs : List SentDoc)
-    (disks : List MemoryValue) (held : List (List KeptValue)) → IsLawful head later
-    → (later ≡ history) ⊎ Gains head request now history later → All (IsSentBy head history) docs
+    (disk : MemoryValue) (disks : List MemoryValue) (held : List (List KeptValue)) → IsLawful head later
+    → (later ≡ history) ⊎ Gains head request now history later disk → All (IsSentBy head history) docs
     → AllZip (IsMirrorOf head history) disks held → Stays head later docs disks held
-stays-stopped head request now history later docs disks held lawful (inl same) sent mirrors =
+stays-stopped head request now history later docs disk disks held lawful (inl same) sent mirrors =
     subst (λ (l : List Op). Stays head l docs disks held) (sym same) record { sent = sent; mirrors = mirrors }
-stays-stopped head request now history later docs disks held lawful (inr gains) sent mirrors =
+stays-stopped head request now history later docs disk disks held lawful (inr gains) sent mirrors =
     let lawful_more = subst (IsLawful head) gains.history_is lawful in
     subst (λ (l : List Op). Stays head l docs disks held) (sym gains.history_is) record {
       sent = all-sent-later head history (added gains.outcome.adds) lawful_more docs sent;
       mirrors = mirrors-later head history (added gains.outcome.adds) lawful_more disks held mirrors;
     }
 
-halted-inside : (old : LifeValue) (request : RequestValue) (now call : ℕ) (history : List Op)
+halted-inside : (old : LifeValue) (request : RequestValue) (now : ℕ) (stop : Stop) (history : List Op)
     (held : List (List KeptValue)) (left disk : MemoryValue) (version sealed stops : ℕ) → Lives old history held
-    → LeavesStopped old.head request now call history left
+    → LeavesStopped old.head request now stop history old.disk left
     → ((later : List Op) → IsStoreOf old.head later left → IsLeft old.head later disk version sealed)
+    → HasPayloadsOf left disk
     → IsHalted old (record old { disk = disk; version = version; sealed = sealed; stops = stops; lost = false }) request
-    now call history held
-halted-inside old request now call history held left disk version sealed stops lives stopped load =
+    now stop history held
+halted-inside old request now stop history held left disk version sealed stops lives stopped load same =
     let loaded = load stopped.later stopped.store in
-    let stays = stays-stopped old.head request now history stopped.later old.sent old.mirrors held
+    let stays = stays-stopped old.head request now history stopped.later old.sent old.disk old.mirrors held
     loaded.store.opens.is_journal.lawful stopped.stopped.gains lives.sent lives.mirrors in
     record {
       later = stopped.later;
+      left = left;
       stopped = stopped.stopped;
+      same = same;
       lives = record {
         store = loaded.store;
         version = loaded.version_is;
@@ -54,14 +59,16 @@ halted-inside old request now call history held left disk version sealed stops l
       };
     }
 
-pub life-halted : (inside old : LifeValue) (request : RequestValue) (now call : ℕ) (history : List Op)
+pub life-halted : (inside old : LifeValue) (request : RequestValue) (now : ℕ) (stop : Stop) (history : List Op)
     (held : List (List KeptValue)) (left disk : MemoryValue) (version sealed stops : ℕ) → inside ≡ old
     → Lives old history held
-    → (IsStoreOf inside.head history inside.disk → LeavesStopped inside.head request now call history left)
+    → (IsStoreOf inside.head history inside.disk
+    → LeavesStopped inside.head request now stop history inside.disk left)
     → ((later : List Op) → IsStoreOf inside.head later left → IsLeft inside.head later disk version sealed)
+    → HasPayloadsOf left disk
     → IsHalted old (record inside { disk = disk; version = version; sealed = sealed; stops = stops; lost = false })
-    request now call history held
-life-halted inside old request now call history held left disk version sealed stops view lives stopped load =
+    request now stop history held
+life-halted inside old request now stop history held left disk version sealed stops view lives stopped load same =
     let before = subst (λ (l : LifeValue). Lives l history held) (sym view) lives in
     subst (λ (l : LifeValue). IsHalted l (record inside {
       disk = disk;
@@ -69,6 +76,6 @@ life-halted inside old request now call history held left disk version sealed st
       sealed = sealed;
       stops = stops;
       lost = false;
-    }) request now call history held) view
-    (halted-inside inside request now call history held left disk version sealed stops before (stopped before.store)
-    load)
+    }) request now stop history held) view
+    (halted-inside inside request now stop history held left disk version sealed stops before (stopped before.store)
+    load same)

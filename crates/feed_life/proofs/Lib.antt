@@ -24,6 +24,8 @@ pub mod ZipLemmas
 pub mod StepLemmas
 -- `life`: `lived`
 pub mod LivedLemmas
+-- `life`: `headline`
+pub mod HeadlineLemmas
 -- `open_mirror`: `opened`, and its callers
 pub mod OpenedLemmas
 -- `give` and `give_into`: what is held after an answer

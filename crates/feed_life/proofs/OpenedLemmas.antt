@@ -6,7 +6,7 @@ use Rattle.feed_disk.specs.Moments.{NowOnly}
 use Rattle.feed_disk.specs.declared.area.Area.{Area}
 use Rattle.feed_disk.specs.declared.area.Area.TheVariants.{Mirror as MirrorArea}
 use Rattle.feed_journal.specs.Records.{IsWhole, StandsFor as ImageStandsFor, records}
-use Rattle.feed_life.specs.Asks.{IsCrash}
+use Rattle.feed_life.specs.Crashes.{IsCrash}
 use Rattle.feed_life.specs.Life.{IsMirrorOf}
 use Rattle.feed_life.specs.Mirrors.{IsOpenedMirror}
 use Rattle.member_rules.specs.Head.{HeadValue}

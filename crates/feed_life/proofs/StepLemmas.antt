@@ -39,7 +39,7 @@ ask-stepped old new request now history held line asked stays = record {
 }
 
 pub halt-stepped : (old new : LifeValue) (request : RequestValue) (now : ℕ) (stop : Stop) (history : List Op)
-    (held : List (List KeptValue)) → IsHalted old new request now stop.call history held
+    (held : List (List KeptValue)) → IsHalted old new request now stop history held
     → new ≡ record old {
       disk = new.disk;
       version = new.version;
@@ -100,37 +100,53 @@ module _ (old : LifeValue) (history : List Op) (held : List (List KeptValue)) (m
         lost = b;
       }) (sym alive)
 
-  mirror-stepped : (kept after : List KeptValue) (changes : List KeptValue → List KeptValue → Type 0)
-      → slice_get held mirror ≡ Some kept → changes kept after
+  mirror-stepped : (before : MemoryValue) (kept after : List KeptValue)
+      (changes : MemoryValue → MemoryValue → List KeptValue → List KeptValue → Type 0)
+      → slice_get old.mirrors mirror ≡ Some before → slice_get held mirror ≡ Some kept → changes before disk kept after
       → StepsMirror old left history history held (slice_set held mirror after) mirror stop changes
-  mirror-stepped kept after changes there changed = record {
-    changed = record { kept = kept; after = after; there = there; changed = changed; left_is = refl };
+  mirror-stepped before kept after changes disk_there there changed = record {
+    changed = record {
+      disk = before;
+      disk_left = disk;
+      kept = kept;
+      after = after;
+      disk_there = disk_there;
+      there = there;
+      changed = changed;
+      disks_are = refl;
+      left_is = refl;
+    };
     history_is = refl;
     stays = mirror-stays;
   }
 
-  given-stepped : (sent : ℕ) (doc : SentDoc) (kept : List KeptValue) → slice_get held mirror ≡ Some kept
-      → slice_get old.sent sent ≡ Some doc → LeavesGiven old.head history doc stop kept disk
+  given-stepped : (sent : ℕ) (doc : SentDoc) (before : MemoryValue) (kept : List KeptValue)
+      → slice_get old.mirrors mirror ≡ Some before → slice_get held mirror ≡ Some kept
+      → slice_get old.sent sent ≡ Some doc → LeavesGiven old.head history doc stop kept before disk
       → IsStep old left (Give mirror sent stop) history held None
-  given-stepped sent doc kept there found leaves = record {
+  given-stepped sent doc before kept disk_there there found leaves = record {
     later = history;
     left = slice_set held mirror leaves.after;
     steps = (
       refl,
       subst (λ (d : Option SentDoc). StepsGift old left history history held (slice_set held mirror leaves.after) mirror
           stop d) (sym found)
-          (inr (mirror-stepped kept leaves.after (IsGift old.head doc stop) there leaves.gift)),
+          (inr (mirror-stepped before kept leaves.after (IsGift old.head history doc stop) disk_there there
+          leaves.gift)),
     );
     lives = mirror-lives leaves.after leaves.mirror;
   }
 
-  walked-stepped : (kept : List KeptValue) → slice_get held mirror ≡ Some kept
-      → LeavesWalked old.head history stop kept disk
+  walked-stepped : (before : MemoryValue) (kept : List KeptValue) → slice_get old.mirrors mirror ≡ Some before
+      → slice_get held mirror ≡ Some kept → LeavesWalked old.head history stop kept before disk
       → IsStep old left (Walk mirror stop) history held None
-  walked-stepped kept there leaves = record {
+  walked-stepped before kept disk_there there leaves = record {
     later = history;
     left = slice_set held mirror leaves.after;
-    steps = (refl, inr (mirror-stepped kept leaves.after (IsWalk old.head history stop) there leaves.walk));
+    steps = (
+      refl,
+      inr (mirror-stepped before kept leaves.after (IsWalk old.head history stop) disk_there there leaves.walk),
+    );
     lives = mirror-lives leaves.after leaves.mirror;
   }
 
@@ -149,6 +165,9 @@ module _ (inside old : LifeValue) (history : List Op) (held : List (List KeptVal
       subst (λ (d : MemoryValue). IsItem IsHeldBy d held mirror) (sym read_is)
       (zip-item IsHeldBy inside.mirrors held mirror read before.mirrors within)
 
+  read-there : slice_get inside.mirrors mirror ≡ Some read
+  read-there = slice_get_read inside.mirrors (length inside.mirrors) mirror read refl within read_is
+
   module _ (alive : old.lost ≡ false) (stop : Option Stop) (stops : ℕ)
       (stops_are : stops ≡ with_stop stop inside.mirror_stops) (disk : MemoryValue) where
     alive_inside : inside.lost ≡ false
@@ -156,13 +175,13 @@ module _ (inside old : LifeValue) (history : List Op) (held : List (List KeptVal
 
     pub life-given : (sent : ℕ) (doc : SentDoc) → sent < length inside.sent → doc ≡ get_or inside.sent sent doc
         → ((kept : List KeptValue) → IsSentBy inside.head history doc → IsHeldBy read kept
-        → LeavesGiven inside.head history doc stop kept disk)
+        → LeavesGiven inside.head history doc stop kept read disk)
         → IsStep old (mirror_left inside mirror inside.disk disk stops) (Give mirror sent stop) history held None
     life-given sent doc short doc_is gives =
         subst (λ (l : LifeValue). IsStep l (mirror_left inside mirror inside.disk disk stops) (Give mirror sent stop)
         history held None) view
         (given-stepped inside history held mirror stop inside.disk disk stops before before.store alive_inside stops_are
-        sent doc read-held.item read-held.there
+        sent doc read read-held.item read-there read-held.there
         (slice_get_read inside.sent (length inside.sent) sent doc refl short doc_is)
         (gives read-held.item
         (subst (IsSentBy inside.head history) (sym doc_is)
@@ -171,13 +190,13 @@ module _ (inside old : LifeValue) (history : List Op) (held : List (List KeptVal
     pub life-walked : (store : MemoryValue)
         → (IsStoreOf inside.head history inside.disk → IsStoreOf inside.head history store)
         → ((kept : List KeptValue) → IsStoreOf inside.head history inside.disk → IsHeldBy read kept
-        → LeavesWalked inside.head history stop kept disk)
+        → LeavesWalked inside.head history stop kept read disk)
         → IsStep old (mirror_left inside mirror store disk stops) (Walk mirror stop) history held None
     life-walked store stays walks =
         subst (λ (l : LifeValue). IsStep l (mirror_left inside mirror store disk stops) (Walk mirror stop) history held
         None) view
         (walked-stepped inside history held mirror stop store disk stops before (stays before.store) alive_inside
-        stops_are read-held.item read-held.there (walks read-held.item before.store read-held.is))
+        stops_are read read-held.item read-there read-held.there (walks read-held.item before.store read-held.is))
 
   -- a mirror that is shown
 

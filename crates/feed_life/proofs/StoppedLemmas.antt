@@ -1,21 +1,28 @@
 -- A request that was stopped.
-use Rattle.std.proofs.Common.{◌≡◌, ◌≢◌, ◌⊎◌, inl, inr, ℕ, ◌+◌, ◌<◌, ◌≤◌, List, [], ◌++◌, Option, None, Some}
-use Rattle.std.proofs.Common.{length, take, ap, refl, sym, subst, ◌∙◌, arith, length-append, append-nil, false, true}
+use Rattle.std.proofs.Common.{◌≡◌, ◌≢◌, ◌⊎◌, inl, inr, ℕ, ◌+◌, ◌^◌, ◌<◌, ◌≤◌, List, [], ◌∷◌, ◌++◌, Option, None}
+use Rattle.std.proofs.Common.{Some}
+use Rattle.std.proofs.Common.{length, take, ap, refl, sym, subst, ◌∙◌, arith, length-append, false, true}
 use Rattle.std.proofs.Math.Seq.{take-append_seam}
 use Rattle.std.proofs.lemmas.Bool.{cases_eq}
 use Rattle.std.proofs.lemmas.List.{take_all}
-use Rattle.document_server.specs.Answer.{Grows, IsAnswer, IsDone, LeavesAnswered, MayAdd, added, most_change_calls}
+use Rattle.document_server.specs.Answer.{Grows, IsAnswer, IsDone, LeavesAnswered, MayAdd, added}
 use Rattle.document_server.specs.Reply.{IsOutcome, disk_fault}
 use Rattle.document_server.proofs.LinkLemmas.{stays-or-grows}
 use Rattle.feed_disk.specs.Memory.{MemoryValue, state_of}
 use Rattle.feed_disk.specs.Moments.{LeavesOnlyBoth}
+use Rattle.feed_disk.specs.Raised.{raised}
 use Rattle.feed_disk.specs.declared.area.Area.TheVariants.{Journal, Sealed}
-use Rattle.feed_life.specs.Asks.{Gains, IsCrash, IsCrashAt, IsCrashFrom, IsOpened, IsReplied, LeavesStopped, Runs}
-use Rattle.feed_life.proofs.AskLemmas.{head-is, reply-made}
+use Rattle.feed_journal.specs.Laws.{BegunAreWhole}
+use Rattle.feed_journal.specs.Log.{MakesSome}
+use Rattle.feed_life.specs.Asks.{Gains, IsOpened, IsReplied, IsRunInto, LeavesStopped, Runs, TakesCalls}
+use Rattle.feed_life.specs.Crashes.{HasPayloadsOf, IsCrash, IsCrashAt, IsCrashFrom, IsImageAfter, IsImageBy, clock_of}
+use Rattle.feed_life.specs.Life.{IsStoreOf}
+use Rattle.feed_life.specs.declared.event.Stop.{Stop}
+use Rattle.feed_life.proofs.AskLemmas.{head-is, opens-left, opens-same}
 use Rattle.feed_life.proofs.CrashLemmas.{crash-past, crash-settled}
-use Rattle.feed_recovery.specs.Settled.{OpensPast}
-use Rattle.feed_recovery.specs.Settled.{IsAtRest, Settled}
-use Rattle.feed_recovery.specs.Store.{StoreValue, is_spent}
+use Rattle.feed_recovery.specs.Prepare.{commit_calls}
+use Rattle.feed_recovery.specs.Settled.{IsAtRest, OpensPast, Settled}
+use Rattle.feed_recovery.specs.Store.{StandsFor, StoreValue, call_count, is_spent, seal_count}
 use Rattle.http_face.specs.Request.{RequestValue}
 use Rattle.http_face.specs.declared.reply.Reply.{Reply}
 use Rattle.http_face.specs.declared.request.Verb.TheVariants.{Get}
@@ -32,147 +39,228 @@ one-more history operation version few least = elim (cases_eq version (length hi
       (omega (arith, length-append history operation, few, least, more)))
 ]
 
--- the operations up to any number from all of them on
-all-of : (operations history : List Op) (version : ℕ) → operations ≡ history → length history ≤ version
-    → take version operations ≡ history
-all-of operations history version same least =
-    take_all version operations (omega (arith, ap length same, least)) ∙ same
-
 length-added : (adds : Option Op) → length (added adds) ≤ 1
 length-added None = omega arith
 length-added (Some operation) = omega arith
 
-module _ (head : HeadValue) (request : RequestValue) (now : ℕ) (history : List Op) (before after : MemoryValue)
-    (old new : StoreValue) (reply : Reply) (opened : IsOpened head history before old)
+may-add-few : (old : StoreValue) (request : RequestValue) (now : ℕ) (operations : List Op)
+    → MayAdd (IsOutcome old request now) operations → length operations ≤ 1
+may-add-few old request now operations (inl none) = omega (arith, ap length none)
+may-add-few old request now operations (inr given) = omega (arith, ap length given.2, length-added given.0.adds)
+
+-- The device calls of a request
+
+-- the number of device calls of a request that adds this
+record Counted (store : StoreValue) (adds : Option Op) (loaded ran : MemoryValue) : Type 0 where
+  number : ℕ
+  made : clock_of ran ≡ raised (clock_of loaded) number
+  takes : TakesCalls store adds number
+
+raised-none : (before after : ℕ) → after ≡ before → before < 2 ^ 64 → after ≡ raised before 0
+raised-none before after same below = omega arith
+
+not-longer : (history : List Op) (operation : Op) → history ≡ history ++ operation ∷ [] → ⊥
+not-longer history operation same =
+    absurd (omega (arith, ap length same, length-append history (operation ∷ [])))
+
+counted-by : (store new : StoreValue) (adds : Option Op) (loaded ran : MemoryValue)
+    → new.history ≡ store.history ++ added adds → (state_of loaded).clock < 2 ^ 64
+    → MakesSome (state_of loaded) (state_of ran) (call_count store) (call_count new)
+    → (new.history ≡ store.history) ⊎ Grows (state_of loaded) (state_of ran) store new
+    → Counted store adds loaded ran
+counted-by store new None loaded ran gained below (inl still) either =
+    record { number = 0; made = raised-none (clock_of loaded) (clock_of ran) still.0 below; takes = tt }
+counted-by store new None loaded ran gained below (inr (number, makes)) either =
+    record { number = number; made = makes.clock; takes = tt }
+counted-by store new (Some operation) loaded ran gained below makes (inl same) =
+    absurd (not-longer store.history operation (sym same ∙ gained))
+counted-by store new (Some operation) loaded ran gained below makes (inr grows) = record {
+  number = commit_calls grows.seal;
+  made = grows.calls.clock;
+  takes = (grows.seal, grows.due, refl);
+}
+
+module _ (head : HeadValue) (request : RequestValue) (now : ℕ) (history : List Op) (disk loaded ran : MemoryValue)
+    (old new : StoreValue) (reply : Reply) (opened : IsOpened head history disk loaded old)
     (same : new.head ≡ old.head) where
-  may-add : (operations : List Op) → MayAdd (IsOutcome old request now) operations
-      → (length operations ≤ 1) × ((operations ≡ []) ⊎ Gains head request now history (history ++ operations))
-  may-add operations (inl none) = (omega (arith, ap length none), inl none)
-  may-add operations (inr given) = (
-    omega (arith, ap length given.2, length-added given.0.adds),
-    inr record {
+  -- an answered request, and the number of its device calls
+  record Replies : Type 0 where
+    replied : IsReplied head request now history new.history disk ran reply
+    counted : Counted replied.store replied.outcome.adds loaded ran
+
+  reply-counted : (failed : Type 0) → IsAnswer (IsOutcome old request now) old new reply failed → reply.status ≢ 503
+      → reply ≢ disk_fault → StandsFor (state_of ran) new → clock_of loaded < 2 ^ 64
+      → MakesSome (state_of loaded) (state_of ran) (call_count old) (call_count new)
+      → (new.history ≡ old.history) ⊎ Grows (state_of loaded) (state_of ran) old new → Replies
+  reply-counted failed (inl given) known undisk stands below makes either = record {
+    replied = record {
       store = old;
       loaded = opened.loaded;
-      outcome = given.0;
-      is_outcome = given.1;
-      history_is = ap (λ (l : List Op). history ++ l) given.2;
-    },
-  )
-
-  -- the history stays, or few device calls were made
-  short-run : (new.history ≡ old.history) ⊎ Grows (state_of before) (state_of after) old new
-      → (new.history ≡ history) ⊎ ((state_of after).clock ≤ (state_of before).clock + most_change_calls)
-  short-run (inl stays) = inl (stays ∙ opened.loaded.history_is)
-  short-run (inr grows) = inr (omega (arith, grows.most, grows.calls.clock))
+      outcome = given.given;
+      is_outcome = given.is_one;
+      history_is =
+          given.gains.history
+          ∙ ap (λ (h : List Op). h ++ added given.given.adds) opened.loaded.history_is;
+      reply_is = given.reply_is;
+      seals = seal_count new;
+      sealed = given.gains.seals;
+      opens = opens-left head request now history disk loaded ran old new reply opened same stands;
+    };
+    counted = counted-by old new given.given.adds loaded ran given.gains.history below makes either;
+  }
+  reply-counted failed (inr (inl lack)) known undisk stands below makes either =
+      absurd (known (ap (λ (r : Reply). r.status) lack.0))
+  reply-counted failed (inr (inr fault)) known undisk stands below makes either = absurd (undisk fault.0)
 
   pub request-runs : (failed : Type 0) → IsAnswer (IsOutcome old request now) old new reply failed
       → reply.status ≢ 503 → is_spent new ≡ false → (reply ≡ disk_fault → is_spent new ≡ true)
-      → (reply ≢ disk_fault → IsAtRest (state_of before)
-      → Settled (state_of after) new.head new.history (length new.history))
-      → LeavesAnswered (IsOutcome old request now) (state_of before) (state_of after) old new (reply ≡ disk_fault)
-      → (request.verb ≢ Get → IsDone reply → Grows (state_of before) (state_of after) old new)
-      → ((request.verb ≡ Get) ⊎ (¬ IsDone reply) → new.history ≡ old.history)
-      → Runs head request now history before after
-  request-runs failed answer known unspent spent settled leaves grows stays =
-      let disk : reply ≢ disk_fault = λ is. let wrong = spent is in let right = unspent in cc in
-      let may = may-add leaves.operations leaves.may in
+      → (reply ≢ disk_fault → StandsFor (state_of ran) new)
+      → (reply ≢ disk_fault → IsAtRest (state_of loaded)
+      → Settled (state_of ran) new.head new.history (length new.history))
+      → (reply ≢ disk_fault → IsAtRest (state_of loaded) → IsAtRest (state_of ran))
+      → LeavesAnswered (IsOutcome old request now) (state_of loaded) (state_of ran) old new (reply ≡ disk_fault)
+      → MakesSome (state_of loaded) (state_of ran) (call_count old) (call_count new)
+      → (request.verb ≢ Get → IsDone reply → Grows (state_of loaded) (state_of ran) old new)
+      → ((request.verb ≡ Get) ⊎ (¬ IsDone reply) → new.history ≡ old.history) → clock_of loaded < 2 ^ 64
+      → Runs head request now history disk loaded ran
+  request-runs failed answer known unspent spent stands settled rests leaves makes grows stays below =
+      let undisk : reply ≢ disk_fault = λ is. let wrong = spent is in let right = unspent in cc in
+      let either = stays-or-grows request.verb reply (new.history ≡ old.history)
+      (Grows (state_of loaded) (state_of ran) old new) grows stays in
+      let replies = reply-counted failed answer known undisk (stands undisk) below makes either in
       record {
-        later = new.history;
+        whole = new.history;
         reply = reply;
-        replied =
-            reply-made head request now history before after old new reply opened same failed answer
-            (λ is. known (ap (λ (r : Reply). r.status) is)) disk;
+        replied = replies.replied;
+        rests = rests undisk opened.rests;
         settled =
-            subst (λ (h : HeadValue). Settled (state_of after) h new.history (length new.history))
-            (head-is head request now history before after old new reply opened same) (settled disk opened.rests);
+            subst (λ (h : HeadValue). Settled (state_of ran) h new.history (length new.history))
+            (head-is head request now history disk loaded ran old new reply opened same)
+            (settled undisk opened.rests);
+        number = replies.counted.number;
+        made = replies.counted.made;
+        takes = replies.counted.takes;
         operations = leaves.operations;
-        few = may.0;
-        may = may.1;
+        few = may-add-few old request now leaves.operations leaves.may;
         gained =
-            leaves.gained disk ∙ ap (λ (l : List Op). l ++ leaves.operations) opened.loaded.history_is;
-        short =
-            short-run (stays-or-grows request.verb reply (new.history ≡ old.history)
-            (Grows (state_of before) (state_of after) old new) grows stays);
+            leaves.gained undisk ∙ ap (λ (l : List Op). l ++ leaves.operations) opened.loaded.history_is;
         leaves =
-            subst (λ (h : HeadValue). LeavesOnlyBoth (state_of before) (state_of after) Journal Sealed
+            subst (λ (h : HeadValue). LeavesOnlyBoth (state_of loaded) (state_of ran) Journal Sealed
             (λ _. OpensPast h (history ++ leaves.operations) (length history))) opened.loaded.head_is
-            (subst (λ (l : List Op). LeavesOnlyBoth (state_of before) (state_of after) Journal Sealed
+            (subst (λ (l : List Op). LeavesOnlyBoth (state_of loaded) (state_of ran) Journal Sealed
             (λ _. OpensPast old.head (l ++ leaves.operations) (length l))) opened.loaded.history_is
             (leaves.leaves opened.rests).moments);
       }
 
 -- a crash before the first call
-pub stopped-before : (head : HeadValue) (request : RequestValue) (now call : ℕ) (history : List Op)
-    (before left : MemoryValue) → call ≡ 0 → Settled (state_of before) head history (length history)
-    → IsCrash (state_of before).image_now left → LeavesStopped head request now call history left
-stopped-before head request now call history before left none settled crash = record {
+pub stopped-before : (head : HeadValue) (request : RequestValue) (now : ℕ) (stop : Stop) (history : List Op)
+    (disk loaded left : MemoryValue) → stop.call ≡ 0 → HasPayloadsOf disk loaded
+    → Settled (state_of loaded) head history (length history) → IsImageAfter loaded stop.choice left
+    → IsCrash (state_of loaded).image_now left → LeavesStopped head request now stop history disk left
+stopped-before head request now stop history disk loaded left none same settled image crash = record {
   later = history;
   stopped = record {
     gains = inl refl;
     before = λ _. refl;
-    past = λ great. absurd (omega arith);
+    cut = λ _. record { loaded = loaded; same = same; image = image };
+    within = λ some. absurd (omega arith);
   };
-  store = crash-settled head history before left settled crash;
+  store = crash-settled head history loaded left settled crash;
 }
 
-module _ (head : HeadValue) (request : RequestValue) (now call : ℕ) (history : List Op)
-    (before after left : MemoryValue) (runs : Runs head request now history before after) (some : 0 < call) where
-  stopped-after : IsCrash (state_of after).image_now left → LeavesStopped head request now call history left
-  stopped-after crash = record {
-    later = runs.later;
-    stopped = record {
-      gains = inr record {
-        store = runs.replied.store;
-        loaded = runs.replied.loaded;
-        outcome = runs.replied.outcome;
-        is_outcome = runs.replied.is_outcome;
-        history_is = runs.replied.history_is;
-      };
-      before = λ none. absurd (omega arith);
-      past = λ _. (runs.reply, runs.replied);
-    };
-    store = crash-settled head runs.later after left runs.settled crash;
+module _ (head : HeadValue) (request : RequestValue) (now : ℕ) (stop : Stop) (history : List Op)
+    (disk loaded ran left : MemoryValue) (same : HasPayloadsOf disk loaded)
+    (runs : Runs head request now history disk loaded ran) (some : 0 < stop.call)
+    (image : IsImageBy stop (clock_of loaded) ran left) where
+  -- what the request leaves without the stop, on an image of now
+  replied-left : BegunAreWhole → IsCrash (state_of ran).image_now left
+      → IsReplied head request now history runs.whole disk left runs.reply
+  replied-left law crash =
+      let replied = runs.replied in
+      let journal = (state_of left).content Journal in
+      let sealed = (state_of left).content Sealed in
+      record {
+        store = replied.store;
+        loaded = replied.loaded;
+        outcome = replied.outcome;
+        is_outcome = replied.is_outcome;
+        history_is = replied.history_is;
+        reply_is = replied.reply_is;
+        seals = replied.seals;
+        sealed = replied.sealed;
+        opens = opens-same journal sealed ((state_of ran).content Journal) ((state_of ran).content Sealed) head
+            runs.whole replied.seals
+            (sym (law ((state_of ran).content Journal) journal (runs.rests.journal journal (crash.among Journal))).1)
+            (sym (law ((state_of ran).content Sealed) sealed (runs.rests.sealed sealed (crash.among Sealed))).1)
+            replied.opens;
+      }
+
+  gained : (later : List Op) → (later ≡ history) ⊎ (later ≡ runs.whole)
+      → (later ≡ history) ⊎ Gains head request now history later disk
+  gained later (inl stays) = inl stays
+  gained later (inr whole) = inr record {
+    store = runs.replied.store;
+    loaded = runs.replied.loaded;
+    outcome = runs.replied.outcome;
+    is_outcome = runs.replied.is_outcome;
+    history_is = whole ∙ runs.replied.history_is;
   }
 
-  gained : (later : List Op) → (later ≡ history) ⊎ (later ≡ history ++ runs.operations)
-      → (later ≡ history) ⊎ Gains head request now history later
-  gained later (inl same) = inl same
-  gained later (inr more) = elim runs.may [
-    | inl none ↦ inl (more ∙ ap (λ (l : List Op). history ++ l) none ∙ append-nil history)
-    | inr gains ↦ inr (subst (λ (l : List Op). Gains head request now history l) (sym more) gains)
-  ]
+  -- a request that left this history behind its stop
+  run-into : (later : List Op) → (later ≡ history) ⊎ (later ≡ runs.whole)
+      → (runs.number < stop.call → IsReplied head request now history later disk left runs.reply)
+      → IsRunInto head request now stop history later disk left
+  run-into later either past = record {
+    whole = runs.whole;
+    ran = ran;
+    reply = runs.reply;
+    replied = runs.replied;
+    cut = record { loaded = loaded; same = same; later = runs.leaves.first.later; image = image };
+    number = runs.number;
+    made = runs.made;
+    takes = runs.takes;
+    either = either;
+    past = past;
+  }
 
-  -- A call past the most of a change was made only where the history stays, and then a crash leaves that.
-  past-change : (version : ℕ) → (state_of before).clock + call ≤ (state_of after).clock → length history ≤ version
-      → most_change_calls < call
-      → (runs.later ≡ history) ⊎ ((state_of after).clock ≤ (state_of before).clock + most_change_calls)
-      → (made : Reply) × IsReplied head request now history (take version (history ++ runs.operations)) made
-  past-change version made least great (inl stays) =
-      let none : history ++ runs.operations ≡ history = sym runs.gained ∙ stays in (
-        runs.reply,
-        subst (λ (l : List Op). IsReplied head request now history l runs.reply)
-            (stays ∙ sym (all-of (history ++ runs.operations) history version none least)) runs.replied,
-      )
-  past-change version made least great (inr short) = absurd (omega (arith, made, great, short))
+  leaves-run : (later : List Op) → (later ≡ history) ⊎ (later ≡ runs.whole)
+      → (runs.number < stop.call → IsReplied head request now history later disk left runs.reply)
+      → IsStoreOf head later left → LeavesStopped head request now stop history disk left
+  leaves-run later either past store = record {
+    later = later;
+    stopped = record {
+      gains = gained later either;
+      before = λ none. absurd (omega arith);
+      cut = λ none. absurd (omega arith);
+      within = λ _. run-into later either past;
+    };
+    store = store;
+  }
 
-  stopped-at : IsCrashAt (state_of before).clock call after left → LeavesStopped head request now call history left
+  -- a call past the last one wasn't made
+  unmade : (begun number call moment made : ℕ) → made ≡ raised begun number → moment ≡ begun + call → moment ≤ made
+      → number < call → ⊥
+  unmade begun number call moment made raises at within past = omega arith
+
+  stopped-at : IsCrashAt (clock_of loaded) stop.call ran left → LeavesStopped head request now stop history disk left
   stopped-at crash =
       let past = runs.leaves.each crash.short crash.moment ((state_of left).content Journal)
       ((state_of left).content Sealed) crash.after (crash.crash.among Journal) (crash.crash.among Sealed) in
-      record {
-        later = take past.version (history ++ runs.operations);
-        stopped = record {
-          gains =
-              gained (take past.version (history ++ runs.operations))
-              (one-more history runs.operations past.version runs.few past.at_least);
-          before = λ none. absurd (omega arith);
-          past = λ great. past-change past.version (omega (arith, crash.at, crash.made)) past.at_least great runs.short;
-        };
-        store = crash-past head (history ++ runs.operations) (length history)
-            (λ a. (state_of after).image_at a crash.moment) left crash.crash past;
-      }
+      let later = take past.version (history ++ runs.operations) in
+      leaves-run later (whole-or (one-more history runs.operations past.version runs.few past.at_least))
+      (λ over. absurd (unmade (clock_of loaded) runs.number stop.call crash.moment (clock_of ran) runs.made crash.at
+      crash.made over))
+      (crash-past head (history ++ runs.operations) (length history)
+      (λ a. (state_of ran).image_at a crash.moment) left crash.crash past)
+    where
+      whole-or : {later : List Op} → (later ≡ history) ⊎ (later ≡ history ++ runs.operations)
+          → (later ≡ history) ⊎ (later ≡ runs.whole)
+      whole-or (inl stays) = inl stays
+      whole-or (inr more) = inr (more ∙ sym runs.gained)
 
-  pub stopped-from : IsCrashFrom (state_of before).clock call after left
-      → LeavesStopped head request now call history left
-  stopped-from (inl (over, crash)) = stopped-after crash
-  stopped-from (inr crash) = stopped-at crash
+  pub stopped-from : BegunAreWhole → IsCrashFrom (clock_of loaded) stop.call ran left
+      → LeavesStopped head request now stop history disk left
+  stopped-from law (inl (over, crash)) =
+      leaves-run runs.whole (inr refl) (λ _. replied-left law crash)
+      (crash-settled head runs.whole ran left runs.settled crash)
+  stopped-from law (inr crash) = stopped-at crash

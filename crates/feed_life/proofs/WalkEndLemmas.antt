@@ -3,7 +3,7 @@ use Rattle.std.proofs.Common.{◌≡◌, ℕ, List, [], ◌∷◌, ◌++◌, Opt
 use Rattle.std.proofs.Common.{refl, sym, ap, ap₂, subst, ◌∙◌, arith, unwrap_or}
 use Rattle.std.specs.Prelude.{Any, IfOk}
 use Rattle.std.proofs.lemmas.List.{take_all}
-use Rattle.std.proofs.lemmas.List.Elements.{All-append, All-cons, All-contains, All-map, All-nil, All-weaker}
+use Rattle.std.proofs.lemmas.List.Elements.{All-append, All-contains, All-map, All-weaker}
 use Rattle.std.proofs.lemmas.List.Elements.{Contains-append_right}
 use Rattle.atom_writer.specs.Doc.{DocValue, IsDoc}
 use Rattle.atom_writer.specs.Pieces.{own_address, text}
@@ -30,11 +30,10 @@ use Rattle.mirror_walk.specs.Listing.{outcome_of}
 use Rattle.mirror_walk.specs.Loaded.{IsLoadedOf, own_offer}
 use Rattle.mirror_walk.specs.Offers.{AreServed, AreTakenOf, IsOffered, Offering}
 use Rattle.mirror_walk.specs.Published.{HoldsServed}
-use Rattle.mirror_walk.specs.Walk.{EndsAt, EndsBefore, HasRefusal, IsAnswered, IsServedBy, IsWalkResult}
+use Rattle.mirror_walk.specs.Walk.{EndsAt, EndsBefore, HasRefusal, IsServedBy, IsWalkResult}
 use Rattle.mirror_walk.specs.Walk.{WalkEnding, WalkSetting, Walks, WalksFromFeed, accepted_offers, answer_at}
 use Rattle.mirror_walk.specs.Walk.WalkEnding.{cut_short, fetch_failed, filled, not_there, nothing_wanted, refused}
 use Rattle.mirror_walk.specs.declared.answer.Accepted.{Accepted}
-use Rattle.mirror_walk.specs.declared.answer.Accepted.TheVariants.{Taken, Known, Stale}
 use Rattle.mirror_walk.specs.declared.answer.Outcome.TheVariants.{Complete}
 use Rattle.mirror_walk.specs.declared.walk.Refusal.{Refusal}
 use Rattle.mirror_walk.specs.declared.walk.WalkFault.{WalkFault}
@@ -46,61 +45,10 @@ use Rattle.mirror_walk.proofs.FoundLemmas.{best_of-holds}
 use Rattle.mirror_walk.proofs.MirrorLemmas.{taken-mirrored, taken_are_shown}
 use Rattle.mirror_walk.proofs.OfferedLemmas.{IsOfferOf, Mirrors}
 use Rattle.mirror_walk.proofs.OutcomeLemmas.{outcome-complete}
-use Rattle.mirror_walk.proofs.RoomLemmas.{within-accepted}
-use Rattle.mirror_walk.proofs.TakenLemmas.{kept-text, loaded-more, loaded-offered, taken-next}
-use Rattle.mirror_walk.proofs.WalkServedLemmas.{walk-taken}
+use Rattle.mirror_walk.proofs.TakenLemmas.{loaded-offered}
+use Rattle.mirror_walk.proofs.WalkServedLemmas.{accepted-served, some-bytes, walk-taken, walks-loaded}
 
 -- what is held after a walk
-
-answered-loaded : (setting : WalkSetting) (kept : List KeptValue) (address : Address) (answer : Accepted)
-    (left : List KeptValue) → IsLoadedOf setting.base (payloads_of kept) kept
-    → IsAnswered setting kept address (Ok answer) left → IsLoadedOf setting.base (payloads_of left) left
-answered-loaded setting kept address Taken left loaded answered =
-    let there = printed setting.base address in
-    let plain = within-accepted setting.capacity setting.base kept there answered.bytes Taken left answered.answered in
-    subst (λ (ks : List KeptValue). IsLoadedOf setting.base (payloads_of ks) ks) (sym plain.left_over)
-    (loaded-more setting.base kept plain.given loaded (kept-text answered.bytes plain.given plain.read)
-    (taken-next setting.base kept there plain.given (sym plain.first_fit)))
-answered-loaded setting kept address Known left loaded answered =
-    subst (λ (ks : List KeptValue). IsLoadedOf setting.base (payloads_of ks) ks) (sym answered.answered.left_over) loaded
-answered-loaded setting kept address Stale left loaded answered =
-    subst (λ (ks : List KeptValue). IsLoadedOf setting.base (payloads_of ks) ks) (sym answered.answered.left_over) loaded
-
--- the documents that a walk leaves held were taken one after another
-walks-loaded : (setting : WalkSetting) (asked : List Address) (accepted : List Accepted) (kept left : List KeptValue)
-    (next : Option Address) (ending : WalkEnding) → Walks setting kept next asked accepted left ending
-    → IsLoadedOf setting.base (payloads_of kept) kept → IsLoadedOf setting.base (payloads_of left) left
-walks-loaded setting [] [] kept left next ending walks loaded =
-    subst (λ (ks : List KeptValue). IsLoadedOf setting.base (payloads_of ks) ks) (sym walks.0) loaded
-walks-loaded setting [] (answer ∷ accepted) kept left next ending walks loaded = absurd walks
-walks-loaded setting (address ∷ asked) [] kept left next ending (is, none, same, ends) loaded =
-    subst (λ (ks : List KeptValue). IsLoadedOf setting.base (payloads_of ks) ks) (sym same) loaded
-walks-loaded setting (address ∷ asked) (answer ∷ accepted) kept left next ending (is, (after, answered, walks)) loaded =
-    walks-loaded setting asked accepted after left (first_missing after) ending walks
-    (answered-loaded setting kept address answer after loaded answered)
-
-some-bytes : (found : Option (List ℕ)) (bytes : List ℕ) → found ≡ Some bytes → unwrap_or found [] ≡ bytes
-some-bytes None bytes e = cc
-some-bytes (Some other) bytes e = cc
-
--- the documents that a walk accepted were served
-accepted-served : (head : HeadValue) (history : List Op) (setting : WalkSetting)
-    → IsServedBy head history setting.answers → (asked : List Address) (accepted : List Accepted)
-    (kept left : List KeptValue) (next : Option Address) (ending : WalkEnding)
-    → Walks setting kept next asked accepted left ending
-    → AreServed head history (accepted_offers setting asked accepted)
-accepted-served head history setting served [] [] kept left next ending walks =
-    All-nil (λ (offer : Offering). Served head history offer.address offer.bytes)
-accepted-served head history setting served [] (answer ∷ accepted) kept left next ending walks = absurd walks
-accepted-served head history setting served (address ∷ asked) [] kept left next ending walks =
-    All-nil (λ (offer : Offering). Served head history offer.address offer.bytes)
-accepted-served head history setting served (address ∷ asked) (answer ∷ accepted) kept left next ending
-    (is, (after, answered, walks)) =
-    let there = printed setting.base address in
-    All-cons (λ (offer : Offering). Served head history offer.address offer.bytes) _ _
-    (subst (Served head history there) (sym (some-bytes (answer_at setting address) answered.bytes answered.there))
-    (served there answered.bytes answered.there))
-    (accepted-served head history setting served asked accepted after left (first_missing after) ending walks)
 
 -- each document held of those that were served is served at its own address
 own-served : (head : HeadValue) (history : List Op) (offers : List Offering) (kept : List KeptValue)

@@ -1,5 +1,5 @@
 -- The disks of a walk: what it leaves of the mirror's disk, with and without a crash, and the copy of the store's disk.
-use Rattle.std.proofs.Common.{◌≡◌, ◌≢◌, inl, inr, ℕ, ◌<◌, List, Option, None, Some, Result, Ok, Err}
+use Rattle.std.proofs.Common.{◌≡◌, ◌≢◌, inl, inr, ℕ, ◌*◌, ◌-◌, ◌<◌, List, length, Option, None, Some, Result, Ok, Err}
 use Rattle.std.proofs.Common.{refl, sym, ap, ap₂, subst, ◌∙◌, arith, map}
 use Rattle.std.specs.Prelude.{IfOk, OnOk}
 use Rattle.chain_links.specs.declared.address.Address.TheVariants.{Feed}
@@ -12,10 +12,10 @@ use Rattle.feed_disk.specs.declared.area.Area.{Area}
 use Rattle.feed_disk.specs.declared.area.Area.TheVariants.{Journal, Sealed, Mirror as MirrorArea}
 use Rattle.feed_disk.proofs.MomentLemmas.{leaves_inside}
 use Rattle.feed_journal.specs.Laws.{BegunAreWhole}
-use Rattle.feed_life.specs.Asks.{IsCrash, IsCrashAt, IsCrashFrom, IsLoadedWith}
+use Rattle.feed_life.specs.Crashes.{HasPayloadsOf, IsCrash, IsCrashAt, IsCrashFrom, IsImageAfter, IsImageBy, clock_of}
 use Rattle.feed_life.specs.Laws.{StoresAnswerWhatIsServed}
 use Rattle.feed_life.specs.Life.{IsMirrorOf, IsStoreOf}
-use Rattle.feed_life.specs.Mirrors.{IsOpenedMirror, LeavesWalked, setting_by}
+use Rattle.feed_life.specs.Mirrors.{IsOpenedMirror, IsPastWalk, LeavesWalked, setting_by}
 use Rattle.feed_life.specs.StoreFetch.{StoreFetchValue, store_answers}
 use Rattle.feed_life.specs.Walks.{HasDocuments, IsOver, IsReady, RunsWalk}
 use Rattle.feed_life.specs.declared.event.Stop.{Stop}
@@ -24,7 +24,7 @@ use Rattle.feed_recovery.specs.Opening.{Opens}
 use Rattle.member_rules.specs.Head.{HeadValue}
 use Rattle.member_rules.specs.declared.operation.Op.{Op}
 use Rattle.mirror_walk.specs.Holding.{KeptValue, payloads_of}
-use Rattle.mirror_walk.specs.Mirror.{IsAtRest, LoadsTo, MirrorValue, StandsFor, TakesFew}
+use Rattle.mirror_walk.specs.Mirror.{IsAtRest, LoadsTo, MirrorValue, StandsFor, TakesFew, take_calls}
 use Rattle.mirror_walk.specs.Loaded.{own_offer}
 use Rattle.mirror_walk.specs.Offers.{AreServed, AreTakenOf, Offering}
 use Rattle.mirror_walk.specs.Walk.{HasWalked, IsServedBy, IsWalkStep, WalkSetting, setting_of}
@@ -67,7 +67,7 @@ setting-is head history kept disk mirror documents source ready answers =
     made base capacity (store_answers documents.store.head documents.store.history)) ready.opened.base
     ready.opened.capacity
     ∙ ap₂ (λ (h : HeadValue) (past : List Op). made head.name.base head.capacity (store_answers h past))
-    ready.has.store.head_is ready.has.store.history_is
+    ready.has.head_is ready.has.history_is
 
 module _ (law : BegunAreWhole) (answer : StoresAnswerWhatIsServed) (head : HeadValue) (history : List Op)
     (kept : List KeptValue) (before after : MemoryValue) (mirror now : MirrorValue)
@@ -89,8 +89,8 @@ module _ (law : BegunAreWhole) (answer : StoresAnswerWhatIsServed) (head : HeadV
       (subst (λ (b : List ℕ). AreTakenOf b (map own_offer kept) kept) (sym ready.opened.base)
       (loaded-offered head.name.base (payloads_of kept) kept ready.loaded)))
       (subst (IsServedBy head history)
-      (sym (answers ∙ ap₂ (λ (h : HeadValue) (past : List Op). store_answers h past) ready.has.store.head_is
-      ready.has.store.history_is)) served-by)
+      (sym (answers ∙ ap₂ (λ (h : HeadValue) (past : List Op). store_answers h past) ready.has.head_is
+      ready.has.history_is)) served-by)
 
   pub walk-runs : (later : List (List ℕ)) (result : Result Walked WalkFault) → IsOver result
       → ((offers : List Offering) → mirror.base ≡ head.name.base → AreServed head history offers
@@ -169,9 +169,9 @@ on-ok-of (Ok value) P holds = holds
 on-ok-of (Err fault) P holds = tt
 
 -- without a crash
-pub walk-left : (head : HeadValue) (history : List Op) (kept : List KeptValue) (before after : MemoryValue)
-    → RunsWalk head history kept before after → LeavesWalked head history None kept after
-walk-left head history kept before after runs =
+pub walk-left : (head : HeadValue) (history : List Op) (kept : List KeptValue) (disk before after : MemoryValue)
+    → RunsWalk head history kept before after → LeavesWalked head history None kept disk after
+walk-left head history kept disk before after runs =
     record { after = runs.held; walk = runs.walked; mirror = runs.mirror }
 
 -- with a crash
@@ -181,15 +181,20 @@ crash-only : (P : List ℕ → Type 0) (images : Area → List ℕ → Type 0) (
     → IsCrash images left → P ((state_of left).content a) → NowOnly (state_of left) a P
 crash-only P images left a crash here image may = subst P (sym (crash.synced a image may)) here
 
-module _ (head : HeadValue) (history : List Op) (kept : List KeptValue) (stop : Stop) (before after left : MemoryValue)
-    (mirror : MirrorValue) (documents : StoreFetchValue MemoryValue)
-    (ready : IsReady head history kept before mirror documents) where
+module _ (head : HeadValue) (history : List Op) (kept : List KeptValue) (stop : Stop)
+    (disk before after left : MemoryValue) (mirror : MirrorValue) (documents : StoreFetchValue MemoryValue)
+    (ready : IsReady head history kept before mirror documents) (same : HasPayloadsOf disk before) where
   -- before the first call
-  pub walk-before : BegunAreWhole → stop.call ≡ 0 → IsCrash (state_of before).image_now left
-      → LeavesWalked head history (Some stop) kept left
-  walk-before law none crash = record {
+  pub walk-before : BegunAreWhole → stop.call ≡ 0 → IsImageAfter before stop.choice left
+      → IsCrash (state_of before).image_now left → LeavesWalked head history (Some stop) kept disk left
+  walk-before law none image crash = record {
     after = kept;
-    walk = record { part = inl refl; before = λ _. refl; past = λ some. absurd (omega arith) };
+    walk = record {
+      part = inl refl;
+      before = λ _. refl;
+      cut = λ _. record { loaded = before; same = same; image = image };
+      past = λ some. absurd (omega arith);
+    };
     mirror = record {
       loads = crash-only (LoadsTo head.name.base kept) (state_of before).image_now left MirrorArea crash
           (rest-loads law head.name.base kept ready.loaded (state_of before)
@@ -200,8 +205,22 @@ module _ (head : HeadValue) (history : List Op) (kept : List KeptValue) (stop : 
   }
 
   module _ (answer : StoresAnswerWhatIsServed) (runs : RunsWalk head history kept before after)
-      (some : 0 < stop.call) where
-    walk-past : IsCrash (state_of after).image_now left → LeavesWalked head history (Some stop) kept left
+      (some : 0 < stop.call) (image : IsImageBy stop (clock_of before) after left) where
+    -- a walk that ran into its stop
+    walk-into : (now : List KeptValue)
+        → (take_calls * (length runs.held - length kept) < stop.call → now ≡ runs.held)
+        → IsPastWalk head history stop disk left kept now
+    walk-into now past = record {
+      whole = runs.held;
+      walked = runs.walked;
+      ran = after;
+      mirror = runs.mirror;
+      cut = record { loaded = before; same = same; later = runs.leaves.moments.later; image = image };
+      few = runs.few;
+      past = past;
+    }
+
+    walk-past : IsCrash (state_of after).image_now left → LeavesWalked head history (Some stop) kept disk left
     walk-past crash =
         let walked = runs.walked in
         record {
@@ -214,7 +233,8 @@ module _ (head : HeadValue) (history : List Op) (kept : List KeptValue) (stop : 
                   walked.ending walked.walks;
             };
             before = λ none. absurd (omega arith);
-            past = λ _. record { whole = runs.held; walked = walked; past = λ _. refl };
+            cut = λ none. absurd (omega arith);
+            past = λ _. walk-into runs.held (λ _. refl);
           };
           mirror = record {
             loads = crash-only (LoadsTo head.name.base runs.held) (state_of after).image_now left MirrorArea crash
@@ -224,7 +244,7 @@ module _ (head : HeadValue) (history : List Op) (kept : List KeptValue) (stop : 
         }
 
     walk-within : IsCrashAt (state_of before).clock stop.call after left
-        → LeavesWalked head history (Some stop) kept left
+        → LeavesWalked head history (Some stop) kept disk left
     walk-within at =
         let step = leaves_inside {told = Unit {0}} (state_of before) (state_of after) MirrorArea
         (λ _. IsWalkStep (setting_by head history) kept) (memory_is_disk before) runs.leaves.moments at.moment
@@ -234,11 +254,8 @@ module _ (head : HeadValue) (history : List Op) (kept : List KeptValue) (stop : 
           walk = record {
             part = inr record { asked = step.asked; accepted = step.accepted; walks = step.walks };
             before = λ none. absurd (omega arith);
-            past = λ _. record {
-              whole = runs.held;
-              walked = runs.walked;
-              past = λ great. absurd (omega (arith, runs.few, at.at, at.made, great));
-            };
+            cut = λ none. absurd (omega arith);
+            past = λ _. walk-into step.left (λ great. absurd (omega (arith, runs.few, at.at, at.made, great)));
           };
           mirror = record {
             loads = crash-only (LoadsTo head.name.base step.left) (λ a. (state_of after).image_at a at.moment) left
@@ -249,6 +266,6 @@ module _ (head : HeadValue) (history : List Op) (kept : List KeptValue) (stop : 
         }
 
     pub walk-from : IsCrashFrom (state_of before).clock stop.call after left
-        → LeavesWalked head history (Some stop) kept left
+        → LeavesWalked head history (Some stop) kept disk left
     walk-from (inl (over, crash)) = walk-past crash
     walk-from (inr at) = walk-within at

@@ -20,6 +20,19 @@ module _ {A B : Type 0} (R : A → B → Type 0) where
       let rest = zip-item xs ys i d all.1 (omega (arith, within)) in
       record { item = rest.item; there = rest.there; is = rest.is }
 
+  -- the element of the first list at a place of the second
+  pub record IsWith (y : B) : Type 0 where
+    pub item : A
+    pub is : R item y
+
+  pub zip-left : (xs : List A) (ys : List B) (i : ℕ) (y : B) → AllZip R xs ys → slice_get ys i ≡ Some y → IsWith y
+  zip-left [] [] i y all there = absurd cc
+  zip-left [] (other ∷ ys) i y all there = absurd all
+  zip-left (one ∷ xs) [] i y all there = absurd all
+  zip-left (one ∷ xs) (other ∷ ys) zero y all there =
+      record { item = one; is = subst (R one) (same_Some other y there) all.0 }
+  zip-left (one ∷ xs) (other ∷ ys) (suc i) y all there = zip-left xs ys i y all.1 there
+
   -- both elements are written
   pub zip-set : (xs : List A) (ys : List B) (i : ℕ) (x : A) (y : B) → AllZip R xs ys → R x y
       → AllZip R (slice_set xs i x) (slice_set ys i y)

@@ -1,20 +1,23 @@
 -- What a step makes of a life.
-use Rattle.std.specs.Prelude.{◌≡◌, ◌⊎◌, ◌+◌, ◌≤◌, ◌<◌, ℕ, List, [], ◌∷◌, ◌++◌, Option, None, Some, true, length}
-use Rattle.atom_values.specs.Counts.{counter_limit}
+use Rattle.std.specs.Prelude.{◌≡◌, ◌⊎◌, ◌<◌, ◌≤◌, ℕ, List, [], ◌∷◌, ◌++◌, Option, None, Some, true, length}
 use Rattle.chain_links.specs.Address.{IsAddress, IsTarget, printed}
 use Rattle.chain_links.specs.declared.address.Address.{Address}
-use Rattle.document_server.specs.Answer.{added, most_change_calls}
+use Rattle.document_server.specs.Answer.{IsSealedBy, added}
 use Rattle.document_server.specs.Reply.{IsOutcome, Outcome}
 use Rattle.document_server.specs.declared.line.Line.{Line}
 use Rattle.feed_disk.specs.Memory.{MemoryValue, state_of}
 use Rattle.feed_disk.specs.Moments.{LeavesOnlyBoth}
-use Rattle.feed_disk.specs.declared.area.Area.{Area}
+use Rattle.feed_disk.specs.Raised.{raised}
 use Rattle.feed_disk.specs.declared.area.Area.TheVariants.{Journal, Sealed}
+use Rattle.feed_life.specs.Crashes.{HasPayloadsOf, IsCutBefore, IsCutWithin, clock_of}
 use Rattle.feed_life.specs.Life.{IsStoreOf, LifeValue, Lives}
+use Rattle.feed_life.specs.declared.event.Stop.{Stop}
 use Rattle.feed_life.specs.declared.sent.SentDoc.{SentDoc}
 use Rattle.feed_journal.specs.Log.{MakesCalls}
+use Rattle.feed_recovery.specs.Prepare.{IsDueSeal, commit_calls}
 use Rattle.feed_recovery.specs.Settled.{IsAtRest, OpensPast, Settled}
 use Rattle.feed_recovery.specs.Store.{StandsFor, StoreValue}
+use Rattle.feed_recovery.specs.Stored.{IsSized, OpensTo, stored_of}
 use Rattle.http_face.specs.Reply.{body_text}
 use Rattle.http_face.specs.Request.{RequestValue}
 use Rattle.http_face.specs.declared.reply.Media.TheVariants.{Feed as FeedMedia}
@@ -26,28 +29,36 @@ use Rattle.mirror_walk.specs.Holding.{KeptValue}
 
 -- Asks
 
--- a store with this head and this history
-pub record IsLoadedWith (head : HeadValue) (history : List Op) (store : StoreValue) : Type 0 where
+-- the store of a disk, which opens to this head and this history, with the store's number of seals and its sizes
+pub record IsLoadedFrom (head : HeadValue) (history : List Op) (disk : MemoryValue) (store : StoreValue)
+    : Type 0 where
   pub head_is : store.head ≡ head
   pub history_is : store.history ≡ history
+  pub opens : OpensTo (state_of disk).content (stored_of store)
+  pub sized : IsSized store
 
--- a store that was loaded from its disk
-pub record IsOpened (head : HeadValue) (history : List Op) (disk : MemoryValue) (store : StoreValue) : Type 0 where
-  pub loaded : IsLoadedWith head history store
-  pub stands : StandsFor (state_of disk) store
-  pub rests : IsAtRest (state_of disk)
-  pub settled : Settled (state_of disk) head history (length history)
-
--- A request was answered by the store of this head and history: the reply is an outcome's, and the history gains the
--- outcome's operation.
-pub record IsReplied (head : HeadValue) (request : RequestValue) (now : ℕ) (history later : List Op) (reply : Reply)
+-- a store that was loaded from a disk, and the disk after the load
+pub record IsOpened (head : HeadValue) (history : List Op) (disk after : MemoryValue) (store : StoreValue)
     : Type 0 where
+  pub loaded : IsLoadedFrom head history disk store
+  pub same : HasPayloadsOf disk after
+  pub stands : StandsFor (state_of after) store
+  pub rests : IsAtRest (state_of after)
+  pub settled : Settled (state_of after) head history (length history)
+
+-- A request was answered by the store of a disk: the reply is an outcome's. The disk after it opens to the history with
+-- the outcome's operation, and the seal that was due and missing was made with the operation, and no other.
+pub record IsReplied (head : HeadValue) (request : RequestValue) (now : ℕ) (history later : List Op)
+    (disk after : MemoryValue) (reply : Reply) : Type 0 where
   pub store : StoreValue
-  pub loaded : IsLoadedWith head history store
+  pub loaded : IsLoadedFrom head history disk store
   pub outcome : Outcome
   pub is_outcome : IsOutcome store request now outcome
   pub history_is : later ≡ history ++ added outcome.adds
   pub reply_is : reply ≡ outcome.reply
+  pub seals : ℕ
+  pub sealed : IsSealedBy store outcome.adds seals
+  pub opens : OpensTo (state_of after).content (record { head = head; history = later; seals = seals })
 
 -- the document that a feed document in a reply is sent as: it has the address that the request names
 pub record IsDocOf (base : List ℕ) (request : RequestValue) (reply : Reply) (version : ℕ) (doc : SentDoc) : Type 0 where
@@ -67,11 +78,11 @@ docs_of None = []
 docs_of (Some doc) = doc ∷ []
 
 -- a reply, its line, and the number of archives that are sealed then
-pub record IsAnswered (head : HeadValue) (request : RequestValue) (now : ℕ) (history : List Op) (disk : MemoryValue)
-    (reply : Reply) (line : Line) (sealed : ℕ) : Type 0 where
+pub record IsAnswered (head : HeadValue) (request : RequestValue) (now : ℕ) (history : List Op)
+    (disk after : MemoryValue) (reply : Reply) (line : Line) (sealed : ℕ) : Type 0 where
   pub later : List Op
-  pub replied : IsReplied head request now history later reply
-  pub store : IsStoreOf head later disk
+  pub replied : IsReplied head request now history later disk after reply
+  pub store : IsStoreOf head later after
   pub sealed_is : sealed ≡ (windows_of head later).sealed
   pub status : line.status ≡ reply.status
   pub version : line.version ≡ length later
@@ -88,7 +99,7 @@ pub record IsAsked (old new : LifeValue) (request : RequestValue) (now : ℕ) (h
   pub later : List Op
   pub reply : Reply
   pub gained : Option SentDoc
-  pub replied : IsReplied old.head request now history later reply
+  pub replied : IsReplied old.head request now history later old.disk new.disk reply
   pub sends : Sends old.head.name.base request reply (length later) gained
   pub sent : new.sent ≡ old.sent ++ docs_of gained
   pub lives : Lives new later held
@@ -99,61 +110,69 @@ pub record IsAsked (old new : LifeValue) (request : RequestValue) (now : ℕ) (h
 
 -- Asks with a stop
 
--- The disk that a crash leaves: each area has one of these images, and is synced.
-pub record IsCrash (images : Area → List ℕ → Type 0) (left : MemoryValue) : Type 0 where
-  pub among : (a : Area) → images a ((state_of left).content a)
-  pub synced : (a : Area) (i : List ℕ) → (state_of left).image_now a i → i ≡ (state_of left).content a
-
--- the history gains the operation of an outcome, if the outcome has one
-pub record Gains (head : HeadValue) (request : RequestValue) (now : ℕ) (history later : List Op) : Type 0 where
+-- the history gains the operation of an outcome of the store of a disk, if the outcome has one
+pub record Gains (head : HeadValue) (request : RequestValue) (now : ℕ) (history later : List Op) (disk : MemoryValue)
+    : Type 0 where
   pub store : StoreValue
-  pub loaded : IsLoadedWith head history store
+  pub loaded : IsLoadedFrom head history disk store
   pub outcome : Outcome
   pub is_outcome : IsOutcome store request now outcome
   pub history_is : later ≡ history ++ added outcome.adds
 
--- A request that was stopped: the history is as before, or gains the operation of an outcome. A crash before the first
--- device call leaves it as before. One past the last call of a change leaves what the request leaves without a stop.
-pub record IsStopped (head : HeadValue) (request : RequestValue) (now call : ℕ) (history later : List Op) : Type 0 where
-  pub gains : (later ≡ history) ⊎ Gains head request now history later
-  pub before : call ≡ 0 → later ≡ history
-  pub past : most_change_calls < call → (reply : Reply) × IsReplied head request now history later reply
+-- The device calls of a request that adds this: for an operation those of its append, and those of the append of the
+-- seal that is due and missing, if one is.
+abbrev pub TakesCalls : StoreValue → Option Op → ℕ → Type 0
+TakesCalls store None number = Unit {0}
+TakesCalls store (Some operation) number =
+    (seal : Option (List ℕ)) × IsDueSeal store seal × (number ≡ commit_calls seal)
 
--- a request that was answered, and what a crash within it leaves
-pub record Runs (head : HeadValue) (request : RequestValue) (now : ℕ) (history : List Op) (before after : MemoryValue)
-    : Type 0 where
-  pub later : List Op
+-- A request that was answered behind the load of its store, by this number of device calls. It left the history `whole`
+-- on the disk `ran`. The disk left is the image of that disk by the stop. It has the history before, or `whole`. Past
+-- the last device call it has all that the request leaves without the stop.
+pub record IsRunInto (head : HeadValue) (request : RequestValue) (now : ℕ) (stop : Stop) (history later : List Op)
+    (disk left : MemoryValue) : Type 0 where
+  pub whole : List Op
+  pub ran : MemoryValue
   pub reply : Reply
-  pub replied : IsReplied head request now history later reply
-  pub settled : Settled (state_of after) head later (length later)
+  pub replied : IsReplied head request now history whole disk ran reply
+  pub cut : IsCutWithin stop disk ran left
+  pub number : ℕ
+  pub made : clock_of ran ≡ raised (clock_of cut.loaded) number
+  pub takes : TakesCalls replied.store replied.outcome.adds number
+  pub either : (later ≡ history) ⊎ (later ≡ whole)
+  pub past : number < stop.call → IsReplied head request now history later disk left reply
+
+-- A request that was stopped: the history is as before, or gains the operation of an outcome. A crash before the first
+-- device call leaves it as before.
+pub record IsStopped (head : HeadValue) (request : RequestValue) (now : ℕ) (stop : Stop) (history later : List Op)
+    (disk left : MemoryValue) : Type 0 where
+  pub gains : (later ≡ history) ⊎ Gains head request now history later disk
+  pub before : stop.call ≡ 0 → later ≡ history
+  pub cut : stop.call ≡ 0 → IsCutBefore stop disk left
+  pub within : 0 < stop.call → IsRunInto head request now stop history later disk left
+
+-- a request that was answered on the disk that a store was loaded from, and what a crash within it leaves
+pub record Runs (head : HeadValue) (request : RequestValue) (now : ℕ) (history : List Op)
+    (disk loaded ran : MemoryValue) : Type 0 where
+  pub whole : List Op
+  pub reply : Reply
+  pub replied : IsReplied head request now history whole disk ran reply
+  pub rests : IsAtRest (state_of ran)
+  pub settled : Settled (state_of ran) head whole (length whole)
+  pub number : ℕ
+  pub made : clock_of ran ≡ raised (clock_of loaded) number
+  pub takes : TakesCalls replied.store replied.outcome.adds number
   pub operations : List Op
   pub few : length operations ≤ 1
-  pub may : (operations ≡ []) ⊎ Gains head request now history (history ++ operations)
-  pub gained : later ≡ history ++ operations
-  pub short : (later ≡ history) ⊎ ((state_of after).clock ≤ (state_of before).clock + most_change_calls)
-  pub leaves : LeavesOnlyBoth (state_of before) (state_of after) Journal Sealed
+  pub gained : whole ≡ history ++ operations
+  pub leaves : LeavesOnlyBoth (state_of loaded) (state_of ran) Journal Sealed
       (λ _. OpensPast head (history ++ operations) (length history))
 
--- a crash within this call of those since a moment, which was made
-pub record IsCrashAt (begun call : ℕ) (disk left : MemoryValue) : Type 0 where
-  pub moment : ℕ
-  pub at : moment ≡ begun + call
-  pub after : begun < moment
-  pub made : moment ≤ (state_of disk).clock
-  pub short : (state_of disk).clock < counter_limit
-  pub crash : IsCrash (λ a. (state_of disk).image_at a moment) left
-
--- a crash within this call of those since a moment, or after the last one if fewer were made
-abbrev pub IsCrashFrom : ℕ → ℕ → MemoryValue → MemoryValue → Type 0
-IsCrashFrom begun call disk left =
-    (((state_of disk).clock < begun + call) × IsCrash (state_of disk).image_now left)
-    ⊎ IsCrashAt begun call disk left
-
 -- the disk that a stopped request leaves
-pub record LeavesStopped (head : HeadValue) (request : RequestValue) (now call : ℕ) (history : List Op)
-    (left : MemoryValue) : Type 0 where
+pub record LeavesStopped (head : HeadValue) (request : RequestValue) (now : ℕ) (stop : Stop) (history : List Op)
+    (disk left : MemoryValue) : Type 0 where
   pub later : List Op
-  pub stopped : IsStopped head request now call history later
+  pub stopped : IsStopped head request now stop history later disk left
   pub store : IsStoreOf head later left
 
 -- a store's disk, the number of operations and that of sealed archives
@@ -162,9 +181,11 @@ pub record IsLeft (head : HeadValue) (history : List Op) (disk : MemoryValue) (v
   pub version_is : version ≡ length history
   pub sealed_is : sealed ≡ (windows_of head history).sealed
 
--- A life after a request that was stopped. Nothing is sent.
-pub record IsHalted (old new : LifeValue) (request : RequestValue) (now call : ℕ) (history : List Op)
+-- A life after a request that was stopped. Its store's disk is the one left, which was loaded. Nothing is sent.
+pub record IsHalted (old new : LifeValue) (request : RequestValue) (now : ℕ) (stop : Stop) (history : List Op)
     (held : List (List KeptValue)) : Type 0 where
   pub later : List Op
-  pub stopped : IsStopped old.head request now call history later
+  pub left : MemoryValue
+  pub stopped : IsStopped old.head request now stop history later old.disk left
+  pub same : HasPayloadsOf left new.disk
   pub lives : Lives new later held

@@ -3,6 +3,7 @@ use Rattle.std.specs.Prelude.{◌≡◌, ◌⊎◌, ℕ, ◌≤◌, List, [], �
 use Rattle.std.specs.Prelude.{slice_get, slice_set}
 use Rattle.atom_values.specs.Counts.{counted}
 use Rattle.document_server.specs.declared.line.Line.{Line}
+use Rattle.feed_disk.specs.Memory.{MemoryValue}
 use Rattle.feed_life.specs.Asks.{IsAsked, IsHalted}
 use Rattle.feed_life.specs.Life.{LifeValue, Lives}
 use Rattle.feed_life.specs.Mirrors.{IsGift, IsWalk}
@@ -17,13 +18,17 @@ use Rattle.mirror_walk.specs.Holding.{KeptValue}
 
 -- Mirrors
 
--- the documents of one mirror change, and those of the others stay
-pub record ChangesOne (held left : List (List KeptValue)) (mirror : ℕ)
-    (changes : List KeptValue → List KeptValue → Type 0) : Type 0 where
+-- the disk and the documents of one mirror change, and those of the others stay
+pub record ChangesOne (disks now : List MemoryValue) (held left : List (List KeptValue)) (mirror : ℕ)
+    (changes : MemoryValue → MemoryValue → List KeptValue → List KeptValue → Type 0) : Type 0 where
+  pub disk : MemoryValue
+  pub disk_left : MemoryValue
   pub kept : List KeptValue
   pub after : List KeptValue
+  pub disk_there : slice_get disks mirror ≡ Some disk
   pub there : slice_get held mirror ≡ Some kept
-  pub changed : changes kept after
+  pub changed : changes disk disk_left kept after
+  pub disks_are : now ≡ slice_set disks mirror disk_left
   pub left_is : left ≡ slice_set held mirror after
 
 abbrev pub with_stop : Option Stop → ℕ → ℕ
@@ -32,8 +37,9 @@ with_stop (Some stop) stops = counted stops
 
 -- an event of a mirror that exists: the store, its history and what was sent stay
 pub record StepsMirror (old new : LifeValue) (history later : List Op) (held left : List (List KeptValue)) (mirror : ℕ)
-    (stop : Option Stop) (changes : List KeptValue → List KeptValue → Type 0) : Type 0 where
-  pub changed : ChangesOne held left mirror changes
+    (stop : Option Stop) (changes : MemoryValue → MemoryValue → List KeptValue → List KeptValue → Type 0)
+    : Type 0 where
+  pub changed : ChangesOne old.mirrors new.mirrors held left mirror changes
   pub history_is : later ≡ history
   pub stays : new ≡ record old {
     disk = new.disk;
@@ -50,7 +56,8 @@ pub record StepsNothing (old new : LifeValue) (history later : List Op) (held le
 
 -- an event of the mirror of this number, if there is one
 abbrev pub StepsAnyMirror : LifeValue → LifeValue → List Op → List Op → List (List KeptValue)
-    → List (List KeptValue) → ℕ → Option Stop → (List KeptValue → List KeptValue → Type 0) → Type 0
+    → List (List KeptValue) → ℕ → Option Stop
+    → (MemoryValue → MemoryValue → List KeptValue → List KeptValue → Type 0) → Type 0
 StepsAnyMirror old new history later held left mirror stop changes =
     ((length old.mirrors ≤ mirror) × StepsNothing old new history later held left)
     ⊎ StepsMirror old new history later held left mirror stop changes
@@ -60,7 +67,7 @@ abbrev pub StepsGift : LifeValue → LifeValue → List Op → List Op → List 
     → Option Stop → Option SentDoc → Type 0
 StepsGift old new history later held left mirror stop None = StepsNothing old new history later held left
 StepsGift old new history later held left mirror stop (Some doc) =
-    StepsAnyMirror old new history later held left mirror stop (IsGift old.head doc stop)
+    StepsAnyMirror old new history later held left mirror stop (IsGift old.head history doc stop)
 
 -- Asks
 
@@ -78,7 +85,7 @@ pub record StepsAsk (old new : LifeValue) (request : RequestValue) (now : ℕ) (
 pub record StepsHalt (old new : LifeValue) (request : RequestValue) (now : ℕ) (stop : Stop) (history later : List Op)
     (held left : List (List KeptValue)) (line : Option Line) : Type 0 where
   pub no_line : line ≡ None
-  pub halted : IsHalted old new request now stop.call history held
+  pub halted : IsHalted old new request now stop history held
   pub history_is : later ≡ halted.later
   pub held_is : left ≡ held
   pub stays : new ≡ record old {

@@ -1,7 +1,9 @@
 pub mod StoreFetch
 pub mod Laws
 pub mod Life
+pub mod Crashes
 pub mod Asks
 pub mod Mirrors
 pub mod Walks
 pub mod Events
+pub mod Headline

@@ -7,6 +7,7 @@ use Rattle.coverage_certificate.specs.Served.{served_certificate}
 use Rattle.feed_disk.specs.Memory.{MemoryValue, state_of}
 use Rattle.feed_disk.specs.Moments.{LeavesOnly, NowOnly}
 use Rattle.feed_disk.specs.declared.area.Area.TheVariants.{Mirror as MirrorArea}
+use Rattle.feed_life.specs.Crashes.{IsCutBefore, IsCutWithin, clock_of}
 use Rattle.feed_life.specs.Life.{IsMirrorOf}
 use Rattle.feed_life.specs.StoreFetch.{store_answers}
 use Rattle.feed_life.specs.declared.event.Stop.{Stop}
@@ -19,7 +20,7 @@ use Rattle.mirror_walk.specs.Holding.{KeptValue, chain_of, first_missing}
 use Rattle.mirror_walk.specs.Laws.{ShowsVersion}
 use Rattle.mirror_walk.specs.Listing.{outcome_of}
 use Rattle.mirror_walk.specs.Loaded.{own_offer}
-use Rattle.mirror_walk.specs.Mirror.{IsAtRest, LoadsTo, MirrorValue, StandsFor, take_calls}
+use Rattle.mirror_walk.specs.Mirror.{IsAtRest, LoadsTo, MirrorValue, StandsFor, TakesFew, take_calls}
 use Rattle.mirror_walk.specs.Offers.{AreServed}
 use Rattle.mirror_walk.specs.Walk.{WalkEnding, WalkSetting, WalksFromFeed}
 use Rattle.mirror_walk.specs.Walk.WalkEnding.{cut_short, filled, nothing_wanted}
@@ -47,16 +48,32 @@ pub record IsGiven (head : HeadValue) (doc : SentDoc) (kept after : List KeptVal
   pub answered : IsAnswerWithin head.capacity head.name.base kept doc.address doc.bytes answer after
   pub unrefused : IfErr answer IsForRoom
 
+-- A gift that ran into a stop. It left `whole` on the disk `ran`, by few device calls, and the disk left is the image of
+-- that disk by the stop.
+pub record IsGivenInto (head : HeadValue) (history : List Op) (doc : SentDoc) (stop : Stop) (kept : List KeptValue)
+    (disk left : MemoryValue) : Type 0 where
+  pub whole : List KeptValue
+  pub given : IsGiven head doc kept whole
+  pub ran : MemoryValue
+  pub mirror : IsMirrorOf head history ran whole
+  pub cut : IsCutWithin stop disk ran left
+  pub few : clock_of ran ≤ clock_of cut.loaded + take_calls
+
 -- A gift that was stopped: the mirror holds what it held before, or what it holds after the gift. A crash before the
 -- first device call leaves the former, and one past the last call the latter.
-pub record IsHalfGiven (head : HeadValue) (doc : SentDoc) (call : ℕ) (kept after : List KeptValue) : Type 0 where
+pub record IsHalfGiven (head : HeadValue) (history : List Op) (doc : SentDoc) (stop : Stop) (disk left : MemoryValue)
+    (kept after : List KeptValue) : Type 0 where
   pub either : (after ≡ kept) ⊎ IsGiven head doc kept after
-  pub before : call ≡ 0 → after ≡ kept
-  pub past : take_calls < call → IsGiven head doc kept after
+  pub before : stop.call ≡ 0 → after ≡ kept
+  pub past : take_calls < stop.call → IsGiven head doc kept after
+  pub cut : stop.call ≡ 0 → IsCutBefore stop disk left
+  pub within : 0 < stop.call → IsGivenInto head history doc stop kept disk left
 
-abbrev pub IsGift : HeadValue → SentDoc → Option Stop → List KeptValue → List KeptValue → Type 0
-IsGift head doc None kept after = IsGiven head doc kept after
-IsGift head doc (Some stop) kept after = IsHalfGiven head doc stop.call kept after
+-- what a gift, with or without a stop, makes of a mirror's disk and of what is held
+abbrev pub IsGift : HeadValue → List Op → SentDoc → Option Stop → MemoryValue → MemoryValue → List KeptValue
+    → List KeptValue → Type 0
+IsGift head history doc None disk left kept after = IsGiven head doc kept after
+IsGift head history doc (Some stop) disk left kept after = IsHalfGiven head history doc stop disk left kept after
 
 -- what a crash within a gift leaves: the documents held before, or those after the gift, which the feed served
 pub record LoadsGiven (head : HeadValue) (history : List Op) (doc : SentDoc) (kept : List KeptValue) (image : List ℕ)
@@ -77,10 +94,10 @@ pub record RunsGift (head : HeadValue) (history : List Op) (doc : SentDoc) (kept
 
 -- a mirror's disk after a gift
 pub record LeavesGiven (head : HeadValue) (history : List Op) (doc : SentDoc) (stop : Option Stop)
-    (kept : List KeptValue) (disk : MemoryValue) : Type 0 where
+    (kept : List KeptValue) (disk left : MemoryValue) : Type 0 where
   pub after : List KeptValue
-  pub gift : IsGift head doc stop kept after
-  pub mirror : IsMirrorOf head history disk after
+  pub gift : IsGift head history doc stop disk left kept after
+  pub mirror : IsMirrorOf head history left after
 
 -- Walks
 
@@ -109,29 +126,39 @@ pub record IsWalkedPart (head : HeadValue) (history : List Op) (kept after : Lis
   pub accepted : List Accepted
   pub walks : WalksFromFeed (setting_by head history) kept asked accepted after cut_short
 
--- what the whole walk holds, and that a crash past its last device call leaves it
-pub record IsPastWalk (head : HeadValue) (history : List Op) (call : ℕ) (kept after : List KeptValue) : Type 0 where
+-- A walk that ran into a stop. It left `whole` on the disk `ran`, by few device calls for each document that it took. The
+-- disk left is the image of that disk by the stop. A crash past the last device call leaves `whole`.
+pub record IsPastWalk (head : HeadValue) (history : List Op) (stop : Stop) (disk left : MemoryValue)
+    (kept after : List KeptValue) : Type 0 where
   pub whole : List KeptValue
   pub walked : IsWalkedOver head history kept whole
-  pub past : take_calls * (length whole - length kept) < call → after ≡ whole
+  pub ran : MemoryValue
+  pub mirror : IsMirrorOf head history ran whole
+  pub cut : IsCutWithin stop disk ran left
+  pub few : TakesFew (state_of cut.loaded) (state_of ran) kept whole
+  pub past : take_calls * (length whole - length kept) < stop.call → after ≡ whole
 
 -- A walk that was stopped. A crash before the first device call leaves what was held before, and one past the last call
 -- what the whole walk holds.
-pub record IsWalkedInto (head : HeadValue) (history : List Op) (call : ℕ) (kept after : List KeptValue) : Type 0 where
+pub record IsWalkedInto (head : HeadValue) (history : List Op) (stop : Stop) (disk left : MemoryValue)
+    (kept after : List KeptValue) : Type 0 where
   pub part : (after ≡ kept) ⊎ IsWalkedPart head history kept after
-  pub before : call ≡ 0 → after ≡ kept
-  pub past : 0 < call → IsPastWalk head history call kept after
+  pub before : stop.call ≡ 0 → after ≡ kept
+  pub cut : stop.call ≡ 0 → IsCutBefore stop disk left
+  pub past : 0 < stop.call → IsPastWalk head history stop disk left kept after
 
-abbrev pub IsWalk : HeadValue → List Op → Option Stop → List KeptValue → List KeptValue → Type 0
-IsWalk head history None kept after = IsWalkedOver head history kept after
-IsWalk head history (Some stop) kept after = IsWalkedInto head history stop.call kept after
+-- what a walk, with or without a stop, makes of a mirror's disk and of what is held
+abbrev pub IsWalk : HeadValue → List Op → Option Stop → MemoryValue → MemoryValue → List KeptValue → List KeptValue
+    → Type 0
+IsWalk head history None disk left kept after = IsWalkedOver head history kept after
+IsWalk head history (Some stop) disk left kept after = IsWalkedInto head history stop disk left kept after
 
 -- a mirror's disk after a walk
 pub record LeavesWalked (head : HeadValue) (history : List Op) (stop : Option Stop) (kept : List KeptValue)
-    (disk : MemoryValue) : Type 0 where
+    (disk left : MemoryValue) : Type 0 where
   pub after : List KeptValue
-  pub walk : IsWalk head history stop kept after
-  pub mirror : IsMirrorOf head history disk after
+  pub walk : IsWalk head history stop disk left kept after
+  pub mirror : IsMirrorOf head history left after
 
 -- What a mirror shows
 

@@ -1,9 +1,8 @@
 -- The steps of a mirror's walk over the documents of the store.
-use Rattle.std.specs.Prelude.{List, Result, Ok, Err}
+use Rattle.std.specs.Prelude.{◌≡◌, List, Result, Ok, Err}
 use Rattle.feed_disk.specs.Memory.{MemoryValue, state_of}
 use Rattle.feed_disk.specs.Moments.{AlwaysLeaves}
 use Rattle.feed_disk.specs.declared.area.Area.TheVariants.{Mirror as MirrorArea}
-use Rattle.feed_life.specs.Asks.{IsLoadedWith}
 use Rattle.feed_life.specs.Life.{IsMirrorOf}
 use Rattle.feed_life.specs.Mirrors.{IsOpenedMirror, IsWalkedOver, setting_by}
 use Rattle.feed_life.specs.StoreFetch.{StoreFetchValue}
@@ -29,7 +28,8 @@ IsOver (Err fault) = ⊥
 pub record HasDocuments (head : HeadValue) (history : List Op) (documents : StoreFetchValue MemoryValue) : Type 0 where
   pub is_head : IsHead head
   pub lawful : IsLawful head history
-  pub store : IsLoadedWith head history documents.store
+  pub head_is : documents.store.head ≡ head
+  pub history_is : documents.store.history ≡ history
 
 -- a mirror that was loaded from its disk, and the documents of a store whose feed served what the mirror holds
 pub record IsReady (head : HeadValue) (history : List Op) (kept : List KeptValue) (disk : MemoryValue)

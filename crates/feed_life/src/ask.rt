@@ -1,8 +1,9 @@
-ghost use Rattle.std.specs.Prelude.{◌≡◌, ℕ, false, IfOk, List};
+ghost use Rattle.std.specs.Prelude.{◌≡◌, ℕ, false, IfOk, List, OnOk};
 ghost use Rattle.feed_disk.specs.Memory.{state_of};
 ghost use Rattle.feed_life.specs.Life.{IsStoreOf};
 ghost use Rattle.feed_journal.specs.Log.{MakesCalls};
 ghost use Rattle.feed_life.specs.Asks.{CountsCalls, IsAnswered, IsOpened, Sends};
+ghost use Rattle.feed_life.specs.Crashes.{HasPayloadsOf};
 ghost use Rattle.feed_recovery.specs.Store.{StandsFor, call_count, is_spent};
 ghost use Rattle.member_rules.specs.Head.{HeadValue};
 ghost use Rattle.member_rules.specs.declared.operation.Op.{Op as Operation};
@@ -34,14 +35,19 @@ pub(crate) fn open(alloc: Global, disk: &mut MemoryDisk) -> Result<Store, NoMemo
     ensures fresh { IfOk result (λ store. is_spent store ≡ false) }
     ensures stands { IfOk result (λ store. StandsFor (state_of disk.new) store) }
     ensures opened { IfOk result (λ store. (head : HeadValue) (history : List Operation)
-        → IsStoreOf head history disk.old → IsOpened head history disk.new store) }
+        → IsStoreOf head history disk.old → IsOpened head history disk.old disk.new store) }
+    ensures same { OnOk result (HasPayloadsOf disk.old disk.new) }
     ensures calls { IfOk result (λ store. (number : ℕ)
         × MakesCalls (state_of disk.old) (state_of disk.new) 0 (call_count store) number) }
 {
     // A law, which does nothing.
     stores_open_in_one_way();
     match Store::load(alloc, disk) {
-        Ok(store) => Ok(store),
+        Ok(store) => {
+            // The contract of `calls` says that the sizes of the logs are those of their payloads.
+            let _ = store.calls();
+            Ok(store)
+        }
         Err(_) => Err(NoMemory),
     }
 }
@@ -55,7 +61,8 @@ pub(crate) fn ask(
 ) -> Result<Answered, NoMemory>
     ensures answered { IfOk result (λ given. (head : HeadValue) (history : List Operation)
         → IsStoreOf head history disk.old
-        → IsAnswered head request.now now history disk.new given.reply given.line given.sealed) }
+        → IsAnswered head request.now now history disk.old disk.new
+        given.reply given.line given.sealed) }
     ensures calls { IfOk result (λ given. CountsCalls disk.old disk.new given.line) }
 {
     let mut store = open(alloc, disk)?;

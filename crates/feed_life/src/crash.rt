@@ -1,7 +1,9 @@
 ghost use Rattle.std.specs.Prelude.{◌≡◌, ◌≤◌, ◌<◌, false, IfOk, List, OnOk};
-ghost use Rattle.feed_disk.specs.Memory.{state_of};
+ghost use Rattle.feed_disk.specs.Image.{crashed_disk};
+ghost use Rattle.feed_disk.specs.Memory.{MemoryValue, state_of};
 ghost use Rattle.feed_life.specs.Life.{IsStoreOf};
-ghost use Rattle.feed_life.specs.Asks.{IsCrash, IsCrashFrom, IsLeft, IsOpened, LeavesStopped, Runs};
+ghost use Rattle.feed_life.specs.Asks.{IsLeft, IsOpened, LeavesStopped, Runs};
+ghost use Rattle.feed_life.specs.Crashes.{HasPayloadsOf, IsCrash, IsCrashFrom, IsImageAfter, IsImageBy};
 ghost use Rattle.feed_recovery.specs.Store.{StandsFor, is_spent};
 ghost use Rattle.member_rules.specs.Head.{HeadValue};
 ghost use Rattle.member_rules.specs.declared.operation.Op.{Op as Operation};
@@ -11,6 +13,7 @@ use crate::event::Stop;
 use atom_values::NoMemory;
 use document_server::answer;
 use feed_disk::{Area, Choice, Disk, MemoryDisk};
+use feed_journal::begun_images_are_whole;
 use feed_recovery::Store;
 use http_face::Request;
 use std::alloc::Global;
@@ -22,17 +25,20 @@ pub(crate) struct Numbers {
     pub(crate) sealed: u32,
 }
 
-/// Crashes within a device call that was made.
+/// Crashes within a device call that was made. The disk left is the image by the choice.
 fn crash_at(disk: &MemoryDisk, call: u64, choice: &Choice) -> Result<MemoryDisk, NoMemory>
     requires { call ≤ (state_of disk.now).clock }
-    ensures { IfOk result (IsCrash (λ a. (state_of disk.now).image_at a call)) }
+    ensures image { IfOk result (λ left. left ≡ crashed_disk disk.now call choice.now) }
+    ensures among { IfOk result (IsCrash (λ a. (state_of disk.now).image_at a call)) }
 {
     disk.image(call, choice)
 }
 
-/// Crashes after the last device call that was made, within one that changes nothing.
+/// Crashes after the last device call that was made, within one that changes nothing. The disk left is the image by the
+/// choice.
 pub(crate) fn crash_after(disk: &mut MemoryDisk, choice: &Choice) -> Result<MemoryDisk, NoMemory>
-    ensures { IfOk result (IsCrash (state_of disk.old).image_now) }
+    ensures image { IfOk result (IsImageAfter disk.old choice.now) }
+    ensures among { IfOk result (IsCrash (state_of disk.old).image_now) }
 {
     let before = disk.calls();
     if before == u64::MAX {
@@ -52,7 +58,8 @@ pub(crate) fn crash_from(
 ) -> Result<MemoryDisk, NoMemory>
     requires begun { begun ≤ (state_of disk.old).clock }
     requires some { 0 < stop.now.call }
-    ensures { IfOk result (IsCrashFrom begun stop.now.call disk.old) }
+    ensures image { IfOk result (IsImageBy stop.now begun disk.old) }
+    ensures among { IfOk result (IsCrashFrom begun stop.now.call disk.old) }
 {
     let ended = disk.calls();
     if ended == u64::MAX {
@@ -66,26 +73,31 @@ pub(crate) fn crash_from(
     Ok(left)
 }
 
-/// Answers a request, without the reply.
+/// Answers a request, without the reply. Returns the number of device calls before it.
 fn run(
     alloc: Global,
     store: &mut Store,
     disk: &mut MemoryDisk,
     request: &Request,
     now: u64,
-) -> Result<(), NoMemory>
+) -> Result<u64, NoMemory>
     requires unspent { is_spent store.old ≡ false }
     requires stands { StandsFor (state_of disk.old) store.old }
-    ensures runs { OnOk result ((head : HeadValue) (history : List Operation)
-        → IsOpened head history disk.old store.old
-        → Runs head request.now now history disk.old disk.new) }
+    ensures runs { OnOk result ((head : HeadValue) (history : List Operation) (before : MemoryValue)
+        → IsOpened head history before disk.old store.old
+        → Runs head request.now now history before disk.old disk.new) }
+    ensures begun { IfOk result (λ begun. begun ≡ (state_of disk.old).clock) }
     ensures later { (state_of disk.old).clock ≤ (state_of disk.new).clock }
 {
+    let begun = disk.calls();
+    if begun == u64::MAX {
+        return Err(NoMemory);
+    }
     let reply = answer(alloc, store, disk, request, now);
     if reply.status == NO_MEMORY || store.is_spent() {
         return Err(NoMemory);
     }
-    Ok(())
+    Ok(begun)
 }
 
 /// Answers a request on the store of a disk, and crashes within one of its device calls.
@@ -98,24 +110,26 @@ pub(crate) fn ask_into(
 ) -> Result<MemoryDisk, NoMemory>
     ensures stopped { IfOk result (λ left. (head : HeadValue) (history : List Operation)
         → IsStoreOf head history disk.old
-        → LeavesStopped head request.now now stop.now.call history left) }
+        → LeavesStopped head request.now now stop.now history disk.old left) }
 {
+    // A law, which does nothing.
+    begun_images_are_whole();
     let mut store = open(alloc, disk)?;
     if stop.call == 0 {
         let left = crash_after(disk, &stop.choice)?;
         return Ok(left);
     }
-    let begun = disk.calls();
-    run(alloc, &mut store, disk, request, now)?;
+    let begun = run(alloc, &mut store, disk, request, now)?;
     let left = crash_from(disk, begun, stop)?;
     Ok(left)
 }
 
 /// Loads the store of a disk, for its numbers.
 pub(crate) fn load_numbers(alloc: Global, disk: &mut MemoryDisk) -> Result<Numbers, NoMemory>
-    ensures { IfOk result (λ given. (head : HeadValue) (history : List Operation)
+    ensures left { IfOk result (λ given. (head : HeadValue) (history : List Operation)
         → IsStoreOf head history disk.old
         → IsLeft head history disk.new given.version given.sealed) }
+    ensures same { OnOk result (HasPayloadsOf disk.old disk.new) }
 {
     let store = open(alloc, disk)?;
     Ok(Numbers {

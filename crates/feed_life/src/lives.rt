@@ -140,7 +140,7 @@ impl Life {
         requires { self.old.lost ≡ false }
         ensures halted { OnOk result ((history : List Operation) (held : List (List KeptValue))
             → Lives self.old history held
-            → IsHalted self.old self.new request.now now stop.now.call history held) }
+            → IsHalted self.old self.new request.now now stop.now history held) }
         ensures stays { OnOk result (self.new ≡ record self.old {
           disk = self.new.disk;
           version = self.new.version;

@@ -2,6 +2,7 @@ ghost use Rattle.std.specs.Prelude.{◌≡◌, ◌≢◌, ◌≤◌, false, Err,
 ghost use Rattle.feed_disk.specs.Memory.{state_of};
 ghost use Rattle.feed_disk.specs.Moments.{NowOnly};
 ghost use Rattle.feed_disk.specs.declared.area.Area.TheVariants.{Mirror as MirrorArea};
+ghost use Rattle.feed_life.specs.Crashes.{HasPayloadsOf};
 ghost use Rattle.feed_life.specs.Life.{IsMirrorOf, IsSentBy};
 ghost use Rattle.feed_life.specs.Mirrors.{IsCertified, IsOpenedMirror, IsShown, LeavesGiven, RunsGift};
 ghost use Rattle.member_rules.specs.Head.{HeadValue};
@@ -34,6 +35,7 @@ pub(crate) fn open_mirror(
     ensures opened { IfOk result (λ mirror. (kept : List KeptValue)
         → NowOnly (state_of disk.old) MirrorArea (LoadsTo head.now.name.base kept)
         → IsOpenedMirror head.now kept disk.new mirror) }
+    ensures same { OnOk result (HasPayloadsOf disk.old disk.new) }
 {
     let base = head.name.base.copy(alloc)?;
     match Mirror::load(alloc, disk, base, head.capacity) {
@@ -85,7 +87,7 @@ pub(crate) fn give(
     ensures { OnOk result ((history : List Operation) (kept : List KeptValue)
         → IsSentBy head.now history doc.now
         → IsMirrorOf head.now history disk.old kept
-        → LeavesGiven head.now history doc.now None kept disk.new) }
+        → LeavesGiven head.now history doc.now None kept disk.old disk.new) }
 {
     let mut mirror = open_mirror(alloc, head, disk)?;
     offer(&mut mirror, disk, doc)
@@ -102,15 +104,17 @@ pub(crate) fn give_into(
     ensures { IfOk result (λ left. (history : List Operation) (kept : List KeptValue)
         → IsSentBy head.now history doc.now
         → IsMirrorOf head.now history disk.old kept
-        → LeavesGiven head.now history doc.now (Some stop.now) kept left) }
+        → LeavesGiven head.now history doc.now (Some stop.now) kept disk.old left) }
 {
     let mut mirror = open_mirror(alloc, head, disk)?;
     if stop.call == 0 {
-        return crash_after(disk, &stop.choice);
+        let left = crash_after(disk, &stop.choice)?;
+        return Ok(left);
     }
     let begun = disk.calls();
     offer(&mut mirror, disk, doc)?;
-    crash_from(disk, begun, stop)
+    let left = crash_from(disk, begun, stop)?;
+    Ok(left)
 }
 
 /// What the mirror of a disk shows.

@@ -1,8 +1,10 @@
 ghost use Rattle.std.specs.Prelude.{◌≡◌, ◌≤◌, ◌<◌, false, true, length, slice_get, List, IfOk, IsErr, OnErr};
-ghost use Rattle.std.specs.Prelude.{OnOk, None, Some};
+ghost use Rattle.std.specs.Prelude.{◌++◌, OnOk, None, Some};
 ghost use Rattle.feed_life.specs.Events.{IsLifeOf, IsStep, with_stop};
+ghost use Rattle.feed_life.specs.Headline.{KeepsAll};
 ghost use Rattle.feed_life.specs.Life.{IsMirrorOf, IsSentBy, IsStoreOf, Lives};
 ghost use Rattle.feed_life.specs.Mirrors.{IsCertified, IsShown, LeavesGiven, LeavesWalked};
+ghost use Rattle.feed_life.specs.declared.event.Event.{Event as EventValue};
 ghost use Rattle.member_rules.specs.declared.operation.Op.{Op as Operation};
 ghost use Rattle.mirror_walk.specs.Holding.{KeptValue};
 
@@ -16,17 +18,28 @@ use coverage_certificate::Certificate;
 use document_server::Line;
 use feed_disk::MemoryDisk;
 use http_face::Request;
-use member_rules::Head;
-use mirror_walk::Outcome;
+use member_rules::{Head, archives_stay};
+use mirror_walk::{Outcome, served_documents_show_the_fold};
 use std::alloc::Global;
 
 /// Begins a life with this head and this number of mirrors, and makes a step by each of the events.
+///
+/// After a crash before or within any disk write, the feed reopens as the fold of a prefix of its accepted operations
+/// that holds every acknowledged one, each sealed archive unchanged. From documents that it served at whatever moments,
+/// in any order, lost or repeated, a mirror is complete exactly when it holds each archive of the newest subscription
+/// document's chain, and then it equals the fold at that document's version. The clause `headline` says so of each way
+/// to cut the events in two: what the first of them made, the rest keep.
 ///
 /// `NoMemory` if memory runs out. Costs as much as [`Life::step`] for each event.
 pub fn life(alloc: Global, head: &Head, mirrors: u32, events: &[Event]) -> Result<Life, NoMemory>
     requires { mirrors ≤ 100 }
     ensures lived { IfOk result (IsLifeOf head.now mirrors events.now) }
+    ensures headline { IfOk result (λ life. (first rest : List EventValue) → events.now ≡ first ++ rest
+        → KeepsAll head.now mirrors first life) }
 {
+    // Laws, which do nothing.
+    archives_stay();
+    served_documents_show_the_fold();
     let mut life = Life::new(alloc, head, mirrors)?;
     for event in events {
         let _ = life.step_by(event)?;
@@ -157,6 +170,10 @@ impl Life {
 
     /// Returns what a mirror shows: a feed at one of its versions, or which document it lacks.
     ///
+    /// From documents that the feed served at whatever moments, in any order, lost or repeated, a mirror is complete
+    /// exactly when it holds each archive of the newest subscription document's chain, and then it equals the fold at
+    /// that document's version.
+    ///
     /// `NoMemory` if memory ran out, now or in an earlier call. Loads the mirror, so it costs as much as is on its
     /// disk.
     pub fn outcome(&mut self, mirror: u32) -> Result<Outcome, NoMemory>
@@ -215,7 +232,7 @@ fn give_or_crash(
     ensures { OnOk result ((history : List Operation) (kept : List KeptValue)
         → IsSentBy head.now history doc.now
         → IsMirrorOf head.now history disk.old kept
-        → LeavesGiven head.now history doc.now stop.now kept disk.new) }
+        → LeavesGiven head.now history doc.now stop.now kept disk.old disk.new) }
 {
     match stop {
         None => give(alloc, head, disk, doc),
@@ -237,7 +254,7 @@ fn walk_or_crash(
     ensures walked { OnOk result ((history : List Operation) (kept : List KeptValue)
         → IsStoreOf head.now history store_disk.old
         → IsMirrorOf head.now history disk.old kept
-        → LeavesWalked head.now history stop.now kept disk.new) }
+        → LeavesWalked head.now history stop.now kept disk.old disk.new) }
     ensures store { OnOk result ((history : List Operation)
         → IsStoreOf head.now history store_disk.old → IsStoreOf head.now history store_disk.new) }
 {

@@ -1,8 +1,8 @@
 ghost use Rattle.std.specs.Prelude.{◌≡◌, ◌≤◌, false, IfOk, List, None, OnOk, Some};
 ghost use Rattle.feed_disk.specs.Disk.{PassesBy};
-ghost use Rattle.feed_disk.specs.Memory.{state_of};
+ghost use Rattle.feed_disk.specs.Memory.{MemoryValue, state_of};
 ghost use Rattle.feed_disk.specs.declared.area.Area.{Area as AreaValue};
-ghost use Rattle.feed_life.specs.Asks.{IsCrash};
+ghost use Rattle.feed_life.specs.Crashes.{HasPayloadsOf, IsCrash};
 ghost use Rattle.feed_life.specs.Life.{IsMirrorOf, IsStoreOf};
 ghost use Rattle.feed_life.specs.Mirrors.{LeavesWalked};
 ghost use Rattle.feed_life.specs.Walks.{HasDocuments, IsOver, IsReady, RunsWalk};
@@ -98,8 +98,9 @@ fn walk_amid(
     requires unspent { is_spent mirror.old ≡ false }
     requires stands { StandsFor (state_of disk.old) mirror.old }
     ensures { IfOk result (λ left. (head : HeadValue) (history : List Operation) (kept : List KeptValue)
+        (before : MemoryValue) → HasPayloadsOf before disk.old
         → IsReady head history kept disk.old mirror.old documents.old
-        → LeavesWalked head history (Some stop.now) kept left) }
+        → LeavesWalked head history (Some stop.now) kept before left) }
 {
     // Laws, which do nothing.
     begun_images_are_whole();
@@ -127,7 +128,7 @@ fn walk_by(
     ensures { OnOk result ((history : List Operation) (kept : List KeptValue)
         → HasDocuments head.now history documents.old
         → IsMirrorOf head.now history disk.old kept
-        → LeavesWalked head.now history None kept disk.new) }
+        → LeavesWalked head.now history None kept disk.old disk.new) }
 {
     let mut mirror = open_mirror(alloc, head, disk)?;
     walk_over(&mut mirror, disk, documents)
@@ -144,7 +145,7 @@ fn walk_into_by(
     ensures { IfOk result (λ left. (history : List Operation) (kept : List KeptValue)
         → HasDocuments head.now history documents.old
         → IsMirrorOf head.now history disk.old kept
-        → LeavesWalked head.now history (Some stop.now) kept left) }
+        → LeavesWalked head.now history (Some stop.now) kept disk.old left) }
 {
     let mut mirror = open_mirror(alloc, head, disk)?;
     walk_amid(&mut mirror, disk, documents, stop)
@@ -160,7 +161,7 @@ pub(crate) fn walk(
     ensures walked { OnOk result ((history : List Operation) (kept : List KeptValue)
         → IsStoreOf head.now history store_disk.old
         → IsMirrorOf head.now history disk.old kept
-        → LeavesWalked head.now history None kept disk.new) }
+        → LeavesWalked head.now history None kept disk.old disk.new) }
     ensures store { OnOk result ((history : List Operation)
         → IsStoreOf head.now history store_disk.old → IsStoreOf head.now history store_disk.new) }
 {
@@ -179,7 +180,7 @@ pub(crate) fn walk_into(
     ensures walked { IfOk result (λ left. (history : List Operation) (kept : List KeptValue)
         → IsStoreOf head.now history store_disk.old
         → IsMirrorOf head.now history disk.old kept
-        → LeavesWalked head.now history (Some stop.now) kept left) }
+        → LeavesWalked head.now history (Some stop.now) kept disk.old left) }
     ensures store { OnOk result ((history : List Operation)
         → IsStoreOf head.now history store_disk.old → IsStoreOf head.now history store_disk.new) }
 {

@@ -1,4 +1,4 @@
--- What the checks of an offered document found.
+-- The results of the checks of an offered document.
 use Rattle.std.proofs.Common.{◌≡◌, ◌≢◌, ◌⊎◌, inl, inr, ℕ, ◌+◌, ◌<◌, List, Ok, Err, length, refl, sym, ap}
 use Rattle.std.proofs.Common.{subst, ◌∙◌}
 use Rattle.std.proofs.Common.{arith, Some, [], ◌∷◌, ◌++◌}

@@ -109,7 +109,7 @@ pub gap-above : (kept : List KeptValue) (high : ℕ) (gap : Option ℕ) → gap_
 gap-above kept high None is n more within = gap-none kept high is n (omega arith) within
 gap-above kept high (Some number) is n more within = (gap-found kept high number is).held n more within
 
--- 0 stands for no missing archive
+-- 0 means that no archive is missing
 pub gap-zero : (kept : List KeptValue) (high : ℕ) (gap : Option ℕ) → gap_from kept high ≡ gap
     → unwrap_or gap 0 ≡ 0
     → gap ≡ None

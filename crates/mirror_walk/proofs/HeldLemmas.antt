@@ -1,4 +1,4 @@
--- What is true of the documents that a loaded mirror holds, and that they are a whole chain where none is missing.
+-- The rules that the documents of a loaded mirror keep. If none is missing, they are a whole chain.
 use Rattle.std.proofs.Common.{◌≡◌, ◌≢◌, ◌⊎◌, inl, inr, ℕ, zero, suc, ◌+◌, ◌-◌, ◌≤◌, nat_lt, ◌==◌, Bool, true, false}
 use Rattle.std.proofs.Common.{cond, List, [], ◌∷◌, ◌++◌, All, Option, Some, None, IsSome, IsTrue, Ok, Err}
 use Rattle.std.proofs.Common.{refl, sym, ap, subst, ◌∙◌, arith, option_map}

@@ -1,4 +1,4 @@
--- What a mirror keeps beside its documents, once it holds one more document.
+-- The index of a mirror after one more document is taken.
 use Rattle.std.proofs.Common.{◌≡◌, ◌≢◌, inl, inr, ℕ, ◌-◌, ◌==◌, ◌≤◌, nat_lt, true, false}
 use Rattle.std.proofs.Common.{if◌then◌else◌, List, [], ◌∷◌, ◌++◌, length, Option, Some, None, Ok, nat_cmp}
 use Rattle.std.proofs.Common.{is_eq, refl}

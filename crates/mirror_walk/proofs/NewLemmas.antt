@@ -1,4 +1,4 @@
--- What a mirror accepts at an address: a document of that address, which it takes if it holds none in its
+-- The document that a mirror accepts at an address: a document of that address, which it takes if it holds none in its
 -- place.
 use Rattle.std.proofs.Common.{◌≡◌, ◌≢◌, ◌⊎◌, inl, inr, ℕ, ◌+◌, ◌-◌, ◌≤◌, nat_lt, ◌==◌, ◌&&◌, Bool, true}
 use Rattle.std.proofs.Common.{false, cond, List, [], ◌∷◌, ◌++◌, All, Option, Some, None, IsSome, Ok, Err}

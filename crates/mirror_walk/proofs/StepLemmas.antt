@@ -1,4 +1,4 @@
--- What a crash leaves of a mirror at rest, and while a document is appended.
+-- The images that a crash leaves of a mirror at rest, and while a document is appended.
 use Rattle.std.proofs.Common.{◌≡◌, inl, inr, ℕ, zero, suc, List, [], ◌∷◌, ◌++◌, length, sym, ◌∙◌, ap, subst}
 use Rattle.std.proofs.Common.{arith, ◌≢◌, Option, Some, None, false}
 use Rattle.std.specs.Prelude.{MatchOption, slice_get}
@@ -183,7 +183,7 @@ pub others-alone : (s t : DiskState) (area : Area) → area ≡ MirrorArea
     → ((a : Area) → a ≢ area → LeavesAlone s t a) → (a : Area) → a ≢ MirrorArea → LeavesAlone s t a
 others-alone s t area same alone a other = alone a (λ is. other (is ∙ same))
 
--- a mirror whose log got room stands for the same content
+-- a mirror whose log got room agrees with the same content
 pub stands-room : (s : DiskState) (mirror : MirrorValue) (log : LogValue) → log
     ≡ record mirror.log { spare = log.spare }
     → StandsFor s mirror → StandsFor s (record mirror { log = log })

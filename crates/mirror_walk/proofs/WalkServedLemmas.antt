@@ -1,19 +1,23 @@
--- What a walk takes, as offers to the mirror; of documents that one feed served it refuses none.
+-- The documents that a walk takes, as offers to the mirror. If one feed served them, it refuses none.
 use Rattle.std.proofs.Common.{◌≡◌, ℕ, List, [], ◌∷◌, ◌++◌, Option, Some, None, Ok, Err, refl, sym, subst, ◌∙◌}
 use Rattle.std.proofs.Common.{map, unwrap_or}
+use Rattle.std.proofs.lemmas.List.Elements.{All-cons, All-nil}
 use Rattle.chain_links.specs.Address.{printed}
 use Rattle.chain_links.specs.declared.address.Address.{Address}
 use Rattle.chain_links.specs.declared.address.Address.TheVariants.{Feed}
 use Rattle.member_rules.specs.Head.{HeadValue}
 use Rattle.member_rules.specs.declared.operation.Op.{Op}
+use Rattle.member_rules.specs.Served.{Served}
 use Rattle.mirror_walk.specs.declared.answer.Accepted.{Accepted}
+use Rattle.mirror_walk.specs.declared.answer.Accepted.TheVariants.{Taken, Known, Stale}
 use Rattle.mirror_walk.specs.declared.answer.Offered.{Offered}
 use Rattle.mirror_walk.specs.declared.walk.Refusal.{Refusal}
 use Rattle.mirror_walk.specs.declared.walk.Visits.{Visits}
 use Rattle.mirror_walk.specs.declared.walk.WalkFault.TheVariants.{NoMemory}
 use Rattle.mirror_walk.specs.declared.walk.Walked.{Walked}
 use Rattle.mirror_walk.specs.Accept.{Answer, IsAnswer, IsForRoom}
-use Rattle.mirror_walk.specs.Holding.{KeptValue, first_missing}
+use Rattle.mirror_walk.specs.Holding.{KeptValue, first_missing, payloads_of}
+use Rattle.mirror_walk.specs.Loaded.{IsLoadedOf}
 use Rattle.mirror_walk.specs.Offers.{AreAnswered, AreServed, AreTakenOf, Offering}
 use Rattle.mirror_walk.specs.Visit.{HasVisited}
 use Rattle.mirror_walk.specs.Walk.{EndsAt, EndsBefore, HasRefusal, HasWalked, IsAnswered, IsServedBy}
@@ -24,6 +28,7 @@ use Rattle.mirror_walk.proofs.MirrorLemmas.{taken-mirrored}
 use Rattle.mirror_walk.proofs.OfferedLemmas.{Mirrors, answer-mirrored}
 use Rattle.mirror_walk.proofs.WalkRunLemmas.{walks-cut}
 use Rattle.mirror_walk.proofs.RoomLemmas.{within-accepted, within-refused}
+use Rattle.mirror_walk.proofs.TakenLemmas.{kept-text, loaded-more, taken-next}
 
 -- the documents of a walk, as offers
 
@@ -40,7 +45,7 @@ answered-append base (offer ∷ offers) more (answer ∷ answers) others kept mi
     =
     (next, one, answered-append base offers more answers others next middle left rest second)
 
-some-bytes : (found : Option (List ℕ)) (bytes : List ℕ) → found ≡ Some bytes → unwrap_or found [] ≡ bytes
+pub some-bytes : (found : Option (List ℕ)) (bytes : List ℕ) → found ≡ Some bytes → unwrap_or found [] ≡ bytes
 some-bytes None bytes e = cc
 some-bytes (Some other) bytes e = cc
 
@@ -205,3 +210,49 @@ visited-cut setting kept now left before after made has same = record {
   left = λ works. same ∙ has.left (λ e. cc);
   result = refl;
 }
+
+answered-loaded : (setting : WalkSetting) (kept : List KeptValue) (address : Address) (answer : Accepted)
+    (left : List KeptValue) → IsLoadedOf setting.base (payloads_of kept) kept
+    → IsAnswered setting kept address (Ok answer) left → IsLoadedOf setting.base (payloads_of left) left
+answered-loaded setting kept address Taken left loaded answered =
+    let there = printed setting.base address in
+    let plain = within-accepted setting.capacity setting.base kept there answered.bytes Taken left answered.answered in
+    subst (λ (ks : List KeptValue). IsLoadedOf setting.base (payloads_of ks) ks) (sym plain.left_over)
+    (loaded-more setting.base kept plain.given loaded (kept-text answered.bytes plain.given plain.read)
+    (taken-next setting.base kept there plain.given (sym plain.first_fit)))
+answered-loaded setting kept address Known left loaded answered =
+    subst (λ (ks : List KeptValue). IsLoadedOf setting.base (payloads_of ks) ks) (sym answered.answered.left_over) loaded
+answered-loaded setting kept address Stale left loaded answered =
+    subst (λ (ks : List KeptValue). IsLoadedOf setting.base (payloads_of ks) ks) (sym answered.answered.left_over) loaded
+
+-- the documents that a walk leaves held were taken one after another, for the crates above
+pub walks-loaded : (setting : WalkSetting) (asked : List Address) (accepted : List Accepted) (kept left : List KeptValue)
+    (next : Option Address) (ending : WalkEnding) → Walks setting kept next asked accepted left ending
+    → IsLoadedOf setting.base (payloads_of kept) kept → IsLoadedOf setting.base (payloads_of left) left
+walks-loaded setting [] [] kept left next ending walks loaded =
+    subst (λ (ks : List KeptValue). IsLoadedOf setting.base (payloads_of ks) ks) (sym walks.0) loaded
+walks-loaded setting [] (answer ∷ accepted) kept left next ending walks loaded = absurd walks
+walks-loaded setting (address ∷ asked) [] kept left next ending (is, none, same, ends) loaded =
+    subst (λ (ks : List KeptValue). IsLoadedOf setting.base (payloads_of ks) ks) (sym same) loaded
+walks-loaded setting (address ∷ asked) (answer ∷ accepted) kept left next ending (is, (after, answered, walks)) loaded =
+    walks-loaded setting asked accepted after left (first_missing after) ending walks
+    (answered-loaded setting kept address answer after loaded answered)
+
+-- the documents that a walk accepted were served, for the crates above
+pub accepted-served : (head : HeadValue) (history : List Op) (setting : WalkSetting)
+    → IsServedBy head history setting.answers → (asked : List Address) (accepted : List Accepted)
+    (kept left : List KeptValue) (next : Option Address) (ending : WalkEnding)
+    → Walks setting kept next asked accepted left ending
+    → AreServed head history (accepted_offers setting asked accepted)
+accepted-served head history setting served [] [] kept left next ending walks =
+    All-nil (λ (offer : Offering). Served head history offer.address offer.bytes)
+accepted-served head history setting served [] (answer ∷ accepted) kept left next ending walks = absurd walks
+accepted-served head history setting served (address ∷ asked) [] kept left next ending walks =
+    All-nil (λ (offer : Offering). Served head history offer.address offer.bytes)
+accepted-served head history setting served (address ∷ asked) (answer ∷ accepted) kept left next ending
+    (is, (after, answered, walks)) =
+    let there = printed setting.base address in
+    All-cons (λ (offer : Offering). Served head history offer.address offer.bytes) _ _
+    (subst (Served head history there) (sym (some-bytes (answer_at setting address) answered.bytes answered.there))
+    (served there answered.bytes answered.there))
+    (accepted-served head history setting served asked accepted after left (first_missing after) ending walks)

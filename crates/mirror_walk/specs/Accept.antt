@@ -120,8 +120,8 @@ first_of (None ∷ more) = first_of more
 first_of (Some answer ∷ more) = Some answer
 
 -- A held neighbour doesn't adjoin the document. The neighbours of an archive are the archives before and
--- after it, and the best subscription document if that comes right after it. That of a subscription document
--- is the archive before it. There is no archive 0.
+-- after it, and the best subscription document if that comes right after it. A subscription document has one
+-- neighbour, the archive before it. There is no archive 0.
 unfoldable pub broken : List KeptValue → DocValue → Option Answer
 broken kept document = first_of (breaks_of_kind kept document document.kind)
 

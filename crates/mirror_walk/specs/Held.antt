@@ -1,4 +1,4 @@
--- What is true of the documents that a loaded mirror holds.
+-- The rules that the documents of a loaded mirror keep.
 use Rattle.std.specs.Prelude.{◌≡◌, ℕ, ◌+◌, List, Some, All}
 use Rattle.sha2.specs.Sha256.{sha256}
 use Rattle.atom_writer.specs.Doc.{DocValue, IsDoc}
@@ -27,7 +27,7 @@ pub record NeighboursAdjoin (kept : List KeptValue) : Type 0 where
   pub best : (older newest : KeptValue) → best_of kept ≡ Some newest
       → archive_at kept newest.document.prev ≡ Some older → SpansAdjoin older newest
 
--- what is true of all documents that a mirror with this base holds
+-- the rules that all documents of a mirror with this base keep
 pub record AreHeld (base : List ℕ) (kept : List KeptValue) : Type 0 where
   pub each : All (IsHeldDoc base) kept
   pub id : List ℕ

@@ -1,4 +1,4 @@
--- What a mirror holds: the documents that it took, in order.
+-- The documents that a mirror holds: those that it took, in order.
 --
 -- The best subscription document is the one with the greatest `last`. It needs the archives from its `prev`
 -- down to 1 (RFC 5005 section 4).

@@ -1,4 +1,4 @@
--- What a mirror keeps beside the documents that it took, so that it finds them without a search.
+-- The index of a mirror, by which it finds the documents that it took without a search.
 use Rattle.std.specs.Prelude.{◌≡◌, ◌≢◌, ◌≤◌, ◌<◌, ◌^◌, ℕ, List, [], ◌∷◌, ◌++◌, Option, Some, None, IsSome}
 use Rattle.std.specs.Prelude.{MatchOption, unwrap_or, slice_get, All}
 use Rattle.std.specs.BTreeMap.{BTreeMap, get}

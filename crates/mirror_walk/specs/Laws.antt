@@ -1,4 +1,4 @@
--- What a mirror shows of documents that one feed served, whatever came in which order, was lost or came
+-- The law of a mirror over documents that one feed served. They come in any order, and some are lost or come
 -- twice.
 use Rattle.std.specs.Prelude.{◌≡◌, ℕ, ◌<◌, ◌≤◌, List, [], Option, Some, None, All, IsOk, take, length}
 use Rattle.atom_writer.specs.Doc.{DocValue}

@@ -1,4 +1,4 @@
--- What a mirror's documents show, and its live entries in order of number.
+-- The outcome of a mirror, and its live entries in order of number.
 use Rattle.std.specs.Prelude.{◌≡◌, ℕ, zero, suc, ◌<◌, List, [], ◌∷◌, ◌++◌, Option, Some, None, Bool, true}
 use Rattle.std.specs.Prelude.{false}
 use Rattle.atom_values.specs.Entry.{EntryValue}
@@ -13,7 +13,7 @@ use Rattle.mirror_walk.specs.Holding.{KeptValue, best_of, chain_of, first_missin
 abbrev pub live_at : List KeptValue → ℕ → Option EntryValue
 live_at kept number = live_of (chain_of kept) number
 
--- the entries behind others, if there is one more
+-- these entries, and one more after them if there is one
 abbrev pub with_entry : List EntryValue → Option EntryValue → List EntryValue
 with_entry entries None = entries
 with_entry entries (Some entry) = entries ++ entry ∷ []

@@ -1,4 +1,4 @@
--- What a mirror keeps in memory of a document that it took.
+-- The parts of a document that a mirror keeps in memory.
 use Rattle.std.specs.Prelude.{◌≡◌, ℕ, ◌≤◌, List, map, All}
 use Rattle.atom_writer.specs.Doc.{DocValue, KeepsRules}
 use Rattle.atom_writer.specs.declared.doc.FeedName.{FeedName}

@@ -1,4 +1,4 @@
--- What counts of a mirror's documents by the published rules for duplicates (RFC 5005, RFC 6721).
+-- The entries of a mirror's documents that count by the published rules for duplicates (RFC 5005, RFC 6721).
 use Rattle.std.specs.Prelude.{ℕ, ◌<◌, List, Option, Some, None, map}
 use Rattle.atom_values.specs.Entry.{EntryValue}
 use Rattle.atom_writer.specs.Doc.{DocValue}

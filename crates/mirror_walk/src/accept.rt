@@ -183,6 +183,7 @@ impl Held {
             self.archives.insert(number, at)?;
         }
         self.best = best;
+        // `reserve` made room for it, so this doesn't fail.
         self.kept.push(given).unwrap();
         self.live = None;
         Ok(())

@@ -47,11 +47,11 @@ impl Mirror {
         requires live { IsSome (live_at self.old.kept number) }
         requires stands { D.told → StandsFor (D.state disk.old) self.old }
         ensures entry { IfOk result (λ entry. D.told → live_at self.old.kept number ≡ Some entry) }
-        // Of documents that one feed served.
+        // If one feed served all documents held, the entry counts by the published rules.
         ensures published { IfOk result (λ entry. D.told → (head : HeadValue) (history : List Op)
             → self.old.base ≡ head.name.base → HoldsServed head history self.old.kept
             → Counts (chain_of self.old.kept) number entry) }
-        // Of any disk, it is an entry of this member.
+        // On any disk, the entry has this member's number.
         ensures number { IfOk result (λ entry. entry.number ≡ number) }
         ensures never { D.told → (index : ℕ) → result ≢ Err (LogFault.Changed index) }
         ensures changed { (index : ℕ) → result ≡ Err (LogFault.Changed index)

@@ -6,8 +6,8 @@ ghost use Rattle.mirror_walk.specs.Walk.{WalksAskOnce};
 
 /// The law of a mirror. Let all documents offered be served by one feed after some of its operations, in any
 /// order, with losses and repeats. Then none is refused. The best subscription document has the greatest
-/// `last` of those offered. What is missing is the greatest archive of its chain that was not offered. If
-/// nothing is missing, the documents are the chain of the feed at that version, and show exactly its live
+/// `last` of those offered. The first missing document is the greatest archive of its chain that was not
+/// offered. If none is missing, the documents are the chain of the feed at that version, and show exactly its live
 /// entries.
 pub fn served_documents_show_the_fold()
     ensures { LawOfTheMirror }

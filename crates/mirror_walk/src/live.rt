@@ -64,8 +64,8 @@ fn list_items(
 }
 
 impl Held {
-    /// What the documents show: the first missing document, as `wanted` returns it, or else the version and
-    /// the number of live entries. Archives that the best subscription document doesn't need are not used.
+    /// Returns the first missing document, as `wanted` does, or else the version and the number of live
+    /// entries. Archives that the best subscription document doesn't need are not used.
     ///
     /// If none is missing, the live entries are listed afterwards, for `next_live` and `entry_place`. The
     /// first call after a document was taken makes the list, in one pass over the items of the needed
@@ -77,7 +77,7 @@ impl Held {
         ensures base { self.new.base ≡ self.old.base }
         ensures kept { self.new.kept ≡ self.old.kept }
         ensures err { OnErr result (self.new ≡ self.old) }
-        // What is held of documents that one feed served.
+        // If one feed served all documents held, the result is that of the feed at this version.
         ensures served { (head : HeadValue) (history : List Op) (offers : List Offering)
             → self.old.base ≡ head.name.base → AreServed head history offers
             → AreTakenOf self.old.base offers self.old.kept
@@ -87,6 +87,7 @@ impl Held {
             return Ok(Outcome::Missing { address });
         }
         self.list()?;
+        // No document is missing, so there is a best subscription document.
         Ok(Outcome::Complete {
             version: self.best_kept().unwrap().span().last,
             live: self.live_count(),
@@ -112,7 +113,7 @@ impl Held {
         requires { IsTrue self.now.listed }
         ensures { result ≡ live_count_of (chain_of self.now.kept) }
     {
-        // The count fits: each key is a number from 1 in 32 bits.
+        // The call requires the list. The count fits: each key is a number from 1 in 32 bits.
         self.live.as_ref().unwrap().len() as u32
     }
 
@@ -170,6 +171,7 @@ impl Held {
         ensures place { IfSome (live_at self.now.kept number) (HasEntryAt self.now.kept result) }
         ensures whole { first_missing self.now.kept ≡ None }
     {
+        // The call requires that the entries are listed and that the member is live.
         *self.live.as_ref().unwrap().get(&number).unwrap()
     }
 }

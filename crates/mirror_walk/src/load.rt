@@ -49,7 +49,7 @@ impl Mirror {
         ensures fresh { IfOk result (λ mirror. is_spent mirror ≡ false) }
         ensures loaded { IfOk result (λ mirror. D.told
             → IsLoadedOf base (records ((D.state disk.old).content MirrorArea)) mirror.kept) }
-        // Of any disk, each document held was taken after those before it.
+        // On any disk, each document held was taken after those before it.
         ensures taken { IfOk result (λ mirror. IsLoadedOf base (payloads_of mirror.kept) mirror.kept) }
         ensures stands { IfOk result (λ mirror. D.told → StandsFor (D.state disk.new) mirror) }
         // An area whose payloads are taken in order is loaded, unless a device call fails or memory runs out.

@@ -110,8 +110,8 @@ impl Mirror {
         self.held.digest(address)
     }
 
-    /// What the documents show: the first missing document, as `wanted` returns it, or else the version and
-    /// the number of live entries. Archives that the best subscription document doesn't need are not used.
+    /// Returns the first missing document, as `wanted` does, or else the version and the number of live
+    /// entries. Archives that the best subscription document doesn't need are not used.
     ///
     /// If none is missing, the live entries are listed afterwards, for `next_live` and `entry`. The first
     /// call after a document was taken makes the list, in one pass over the marks of the needed documents'
@@ -124,7 +124,7 @@ impl Mirror {
         ensures listed { IfOk result (λ outcome. IsTrue (is_complete outcome) → IsTrue self.new.listed) }
         ensures same { self.new ≡ record self.old { listed = self.new.listed } }
         ensures err { OnErr result (self.new ≡ self.old) }
-        // What is held of documents that one feed served.
+        // If one feed served all documents held, the result is that of the feed at this version.
         ensures served { (head : HeadValue) (history : List Op) (offers : List Offering)
             → self.old.base ≡ head.name.base → AreServed head history offers
             → AreTakenOf self.old.base offers self.old.kept

@@ -10,7 +10,7 @@ use std::fmt;
 pub enum MirrorFault {
     /// The first document of the area has the base `kept`, which isn't the mirror's.
     OtherBase { kept: Base },
-    /// The payload `index`, counted from 0, is refused. If it is no document, `at` is the offset of the first
+    /// The mirror refuses the payload `index`, counted from 0. If it is no document, `at` is the offset of the first
     /// piece that is refused. If it is a document that isn't taken after those before it, `at` is its length.
     /// If the disk gave less of it than there was, `at` is 0.
     BadRecord { index: u32, at: usize },

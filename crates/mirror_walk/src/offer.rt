@@ -21,7 +21,7 @@ use atom_grammar::MAX_DOCUMENT;
 use feed_disk::Disk;
 use feed_journal::{Framed, begun_images_are_whole};
 
-/// What the checks of an offered document found.
+/// The result of the checks of an offered document.
 #[derive(Drop)]
 pub(crate) enum Checked {
     /// The document isn't taken.
@@ -103,14 +103,14 @@ impl Mirror {
         ensures unfailed { result ≢ Err Offered.DiskFault
             → (D.state disk.new).faults ≡ (D.state disk.old).faults }
 
-        // Where one feed served all that was offered, no document is refused.
+        // If one feed served all documents that were offered, none is refused.
         ensures served { (head : HeadValue) (history : List Op) (offers : List Offering)
             → self.old.base ≡ head.name.base → AreServed head history offers
             → AreTakenOf self.old.base offers self.old.kept
             → Served head history address.now bytes.now → IfErr result IsForRoom }
     {
         begun_images_are_whole();
-        // Opens the mirror, so that its rules are known.
+        // The value isn't used: the access opens the mirror, so that the proof knows its rules.
         let _ = &self.alloc;
         match self.check(address, bytes)? {
             Checked::Answered(accepted) => Ok(accepted),

@@ -153,7 +153,7 @@ struct Visits {
     refused: Option<Refusal>,
 }
 
-/// The mirror's answer to a document that was found, as the walk goes on or ends by it.
+/// Turns the mirror's answer to a document that was found into the visit's result: the walk goes on, or ends.
 fn visit_by(answer: Result<Accepted, Offered>) -> Result<Visit, WalkFault>
     ensures { result ≡ visit_of answer }
 {
@@ -202,7 +202,7 @@ impl Mirror {
         // Over a source whose answers contracts can see: the addresses asked, what is held, and the result.
         ensures walked { F.told → HasWalked (setting_of self.old (F.state fetch.old))
             self.old.kept self.new.kept (F.state fetch.old).asked (F.state fetch.new).asked result }
-        // Of any source.
+        // Over any source: the outcome is that of the documents held afterwards.
         ensures outcome { IfOk result (λ walked. walked.outcome ≡ outcome_of self.new.kept) }
         ensures listed { IfOk result (λ walked.
             IsTrue (is_complete walked.outcome) → IsTrue self.new.listed) }
@@ -239,7 +239,7 @@ impl Mirror {
         ensures fetch_unfailed { result ≢ Err WalkFault.FetchFault
             → (F.state fetch.new).faults ≡ (F.state fetch.old).faults }
 
-        // Where one feed served all that was offered before and all that the source has, nothing is refused.
+        // If one feed served all documents held and all that the source has, the walk ends without a refusal.
         ensures served { F.told → (head : HeadValue) (history : List Op) (offers : List Offering)
             → self.old.base ≡ head.name.base → AreServed head history offers
             → AreTakenOf self.old.base offers self.old.kept
@@ -332,7 +332,7 @@ impl Mirror {
         ensures faults { CountsFaults (D.state disk.old).faults (D.state disk.new).faults
             (F.state fetch.old).faults (F.state fetch.new).faults result }
     {
-        // A law, which does nothing.
+        // Its contract is a law that the proof uses.
         begun_images_are_whole();
         let text = self.held.base.print(self.alloc, address)?;
         let Some(bytes) = fetch.get(self.alloc, text.as_slice())? else {

@@ -46,6 +46,7 @@ pub fn test_head(alloc: Global, window: u32) -> Result<Head, NoMemory>
         return Err(NoMemory);
     };
     let Some(id) = FeedId::parse(b"6d1f0c5a-93be-4c27-8d10-2b7f9e4a5c36") else {
+        // The text is an identifier of version 4.
         unreachable!();
     };
     let Ok(title) = AtomText::of(alloc, b"Feed") else {
@@ -60,6 +61,7 @@ pub fn test_head(alloc: Global, window: u32) -> Result<Head, NoMemory>
         title,
         author,
     };
+    // 0 is the moment of a stamp.
     let created = Stamp::new(0).unwrap();
     Ok(Head {
         name,

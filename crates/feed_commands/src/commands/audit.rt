@@ -41,7 +41,7 @@ impl From<CertificateFault> for Fault {
     }
 }
 
-/// Audits the certificate at the start of the input against the pile behind it, and prints the verdict. The
+/// Audits the certificate at the start of the input against the pile after it, and prints the verdict. The
 /// certificate is read to its line `end` first. It and the pile are in memory.
 pub fn audit<I: Source, O: Sink>(alloc: Global, input: &mut I, output: &mut O) -> Ended
     ensures lines { result.lines.items ≡ [] }
@@ -91,7 +91,7 @@ fn verdict<I: Source>(alloc: Global, input: &mut I) -> Result<Printed, Fault>
     judge(alloc, &certificate, room, input)
 }
 
-/// Reads a certificate, and returns it and how many bytes the pile behind it may have.
+/// Reads a certificate, and returns it and how many bytes the pile after it may have.
 fn read_certificate<I: Source>(alloc: Global, input: &mut I) -> Result<(Certificate, u64), Fault>
     ensures begins { IfOk result (λ x. I.told
         → BeginsCertified (I.state input.old).left x.0 (I.state input.new).left) }

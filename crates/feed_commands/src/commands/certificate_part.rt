@@ -18,8 +18,8 @@ pub(super) const AUDIT_LIMIT: usize = 1_073_741_824;
 
 const LF: u8 = b'\n';
 
-/// Returns the bytes of the input up to its first line `end`, or all of them if it has no such line. No byte
-/// behind that line is read, since the pile begins there: there is one call of the input for each byte.
+/// Returns the bytes of the input up to its first line `end`, or all of them if no line is `end`. No byte
+/// after that line is read, since the pile begins there: there is one call of the input for each byte.
 ///
 /// - `TooLong`: the input has more than `AUDIT_LIMIT` bytes, and none of the lines within them is `end`.
 /// - `Input`: a call on the input failed.
@@ -67,8 +67,8 @@ fn read_byte<I: Source>(input: &mut I) -> Result<Option<u8>, Failed>
     Ok(Some(buffer[0]))
 }
 
-/// Appends a byte to lines of which none is `end`, and returns whether it ends such a line. The last line begins
-/// at `start`.
+/// Appends a byte to lines of which none is `end`, and returns whether the byte completes a line `end`. The last line
+/// begins at `start`.
 fn push_byte(text: &mut Vec<u8>, start: &mut usize, byte: u8) -> Result<bool, AllocError>
     requires { IsAmid text.old.items start.old }
     ensures bytes { OnOk result (text.new.items ≡ text.old.items ++ byte ∷ []) }

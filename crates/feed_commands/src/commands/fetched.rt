@@ -40,8 +40,9 @@ use mirror_walk::Mirror;
 use std::alloc::Global;
 
 /// Mirrors the feed below a base address from the documents of a source, into the mirror's area of the disk. Prints the
-/// report if `report`, and else the certificate of what is held, or the line of the first missing document. It asks for the feed's document, and then for the first missing one, as long as one is missing and the last one
-/// was there and was taken.
+/// report if `report`, and else the certificate of what is held, or the line of the first missing document. It asks for
+/// the feed's document, and then for the first missing one, as long as one is missing and the last one was there and
+/// was taken.
 pub fn mirror_fetched<D: Disk, F: Fetch, O: Sink>(
     alloc: Global,
     base: &Base,

@@ -61,5 +61,6 @@ pub fn init<D: Disk, C: Clock>(
 fn stamp_of(now: u64) -> Stamp
     ensures { result ≡ pos (min now 253_402_300_799_999) }
 {
+    // The moment is at most that of the greatest stamp, so it has a stamp.
     Stamp::new(now.min(LAST_STAMP) as i64).unwrap()
 }

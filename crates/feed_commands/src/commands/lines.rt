@@ -98,7 +98,7 @@ impl Lines {
         })
     }
 
-    /// The line that `next` found, without its LF. Of a longer line it is the first `PREFIX_LIMIT` bytes.
+    /// The line that `next` found, without its LF, or the first `PREFIX_LIMIT` bytes of a longer line.
     pub fn line(&self) -> &[u8]
         ensures { result.now ≡ self.now.line }
     {

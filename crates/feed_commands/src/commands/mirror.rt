@@ -121,7 +121,7 @@ pub(crate) fn end_unreported<O: Sink>(alloc: Global, output: &mut O, fault: &Rep
     ensures prints { O.told → Prints (O.state output.old) (O.state output.new) (report_answer fault.now).printed }
     ensures faults { (O.state output.old).faults ≤ (O.state output.new).faults }
 {
-    // The status tells of the first fault, so it doesn't depend on whether its line could be printed.
+    // The result isn't used: the status is that of the first fault, whether or not its line could be printed.
     let _ = write_all(output, fault.line().as_slice());
     end_as(alloc, fault.status())
 }

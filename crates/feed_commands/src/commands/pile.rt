@@ -78,7 +78,7 @@ impl From<LoadFault> for PrintFault {
 
 /// Prints the documents of the store as a pile: the subscription document and all sealed archives, newest first. Each
 /// is printed as soon as it is made, so one document at a time is in memory beside the store. If a fault ends the pile,
-/// the fault's line comes behind the documents that were printed before.
+/// the fault's line comes after the documents that were printed before.
 pub fn show_pile<D: Disk, O: Sink>(alloc: Global, disk: &mut D, output: &mut O) -> Ended
     ensures answered { D.told → IsAnswered result.status
         → (moments : ℕ → ℕ) (input : SourceState) (source : FetchState)

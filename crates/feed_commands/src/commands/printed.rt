@@ -13,7 +13,7 @@ use coverage_certificate::Certificate;
 use doc_source::{Sink, write_all};
 use std::alloc::Global;
 
-/// What a command with two defined ends prints at one of them, and its status.
+/// The output of a command with two defined ends at one of them, and its status.
 #[derive(Debug, Drop)]
 pub(crate) enum Printed {
     /// This text.
@@ -48,7 +48,7 @@ impl Printed {
     }
 }
 
-/// Prints what a command prints at its defined end. A text takes one call of the output unless the output takes only
+/// Prints the output of a command at its defined end. A text takes one call of the output unless the output takes only
 /// a part of it, and a certificate one call for each document and two more.
 pub(crate) fn end_printed<O: Sink>(alloc: Global, output: &mut O, printed: Printed) -> Ended
     requires { IsDone (code_of (printed_answer printed).status) }

@@ -63,7 +63,7 @@ impl SessionFault {
 }
 
 /// Serves the feed at the address `listen`, at most `requests` connections, and then prints a line for each. If the
-/// session ended by a fault, the fault's line comes behind them.
+/// session ended by a fault, the fault's line comes after them.
 pub fn serve<D: Disk, C: Clock, L: Door, O: Sink>(
     alloc: Global,
     listen: &[u8],
@@ -109,8 +109,7 @@ pub fn serve<D: Disk, C: Clock, L: Door, O: Sink>(
     }
 }
 
-/// The status behind a session. It tells of the first fault, so it doesn't depend on whether the fault's line could be
-/// printed.
+/// The status after a session. It is that of the first fault, whether or not the fault's line could be printed.
 fn status_of(fault: Option<SessionFault>, printed: Result<(), Failed>) -> Status
     ensures { result ≡ session_status fault printed }
 {

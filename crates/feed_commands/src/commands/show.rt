@@ -37,8 +37,8 @@ pub fn show<I: Source>(alloc: Global, input: &mut I) -> Result<Vec<u8>, Fault>
     }
 }
 
-/// Returns all bytes of the input, if they are no more than a document may have. Of a longer input at most one buffer
-/// more is read.
+/// Returns all bytes of the input, if they are no more than a document may have. Reads at most one buffer more of a
+/// longer input.
 fn read_to_end<I: Source>(alloc: Global, input: &mut I) -> Result<Vec<u8>, Fault>
     ensures bytes { IfOk result (λ bytes. I.told → bytes.items ≡ (I.state input.old).left) }
     ensures room { IfOk result (λ bytes. length bytes.items ≤ MAX_DOCUMENT) }

@@ -22,7 +22,7 @@ returns c = on-ok c.note.result (λ notes before held lives same is next.
           held
           c.draw_wish-wish.result c.draw_wish-wish.new.draws w.draw_stop.new.draws c.if-turn-eq0.stop same is next asks
           (stops-some c.args.turn c.draw_wish-wish.new.draws w.draw_stop.new.draws c.if-turn-eq0.stop w.draw_stop.result
-          w.if-turn-eq0.true w.stop-is w.draw_stop.ensures.next)
+          w.if-turn-eq0.true w.stop-is w.draw_stop.ensures.stop w.draw_stop.ensures.next)
           (c.in_ok-make.ensures before.history held lives same next)
           (notes ∙ ap (λ (v : CourseValue). noted v c.draw_wish-wish.result) (w.course-is
           ∙ ap (λ (v : CourseValue). record v { state = w.draw_stop.new.draws }) c.course.view_is))

@@ -1,7 +1,12 @@
-use Rattle.std.proofs.Common.{◌∙◌}
-use Rattle.feed_drill.proofs.TurnLemmas.{make-none, make-some, on-ok}
+use Rattle.std.proofs.Common.{◌∙◌, sym}
+use Rattle.feed_drill.proofs.TurnLemmas.{make-kept, make-none, make-some, on-ok}
 use Rattle.feed_drill.proofs.turn.make.Goals as goal
 use Rattle.feed_drill.proofs.turn.make.Goals.{in-Some+in_ok-crash+else-version-turn, in_default}
+
+pub returns-then-version-turn : goal.returns-then-version-turn
+returns-then-version-turn c history held lives same next =
+    make-kept c.args.life.now c.crash.new.life _ _ c.args.turn history held c.args.stop c.in-Some.stop c.in-Some.is
+    (c.in_ok-crash.ensures history held lives same) (sym c.version.ensures ∙ c.if-version-turn.true) next
 
 pub returns : goal.returns
 returns c = on-ok c.ask.result (λ done history held lives same next. elim c.match-stop.branch [

@@ -9,7 +9,8 @@ use Rattle.feed_life.proofs.ask.ask.Goals as goal
 pub returns : goal.returns
 returns c = record {
   answered = λ head history is_store.
-      store-answered head c.args.request.now c.args.now history c.open.new.disk c.answer-reply.new.disk c.in_ok-store.store
+      store-answered head c.args.request.now c.args.now history c.args.disk.now c.open.new.disk c.answer-reply.new.disk
+      c.in_ok-store.store
       c.answer-reply.new.store c.answer-reply.result (c.in_ok-store.ensures.opened head history is_store)
       c.answer-reply.ensures.head _ _ _ (c.answer-reply.ensures.answered tt) c.if-reply-eq-NO_MEMORY.false
       (sym c.is_spent.ensures ∙ c.if-is_spent.false) c.answer-reply.ensures.spent

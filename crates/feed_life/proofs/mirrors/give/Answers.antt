@@ -4,6 +4,6 @@ use Rattle.feed_life.proofs.mirrors.give.Goals as goal
 
 pub returns : goal.returns
 returns c = on_ok_weaker c.offer.result (λ runs history kept sent mirror.
-    gift-left c.args.head.now history c.args.doc.now kept c.open_mirror.new.disk c.offer.new.disk
+    gift-left c.args.head.now history c.args.doc.now kept c.args.disk.now c.open_mirror.new.disk c.offer.new.disk
     (runs c.args.head.now history kept sent mirror.served (c.in_ok-mirror.ensures.opened kept mirror.loads)))
     c.offer.ensures.runs

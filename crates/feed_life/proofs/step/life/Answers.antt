@@ -1,3 +1,4 @@
+use Rattle.feed_life.proofs.HeadlineLemmas.{life-keeps}
 use Rattle.feed_life.proofs.LivedLemmas.{midway-all, midway-born, midway-more}
 use Rattle.feed_life.proofs.step.life.Goals as goal
 
@@ -18,8 +19,11 @@ loop-event-preserved c =
     c.in_ok-step_by.ensures.stepped c.loop-event.invariant
 
 pub returns : goal.returns
-returns c = record {
-  lived =
-      midway-all c.args.head.now c.args.mirrors c.args.events.now c.loop-event.event-index c.loop-event.life
-      c.loop-event-test.false c.loop-event.invariant;
-}
+returns c =
+    let lived = midway-all c.args.head.now c.args.mirrors c.args.events.now c.loop-event.event-index c.loop-event.life
+    c.loop-event-test.false c.loop-event.invariant in
+    record {
+      lived = lived;
+      headline = life-keeps c.archives_stay.ensures c.served_documents_show_the_fold.ensures c.args.head.now
+          c.args.mirrors c.args.events.now c.loop-event.life lived;
+    }

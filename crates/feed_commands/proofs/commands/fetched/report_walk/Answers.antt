@@ -7,13 +7,13 @@ use Rattle.mirror_walk.specs.Holding.{KeptValue, payloads_of}
 use Rattle.mirror_walk.specs.Loaded.{IsLoadedOf}
 use Rattle.mirror_walk.specs.Walk.{HasWalked}
 use Rattle.mirror_walk.specs.declared.walk.WalkFault.TheVariants as faults
+use Rattle.mirror_walk.proofs.WalkServedLemmas.{walks-loaded}
 use Rattle.feed_commands.specs.MirrorFaults.{walk_fault}
 use Rattle.feed_commands.specs.Printed.{printed_answer}
 use Rattle.feed_commands.specs.Walked.{IsWalkReport, walk_setting}
 use Rattle.feed_commands.proofs.GivingLemmas.{not-ok}
 use Rattle.feed_commands.proofs.OffersLemmas.{ends-told}
 use Rattle.feed_commands.proofs.WalkEndLemmas.{refusal-over, walk-goes, walk-lines, walk-refused, walked-is}
-use Rattle.feed_commands.proofs.WalkEndLemmas.{walks-loaded}
 use Rattle.feed_commands.proofs.commands.fetched.report_walk.Goals as goal
 
 pub returns-in_err-walked-clause-refused : goal.returns-in_err-walked-clause-refused
