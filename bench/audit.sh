@@ -1,9 +1,10 @@
 #!/bin/sh
-# Prints the seconds and the peak memory in KiB of `feed_tool audit` on the certificate and the pile of a store of N operations,
-# and on those of half as many, beside `sha256sum` of the same bytes. The program makes both itself: `show pile` the pile, and
-# `mirror` the certificate, whose seconds and memory are printed too. The last column is the time of `audit` in times of
-# `sha256sum`. All files lie in the folder DIR, or else in /dev/shm, where they take no time of a device. Each run is a process of
-# its own, whose start counts. With N = 1,600,000 the pile has about half of the greatest input's bytes.
+# Prints the seconds and the peak memory in KiB of `feed_tool audit` on the certificate and the pile of a store of N
+# operations, and on those of half as many, beside `sha256sum` of the same bytes. The program makes the pile by `show pile`
+# and the certificate by `mirror`, whose seconds and memory are printed too. The last column is the time of `audit` as a
+# multiple of that of `sha256sum`. All files are in the folder DIR, or in /dev/shm if it isn't given, where no device takes
+# time. Each run is a process of its own, whose start counts. With N = 1,600,000 the pile has about half of the greatest
+# input's bytes.
 # usage: bench/audit.sh N [DIR]
 count=${1:?usage: bench/audit.sh N [DIR]}
 top=$(CDPATH='' cd -- "$(dirname -- "$0")/.." && pwd) || exit 1

@@ -24,8 +24,8 @@ grep -E '^(atom_values|entry_reader):' "$top/crates.txt" >"$work/crates.txt" || 
 echo 'entries: entry_reader' >>"$work/crates.txt" || exit 1
 cp "$top/bench/entries.rt.txt" "$work/crates/entries/src/main.rt" || exit 1
 
-# Writes a document of this length: an opening, copies of a part, filling, and an ending. A `#` in the part stands for
-# the number of the copy, which begins again at 1 after NUMBERS copies.
+# Writes a document of this length: an opening, copies of a part, filling, and an ending. A `#` in the part is replaced
+# by the number of the copy, which begins again at 1 after NUMBERS copies.
 # usage: document BYTES OPENING PART FILLING ENDING [NUMBERS]
 document() {
     BYTES=$1 OPENING=$2 PART=$3 FILLING=$4 ENDING=$5 NUMBERS=${6:-99999} \

@@ -1,7 +1,7 @@
 #!/bin/sh
 # Prints the seconds and the peak memory in KiB of `feed_tool show feed` on a store of N operations, which the program makes
-# itself, and on one of half as many, and beside them those of `cat` of the store's two files. The store lies in the folder
-# DIR, or else in /dev/shm, where its syncs take no time.
+# itself, and on one of half as many, and beside them those of `cat` of the store's two files. The store is in the folder
+# DIR, or in /dev/shm if it isn't given, where its syncs take no time.
 # usage: bench/load.sh N [DIR]
 count=${1:?usage: bench/load.sh N [DIR]}
 top=$(CDPATH='' cd -- "$(dirname -- "$0")/.." && pwd) || exit 1

@@ -1,9 +1,9 @@
 #!/bin/sh
 # Prints the seconds and the peak memory in KiB of `feed_tool mirror --report` on the pile of a store of N operations, which the
 # program makes itself, and on that of half as many: by a mirror that holds nothing, and by one that holds all, which loads
-# its own file and gets an empty pile. Beside them stand those of `show pile`, which writes the pile, and of `sha256sum` and
-# `wc -l` of the same bytes. Store, mirror and pile lie in the folder DIR, or else in /dev/shm, where they take no time of a
-# device. Each run is a process of its own, whose start counts.
+# its own file and gets an empty pile. It also prints those of `show pile`, which writes the pile, and of `sha256sum` and
+# `wc -l` of the same bytes. Store, mirror and pile are in the folder DIR, or in /dev/shm if it isn't given, where no device
+# takes time. Each run is a process of its own, whose start counts.
 # usage: bench/mirror.sh N [DIR]
 count=${1:?usage: bench/mirror.sh N [DIR]}
 top=$(CDPATH='' cd -- "$(dirname -- "$0")/.." && pwd) || exit 1

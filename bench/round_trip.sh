@@ -1,6 +1,7 @@
 #!/bin/sh
-# Reads the largest archive that a feed can have over a short head, which has 100 entries of 394,240 bytes, and writes it
-# again. Prints whether the bytes are the same, the milliseconds of both, and the seconds and the peak memory in KiB of the run.
+# Reads the largest archive that a feed with a short head can have, which has 100 entries of 394,240 bytes, and writes it
+# again. Prints whether the bytes are the same, the milliseconds of both, and the seconds and the peak memory in KiB of
+# the run.
 # The program is proved and built in a workspace of its own over copies of the crates, without their must-fail edits.
 # usage: bench/round_trip.sh
 top=$(CDPATH='' cd -- "$(dirname -- "$0")/.." && pwd) || exit 1
@@ -11,7 +12,11 @@ trap 'exit 1' HUP INT TERM
 for crate in "$top"/crates/*; do
     copy=$work/crates/$(basename "$crate")
     mkdir -p "$copy" || exit 1
-    cp -R "$crate/src" "$crate/specs" "$crate/proofs" "$copy/" || exit 1
+    for folder in src specs proofs; do
+        if [ -d "$crate/$folder" ]; then
+            cp -R "$crate/$folder" "$copy/" || exit 1
+        fi
+    done
 done
 mkdir -p "$work/crates/round_trip/src" || exit 1
 cp "$top/HANDLES" "$work/HANDLES" || exit 1

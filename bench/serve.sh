@@ -4,16 +4,20 @@
 #   that makes only the writes and the syncs of each change;
 # - GET of a sealed archive of about 100 KB and of the feed by 1 and by 8 clients, beside nginx with one worker and the
 #   same bytes in files, where nginx is installed;
-# - GET of the feed behind OPERATIONS operations and behind 1,000.
+# - GET of the feed while one more client is connected and silent;
+# - GET of the feed after OPERATIONS operations and after 1,000.
 # usage: bench/serve.sh [OPERATIONS [DIR [PROGRAM]]]. OPERATIONS is a multiple of 100 over 1,000, or else 20,000: both feeds have
 # 100 entries. DIR is a folder on the disk, or else the system's folder for temporary files. PROGRAM is run in place of the
-# one of this repository. SECONDS_EACH, POSTS and CLIENTS in the environment change how much is done.
+# one of this repository. SECONDS_EACH, POSTS, CLIENTS and ROUNDS in the environment change how much is done.
 # Each line has the requests a second, the median and the 99th percentile of the latency, and the processor time of the
 # server and of the clients for a request. If the server takes nearly a whole processor, the clients aren't what holds it up.
+# The compared measurements take turns, ROUNDS times, since the speed of a machine and of its disk changes. The last lines
+# have the ratios of the rounds and their median.
 operations=${1:-20000}
-seconds=${SECONDS_EACH:-5}
-posts=${POSTS:-2000}
+seconds=${SECONDS_EACH:-1}
+posts=${POSTS:-1000}
 clients=${CLIENTS:-1 8}
+rounds=${ROUNDS:-5}
 top=$(CDPATH='' cd -- "$(dirname -- "$0")/.." && pwd) || exit 1
 tool=${3:-$top/out/feed_tool}
 case $tool in
@@ -24,12 +28,14 @@ esac
 disk=$(mktemp -d "${2:-${TMPDIR:-/tmp}}/serve.XXXXXX") || exit 1
 memory=$(mktemp -d /dev/shm/serve.XXXXXX) || { rm -rf "$disk"; exit 1; }
 server=
+# the servers and clients that were started
+started=
 finish() {
     # the server may be stopped at any moment, and nginx ends its worker on this signal
     [ -z "$server" ] || { kill "$server" && wait "$server"; } 2>/dev/null
     server=
 }
-trap 'finish; rm -rf "$disk" "$memory"' EXIT
+trap 'kill $started 2>/dev/null; rm -rf "$disk" "$memory"' EXIT
 trap 'exit 1' HUP INT TERM
 
 # The client of all measurements. A process for each client sends the same request again and again, each over a connection
@@ -128,6 +134,8 @@ def main():
           + f"{count} requests, {count / seconds:.0f} a second, median {took[count // 2] * 1e3:.3f} ms, "
           f"99% {took[count * 99 // 100] * 1e3:.3f} ms, processor for a request: server {busy / count * 1e6:.0f} us "
           f"({busy / seconds:.0%} of one), clients {own / count * 1e6:.0f} us", flush=True)
+    with open(os.environ["RATES"], "a") as rates:
+        print(name, clients, count / seconds, sep="\t", file=rates)
 
 
 main()
@@ -146,13 +154,35 @@ await() {
     done
 }
 
+# the rates of all measurements, one a line: its name, the number of clients, and the requests a second
+export RATES="$memory/rates"
+: >"$RATES"
+
+# prints how many times as fast the first of two measurements was in each round, and the median
+# usage: ratio FIRST SECOND CLIENTS
+ratio() {
+    python3 - "$@" <<'PYTHON'
+import os, statistics, sys
+first, second, clients = sys.argv[1:]
+rates = {first: [], second: []}
+with open(os.environ["RATES"]) as lines:
+    for name, number, rate in (line.rstrip("\n").split("\t") for line in lines):
+        if name in rates and number == clients:
+            rates[name].append(float(rate))
+ratios = [one / other for one, other in zip(rates[first], rates[second])]
+if ratios:
+    print(f"{first} / {second}, {clients} {'client' if clients == '1' else 'clients'}: "
+          f"{' '.join(f'{ratio:.2f}' for ratio in ratios)}, median {statistics.median(ratios):.2f}")
+PYTHON
+}
+
 # starts the program on the store of a folder, on the next port
 # usage: serve FOLDER
 serve() {
     finish
     port=$((port + 1))
     (cd "$1" && exec "$tool" serve --listen "127.0.0.1:$port" --requests 1000000) </dev/null >"$1/printed" 2>&1 &
-    server=$!
+    server=$! started="$started $!"
     await feed
 }
 
@@ -182,23 +212,22 @@ awk 'BEGIN {
 
 # usage: loop NAME FOLDER COUNT
 loop() {
-    began=$(date +%s.%N)
-    "$top/bench/store_loop.py" "$3" "$2/loop" || exit 1
-    awk -v name="$1" -v count="$3" -v began="$began" -v ended="$(date +%s.%N)" 'BEGIN {
-        printf "%s: %d changes, %.0f changes a second\n", name, count, count / (ended - began)
+    took=$("$top/bench/store_loop.py" "$3" "$2/loop") || exit 1
+    awk -v name="$1" -v count="$3" -v took="$took" -v rates="$RATES" 'BEGIN {
+        printf "%s: %d changes, %.0f changes a second\n", name, count, count / took
+        printf "%s\t1\t%f\n", name, count / took >>rates
     }'
 }
 
 make "$disk/posts"
 make "$memory/posts"
-# the loop runs on both sides of the posts, because the speed of a disk changes
-loop 'the writes and syncs alone, on the disk' "$disk" "$posts"
-serve "$disk/posts"
-measure 'POST, on the disk' 1 "$posts" /feed "$memory/entry"
-finish
-loop 'the writes and syncs alone, on the disk' "$disk" "$posts"
-# in memory a loop of as many changes would last no longer than the start of its process
-loop 'the writes and syncs alone, in memory' "$memory" $((posts * 50))
+for _ in $(seq "$rounds"); do
+    loop 'writes and syncs alone, on the disk' "$disk" "$posts"
+    serve "$disk/posts"
+    measure 'POST, on the disk' 1 "$posts" /feed "$memory/entry"
+    finish
+done
+loop 'writes and syncs alone, in memory' "$memory" $((posts * 50))
 serve "$memory/posts"
 measure 'POST, in memory' 1 "$posts" /feed "$memory/entry"
 finish
@@ -212,19 +241,11 @@ mkdir -p "$memory/files/archive"
 (cd "$memory/store" && "$tool" show archive 1) >"$memory/files/archive/1" || exit 1
 (cd "$memory/store" && "$tool" show feed) >"$memory/files/feed" || exit 1
 
-# usage: read_both NAME
-read_both() {
-    for number in $clients; do
-        measure "$1, GET of an archive" "$number" "$seconds" /archive/1
-        measure "$1, GET of the feed" "$number" "$seconds" /feed
-    done
-}
 serve "$memory/store"
-read_both feed_tool
-finish
+tool_port=$port tool_server=$server
 nginx=$(command -v nginx || PATH=$PATH:/usr/sbin command -v nginx)
 if [ -n "$nginx" ]; then
-    port=$((port + 1))
+    nginx_port=$((port + 1))
     # a worker of root's nginx runs as another user, who has to reach the files
     chmod 755 "$memory"
     mkdir "$memory/nginx"
@@ -248,32 +269,73 @@ http {
     uwsgi_temp_path $memory/nginx/uwsgi;
     scgi_temp_path $memory/nginx/scgi;
     server {
-        listen 127.0.0.1:$port;
+        listen 127.0.0.1:$nginx_port;
         root $memory/files;
     }
 }
 TEXT
     "$nginx" -p "$memory/nginx/" -c "$memory/nginx/conf" </dev/null >/dev/null 2>&1 &
-    server=$!
+    nginx_server=$! started="$started $!"
+    port=$nginx_port server=$nginx_server
     await feed
-    read_both nginx
-    finish
 else
     echo 'nginx: not installed'
 fi
+for _ in $(seq "$rounds"); do
+    for number in $clients; do
+        for path in archive/1 feed; do
+            port=$tool_port server=$tool_server
+            measure "feed_tool, GET of $path" "$number" "$seconds" "/$path"
+            if [ -n "$nginx" ]; then
+                port=$nginx_port server=$nginx_server
+                measure "nginx, GET of $path" "$number" "$seconds" "/$path"
+            fi
+        done
+    done
+done
+port=$tool_port server=$tool_server
+python3 -c 'import socket, sys; socket.create_connection(("127.0.0.1", int(sys.argv[1]))).recv(1)' "$port" &
+started="$started $!"
+measure 'feed_tool beside a silent client, GET of feed' 1 "$seconds" /feed
+if [ -n "$nginx" ]; then
+    server=$nginx_server
+    finish
+fi
+server=$tool_server
+finish
 
-# The feed behind many operations. The folder is in memory, where the syncs of `apply` take no time.
+# The feed after many operations. The folder is in memory, where the syncs of `apply` take no time.
 
+small='' large=''
 for count in 1000 "$operations"; do
     make "$memory/$count"
     seq "$count" | sed 's/^/add Advisory number /' | (cd "$memory/$count" && "$tool" apply) >/dev/null || exit 1
     began=$(date +%s.%N)
+    server=
     serve "$memory/$count"
     awk -v count="$count" -v began="$began" -v ended="$(date +%s.%N)" 'BEGIN {
         printf "%d operations: listens after %.1f seconds\n", count, ended - began
     }'
+    small=${small:-$port:$server} large=$port:$server
+done
+for _ in $(seq "$rounds"); do
     for number in $clients; do
-        measure "$count operations, GET of the feed" "$number" "$seconds" /feed
+        for running in "$operations:$large" "1000:$small"; do
+            rest=${running#*:}
+            port=${rest%:*} server=${rest#*:}
+            measure "${running%%:*} operations, GET of the feed" "$number" "$seconds" /feed
+        done
     done
-    finish
+done
+server=${small#*:}
+finish
+server=${large#*:}
+finish
+
+ratio 'POST, on the disk' 'writes and syncs alone, on the disk' 1
+for number in $clients; do
+    for path in archive/1 feed; do
+        ratio "feed_tool, GET of $path" "nginx, GET of $path" "$number"
+    done
+    ratio "$operations operations, GET of the feed" '1000 operations, GET of the feed' "$number"
 done

@@ -8,7 +8,7 @@ work=$(mktemp -d) || exit 1
 trap 'rm -rf "$work"' EXIT
 trap 'exit 1' HUP INT TERM
 
-# Runs the command so many times on the document, and prints what a run took.
+# Runs the command RUNS times on the document, and prints the time and the memory of a run.
 # usage: measure NAME RUNS DOCUMENT COMMAND..
 measure() {
     name=$1 runs=$2 document=$3

@@ -1,8 +1,8 @@
 #!/bin/sh
 # Prints the durable changes a second of `feed_tool apply` on a store of real files, over N lines `add`, and beside them those
 # of a loop that makes only the writes and the syncs of each change, and of `sqlite3` with one insert a transaction (WAL,
-# synchronous FULL), where that is installed. The files lie in the folder DIR, or else in the system's folder for
-# temporary files; a folder in memory measures everything but the device.
+# synchronous FULL), where that is installed. The files are in the folder DIR, or in the system's folder for
+# temporary files if it isn't given. A folder in memory measures everything but the device.
 # usage: bench/store.sh N [DIR]
 count=${1:?usage: bench/store.sh N [DIR]}
 top=$(CDPATH='' cd -- "$(dirname -- "$0")/.." && pwd) || exit 1

@@ -2,8 +2,8 @@
 # Prints the seconds that `feed_tool mirror --fetch --report` takes for a feed of ARCHIVES archives over the loopback, and those
 # that one `curl` takes to get the same addresses one after the other, each over a connection of its own. Then it prints the
 # seconds of a second run of the mirror, which loads what the first one kept and asks for the feed alone, beside those of
-# `sha256sum` of the mirror's file. Each archive has 4 operations. The mirror's file lies in the folder DIR, or else in
-# /dev/shm, where it takes no time of a device.
+# `sha256sum` of the mirror's file. Each archive has 4 operations. The mirror's file is in the folder DIR, or in /dev/shm if
+# it isn't given, where no device takes time.
 # usage: bench/walk.sh [ARCHIVES [DIR [PROGRAM]]]. ARCHIVES is 10,000 if it isn't given. PROGRAM is run in place of the one of
 # this repository.
 archives=${1:-10000}

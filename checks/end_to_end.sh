@@ -347,7 +347,7 @@ entry 6 NOW f
 entry 5 NOW e
 TEXT
 
-# damage: the first byte of the second operation, whose payload begins behind the frames of the head and of the first
+# damage: the first byte of the second operation, whose payload begins after the frames of the head and of the first
 printf '\011' | dd of="$work/store/journal" bs=1 seek=134 conv=notrunc 2>/dev/null
 : >"$work/input"
 stored apply

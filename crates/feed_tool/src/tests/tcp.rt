@@ -84,3 +84,23 @@ fn serves_a_client_while_another_is_silent(rt: HostRuntime) {
     answer_next(&rt, &mut door, &disk);
     expect_reply(&rt, silent);
 }
+
+#[test]
+fn reads_on_after_a_reply(rt: HostRuntime) {
+    let disk = empty_disk(&rt, rt.alloc());
+    let mut door = TcpDoor::new(rt.alloc(), &rt);
+    door.listen(b"127.0.0.1:0").expect(&rt, "a port");
+    let address = door.address().expect(&rt, "an address");
+    let mut slow = TcpStream::connect(&rt, address).expect(&rt, "a connection");
+    slow.write_all(b"seek").expect(&rt, "a sent request");
+    answer_next(&rt, &mut door, &disk);
+    // The first client sends the rest of its request after another one was served.
+    for _ in 0..2 {
+        let client = client_of(&rt, address, 0);
+        answer_next(&rt, &mut door, &disk);
+        expect_reply(&rt, client);
+        slow.write_all(&[b'!'; 1000]).expect(&rt, "sent bytes");
+    }
+    slow.shutdown(Shutdown::Write).expect(&rt, "an end");
+    expect_reply(&rt, slow);
+}
