@@ -1,6 +1,8 @@
 //! A crash at each device call of a request, a gift and a walk.
 
+use crate::courses::follow;
 use crate::events::{Does, Left, life, step};
+use crate::fold::appended;
 use chain_links::Address;
 use feed_life::Life;
 use mirror_walk::Outcome;
@@ -26,24 +28,12 @@ fn begun(rt: &impl Abort, alloc: Global, window: u32) -> Life {
     life
 }
 
-/// How many payloads of an area are there after a crash within this call of appends of four calls each. Until the third call
-/// of an append the new payload is lost, and then it is there if unsynced bytes are as they were written.
-fn appended(call: u64, left: Left) -> u64 {
-    let whole = call.saturating_sub(1) / 4;
-    let amid = call.saturating_sub(1) % 4;
-    if call > 0 && amid >= 2 && left == Left::New {
-        whole + 1
-    } else {
-        whole
-    }
-}
-
 /// A request that seals an archive makes eight calls, of which the last four append the operation. After a crash it is made
 /// again if it was lost, and the mirror walks.
 fn expect_request(rt: &impl Abort, alloc: Global, call: u64, left: Left) {
     let mut life = begun(rt, alloc, 1);
     let line = step(rt, alloc, &mut life, Does::Make(3), Some((call, left)));
-    let made = appended(call, left) >= 2;
+    let made = appended((call, left)) >= 2;
     assert!(rt; line.is_none() && life.stops() == 1 && life.sent().len() == 1);
     assert!(rt; (life.version() == 3) == made, "{call} {left:?}");
     if !made {
@@ -68,6 +58,43 @@ fn a_request_crashes_at_each_call(rt: HostRuntime) {
     }
 }
 
+/// Requests of a store with two live members: a POST, a PUT and a DELETE, which append their operation with four calls, and
+/// requests that append nothing.
+const REQUESTS: [Does; 6] = [
+    Does::Make(3),
+    Does::Replace(1, 3),
+    Does::Delete(2),
+    Does::Feed,
+    Does::Replace(3, 3),
+    Does::Delete(3),
+];
+
+/// Such a request crashes, and then the document of the feed is compared.
+fn expect_four_calls(rt: &impl Abort, alloc: Global, does: Does, call: u64, left: Left) {
+    let events = [
+        (Does::Make(1), None),
+        (Does::Make(2), None),
+        (Does::Feed, None),
+        (does, Some((call, left))),
+        (Does::Feed, None),
+        (does, None),
+        (Does::Feed, None),
+        (Does::Walk(0), None),
+    ];
+    follow(rt, alloc, 4, &events);
+}
+
+#[test]
+fn a_request_of_four_calls_crashes_at_each(rt: HostRuntime) {
+    for does in REQUESTS {
+        for call in 0..7 {
+            for left in ALL {
+                expect_four_calls(&rt, rt.alloc(), does, call, left);
+            }
+        }
+    }
+}
+
 /// A gift makes four calls.
 fn expect_gift(rt: &impl Abort, alloc: Global, call: u64, left: Left) {
     let mut life = begun(rt, alloc, 4);
@@ -77,7 +104,7 @@ fn expect_gift(rt: &impl Abort, alloc: Global, call: u64, left: Left) {
         version: 2,
         live: 2,
     };
-    let expected = if appended(call, left) > 0 {
+    let expected = if appended((call, left)) > 0 {
         taken
     } else {
         Outcome::Missing {
@@ -111,7 +138,7 @@ fn expect_walk(rt: &impl Abort, alloc: Global, call: u64, left: Left) {
         version: 2,
         live: 2,
     };
-    let expected = match appended(call, left) {
+    let expected = match appended((call, left)) {
         0 => Outcome::Missing {
             address: Address::Feed,
         },

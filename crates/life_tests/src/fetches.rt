@@ -1,6 +1,7 @@
 //! The documents of a store as a source.
 
-use crate::events::{NOW, head, request};
+use crate::events::{Does, NOW, head, request};
+use crate::fold::{Doc, Fold};
 use atom_values::{Bytes, Many};
 use chain_links::Address;
 use doc_source::{Fetch, GetFault};
@@ -51,38 +52,42 @@ fn source(rt: &impl Abort, alloc: Global, failing: u64) -> (StoreFetch<MemoryDis
     (StoreFetch::new(alloc, store, disk), calls)
 }
 
-/// An address, and the line by which its document names itself. Empty for none.
-static ADDRESSES: [(&str, &str); 8] = [
-    (
-        "http://feed.example/feed",
-        "<link rel=\"self\" href=\"http://feed.example/feed\"/>",
-    ),
-    (
-        "http://feed.example/archive/1",
-        "<link rel=\"self\" href=\"http://feed.example/archive/1\"/>",
-    ),
-    ("http://feed.example/archive/2", ""),
-    ("http://feed.example/archive/01", ""),
-    ("http://feed.example/member/1", ""),
-    ("http://other.example/feed", ""),
-    ("/feed", ""),
-    ("", ""),
+/// Addresses, and their documents.
+static ADDRESSES: [(&str, Option<Doc>); 8] = [
+    ("http://feed.example/feed", Some(Doc::Feed(3))),
+    ("http://feed.example/archive/1", Some(Doc::Archive(1))),
+    ("http://feed.example/archive/2", None),
+    ("http://feed.example/archive/01", None),
+    ("http://feed.example/member/1", None),
+    ("http://other.example/feed", None),
+    ("/feed", None),
+    ("", None),
 ];
+
+/// The fold of the store.
+fn fold(rt: &impl Abort, alloc: Global) -> Fold {
+    let mut fold = Fold::new(alloc, 2);
+    for title in 1..4 {
+        fold.take(rt, Does::Make(title), None);
+    }
+    fold
+}
 
 /// Asks for an address, and compares what is found.
 fn expect_found(
     rt: &impl Abort,
     alloc: Global,
     source: &mut StoreFetch<MemoryDisk>,
-    (address, line): (&str, &str),
+    fold: &Fold,
+    (address, doc): (&str, Option<Doc>),
 ) {
     let found = source
         .get(alloc, address.as_bytes())
         .expect(rt, "an answer");
-    let document = found.unwrap_or(Vec::new(alloc));
-    let text = String::from_utf8(document).expect(rt, "a text");
+    let wanted = doc.map(|doc| fold.text(rt, alloc, doc));
+    let text = wanted.as_ref().map(|text| text.as_bytes());
     assert!(rt;
-        text.as_str().is_empty() == line.is_empty() && text.as_str().contains(line),
+        found.as_ref().map(|found| found.as_slice()) == text,
         "{address}"
     );
 }
@@ -91,8 +96,9 @@ fn expect_found(
 fn a_store_answers_its_addresses(rt: HostRuntime) {
     let alloc = rt.alloc();
     let (mut source, _) = source(&rt, alloc, 0);
+    let fold = fold(&rt, alloc);
     for &row in &ADDRESSES {
-        expect_found(&rt, alloc, &mut source, row);
+        expect_found(&rt, alloc, &mut source, &fold, row);
     }
     let (store, _) = source.back();
     assert!(rt; store.version() == 3 && !store.is_spent());

@@ -4,6 +4,8 @@
 #![tactic(auto)]
 
 #[cfg(test)]
+mod courses;
+#[cfg(test)]
 mod crashes;
 #[cfg(test)]
 mod draws;
@@ -12,4 +14,8 @@ mod events;
 #[cfg(test)]
 mod fetches;
 #[cfg(test)]
+mod fold;
+#[cfg(test)]
 mod generated;
+#[cfg(test)]
+mod orders;

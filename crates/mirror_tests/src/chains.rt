@@ -137,7 +137,7 @@ fn a_mirror_keeps_the_first_of_two_documents(rt: HostRuntime) {
     expect(&rt, rt.alloc(), &mut disk, &feed, &LATER);
 }
 
-/// The front of the digest of the document at an address.
+/// The first bytes of the digest of the document at an address.
 fn digest(rt: &impl Abort, alloc: Global, mirror: &Mirror, address: Address) -> String
     requires { is_spent mirror.now ≡ false }
 {

@@ -80,7 +80,7 @@ impl Filling {
     }
 
     /// The first of an offer's four calls in which a crash with this choice leaves the gate's byte on the
-    /// disk. 5 stands for none.
+    /// disk. 5 means none.
     pub fn landed(self) -> u64 {
         match self {
             Filling::New => 3,

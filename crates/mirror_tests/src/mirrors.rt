@@ -27,7 +27,7 @@ fn conflict(alloc: Global, address: Address, kept: u32, given: u32) -> Result<St
     format!(in alloc; "Conflict {address:?} {kept:08x} {given:08x}")
 }
 
-/// The refusal's name and its fields. Of a digest the first four bytes, and of an identifier the first one.
+/// The refusal's name and its fields: the first four bytes of a digest, and the first byte of an identifier.
 pub fn refusal_text(rt: &impl Abort, alloc: Global, refusal: &Offered) -> String {
     let text = match refusal {
         Offered::NotADocument { at } => format!(in alloc; "NotADocument {at}"),

@@ -104,7 +104,7 @@ impl Drawn {
         missing
     }
 
-    /// What the drawn documents show.
+    /// The outcome of the drawn documents.
     fn outcome(&self, rt: &impl Abort, feed: &Feed) -> Outcome {
         let Some(version) = self.version else {
             return Outcome::Missing {

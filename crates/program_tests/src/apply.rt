@@ -118,9 +118,10 @@ static DOCUMENTS: [(Run, Expected); 7] = [
             }],
         },
     ),
-    // Operations that name a member again.
+    // Operations that name a member again, in one window of ten.
     (
         Run {
+            words: &["apply", "10"],
             input: b"add a\nchange 1 b\nchange 1 c\nremove 1\n",
             ..APPLY
         },
@@ -358,6 +359,32 @@ fn repeated(
     }
     text.extend_from_slice(back).expect(rt, "memory");
     text
+}
+
+#[test]
+fn prints_a_title_of_1024_bytes(rt: HostRuntime) {
+    let alloc = rt.alloc();
+    let letters = repeated(&rt, alloc, b"", (b"a", 1_024), b"");
+    let title = String::from_utf8(letters).expect(&rt, "a text");
+    let item = Shown::Entry {
+        number: 1,
+        title: title.as_str(),
+        updated: FIRST,
+    };
+    let document = Expected {
+        updated: FIRST,
+        prev: 0,
+        first: 1,
+        last: 1,
+        items: &[item],
+    };
+    let text = text_of(&rt, alloc, &document);
+    let line = repeated(&rt, alloc, b"add ", (b"a", 1_024), b"\n");
+    let given = Run {
+        input: line.as_slice(),
+        ..APPLY
+    };
+    expect_end(&rt, alloc, &given, 0, text.as_bytes());
 }
 
 #[test]

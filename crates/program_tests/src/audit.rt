@@ -22,7 +22,7 @@ live 13 295c1574b2102efff17182faf9a781ea6d2f927cee1b6439aa96ebff632451c2\n\
 end\n\
 ";
 
-/// A certificate, and a pile behind it.
+/// A certificate, and a pile after it.
 fn joined(rt: &impl Abort, alloc: Global, certificate: &str, pile: &[u8]) -> Vec<u8> {
     let mut input = Vec::from_slice(alloc, certificate.as_bytes()).expect(rt, "memory");
     input.extend_from_slice(pile).expect(rt, "memory");
@@ -36,7 +36,7 @@ pub fn audited(rt: &impl Abort, alloc: Global, certificate: &str, pile: &[u8]) -
     ran(rt, alloc, &mut unused, AUDIT, input.as_slice())
 }
 
-/// A text of the certificate, and what stands in its place.
+/// A text of the certificate, and the text that replaces it.
 type Edit = (&'static str, &'static str);
 
 /// The certificate with this edit.
@@ -160,7 +160,7 @@ fn each_verdict_comes(rt: HostRuntime) {
 const TWELVE: &[u8] =
     b"add a\nadd b\nadd c\nadd d\nadd e\nadd f\nadd g\nadd h\nadd i\nadd j\nadd k\nadd l\n";
 
-/// The verdict on the certificate where the subscription document of the twelfth operation stands in for the newest one.
+/// The verdict on the certificate where the subscription document of the twelfth operation replaces the newest one.
 const OLDER: &[u8] =
     b"digest differs http://feed.example/feed 0bad81675ee4072d5a3a4054e1c63d75691a86a9ae3aebbc4e68441a6b75736a\n";
 
@@ -187,7 +187,7 @@ fn an_older_document_is_refused(rt: HostRuntime) {
     assert!(rt; end.is(3, OLDER));
 }
 
-/// An edit of the certificate, the input behind it, and the refusal.
+/// An edit of the certificate, the input after it, and the refusal.
 static REFUSED: [(Edit, &str, &str); 21] = [
     (
         ("coverage 1", "coverage 2"),
@@ -256,7 +256,7 @@ fn each_refusal_comes(rt: HostRuntime) {
     }
 }
 
-/// Audits a part of the certificate, which ends within or behind one of its lines, and compares the refusal.
+/// Audits a part of the certificate, which ends within or after one of its lines, and compares the refusal.
 fn expect_cut(rt: &impl Abort, alloc: Global, length: usize) {
     let (certificate, _) = THIRTEEN.split_at_checked(length).expect(rt, "a length");
     let line = certificate.split('\n').count();

@@ -36,10 +36,11 @@ const NO_ARCHIVE: &str = "missing http://feed.example/archive/2\n";
 const NO_FEED: &str = "missing http://feed.example/feed\n";
 
 /// Which of the store's documents are offered, further offers, the status and what is printed.
-static OFFERED: [(&[usize], &str, u8, &str); 6] = [
+static OFFERED: [(&[usize], &str, u8, &str); 7] = [
     (&[0, 1, 2, 3], "", 0, THIRTEEN),
     (&[3, 2, 1, 0, 0, 1, 2, 3], "x 1\ny\n", 0, THIRTEEN),
     (&[0, 1, 3], "", 3, NO_ARCHIVE),
+    (&[3, 1, 0, 3, 1, 0], "", 3, NO_ARCHIVE),
     (&[0, 1, 3], "x 1\ny\n", 3, NO_ARCHIVE),
     (&[1, 2, 3], "", 3, NO_FEED),
     (&[], "", 3, NO_FEED),

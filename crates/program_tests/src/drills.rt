@@ -1,7 +1,11 @@
 //! `drill`. A program in Python computed the summaries from the rules of a drill.
 
-use crate::runs::{APPLY, Run, empty_disk, ended, expect_end};
+use crate::runs::{APPLY, Run, empty_disk, ended, expect_end, no_documents, whole_end};
+use atom_values::Many;
+use document_server::ScriptDoor;
+use feed_commands::Ended;
 use feed_disk::Disk;
+use feed_life::Life;
 use std::alloc::Global;
 use std::process::Abort;
 
@@ -57,4 +61,55 @@ fn expect_unprinted<D: Disk>(rt: &impl Abort, alloc: Global, disk: &mut D) {
 fn a_drill_whose_output_fails_ends_with_8(rt: HostRuntime) {
     let mut disk = empty_disk(&rt, rt.alloc(), 1);
     expect_unprinted(&rt, rt.alloc(), &mut disk);
+}
+
+/// Runs a command on an empty disk whose output fails in this call. Returns all that `run` returns.
+fn whole(rt: &impl Abort, alloc: Global, words: &[&str], failing_write: u64) -> Ended {
+    let mut disk = empty_disk(rt, alloc, 0);
+    let mut door = ScriptDoor::new(alloc, Many::new(alloc), Many::new(alloc)).expect(rt, "memory");
+    let mut fetch = no_documents(alloc);
+    let given = Run {
+        words,
+        failing_write,
+        ..APPLY
+    };
+    let (ended, _) = whole_end(rt, alloc, &mut disk, &mut door, &mut fetch, &given);
+    ended
+}
+
+/// Whether a life sent a document after each fifth operation, up to this number of them.
+fn is_sent(life: &Life, count: usize) -> bool {
+    let mut version = 0u32;
+    for sent in life.sent() {
+        version = version.saturating_add(5);
+        if sent.version != version {
+            return false;
+        }
+    }
+    life.sent().len() == count
+}
+
+/// The life of `drill 7 60`. It asks for the feed after each fifth turn, and a turn is one operation.
+#[test]
+fn a_drill_returns_its_life(rt: HostRuntime) {
+    let ended = whole(&rt, rt.alloc(), &["drill", "7", "60"], 0);
+    assert!(rt; ended.status == 0 && ended.lines.as_slice().is_empty());
+    let life = ended.life.as_ref().expect(&rt, "a life");
+    assert!(rt; (life.version(), life.sealed()) == (60, 3) && is_sent(life, 12));
+    assert!(rt; (life.stops(), life.mirror_stops()) == (8, 4));
+}
+
+/// Commands that return no life: the words, the call of the output that fails, and the status.
+static LIFELESS: [(&[&str], u64, u8); 3] = [
+    (&["drill", "7", "60"], 1, 8),
+    (&["drill", "7"], 0, 2),
+    (&["apply", "4"], 0, 0),
+];
+
+#[test]
+fn no_other_end_returns_a_life(rt: HostRuntime) {
+    for &(words, failing, status) in &LIFELESS {
+        let ended = whole(&rt, rt.alloc(), words, failing);
+        assert!(rt; ended.status == status && ended.life.is_none(), "{words:?}");
+    }
 }

@@ -1,6 +1,9 @@
 //! Words that name no command, and failing calls of the input and the output.
 
 use crate::runs::{APPLY, Run, expect_end};
+use atom_values::Many;
+use doc_source::ListSink;
+use feed_commands::{Fault, end_with};
 
 const FAULT: &[u8] = b"input fault\n";
 
@@ -64,4 +67,11 @@ fn reports_each_failing_call(rt: HostRuntime) {
         };
         expect_end(&rt, rt.alloc(), &given, status, printed);
     }
+}
+
+#[test]
+fn a_lack_of_memory_is_reported(rt: HostRuntime) {
+    let mut output = ListSink::new(rt.alloc(), Many::new(rt.alloc()));
+    let ended = end_with(rt.alloc(), &mut output, Fault::NoMemory);
+    assert!(rt; (ended.status, output.bytes()) == (5, b"no memory\n".as_slice()));
 }

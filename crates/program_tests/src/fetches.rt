@@ -24,7 +24,7 @@ const FETCH: &[&str] = &[
 const LINES: &[u8] =
     b"add a\nadd b\nadd c\nadd d\nadd e\nadd f\nadd g\nadd h\nadd i\nadd j\nadd k\nadd l\nadd m\nadd n\nadd o\nadd p\nadd q\nadd r\nadd s\nadd t\nadd u\n";
 
-/// The addresses of the documents behind the base, and the words that show them.
+/// The addresses of the documents after the base, and the words that show them.
 static DOCUMENTS: [(&str, &[&str]); 6] = [
     ("feed", &["show", "feed"]),
     ("archive/1", &["show", "archive", "1"]),
@@ -45,7 +45,7 @@ fn filled(rt: &impl Abort, alloc: Global) -> MemoryDisk {
 const ALL: &[(usize, usize)] = &[(0, 0), (1, 1), (2, 2), (3, 3), (4, 4), (5, 5)];
 
 /// A mirror on an empty disk, which fetches twice: what the source has at first, its call that fails then (0 means none),
-/// how the first run ends, and the addresses behind the base that each run asks. The second run finds all documents.
+/// how the first run ends, and the addresses after the base that each run asks. The second run finds all documents.
 static WALKS: [(&[(usize, usize)], u64, u8, &str, &str, &str); 11] = [
     (
         ALL,
@@ -182,7 +182,7 @@ pub fn source_of<D: Disk>(
     PileFetch::new(alloc, offers, listed(rt, alloc, failing))
 }
 
-/// The addresses behind the base that were asked, each with a space behind it.
+/// The addresses after the base that were asked, each with a space after it.
 fn asked_of(rt: &impl Abort, alloc: Global, source: &PileFetch) -> Vec<u8> {
     let mut text = Vec::new(alloc);
     for address in source.asked() {
@@ -214,7 +214,8 @@ fn ran_asking<M: Disk>(
     end
 }
 
-/// Whether the run of a mirror ends so. `*` stands for the report of a mirror that took all documents.
+/// Whether the run of a mirror ends with this status and output. `*` means the report of a mirror that took all
+/// documents.
 fn ends_so(rt: &impl Abort, alloc: Global, end: &End, status: u8, printed: &str) -> bool {
     if printed == "*" {
         let lines = complete(rt, alloc);

@@ -10,8 +10,8 @@ use std::process::Abort;
 /// The words of a mirror of the store's feed.
 const MIRROR: &[&str] = &["mirror", "--base", "http://feed.example/", "--report"];
 
-/// Which of the store's documents are offered, in which order, and the status and the report of their mirror. `*` stands
-/// for the lines of all entries.
+/// Which of the store's documents are offered, in which order, and the status and the report of their mirror. `*` means
+/// the lines of all entries.
 static OFFERED: [(&[usize], u8, &str); 5] = [
     (&[0, 1, 2, 3], 0, "offers 4 0 0 0\n*complete 13 13\n"),
     (
@@ -97,7 +97,7 @@ const SMALL: &[&str] = &[
 ];
 
 /// The runs of mirrors on one disk, one after the other: the words, the documents that are offered, the status and what
-/// is printed. `*` stands for the lines of all entries. An empty pile is offered if there are no documents.
+/// is printed. `*` means the lines of all entries. An empty pile is offered if there are no documents.
 static RUNS: [(&[&str], &[usize], u8, &str); 10] = [
     (
         MIRROR,

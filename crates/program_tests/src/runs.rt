@@ -1,12 +1,12 @@
 //! Runs of the program with objects in memory.
 //!
-//! A proof drops each part of a large value at each exit of the function that owns it. So `ended_at` alone owns the words,
+//! A proof drops each part of a large value at each exit of the function that owns it. So `whole_end` alone owns the words,
 //! the clock, the input and the output of a run. The functions that make a disk are few, and all others borrow it.
 
 use atom_values::{Bytes, Many};
 use doc_source::{Fetch, ListSink, ListSource, PileFetch};
 use document_server::{Door, ScriptDoor, SetClock};
-use feed_commands::run;
+use feed_commands::{Ended, run};
 use feed_disk::{Disk, MemoryDisk};
 use std::alloc::Global;
 use std::process::Abort;
@@ -99,15 +99,15 @@ pub fn empty_disk(rt: &impl Abort, alloc: Global, failing: u64) -> MemoryDisk {
     )
 }
 
-/// Runs the program at a door, with a source of documents.
-pub fn ended_at<D: Disk, L: Door, F: Fetch>(
+/// Runs the program at a door, with a source of documents. Returns what `run` returns, and all that is printed.
+pub fn whole_end<D: Disk, L: Door, F: Fetch>(
     rt: &impl Abort,
     alloc: Global,
     disk: &mut D,
     door: &mut L,
     fetch: &mut F,
     given: &Run,
-) -> End {
+) -> (Ended, Vec<u8>) {
     let words = words_of(rt, alloc, given.words);
     let mut clock = clock_of(rt, alloc, given.moments);
     let bytes = bytes_of(rt, alloc, given.input);
@@ -123,9 +123,25 @@ pub fn ended_at<D: Disk, L: Door, F: Fetch>(
         &mut input,
         &mut output,
     );
+    (
+        ended,
+        Vec::from_slice(alloc, output.bytes()).expect(rt, "memory"),
+    )
+}
+
+/// Runs the program at a door, with a source of documents.
+pub fn ended_at<D: Disk, L: Door, F: Fetch>(
+    rt: &impl Abort,
+    alloc: Global,
+    disk: &mut D,
+    door: &mut L,
+    fetch: &mut F,
+    given: &Run,
+) -> End {
+    let (ended, printed) = whole_end(rt, alloc, disk, door, fetch, given);
     End {
         status: ended.status,
-        printed: Vec::from_slice(alloc, output.bytes()).expect(rt, "memory"),
+        printed,
     }
 }
 

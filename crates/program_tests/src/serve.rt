@@ -1,9 +1,9 @@
 //! `serve` on a store on a disk in memory, with connections in memory.
 
-use crate::runs::{APPLY, Run, ended_at, listed, no_documents};
+use crate::runs::{APPLY, Run, listed, no_documents, whole_end};
 use crate::store::made;
 use atom_values::{Bytes, Many};
-use document_server::ScriptDoor;
+use document_server::{Line, ScriptDoor};
 use http_face::ScriptConn;
 use std::alloc::Global;
 use std::process::Abort;
@@ -18,16 +18,37 @@ static REQUESTS: [&[u8]; 6] = [
     b"GET /member/2 HTTP/1.1\r\n\r\n",
 ];
 
-/// A run of `serve`: the device call, the call of the door and that of the output that fail, and how it ends. Calls are
-/// numbered from 1, and device calls from the first of `init`; 0 means none.
-static RUNS: [((u64, u64, u64), u8, &str); 6] = [
-    ((0, 0, 0), 0, "201 1\n200 2\n410 2\n410 2\n410 2\n404 2\n"),
-    ((0, 1, 0), 7, "door fault\n"),
-    ((0, 4, 0), 7, "201 1\n200 2\ndoor fault\n"),
-    ((0, 0, 3), 8, "201 1\n200 2\n"),
-    ((0, 4, 2), 7, "201 1\n"),
-    ((21, 0, 0), 4, "500 0\ndisk fault\n"),
+/// The status and the version of each connection.
+const LINES: [(u16, u32); 6] = [(201, 1), (200, 2), (410, 2), (410, 2), (410, 2), (404, 2)];
+
+/// A run of `serve`: the device call, the call of the door and that of the output that fail, how it ends, and the lines that it
+/// returns. Calls are numbered from 1, and device calls from the first of `init`; 0 means none.
+static RUNS: [((u64, u64, u64), u8, &str, &[(u16, u32)]); 6] = [
+    (
+        (0, 0, 0),
+        0,
+        "201 1\n200 2\n410 2\n410 2\n410 2\n404 2\n",
+        &LINES,
+    ),
+    ((0, 1, 0), 7, "door fault\n", &[]),
+    (
+        (0, 4, 0),
+        7,
+        "201 1\n200 2\ndoor fault\n",
+        &[(201, 1), (200, 2)],
+    ),
+    ((0, 0, 3), 8, "201 1\n200 2\n", &LINES),
+    ((0, 4, 2), 7, "201 1\n", &[(201, 1), (200, 2)]),
+    ((21, 0, 0), 4, "500 0\ndisk fault\n", &[(500, 0)]),
 ];
+
+/// Whether these are the lines of connections that were sent their whole replies.
+fn are_lines(lines: &[Line], wanted: &[(u16, u32)]) -> bool {
+    lines.len() == wanted.len()
+        && lines.iter().zip(wanted).all(|(line, wanted)| {
+            line.status == wanted.0 && line.version == wanted.1 && line.whole
+        })
+}
 
 /// Returns a door at which each client comes in.
 fn door_of(rt: &impl Abort, alloc: Global, failing: u64) -> ScriptDoor {
@@ -47,7 +68,7 @@ const SERVE: &[&str] = &["serve", "--listen", "here", "--requests", "6"];
 #[test]
 fn prints_a_line_for_each_connection(rt: HostRuntime) {
     let alloc = rt.alloc();
-    for &((device, door, output), status, printed) in &RUNS {
+    for &((device, door, output), status, printed, lines) in &RUNS {
         let mut disk = made(&rt, alloc, &[], device);
         let mut door = door_of(&rt, alloc, door);
         let mut fetch = no_documents(alloc);
@@ -56,9 +77,13 @@ fn prints_a_line_for_each_connection(rt: HostRuntime) {
             failing_write: output,
             ..APPLY
         };
-        let end = ended_at(&rt, alloc, &mut disk, &mut door, &mut fetch, &given);
+        let (ended, text) = whole_end(&rt, alloc, &mut disk, &mut door, &mut fetch, &given);
         assert!(rt;
-            end.is(status, printed.as_bytes()),
+            ended.status == status && text.as_slice() == printed.as_bytes(),
+            "{device} {output} {status}"
+        );
+        assert!(rt;
+            ended.life.is_none() && are_lines(ended.lines.as_slice(), lines),
             "{device} {output} {status}"
         );
     }

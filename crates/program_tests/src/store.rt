@@ -82,6 +82,18 @@ fn follow(rt: &impl Abort, alloc: Global, options: &[&'static str], steps: &[Ste
     expect_steps(rt, alloc, &mut disk, steps);
 }
 
+/// Makes a store and runs commands on it, and compares how each ends. Returns the version.
+fn version_after(
+    rt: &impl Abort,
+    alloc: Global,
+    options: &[&'static str],
+    steps: &[Step],
+) -> Option<u8> {
+    let mut disk = made(rt, alloc, options, 0);
+    expect_steps(rt, alloc, &mut disk, steps);
+    version(rt, alloc, &mut disk)
+}
+
 /// The words of `apply`.
 const APPLY: &[&str] = &["apply"];
 
@@ -234,15 +246,20 @@ fn long_lines(rt: &impl Abort, alloc: Global) -> Vec<u8> {
 fn a_full_store_names_its_sizes(rt: HostRuntime) {
     let alloc = rt.alloc();
     let options = ["--capacity", "4096", "--window=1"];
-    follow(&rt, alloc, &options, &FULL_OF_SEALS);
+    let sealed = version_after(&rt, alloc, &options, &FULL_OF_SEALS);
+    assert!(rt; sealed == Some(5));
     let lines = long_lines(&rt, alloc);
     let full = Text("full journal 3289 1068 4096\n");
     let steps: [Step; 1] = [(APPLY, lines.as_slice(), 11, full)];
-    follow(&rt, alloc, &["--capacity=4096"], &steps);
+    let applied = version_after(&rt, alloc, &["--capacity=4096"], &steps);
+    assert!(rt; applied == Some(3));
 }
 
 /// The words of `serve`.
 const SERVE: &[&str] = &["serve", "--listen", "here", "--requests", "1"];
+
+/// The words that show the subscription document.
+const SHOW_FEED: &[&str] = &["show", "feed"];
 
 /// The commands on a disk without a store.
 static UNMADE: [Step; 2] = [
@@ -269,10 +286,10 @@ static SPOILT: [Step; 5] = [
     (&INIT, b"add c\n", 6, Text("already init\n")),
 ];
 
-/// Writes the byte 9 over one of the journal.
-fn spoil<D: Disk>(rt: &impl Abort, disk: &mut D, at: u64) {
-    if at < disk.size(Area::Journal).expect(rt, "a size") {
-        disk.write(Area::Journal, at, b"\x09").expect(rt, "a write");
+/// Writes this byte over one of an area.
+fn spoil<D: Disk>(rt: &impl Abort, disk: &mut D, (area, at, byte): (Area, u64, u8)) {
+    if at < disk.size(area).expect(rt, "a size") {
+        disk.write(area, at, &[byte]).expect(rt, "a write");
     }
 }
 
@@ -284,14 +301,38 @@ fn a_bad_store_is_refused(rt: HostRuntime) {
     init(&rt, alloc, &mut disk, &[]);
     ran(&rt, alloc, &mut disk, APPLY, b"add a\nadd b\n");
     // The head's frame has 84 bytes and that of the first operation 45. Then come a gate and a length.
-    spoil(&rt, &mut disk, 84 + 45 + 5);
+    spoil(&rt, &mut disk, (Area::Journal, 84 + 45 + 5, 9));
     expect_steps(&rt, alloc, &mut disk, &SPOILT);
 }
 
-/// Returns the number of the last operation that the subscription document has, of a store of at most 3 operations and
-/// windows of 1.
+/// A byte of a store with two operations and one seal, and the line that refuses the store. Byte 0 of an area is the gate of
+/// its first payload, and byte 5 the payload's first byte.
+static BAD_BYTES: [((Area, u64, u8), &str); 4] = [
+    ((Area::Sealed, 0, 0), "seal count 2 0\n"),
+    ((Area::Sealed, 5 + 2, b'X'), "bad seal 1\n"),
+    ((Area::Journal, 5, 9), "bad store journal 0 0\n"),
+    ((Area::Journal, 0, 0), "not init\n"),
+];
+
+/// Spoils a byte of a store with windows of one operation, and compares how a command ends.
+fn expect_spoilt(rt: &impl Abort, alloc: Global, spoilt: (Area, u64, u8), line: &'static str) {
+    let mut disk = made(rt, alloc, &["--window", "1"], 0);
+    ran(rt, alloc, &mut disk, APPLY, b"add a\nadd b\n");
+    spoil(rt, &mut disk, spoilt);
+    let steps: [Step; 1] = [(SHOW_FEED, b"", 6, Text(line))];
+    expect_steps(rt, alloc, &mut disk, &steps);
+}
+
+#[test]
+fn a_spoilt_byte_is_named(rt: HostRuntime) {
+    for &(spoilt, line) in &BAD_BYTES {
+        expect_spoilt(&rt, rt.alloc(), spoilt, line);
+    }
+}
+
+/// Returns the number of the last operation that the subscription document has, if it is one of these.
 fn version<D: Disk>(rt: &impl Abort, alloc: Global, disk: &mut D) -> Option<u8> {
-    let feed = ran(rt, alloc, disk, &["show", "feed"], b"");
+    let feed = ran(rt, alloc, disk, SHOW_FEED, b"");
     let summary = summary_of(rt, alloc, feed.printed.as_slice());
     let span = summary
         .printed
@@ -302,7 +343,9 @@ fn version<D: Disk>(rt: &impl Abort, alloc: Global, disk: &mut D) -> Option<u8> 
         b"span 1 0" => Some(0),
         b"span 1 1" => Some(1),
         b"span 2 2" => Some(2),
+        b"span 1 3" => Some(3),
         b"span 3 3" => Some(3),
+        b"span 5 5" => Some(5),
         _ => None,
     }
 }
@@ -324,7 +367,7 @@ enum Outcome {
 /// Makes a store again and adds a member, behind an `init` that failed.
 fn outcome_again<D: Disk>(rt: &impl Abort, alloc: Global, disk: &mut D) -> Outcome {
     let again = init(rt, alloc, disk, &[]).status;
-    let applied = ran(rt, alloc, disk, APPLY, b"add a\n").status;
+    let applied = ran(rt, alloc, disk, APPLY, b"add Hello\n").status;
     let is_usable = (again == 0 || again == 6) && applied == 0;
     match version(rt, alloc, disk) {
         Some(1) if is_usable => Outcome::InitFailed,
@@ -337,7 +380,7 @@ fn outcome_of<D: Disk>(rt: &impl Abort, alloc: Global, disk: &mut D) -> Outcome 
     if init(rt, alloc, disk, &[]).status == 4 {
         return outcome_again(rt, alloc, disk);
     }
-    let applied = ran(rt, alloc, disk, APPLY, b"add a\n");
+    let applied = ran(rt, alloc, disk, APPLY, b"add Hello\n");
     if applied.status == 0 {
         return Outcome::Applied;
     }
@@ -361,18 +404,21 @@ fn letter_of(rt: &impl Abort, alloc: Global, failing: u64) -> u8 {
     }
 }
 
+/// How the commands end if a call of the disk fails, for each call from the first on. `init` makes 12 calls: it opens two empty
+/// areas, with 4 calls each, and appends the head with 4. `apply` makes 8 to load the store, and 4 to append the operation.
+/// Only the last of these leaves the operation.
+const LETTERS: &[u8] = b"iiiiiiiiiiiiuuuuuuuuuuuc.";
+
 #[test]
 fn each_device_call_may_fail(rt: HostRuntime) {
     let alloc = rt.alloc();
     let mut letters = Vec::new(alloc);
-    for call in 1..=40 {
+    for call in 1..=LETTERS.len() as u64 {
         letters
             .push(letter_of(&rt, alloc, call))
             .expect(&rt, "memory");
     }
-    // The calls of `init`, then those of `apply`. Only its last one leaves the operation.
-    letters.dedup();
-    assert!(rt; letters.as_slice() == b"iuc.".as_slice());
+    assert!(rt; letters.as_slice() == LETTERS, "{letters:?}");
 }
 
 /// Returns the version of a store that a crash left, if one more operation works on it.

@@ -23,16 +23,16 @@ pub fn disk_of(rt: &impl Abort, alloc: Global, journal: &[u8], failing: [u64; 2]
     )
 }
 
-/// Appends the bytes of an area of up to 64 bytes, and `/`.
+/// Appends the bytes of an area of up to 192 bytes, and `/`.
 pub fn append_area<D: Disk>(rt: &impl Abort, all: &mut Vec<u8>, disk: &mut D, area: Area) {
-    let mut bytes = [0u8; 64];
+    let mut bytes = [0u8; 192];
     let count = disk.read(area, 0, &mut bytes).expect(rt, "a device call");
     all.extend_from_slice(&bytes[..count]).expect(rt, "memory");
     all.push(b'/').expect(rt, "memory");
 }
 
 /// A `Choice` as a table has it.
-#[derive(Clone, Copy)]
+#[derive(Clone, Copy, Debug)]
 pub enum Filling {
     Old,
     New,

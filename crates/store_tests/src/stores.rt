@@ -1,7 +1,7 @@
 //! `Store` on a disk in memory: what it tells of itself after an `init` and two operations, the second of which seals
-//! an archive.
+//! an archive, and its documents.
 
-ghost use Rattle.std.specs.Prelude.{◌≡◌, false, OnOk};
+ghost use Rattle.std.specs.Prelude.{◌≡◌, ◌≤◌, false};
 ghost use Rattle.feed_recovery.specs.Store.{StandsFor, is_spent};
 
 use crate::disks::disk_of;
@@ -10,11 +10,10 @@ use atom_writer::FeedName;
 use chain_links::Base;
 use deleted_entries::FeedId;
 use feed_disk::Disk;
-use feed_recovery::Store;
+use feed_recovery::{ArchiveFault, MemberFault, Store};
 use member_rules::{Ask, Head, State};
 use std::alloc::Global;
 use std::process::Abort;
-use std::test::Fail;
 
 /// The clock in these tests.
 const NOW: u64 = 1_700_000_000_000;
@@ -48,8 +47,11 @@ fn show(store: &Store, loaded: u64) -> Shown
     }
 }
 
-/// The head of a feed with windows of one operation.
-fn head(rt: &impl Abort, alloc: Global) -> Head {
+/// The head of a feed that is made at `NOW`.
+pub fn head(rt: &impl Abort, alloc: Global, window: u32, capacity: u64) -> Head
+    requires window { (1 ≤ window) × (window ≤ 100) }
+    requires capacity { (4_096 ≤ capacity) × (capacity ≤ 68_719_476_736) }
+{
     Head {
         name: FeedName {
             base: Base::parse(alloc, b"http://feed.example/").expect(rt, "a base"),
@@ -57,45 +59,58 @@ fn head(rt: &impl Abort, alloc: Global) -> Head {
             title: AtomText::of(alloc, b"Feed").expect(rt, "a title"),
             author: AtomText::of(alloc, b"Editor").expect(rt, "an author"),
         },
-        window: 1,
-        capacity: 4_096,
+        window,
+        capacity,
         created: Stamp::new(1_700_000_000_000).expect(rt, "a timestamp"),
     }
 }
 
-/// Makes a member with this title. Returns its number, the version that was prepared and the new version.
-fn add<D: Disk>(
+/// Makes the operation of an ask. Returns its member's number, the version that was prepared and the new version.
+fn change<D: Disk>(rt: &impl Abort, store: &mut Store, disk: &mut D, ask: Ask) -> (u32, u32, u32)
+    requires unspent { is_spent store.old ≡ false }
+    requires stands { D.told → StandsFor (D.state disk.old) store.old }
+    ensures unspent { is_spent store.new ≡ false }
+    ensures stands { D.told → StandsFor (D.state disk.new) store.new }
+{
+    let ready = store.prepare(ask, NOW).expect(rt, "an operation");
+    let (number, prepared) = (ready.number(), ready.version());
+    let version = store.commit(disk, ready).expect(rt, "a commit");
+    (number, prepared, version)
+}
+
+/// Makes a member with this title. Returns the same numbers.
+pub fn add<D: Disk>(
+    rt: &impl Abort,
     alloc: Global,
     store: &mut Store,
     disk: &mut D,
     title: &[u8],
-) -> Result<(u32, u32, u32), Fail>
+) -> (u32, u32, u32)
     requires unspent { is_spent store.old ≡ false }
     requires stands { D.told → StandsFor (D.state disk.old) store.old }
-    ensures unspent { OnOk result (is_spent store.new ≡ false) }
-    ensures stands { OnOk result (D.told → StandsFor (D.state disk.new) store.new) }
+    ensures unspent { is_spent store.new ≡ false }
+    ensures stands { D.told → StandsFor (D.state disk.new) store.new }
 {
-    let draft = Draft::titled(alloc, AtomText::of(alloc, title)?);
-    let ready = store.prepare(Ask::Create(draft), NOW)?;
-    let (number, prepared) = (ready.number(), ready.version());
-    Ok((number, prepared, store.commit(disk, ready)?))
+    let title = AtomText::of(alloc, title).expect(rt, "a title");
+    change(rt, store, disk, Ask::Create(Draft::titled(alloc, title)))
 }
 
 /// Makes a store, loads it and makes two members. Returns what the store shows after each step, and what was made.
 fn steps<D: Disk>(
+    rt: &impl Abort,
     alloc: Global,
     disk: &mut D,
-    head: &Head,
-) -> Result<([Shown; 3], [(u32, u32, u32); 2]), Fail> {
-    Store::init(alloc, disk, head)?;
-    let mut store = Store::load(alloc, disk)?;
+) -> ([Shown; 3], [(u32, u32, u32); 2]) {
+    let head = head(rt, alloc, 1, 4_096);
+    Store::init(alloc, disk, &head).expect(rt, "a store");
+    let mut store = Store::load(alloc, disk).expect(rt, "a store");
     let loaded = store.calls();
     let empty = show(&store, loaded);
-    let first = add(alloc, &mut store, disk, b"a")?;
+    let first = add(rt, alloc, &mut store, disk, b"a");
     let one = show(&store, loaded);
-    let second = add(alloc, &mut store, disk, b"b")?;
+    let second = add(rt, alloc, &mut store, disk, b"b");
     let two = show(&store, loaded);
-    Ok(([empty, one, two], [first, second]))
+    ([empty, one, two], [first, second])
 }
 
 /// What the store shows after each step. A commit makes four device calls, and eight with a seal.
@@ -127,11 +142,82 @@ const SHOWN: [Shown; 3] = [
 ];
 
 #[test]
-fn tells_its_counts(rt: HostRuntime) -> Result<(), Fail> {
-    let alloc = rt.alloc();
-    let mut disk = disk_of(&rt, alloc, b"", [0, 0]);
-    let (shown, made) = steps(alloc, &mut disk, &head(&rt, alloc))?;
+fn tells_its_counts(rt: HostRuntime) {
+    let mut disk = disk_of(&rt, rt.alloc(), b"", [0, 0]);
+    let (shown, made) = steps(&rt, rt.alloc(), &mut disk);
     assert!(rt; shown == SHOWN);
     assert!(rt; made == [(1, 1, 1), (2, 2, 2)]);
-    Ok(())
+}
+
+/// Makes a store with windows of one operation, two members, and deletes the first.
+fn fill<D: Disk>(rt: &impl Abort, alloc: Global, disk: &mut D) {
+    let head = head(rt, alloc, 1, 1_073_741_824);
+    Store::init(alloc, disk, &head).expect(rt, "a store");
+    let mut store = Store::load(alloc, disk).expect(rt, "a store");
+    add(rt, alloc, &mut store, disk, b"a");
+    add(rt, alloc, &mut store, disk, b"b");
+    change(rt, &mut store, disk, Ask::Delete { number: 1 });
+}
+
+/// Loads the store, and returns its subscription document.
+fn subscription<D: Disk>(rt: &impl Abort, alloc: Global, disk: &mut D) -> Vec<u8> {
+    let mut store = Store::load(alloc, disk).expect(rt, "a store");
+    store.subscription().expect(rt, "memory")
+}
+
+/// Loads the store, and returns an archive.
+fn archive<D: Disk>(
+    rt: &impl Abort,
+    alloc: Global,
+    disk: &mut D,
+    number: u32,
+) -> Result<Vec<u8>, ArchiveFault> {
+    let mut store = Store::load(alloc, disk).expect(rt, "a store");
+    store.archive(disk, number)
+}
+
+/// Loads the store, and returns the document of a member.
+fn member<D: Disk>(
+    rt: &impl Abort,
+    alloc: Global,
+    disk: &mut D,
+    number: u32,
+) -> Result<Vec<u8>, MemberFault> {
+    let mut store = Store::load(alloc, disk).expect(rt, "a store");
+    store.member(disk, number)
+}
+
+const SUBSCRIPTION: &str =
+    "<?xml version=\"1.0\" encoding=\"utf-8\"?>\n<feed xmlns=\"http://www.w3.org/2005/Atom\" xmlns:fh=\"http://purl.org/syndication/history/1.0\" xmlns:at=\"http://purl.org/atompub/tombstones/1.0\" xmlns:app=\"http://www.w3.org/2007/app\" xmlns:sp=\"urn:archived-feed:span:1\">\n<id>urn:uuid:6d1f0c5a-93be-4c27-8d10-2b7f9e4a5c36</id>\n<title>Feed</title>\n<updated>2023-11-14T22:13:20.003Z</updated>\n<author><name>Editor</name></author>\n<link rel=\"self\" href=\"http://feed.example/feed\"/>\n<link rel=\"prev-archive\" href=\"http://feed.example/archive/2\"/>\n<sp:span first=\"3\" last=\"3\"/>\n<at:deleted-entry ref=\"urn:uuid:6d1f0c5a-93be-8c27-8000-000000000001\" when=\"2023-11-14T22:13:20.003Z\"/>\n</feed>\n";
+
+const ARCHIVE: &str =
+    "<?xml version=\"1.0\" encoding=\"utf-8\"?>\n<feed xmlns=\"http://www.w3.org/2005/Atom\" xmlns:fh=\"http://purl.org/syndication/history/1.0\" xmlns:at=\"http://purl.org/atompub/tombstones/1.0\" xmlns:app=\"http://www.w3.org/2007/app\" xmlns:sp=\"urn:archived-feed:span:1\">\n<id>urn:uuid:6d1f0c5a-93be-4c27-8d10-2b7f9e4a5c36</id>\n<title>Feed</title>\n<updated>2023-11-14T22:13:20.002Z</updated>\n<author><name>Editor</name></author>\n<link rel=\"self\" href=\"http://feed.example/archive/2\"/>\n<link rel=\"current\" href=\"http://feed.example/feed\"/>\n<link rel=\"prev-archive\" href=\"http://feed.example/archive/1\"/>\n<link rel=\"next-archive\" href=\"http://feed.example/archive/3\"/>\n<fh:archive/>\n<sp:span first=\"2\" last=\"2\"/>\n<entry><id>urn:uuid:6d1f0c5a-93be-8c27-8000-000000000002</id><title>b</title><updated>2023-11-14T22:13:20.002Z</updated><app:edited>2023-11-14T22:13:20.002Z</app:edited><link rel=\"edit\" href=\"http://feed.example/member/2\"/><content></content></entry>\n</feed>\n";
+
+const MEMBER: &str =
+    "<?xml version=\"1.0\" encoding=\"utf-8\"?>\n<entry xmlns=\"http://www.w3.org/2005/Atom\" xmlns:app=\"http://www.w3.org/2007/app\"><id>urn:uuid:6d1f0c5a-93be-8c27-8000-000000000002</id><title>b</title><updated>2023-11-14T22:13:20.002Z</updated><app:edited>2023-11-14T22:13:20.002Z</app:edited><author><name>Editor</name></author><link rel=\"edit\" href=\"http://feed.example/member/2\"/><content></content></entry>\n";
+
+/// Compares the documents of a store with their texts, and the refusals of others.
+fn expect_documents<D: Disk>(rt: &impl Abort, alloc: Global, disk: &mut D) {
+    fill(rt, alloc, disk);
+    let newest = subscription(rt, alloc, disk);
+    assert!(rt; newest.as_slice() == SUBSCRIPTION.as_bytes());
+    let second = archive(rt, alloc, disk, 2).expect(rt, "an archive");
+    assert!(rt; second.as_slice() == ARCHIVE.as_bytes());
+    for number in [0, 3] {
+        let refused = archive(rt, alloc, disk, number).err();
+        assert!(rt; refused == Some(ArchiveFault::NotSealed { number, sealed: 2 }));
+    }
+    let live = member(rt, alloc, disk, 2).expect(rt, "a member");
+    assert!(rt; live.as_slice() == MEMBER.as_bytes());
+    let when = Stamp::new(1_700_000_000_003).expect(rt, "a timestamp");
+    let gone = member(rt, alloc, disk, 1).err();
+    assert!(rt; gone == Some(MemberFault::Deleted { number: 1, when }));
+    let never = member(rt, alloc, disk, 3).err();
+    assert!(rt; never == Some(MemberFault::NotFound { number: 3 }));
+}
+
+#[test]
+fn tells_its_documents(rt: HostRuntime) {
+    let mut disk = disk_of(&rt, rt.alloc(), b"", [0, 0]);
+    expect_documents(&rt, rt.alloc(), &mut disk);
 }

@@ -78,10 +78,15 @@ fn escapes(rt: HostRuntime) {
 }
 
 /// Escaped forms, quoted or not, and the texts that they are of.
-static WRITTEN: [(&[u8], bool, Option<&[u8]>); 17] = [
+static WRITTEN: [(&[u8], bool, Option<&[u8]>); 18] = [
     (b"", false, Some(b"")),
     (b"&amp;&lt;&gt;&#13;\"\t\n", false, Some(TABLE)),
     (b"&amp;&lt;&gt;&#13;&quot;&#9;&#10;", true, Some(TABLE)),
+    (
+        b"a&amp;b&lt;c&gt;d&quot;e&#13;\xF4\x8F\xBF\xBF",
+        true,
+        Some(TITLE),
+    ),
     (
         b"&amp;amp;\xF4\x8F\xBF\xBF",
         false,

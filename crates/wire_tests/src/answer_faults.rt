@@ -1,7 +1,9 @@
 //! Replies where an area is full or a device call fails, and stores after a crash.
 
 use crate::stores::{CAPACITY, NOW, exchange, post_of, store_disk};
-use feed_disk::{Choice, Disk, MemoryDisk};
+use feed_disk::{Area, Choice, Disk, MemoryDisk};
+use feed_journal::Log;
+use feed_recovery::Store;
 use std::alloc::Global;
 use std::process::Abort;
 
@@ -81,7 +83,7 @@ fn reports_each_failed_call_of_a_commit(rt: HostRuntime) {
 const GET_ARCHIVE: &[u8] = b"GET /archive/1 HTTP/1.1\r\n\r\n";
 
 /// Answers two POSTs on a store with windows of 1 operation. Returns the disk, and the one that a crash leaves in the
-/// second POST behind its seal, as the operation is written.
+/// second POST after its seal, as the operation is written.
 fn crashed(rt: &impl Abort, alloc: Global) -> (MemoryDisk, MemoryDisk) {
     let mut disk = store_disk(rt, alloc, 1, CAPACITY, 0);
     post(rt, alloc, &mut disk, 1, 0);
@@ -111,4 +113,98 @@ fn keeps_the_seal_that_was_made_before_a_crash(rt: HostRuntime) {
     assert!(rt; is_reply(&missing, b"HTTP/1.1 404 Not Found\r\n", b"not found\n"));
     assert!(rt; is_reply(&posted, b"HTTP/1.1 201 Created\r\n", b"</entry>\n"));
     assert!(rt; again == sealed);
+}
+
+/// Answers five POSTs on a store with windows of 4 operations, of which the fifth seals an archive.
+fn sealed(rt: &impl Abort, alloc: Global) -> MemoryDisk {
+    let mut disk = store_disk(rt, alloc, 4, CAPACITY, 0);
+    for title in 1..6 {
+        post(rt, alloc, &mut disk, title, 0);
+    }
+    disk
+}
+
+/// Returns the number of operations that a load finds, and the number of payloads in the sealed area.
+fn counts<D: Disk>(rt: &impl Abort, alloc: Global, disk: &mut D) -> (u32, u32) {
+    let store = Store::load(alloc, disk).expect(rt, "a store");
+    let seals = Log::load(alloc, disk, Area::Sealed).expect(rt, "a log");
+    (store.version(), seals.len())
+}
+
+/// Returns these numbers, and again after the fifth POST was made again if it was lost.
+fn go_on<D: Disk>(rt: &impl Abort, alloc: Global, disk: &mut D) -> [(u32, u32); 2] {
+    let found = counts(rt, alloc, disk);
+    if found.0 == 4 {
+        post(rt, alloc, disk, 5, 0);
+    }
+    [found, counts(rt, alloc, disk)]
+}
+
+/// The numbers after a crash within one of the last eight calls. The first of them is 0.
+fn counts_left(
+    rt: &impl Abort,
+    alloc: Global,
+    disk: &MemoryDisk,
+    call: u64,
+    choice: &Choice,
+) -> [(u32, u32); 2] {
+    let before = disk.calls().saturating_sub(7);
+    let call = before.saturating_add(call).min(disk.calls());
+    let mut left = disk.image(call, choice).expect(rt, "memory");
+    go_on(rt, alloc, &mut left)
+}
+
+/// How a crash fills unsynced bytes, and the numbers of operations and of seals that it leaves. The first four calls are
+/// the seal's write, its sync, the write of the gate and its sync. The last four are those of the operation.
+const CRASHES: [(Choice, [(u32, u32); 8]); 3] = [
+    (
+        Choice::Old,
+        [
+            (4, 0),
+            (4, 0),
+            (4, 0),
+            (4, 0),
+            (4, 1),
+            (4, 1),
+            (4, 1),
+            (4, 1),
+        ],
+    ),
+    (
+        Choice::New,
+        [
+            (4, 0),
+            (4, 0),
+            (4, 1),
+            (4, 1),
+            (4, 1),
+            (4, 1),
+            (5, 1),
+            (5, 1),
+        ],
+    ),
+    (
+        Choice::Fill(165),
+        [
+            (4, 0),
+            (4, 0),
+            (4, 0),
+            (4, 0),
+            (4, 1),
+            (4, 1),
+            (4, 1),
+            (4, 1),
+        ],
+    ),
+];
+
+#[test]
+fn a_crash_leaves_an_operation_behind_its_seal(rt: HostRuntime) {
+    let disk = sealed(&rt, rt.alloc());
+    for (choice, numbers) in &CRASHES {
+        for (call, &found) in numbers.iter().enumerate() {
+            let left = counts_left(&rt, rt.alloc(), &disk, call as u64, choice);
+            assert!(rt; left == [found, (5, 1)], "call {call}, {choice:?}");
+        }
+    }
 }

@@ -1,7 +1,7 @@
 //! The order of a commit and its reply: the first byte of a 201 is sent after the last sync of the commit returned.
 //!
 //! Contracts see neither the content of this disk nor the bytes of this connection, so that no proof of the server can
-//! rest on them. What the test compares is the order in which the server calls them.
+//! rest on them. The test compares the order in which the server calls them.
 
 ghost use Rattle.std.specs.Prelude.{◌≡◌, ◌≤◌, [], false, length, IfOk};
 ghost use Rattle.atom_values.specs.Counts.{counted};
@@ -253,7 +253,7 @@ fn reply_after_commit(rt: HostRuntime) {
     };
     let session = served(&rt, alloc, &mut disk, &mut door, NOW, 1);
     assert!(rt; session.end == End::Done && events.is_created.get());
-    // The commit syncs behind the last byte of the request, and the reply begins behind the last sync.
+    // The commit syncs after the last byte of the request, and the reply begins after the last sync.
     let (asked, synced) = (events.asked.get(), events.synced.get());
     assert!(rt; 0 < asked && asked < synced && synced < events.replied.get());
 }

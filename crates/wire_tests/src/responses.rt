@@ -154,7 +154,7 @@ fn limits_heads(rt: HostRuntime) {
     }
 }
 
-/// The bytes `front`, and this many bytes behind them.
+/// The bytes `front`, and `length` bytes after them.
 fn behind(rt: &impl Abort, alloc: Global, front: &[u8], length: u32) -> Vec<u8> {
     let mut bytes = Vec::from_slice(alloc, front).expect(rt, "memory");
     for k in 0..length {

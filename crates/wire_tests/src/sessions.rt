@@ -323,23 +323,28 @@ struct Session {
     /// The only line, and the bytes that its connection was sent.
     line: Option<Told>,
     sent: Vec<u8>,
-    /// The most operations that a load finds afterwards.
-    most: u32,
+    /// How many operations a load finds afterwards.
+    found: Found,
 }
+
+/// The number of operations that a load finds after a crash that leaves the old bytes, on the disk as it reads, and after a
+/// crash that leaves the new bytes.
+type Found = [u32; 3];
 
 /// Returns the number of operations that a load finds.
 fn version_of<D: Disk>(rt: &impl Abort, alloc: Global, disk: &mut D) -> u32 {
     Store::load(alloc, disk).expect(rt, "a store").version()
 }
 
-/// Returns the most operations that a load finds on the disk, and on two of those that a crash leaves.
-fn most_of(rt: &impl Abort, alloc: Global, disk: &mut MemoryDisk) -> u32 {
+/// Returns how many operations a load finds on the disk, and after a crash within its last call.
+fn found_on(rt: &impl Abort, alloc: Global, disk: &mut MemoryDisk) -> Found {
     let mut old = disk.image(disk.calls(), &Choice::Old).expect(rt, "memory");
     let mut new = disk.image(disk.calls(), &Choice::New).expect(rt, "memory");
-    let found = version_of(rt, alloc, disk);
-    found
-        .max(version_of(rt, alloc, &mut old))
-        .max(version_of(rt, alloc, &mut new))
+    [
+        version_of(rt, alloc, &mut old),
+        version_of(rt, alloc, disk),
+        version_of(rt, alloc, &mut new),
+    ]
 }
 
 /// Returns the bytes that the first connection was sent.
@@ -363,28 +368,39 @@ fn post_failing(rt: &impl Abort, alloc: Global, failing: u64) -> Session {
         end: session.end,
         line: session.lines.get(0).map(told),
         sent: sent_of(rt, alloc, &door),
-        most: most_of(rt, alloc, &mut disk),
+        found: found_on(rt, alloc, &mut disk),
     }
 }
+
+/// How many operations a load finds if a call of the commit fails: the write of the operation, its sync, the write of the
+/// gate, and its sync.
+static FOUND: [Found; 4] = [[0, 0, 0], [0, 0, 0], [0, 0, 1], [0, 1, 1]];
 
 #[test]
 fn ends_where_a_device_call_fails(rt: HostRuntime) {
     let alloc = rt.alloc();
     let whole = post_failing(&rt, alloc, 0);
-    assert!(rt; (whole.end, whole.line, whole.most) == (End::Done, Some((201, 1, true)), 1));
+    assert!(rt;
+        (whole.end, whole.line, whole.found) == (End::Done, Some((201, 1, true)), [0, 1, 1])
+    );
     // The commit makes the last four calls, and the load those before.
     let loaded = whole.calls.saturating_sub(4);
-    for call in whole.made.saturating_add(1)..=whole.calls {
+    for call in whole.made.saturating_add(1)..=loaded {
         let failed = post_failing(&rt, alloc, call);
-        let (end, line, sent): (End, Option<Told>, &[u8]) = if call > loaded {
-            (End::DiskFault, Some((500, 0, true)), DISK)
-        } else {
-            (End::Load(LoadFault::DiskFault), None, b"")
-        };
+        let is_unsent = failed.line.is_none() && failed.sent.is_empty();
         assert!(rt;
-            (failed.end, failed.line, failed.sent.as_slice()) == (end, line, sent),
+            failed.end == End::Load(LoadFault::DiskFault) && is_unsent,
             "call {call}"
         );
-        assert!(rt; failed.most <= 1, "call {call}");
+        assert!(rt; failed.found == [0, 0, 0], "call {call}");
+    }
+    for (index, &found) in FOUND.iter().enumerate() {
+        let failed = post_failing(&rt, alloc, loaded.saturating_add(1 + index as u64));
+        let told = (failed.end, failed.line, failed.found);
+        assert!(rt;
+            told == (End::DiskFault, Some((500, 0, true)), found),
+            "call {index}"
+        );
+        assert!(rt; failed.sent.as_slice() == DISK, "call {index}");
     }
 }

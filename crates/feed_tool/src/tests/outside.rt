@@ -1,11 +1,14 @@
-//! The adapters to the system, over a reader and writer in memory.
+//! The adapters to the system, over a clock, a reader and a writer in memory.
 
 ghost use Rattle.std.specs.Prelude.{◌≤◌, IfOk};
 
-use crate::outside::system::{InputSource, OutputSink};
+use crate::outside::system::{InputSource, OutputSink, SystemClock};
 use atom_values::Failed;
 use doc_source::{Sink, Source};
+use document_server::Clock;
 use std::io::{self, Error, ErrorKind, Read, Write};
+use std::rt::Clock as RuntimeClock;
+use std::time::Duration;
 
 /// A reader and writer of which a signal interrupts the first two calls. The third call moves one byte, and all later
 /// calls fail.
@@ -63,4 +66,42 @@ fn makes_an_interrupted_call_again(rt: HostRuntime) {
     };
     let writes = (output.write(b"abcd"), output.write(b"abcd"));
     assert_eq!(rt; (writes, output.faults), ((Ok(1), Err(Failed)), 1));
+}
+
+/// A system whose clock tells this number of microseconds since 1970, or can't tell the time.
+#[derive(Drop)]
+struct FixedTime {
+    micros: Option<u64>,
+}
+
+impl RuntimeClock for FixedTime {
+    fn monotonic(&self) -> io::Result<Duration> {
+        self.since_1970()
+    }
+
+    fn since_1970(&self) -> io::Result<Duration> {
+        match self.micros {
+            Some(micros) => Ok(Duration::from_micros(micros)),
+            None => Err(Error::from(ErrorKind::InvalidData)),
+        }
+    }
+}
+
+/// What the system's clock tells, and the milliseconds that `SystemClock` returns. A system can't tell a time before 1970.
+static TIMES: [(Option<u64>, u64); 6] = [
+    (None, 0),
+    (Some(0), 0),
+    (Some(999), 0),
+    (Some(1_000), 1),
+    (Some(1_999), 1),
+    (Some(1_700_000_000_001_000), 1_700_000_000_001),
+];
+
+#[test]
+fn tells_the_milliseconds_since_1970(rt: HostRuntime) {
+    for &(micros, millis) in &TIMES {
+        let runtime = FixedTime { micros };
+        let mut clock = SystemClock { runtime: &runtime };
+        assert!(rt; clock.now() == millis, "{micros:?}");
+    }
 }

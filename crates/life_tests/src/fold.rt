@@ -1,0 +1,354 @@
+//! A feed and its mirrors as the tests keep them by themselves: the list of operations, the documents that each mirror holds, and
+//! the texts of the documents.
+
+use crate::events::{Crash, Does, Left};
+use chain_links::Address;
+use mirror_walk::Outcome;
+use std::alloc::Global;
+use std::process::Abort;
+
+/// An operation: the number of its member, and the number in its title, or `None` for a deletion.
+pub type Change = (u32, Option<u32>);
+
+/// A document of the feed: the subscription document of a version, or an archive.
+#[derive(Clone, Copy, Debug, PartialEq, Eq)]
+pub enum Doc {
+    Feed(u32),
+    Archive(u32),
+}
+
+/// A feed, what was sent of it, and two mirrors.
+#[derive(Drop)]
+pub struct Fold {
+    pub window: u32,
+    pub changes: Vec<Change>,
+    /// How many archives are in the sealed area. The last one may have been written for an operation that a crash lost.
+    seals: u32,
+    /// The documents that were sent, each with the version then.
+    pub sent: Vec<(Doc, u32)>,
+    /// The documents that each mirror holds.
+    pub held: [Vec<Doc>; 2],
+    pub stops: u64,
+    pub mirror_stops: u64,
+}
+
+/// How many payloads of an area are there after a crash within this call of appends of four calls each. Until the third call
+/// of an append the new payload is lost, and then it is there if unsynced bytes are as they were written.
+pub fn appended((call, left): Crash) -> u64 {
+    let whole = call.saturating_sub(1) / 4;
+    let amid = call.saturating_sub(1) % 4;
+    if call > 0 && amid >= 2 && left == Left::New {
+        whole + 1
+    } else {
+        whole
+    }
+}
+
+/// The last operation of this member.
+fn last_of(changes: &[Change], number: u32) -> Option<Change> {
+    let mut last = None;
+    for &change in changes {
+        if change.0 == number {
+            last = Some(change);
+        }
+    }
+    last
+}
+
+/// The number of members ever made. They are numbered from 1.
+fn made(changes: &[Change]) -> u32 {
+    let mut most = 0;
+    for &(number, _) in changes {
+        most = number.max(most);
+    }
+    most
+}
+
+/// The number of members that are live.
+fn live(changes: &[Change]) -> u32 {
+    let mut live = made(changes);
+    for (_, title) in changes {
+        if title.is_none() {
+            live = live.saturating_sub(1);
+        }
+    }
+    live
+}
+
+/// The version of the newest subscription document that is held.
+fn best(held: &[Doc]) -> Option<u32> {
+    let mut best: Option<u32> = None;
+    for doc in held {
+        if let Doc::Feed(version) = *doc {
+            best = Some(match best {
+                Some(newest) => version.max(newest),
+                None => version,
+            });
+        }
+    }
+    best
+}
+
+/// Whether a mirror takes a document, which it does if it holds neither it nor a newer one.
+fn is_taken(held: &[Doc], doc: Doc) -> bool {
+    match doc {
+        Doc::Feed(version) => match best(held) {
+            Some(newest) => newest < version,
+            None => true,
+        },
+        Doc::Archive(_) => !held.contains(&doc),
+    }
+}
+
+/// Gives a document to a mirror that appends at most `left` more payloads.
+fn give(rt: &impl Abort, held: &mut Vec<Doc>, doc: Doc, left: &mut u64) {
+    if *left > 0 && is_taken(held.as_slice(), doc) {
+        held.push(doc).expect(rt, "memory");
+        *left = left.saturating_sub(1);
+    }
+}
+
+impl Fold {
+    pub fn new(alloc: Global, window: u32) -> Fold {
+        Fold {
+            window,
+            changes: Vec::new(alloc),
+            seals: 0,
+            sent: Vec::new(alloc),
+            held: [Vec::new(alloc), Vec::new(alloc)],
+            stops: 0,
+            mirror_stops: 0,
+        }
+    }
+
+    /// The number of operations.
+    pub fn version(&self) -> u32 {
+        u32::try_from(self.changes.len()).unwrap_or(u32::MAX)
+    }
+
+    /// The number of archives that the feed has.
+    pub fn sealed(&self) -> u32 {
+        self.prev(self.version())
+    }
+
+    /// The newest archive that the subscription document of a version names, or 0.
+    fn prev(&self, version: u32) -> u32 {
+        version
+            .saturating_sub(1)
+            .checked_div(self.window)
+            .unwrap_or(0)
+    }
+
+    /// The operation of a request if it has one, and the status of the reply.
+    fn effect(&self, does: Does) -> (Option<Change>, u16) {
+        let changes = self.changes.as_slice();
+        let (number, title) = match does {
+            Does::Make(title) => return (Some((made(changes).saturating_add(1), Some(title))), 201),
+            Does::Replace(number, title) => (number, Some(title)),
+            Does::Delete(number) => (number, None),
+            Does::Archive(number) if number == 0 || number > self.sealed() => return (None, 404),
+            _ => return (None, 200),
+        };
+        match last_of(changes, number) {
+            None => (None, 404),
+            Some((_, None)) => (None, 410),
+            Some((_, Some(_))) => (Some((number, title)), 200),
+        }
+    }
+
+    /// Adds an operation. Of its seal, if one is due and missing, and of itself at most this many payloads are appended.
+    fn add(&mut self, rt: &impl Abort, change: Change, payloads: u64) {
+        let due = self.prev(self.version().saturating_add(1));
+        let seals = if due > self.seals { 1 } else { 0 };
+        if payloads >= seals {
+            self.seals = due;
+        }
+        if payloads > seals {
+            self.changes.push(change).expect(rt, "memory");
+        }
+    }
+
+    /// Keeps the document that a request was answered with.
+    fn send(&mut self, rt: &impl Abort, does: Does) {
+        let version = self.version();
+        let doc = match does {
+            Does::Feed => Doc::Feed(version),
+            Does::Archive(number) => Doc::Archive(number),
+            _ => return,
+        };
+        self.sent.push((doc, version)).expect(rt, "memory");
+    }
+
+    /// A gift or a walk, of which at most this many payloads are appended. Returns whether its mirror and its document exist.
+    fn offer(&mut self, rt: &impl Abort, does: Does, payloads: u64) -> bool {
+        let version = self.version();
+        let prev = self.prev(version);
+        let (mirror, doc) = match does {
+            Does::Give(mirror, sent) => (mirror, self.sent.get(sent as usize).map(|sent| sent.0)),
+            Does::Walk(mirror) => (mirror, Some(Doc::Feed(version))),
+            _ => return false,
+        };
+        let Some(doc) = doc else {
+            return false;
+        };
+        let Some(held) = self.held.get_mut(mirror as usize) else {
+            return false;
+        };
+        let mut left = payloads;
+        give(rt, held, doc, &mut left);
+        if matches!(does, Does::Walk(_)) {
+            for number in (1..=prev).rev() {
+                give(rt, held, Doc::Archive(number), &mut left);
+            }
+        }
+        true
+    }
+
+    /// Takes an event. Returns the status of the reply if there is one.
+    pub fn take(&mut self, rt: &impl Abort, does: Does, crash: Option<Crash>) -> Option<u16> {
+        let payloads = match crash {
+            Some(crash) => appended(crash),
+            None => u64::MAX,
+        };
+        if matches!(does, Does::Give(..) | Does::Walk(_)) {
+            if self.offer(rt, does, payloads) && crash.is_some() {
+                self.mirror_stops = self.mirror_stops.saturating_add(1);
+            }
+            return None;
+        }
+        let (change, status) = self.effect(does);
+        if let Some(change) = change {
+            self.add(rt, change, payloads);
+        }
+        if crash.is_some() {
+            self.stops = self.stops.saturating_add(1);
+            return None;
+        }
+        if status == 200 {
+            self.send(rt, does);
+        }
+        Some(status)
+    }
+
+    /// What a mirror shows.
+    pub fn outcome(&self, mirror: u32) -> Outcome {
+        let held: &[Doc] = match self.held.get(mirror as usize) {
+            Some(held) => held.as_slice(),
+            None => &[],
+        };
+        let Some(version) = best(held) else {
+            return Outcome::Missing {
+                address: Address::Feed,
+            };
+        };
+        for number in (1..=self.prev(version)).rev() {
+            if !held.contains(&Doc::Archive(number)) {
+                return Outcome::Missing {
+                    address: Address::Archive(number),
+                };
+            }
+        }
+        let changes = self.changes.as_slice().get(..version as usize);
+        Outcome::Complete {
+            version,
+            live: live(changes.unwrap_or(&[])),
+        }
+    }
+
+    /// The text of a document.
+    pub fn text(&self, rt: &impl Abort, alloc: Global, doc: Doc) -> String {
+        let (prev, last) = match doc {
+            Doc::Feed(version) => (self.prev(version), version),
+            Doc::Archive(number) => (number.saturating_sub(1), number.saturating_mul(self.window)),
+        };
+        let before = prev.saturating_mul(self.window);
+        let first = before.saturating_add(1);
+        let updated = moment(rt, alloc, last);
+        let links = links(rt, alloc, doc, prev);
+        let items = items(rt, alloc, self.changes.as_slice(), before, last);
+        format!(in alloc;
+            "{OPENING}<updated>{updated}</updated>\n<author><name>Editor</name></author>\n{links}<sp:span first=\"{first}\" last=\"{last}\"/>\n{items}</feed>\n"
+        ).expect(rt, "memory")
+    }
+}
+
+/// The first lines of each document.
+const OPENING: &str =
+    "<?xml version=\"1.0\" encoding=\"utf-8\"?>\n<feed xmlns=\"http://www.w3.org/2005/Atom\" xmlns:fh=\"http://purl.org/syndication/history/1.0\" xmlns:at=\"http://purl.org/atompub/tombstones/1.0\" xmlns:app=\"http://www.w3.org/2007/app\" xmlns:sp=\"urn:archived-feed:span:1\">\n<id>urn:uuid:6d1f0c5a-93be-4c27-8d10-2b7f9e4a5c36</id>\n<title>Feed</title>\n";
+
+/// The timestamp of an operation, or of a feed without operations. The clock stands still, so each is a millisecond after the
+/// one before.
+fn moment(rt: &impl Abort, alloc: Global, operation: u32) -> String {
+    let text = match operation {
+        0 => format!(in alloc; "1970-01-01T00:00:00Z"),
+        1 => format!(in alloc; "2023-11-14T22:13:20Z"),
+        _ => format!(in alloc; "2023-11-14T22:13:20.{:03}Z", operation.saturating_sub(1)),
+    };
+    text.expect(rt, "memory")
+}
+
+/// The address of a document.
+pub fn address(rt: &impl Abort, alloc: Global, doc: Doc) -> String {
+    let text = match doc {
+        Doc::Feed(_) => format!(in alloc; "http://feed.example/feed"),
+        Doc::Archive(number) => format!(in alloc; "http://feed.example/archive/{number}"),
+    };
+    text.expect(rt, "memory")
+}
+
+/// The line of a link to an archive. There is none to archive 0.
+fn link(rt: &impl Abort, alloc: Global, relation: &str, number: u32) -> String {
+    if number == 0 {
+        return String::new(alloc);
+    }
+    format!(in alloc;
+        "<link rel=\"{relation}\" href=\"http://feed.example/archive/{number}\"/>\n"
+    ).expect(rt, "memory")
+}
+
+/// The lines of a document's links, and the mark of an archive.
+fn links(rt: &impl Abort, alloc: Global, doc: Doc, prev: u32) -> String {
+    let own = address(rt, alloc, doc);
+    let older = link(rt, alloc, "prev-archive", prev);
+    let text = match doc {
+        Doc::Feed(_) => format!(in alloc; "<link rel=\"self\" href=\"{own}\"/>\n{older}"),
+        Doc::Archive(number) => {
+            let newer = link(rt, alloc, "next-archive", number.saturating_add(1));
+            format!(in alloc;
+                "<link rel=\"self\" href=\"{own}\"/>\n<link rel=\"current\" href=\"http://feed.example/feed\"/>\n{older}{newer}<fh:archive/>\n"
+            )
+        }
+    };
+    text.expect(rt, "memory")
+}
+
+/// The line of the item of an operation.
+fn item(rt: &impl Abort, alloc: Global, (number, title): Change, operation: u32) -> String {
+    let moment = moment(rt, alloc, operation);
+    let text = match title {
+        Some(title) => format!(in alloc;
+            "<entry><id>urn:uuid:6d1f0c5a-93be-8c27-8000-{number:012x}</id><title>t{title}</title><updated>{moment}</updated><app:edited>{moment}</app:edited><link rel=\"edit\" href=\"http://feed.example/member/{number}\"/><content></content></entry>\n"
+        ),
+        None => format!(in alloc;
+            "<at:deleted-entry ref=\"urn:uuid:6d1f0c5a-93be-8c27-8000-{number:012x}\" when=\"{moment}\"/>\n"
+        ),
+    };
+    text.expect(rt, "memory")
+}
+
+/// The items of the operations after the first `before`, up to the last: one for each member, newest first.
+fn items(rt: &impl Abort, alloc: Global, changes: &[Change], before: u32, last: u32) -> String {
+    let mut text = String::new(alloc);
+    let mut shown: Vec<u32> = Vec::new(alloc);
+    for index in (before..last).rev() {
+        let Some(&change) = changes.get(index as usize) else {
+            continue;
+        };
+        if !shown.contains(&change.0) {
+            shown.push(change.0).expect(rt, "memory");
+            let line = item(rt, alloc, change, index.saturating_add(1));
+            text.push_str(line.as_str()).expect(rt, "memory");
+        }
+    }
+    text
+}
