@@ -29,7 +29,7 @@ links-is : (name : FeedName) (number prev : ℕ)
 unfolding links_pieces current_pieces next_pieces link_piece
 links-is name number prev = refl
 
--- the pieces up to the link to the archive behind
+-- the pieces up to the link to the archive after
 before_next : FeedName → ℕ → List (List ℕ)
 before_next name prev = current_link name.base ∷ prev_pieces name prev
 

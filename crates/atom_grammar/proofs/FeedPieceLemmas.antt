@@ -17,7 +17,7 @@ use Rattle.atom_grammar.proofs.BaseLemmas.{own_text, own_same, Lacks-base, Lacks
 use Rattle.atom_grammar.proofs.MomentLemmas.{printed_injective}
 use Rattle.atom_grammar.proofs.UntilLemmas.{Lacks, until, Lacks-escaped, Lacks-printed, Lacks-feed_text, Lacks-append, Lacks-decimal_below, escaped_injective, feed_text_injective}
 
--- a value between fixed texts, where the text of none has the byte behind it
+-- a value between fixed texts, where the text of none has the byte after it
 between : {A : Type 0} (Is : A → Type 0) (text : A → List ℕ) (front back : List ℕ) (c : ℕ)
     → ((v : A) → Is v → Lacks c (text v)) → ((v w : A) → Is v → Is w → text v ≡ text w → v ≡ w)
     → (v w : A) (x y : List ℕ) → Is v → Is w

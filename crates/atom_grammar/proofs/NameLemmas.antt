@@ -176,7 +176,7 @@ address_elsewhere base input h other left is _ e =
     let parts = e ∙ ap (λ x. x ++ left) (printed-is base other) ∙ append_assoc base (suffix_text other) left in
     let g : true ≡ false = sym (starts_append base (suffix_text other ++ left)) ∙ ap (starts base) (sym parts) ∙ h in cc
 
--- and there is a quote behind it
+-- and there is a quote after it
 pub address_nowhere : (base input : List ℕ) → lacks 34 input ≡ true → IsAbsent (address base) input
 unfolding address
 address_nowhere base input h other left is before e = no_cut 34 input (printed base other) left h before e

@@ -29,7 +29,7 @@ unfoldable pub archive_links : FeedName → ℕ → ℕ → List (List ℕ)
 archive_links name number prev =
     current_pieces name (Sealed number) ++ prev_pieces name prev ++ next_pieces name (Sealed number)
 
--- the pieces behind the link to the document itself
+-- the pieces after the link to the document itself
 unfoldable pub tail_pieces : FeedName → Kind → Span → ℕ → List Item → List (List ℕ)
 tail_pieces name kind span prev items =
     current_pieces name kind ++ prev_pieces name prev ++ next_pieces name kind ++ span_piece span ∷ []
@@ -112,7 +112,7 @@ pub span_prev-apart : (base : List ℕ) (span : Span) (prev : ℕ)
 unfolding span_piece prev_piece link_piece
 span_prev-apart base span prev = (omega arith, omega arith, λ e. absurd (omega arith))
 
--- the pieces behind the link to the document itself
+-- the pieces after the link to the document itself
 chain-tail : {R : Type 0} (name : FeedName) → IsFeedName name → (kind : Kind) (s t : Span) → IsSpan s → IsSpan t
     → (m n : ℕ) → m < 2 ^ 32 → n < 2 ^ 32 → IsTrue (is_placed kind s m) → IsTrue (is_placed kind t n)
     → (xs ys : List Item) → All IsItem xs → All IsItem ys → (s ≡ t → m ≡ n → xs ≡ ys → R)

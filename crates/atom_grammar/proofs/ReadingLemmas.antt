@@ -95,7 +95,7 @@ no_memory view whole input rest (Err x) same =
     let P : PartFault → Type 0 = IsPartFault whole input in
     subst P (sym same) tt
 
--- the next part is read behind what was read
+-- the next part is read after what was read
 pub both_found : {A B : Type 0} (first : Part A) (second : Part B) (input middle rest : List ℕ) (a : A) (b : B)
     → IsFound first input a middle → IsFound second middle b rest → IsFound (both first second) input (a, b) rest
 unfolding both

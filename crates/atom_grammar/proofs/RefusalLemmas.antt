@@ -19,7 +19,7 @@ pub refused_there : (bytes left : List ℕ) (at : ℕ) → IsRefused [] bytes le
 unfolding text
 refused_there bytes left at r e = pieced.refused_there documents chain bytes left at r e
 
--- a refusal behind more pieces
+-- a refusal after more pieces
 pub refused_behind : (read before : List (List ℕ)) (input middle left : List ℕ) → input ≡ joined before ++ middle
     → IsRefused (read ++ before) middle left → IsRefused read input left
 refused_behind read before input middle left e r = pieced.refused_behind documents read before input middle left e r

@@ -126,7 +126,7 @@ refused_own input rest id title author updated is_id is_title is_author is_updat
     (λ other is p after left e at. let f = sym (pieces-is other) ∙ e in let same : p ≡ own_piece (own_of other) =
     cc in none (own_of other) after (is_own other is) tt (at ∙ ap (λ z. z ++ after) same))
 
--- the archive before a document, in a document that goes on behind these pieces
+-- the archive before a document, in a document that goes on after these pieces
 pub other_prev : (other : DocValue) → IsDoc other → (number : ℕ) → other.kind ≡ Sealed number → other.prev ≡ number - 1
 other_prev other is number kind =
     placed_prev number other.span other.prev
@@ -165,7 +165,7 @@ refused_link name number updated opening front q back links input rest split non
     let same : p ≡ q = cc in
     none tt after tt tt (at ∙ ap (λ z. z ++ after) same))
 
--- some span that a document of this kind may have behind that archive
+-- some span that a document of this kind may have after that archive
 abbrev some_span : Kind → ℕ → Span
 some_span Subscription zero = record { first = 1; last = 0 }
 some_span Subscription (suc prev) = second

@@ -19,7 +19,7 @@ use Rattle.atom_grammar.specs.Parts.{IsAbsent, literal, starts}
 use Rattle.atom_writer.specs.Pieced as refused
 use Rattle.atom_grammar.specs.Refusal.{documents}
 
--- After the pieces `read`, the input is read up to `rest`, where no piece can stand. The pieces read so far begin a
+-- After the pieces `read`, the input is read up to `rest`, where no piece is allowed. The pieces read so far begin a
 -- document, and they are not a whole document that ends with the input.
 abbrev pub IsRefused : List (List ℕ) → List ℕ → List ℕ → Type 0
 IsRefused read input rest = refused.IsRefused documents read input rest
@@ -81,7 +81,7 @@ pub record ReadsSome (name : FeedName) (span : Span) (before : List ℕ) (items 
     pub lawful : AreItems span items
     pub split : before ≡ joined (map (item_piece name) items) ++ after
 
--- neither one more item nor the end of the document can stand after them
+-- neither one more item nor the end of the document is allowed after them
 pub record EndsAt (name : FeedName) (span : Span) (before after : List ℕ) : Type 0 where
   pub items : List Item
   pub read : ReadsSome name span before items after

@@ -123,7 +123,8 @@ fn split_at_last_slash(text: &[u8]) -> Option<(&[u8], &[u8])>
 /// Splits the address of a document into the base address and the kind of document.
 fn split_own(text: &[u8]) -> Option<(&[u8], Kind)>
     ensures found { IfSome result (λ x. IsKind x.1 × (text.now ≡ x.0.now ++ suffix_text (own_address x.1))) }
-    ensures only { (base : List ℕ) (kind : Kind) → IsKind kind → text.now ≡ base ++ suffix_text (own_address kind)
+    ensures only { (base : List ℕ) (kind : Kind) → IsKind kind
+        → text.now ≡ base ++ suffix_text (own_address kind)
         → IsSomeAnd result (λ x. (x.0.now ≡ base) × (x.1 ≡ kind)) }
 {
     if let Some(base) = text.strip_suffix(b"feed") {

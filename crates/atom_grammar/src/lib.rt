@@ -1,7 +1,7 @@
 //! Reads feed documents strictly (RFC 4287, RFC 5005 section 4).
 //!
-//! Begin with [`read_doc`]: it returns the document whose canonical text the bytes are, or the offset of the first piece
-//! that can't stand there.
+//! Begin with [`read_doc`]: it returns the document whose canonical text the bytes are, or the offset of the first
+//! piece that isn't allowed there.
 //!
 //! ```
 //! match read_doc(alloc, bytes) {

@@ -29,7 +29,7 @@ pub const MAX_DOCUMENT: usize = 67_108_864;
 /// Why bytes are not read as a document.
 #[derive(Clone, Copy, Debug, PartialEq, Eq)]
 pub enum ReadFault {
-    /// The bytes are the text of no document. The first piece that can't stand there begins at offset `at`.
+    /// The bytes are the text of no document. The first piece that isn't allowed there begins at offset `at`.
     NotADocument { at: usize },
     /// Out of memory.
     NoMemory,
@@ -51,8 +51,8 @@ impl Error for ReadFault {}
 /// Reads the canonical text of a document.
 ///
 /// `NotADocument` exactly if the bytes are the text of no document. Its `at` is the total length of the longest list of
-/// whole pieces that the bytes begin with and that begins the list of pieces of some document. `NoMemory` if there is no
-/// memory for the document.
+/// whole pieces that the bytes begin with and that begins the list of pieces of some document. `NoMemory` if there is
+/// no memory for the document.
 ///
 /// The bytes are read once.
 pub fn read_doc(alloc: Global, bytes: &[u8]) -> Result<Doc, ReadFault>

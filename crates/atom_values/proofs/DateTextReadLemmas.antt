@@ -162,7 +162,8 @@ pub record IsSigned (text : List ℕ) (sign : ℕ) : Type 0 where
   hours_in : hours ≤ 23
   minutes_in : minutes ≤ 59
 
-join_signed : (text t₁ t₂ t₃ t₄ : List ℕ) (sign hours minutes : ℕ) → text ≡ sign ∷ t₁ → t₁ ≡ fixed_digits 2 hours ++ t₂ →
+join_signed : (text t₁ t₂ t₃ t₄ : List ℕ) (sign hours minutes : ℕ) → text ≡ sign ∷ t₁ →
+    t₁ ≡ fixed_digits 2 hours ++ t₂ →
     t₂ ≡ 58 ∷ t₃ → t₃ ≡ fixed_digits 2 minutes ++ t₄ → t₄ ≡ [] →
     text ≡ sign ∷ (fixed_digits 2 hours ++ 58 ∷ [] ++ fixed_digits 2 minutes)
 join_signed text t₁ t₂ t₃ t₄ sign hours minutes e₁ e₂ e₃ e₄ e₅ = rw (e₁, e₂, e₃, e₄, e₅) refl

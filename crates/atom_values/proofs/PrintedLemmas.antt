@@ -247,7 +247,8 @@ printed-states z h =
     let date = day_of_date day (omega arith) in
     let within : millis < 86_400_000 = omega arith in
     let fraction = fraction_of (millis % 1_000) (omega arith) in
-    let whole : z +ℤ pos millis_before_1970 ≡ pos (86_400_000 * day + millis) = omega (arith, signed_arith, since.0) in (
+    let whole : z +ℤ pos millis_before_1970 ≡ pos (86_400_000 * day + millis) = omega
+    (arith, signed_arith, since.0) in (
       parts_of day millis fraction.digits,
       parts_are day millis date within fraction,
       text_is z n refl fraction,

@@ -59,7 +59,8 @@ pub(crate) fn copy_four<A: Copies + Drop, B: Copies + Drop, C: Copies + Drop, D:
     ensures same { IfOk result (λ all. (A.copied all.0 ≡ A.copied first.now)
         × (B.copied all.1 ≡ B.copied second.now) × (C.copied all.2 ≡ C.copied third.now)
         × (D.copied all.3 ≡ D.copied fourth.now)) }
-    ensures rules { OnOk result (A.rules first.now × B.rules second.now × C.rules third.now × D.rules fourth.now) }
+    ensures rules { OnOk result (A.rules first.now × B.rules second.now × C.rules third.now
+        × D.rules fourth.now) }
 {
     let (first, second) = copy_both(first, second, alloc)?;
     let (third, fourth) = copy_both(third, fourth, alloc)?;

@@ -269,7 +269,8 @@ item_piece-short : (name : FeedName) (item : Item) → length name.base ≤ 200 
 item_piece-short name (Kept e) short is = entry_piece-short name e short is
 item_piece-short name (Gone t) short is = omega (arith, tombstone_piece-short name t)
 
-items-short : (name : FeedName) (most : ℕ) (items : List Item) → All (λ item. length (item_piece name item) ≤ most) items
+items-short : (name : FeedName) (most : ℕ) (items : List Item) → All
+    (λ item. length (item_piece name item) ≤ most) items
     → length (joined (map (item_piece name) items)) ≤ most * length items
 unfolding joined
 items-short name most [] are = omega arith

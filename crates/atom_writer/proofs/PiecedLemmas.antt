@@ -74,7 +74,8 @@ compare (p ∷ r) later (q ∷ o) left x y free back e =
     (append_cancel_left p (joined r ++ x) (joined o ++ y) (f ∙ ap (λ z. z ++ (joined o ++ y)) (sym same))))
 
 compare_values : {A : Type 0} (v : Pieced A) → AreCompared v → (a b : A) → v.Is a → v.Is b
-    → (r later o left : List (List ℕ)) → v.pieces a ≡ r ++ later → v.pieces b ≡ o ++ left → (x y : List ℕ) → joined r ++ x ≡ joined o ++ y → GoesOn o r y x ⊎ GoesOn r o x y
+    → (r later o left : List (List ℕ)) → v.pieces a ≡ r ++ later → v.pieces b ≡ o ++ left → (x y : List ℕ) →
+    joined r ++ x ≡ joined o ++ y → GoesOn o r y x ⊎ GoesOn r o x y
 compare_values v compared a b is_a is_b r later o left pieces_a pieces_b x y e =
     let free : IsFree (r ++ later) (o ++ left) =
     subst (λ z. IsFree z (o ++ left)) pieces_a
@@ -84,7 +85,7 @@ compare_values v compared a b is_a is_b r later o left pieces_a pieces_b x y e =
     (subst (λ z. IsFree (v.pieces b) z) pieces_a (compared b a is_b is_a).free) in
     compare r later o left x y free back e
 
--- a text whose pieces go on behind those of a document is that document's
+-- a text whose pieces go on after those of a document is that document's
 same_pieces : {A : Type 0} (v : Pieced A) → AreCompared v → (a b : A) → v.Is a → v.Is b
     → (r later more : List (List ℕ)) → v.pieces a ≡ r ++ later → r ≡ v.pieces b ++ more → (more ≡ []) × (later ≡ [])
 same_pieces v compared a b is_a is_b r later [] pieces_a long =
@@ -102,9 +103,11 @@ pub one_reading : {A : Type 0} (v : Pieced A) → AreCompared v → HasOneReadin
 one_reading v compared a b is_a is_b e =
     let same : joined (v.pieces a) ++ [] ≡ joined (v.pieces b) ++ [] = ap (λ z. z ++ []) e in
     ⊎_elim
-    (λ g. let none = same_pieces v compared a b is_a is_b (v.pieces a) [] g.more (sym (append-nil (v.pieces a))) g.pieces in
+    (λ g. let none = same_pieces v compared a b is_a is_b (v.pieces a) [] g.more
+    (sym (append-nil (v.pieces a))) g.pieces in
     (compared a b is_a is_b).value (g.pieces ∙ ap (λ z. v.pieces b ++ z) none.0 ∙ append-nil (v.pieces b)))
-    (λ g. let none = same_pieces v compared b a is_b is_a (v.pieces b) [] g.more (sym (append-nil (v.pieces b))) g.pieces in
+    (λ g. let none = same_pieces v compared b a is_b is_a (v.pieces b) [] g.more
+    (sym (append-nil (v.pieces b))) g.pieces in
     (compared a b is_a is_b).value (sym (g.pieces ∙ ap (λ z. v.pieces a ++ z) none.0 ∙ append-nil (v.pieces a))))
     (compare_values v compared a b is_a is_b (v.pieces a) [] (v.pieces b) [] (sym (append-nil (v.pieces a)))
     (sym (append-nil (v.pieces b))) [] [] same)
@@ -187,8 +190,9 @@ refused_there v compared bytes left at r e =
       },
     )
 
--- a refusal behind more pieces
-pub refused_behind : {A : Type 0} (v : Pieced A) (read before : List (List ℕ)) (input middle left : List ℕ) → input ≡ joined before ++ middle
+-- a refusal after more pieces
+pub refused_behind : {A : Type 0} (v : Pieced A) (read before : List (List ℕ)) (input middle left : List ℕ) →
+    input ≡ joined before ++ middle
     → IsRefused v (read ++ before) middle left → IsRefused v read input left
 refused_behind v read before input middle left e r =
     let regrouped : (read ++ before) ++ r.more ≡ read ++ (before ++ r.more) = append_assoc read before r.more in

@@ -48,7 +48,7 @@ abbrev pub IsPrefixFree : {A : Type 0} → Pieced A → Type 0
 IsPrefixFree pieced = (read : List (List ℕ)) (one other rest : List ℕ) → BeginsAValue pieced (read ++ one ∷ [])
     → BeginsAValue pieced (read ++ other ∷ []) → other ≡ one ++ rest → other ≡ one
 
--- After the pieces `read`, the input is read up to `rest`, where no piece can stand. The pieces read so far begin a
+-- After the pieces `read`, the input is read up to `rest`, where no piece is allowed. The pieces read so far begin a
 -- value's, and they are not a whole value's that end with the input.
 pub record IsRefused {A : Type 0} (pieced : Pieced A) (read : List (List ℕ)) (input rest : List ℕ) : Type 0 where
   pub more : List (List ℕ)

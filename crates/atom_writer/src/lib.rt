@@ -10,8 +10,8 @@
 //! ```
 //!
 //! A [`Doc`] keeps the rules of the chain. Its text is the canonical text that `specs/Pieces.antt` defines, byte for
-//! byte. [`doc_len`] and [`entry_len`] return the length of a text and take no memory. [`Out`] lets a crate above write its
-//! texts in the same way: one function counts the bytes and writes them.
+//! byte. [`doc_len`] and [`entry_len`] return the length of a text and take no memory. [`Out`] lets a crate above write
+//! its texts in the same way: one function counts the bytes and writes them.
 //!
 //! Stands on `atom_values`, `chain_links` and `deleted_entries`. Prints numbers with `itoa`.
 #![tactic(auto)]

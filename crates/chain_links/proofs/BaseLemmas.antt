@@ -1,4 +1,4 @@
--- A base address is its scheme, its host, its port and its path, one behind another.
+-- A base address is its scheme, its host, its port and its path, one after another.
 use Rattle.std.proofs.Common.{◌≡◌, ℕ, ◌≤◌, List, ◌++◌, length, Option, Some, None, codes, refl, sym, ap, ◌∙◌}
 use Rattle.chain_links.specs.Base.{IsBase, base_text, host_text, port_text, path_text}
 use Rattle.chain_links.specs.Front.{BeginsWith, is_host_end, HasHost, HasPort, IsPath}

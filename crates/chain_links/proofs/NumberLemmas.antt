@@ -155,7 +155,8 @@ number_ends text i n walk lt other =
     at_drop_more (number_after n) text i 0 lt ∙ cond-false (is_ascii_digit (get_or text i 0)) _ _ other in
     sym walk ∙ more ∙ ap (λ (x : List ℕ). Some (n, x)) (sym (drop_more text i 0 lt))
 
-pub number_too_large : (text : List ℕ) (i n : ℕ) → number_after n (drop i text) ≡ number_after 0 text → i < length text →
+pub number_too_large : (text : List ℕ) (i n : ℕ) → number_after n (drop i text) ≡ number_after 0 text →
+    i < length text →
     is_ascii_digit (get_or text i 0) ≡ true → 4_294_967_295 < n * 10 + (get_or text i 0 - 48) →
     number_after 0 text ≡ None
 number_too_large text i n walk lt digit big =

@@ -84,7 +84,7 @@ pub path_found : (text : List ℕ) → is_behind true text ≡ true → (segment
     × (segments_text segments ≡ text)
 path_found text e = let t = (both text).1 e in (t.segments, t.words, t.spelt)
 
--- over the characters of a segment and the `/` behind it
+-- over the characters of a segment and the `/` after it
 over_segment : (fresh : Bool) (first rest : List ℕ) → (fresh ≡ true → first ≢ []) →
     All (λ c. IsTrue (is_segment_char c)) first → is_behind fresh (first ++ 47 ∷ rest) ≡ is_behind true rest
 over_segment true [] rest begun chars = absurd (begun refl refl)

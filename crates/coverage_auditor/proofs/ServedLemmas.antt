@@ -109,7 +109,8 @@ module _ (head : HeadValue) (history : List Op) where
       let is = archive-of head history older newer.prev kind is_older.of_feed in
       let prev = prev-of older.kind older.span older.prev newer.prev is_older.is_doc.rules.placed kind in
       let one : newer.prev ≡ suc (newer.prev - 1) = omega (arith, is.of_sealed.0) in
-      let rest = older-archives older more is_older (All-tail IsOf older more are) (chain-tail newer older more chain) in
+      let rest = older-archives older more is_older (All-tail IsOf older more are)
+      (chain-tail newer older more chain) in
       let first : older ≡ archive head history (suc (newer.prev - 1)) = is.same ∙ ap (archive head history) one in
       ap₂ (λ (d : DocValue) (ds : List DocValue). d ∷ ds) first
       (rest ∙ ap (down_from (archive head history)) prev)

@@ -124,7 +124,8 @@ pub bad_head : (text : List ℕ) → ((rest : List ℕ) → text ≢ head_line +
 bad_head text none =
     first_bad text [] text (front_nil text) (inl refl)
     (λ c is line more e after split.
-    let first : head_line ∷ feed_line c.feed c.base ∷ version_line c.version ∷ _ ≡ line ∷ more = sym (lines-are c) ∙ e in
+    let first : head_line ∷ feed_line c.feed c.base ∷ version_line c.version ∷ _ ≡ line ∷ more = sym
+    (lines-are c) ∙ e in
     let same : line ≡ head_line = cc in
     none after (split ∙ ap (λ (l : List ℕ). l ++ 10 ∷ after) same))
     (few_lines [] text (omega arith))
@@ -277,7 +278,8 @@ no_later_line base [] read count digest line more rest after are digests live pl
     absurd are
 no_later_line base (c ∷ covers) [] count digest line more rest after are digests live placed e none none_live split =
     absurd placed
-no_later_line base (c ∷ covers) (r ∷ read) count digest line more rest after are digests live placed e none none_live split =
+no_later_line base (c ∷ covers) (r ∷ read) count digest line more rest after are digests live placed e none
+    none_live split =
     let Q : CoverValue → Type 0 = λ line. IsDigest line.digest in
     let tails : map (document_line base) covers ++ live_line count digest ∷ end_line ∷ []
     ≡ map (document_line base) read ++ line ∷ more = cc in

@@ -124,7 +124,8 @@ tails_same base (x ∷ xs) (y ∷ ys) count digest count' digest' p q e =
     let tails : map (document_line base) xs ++ live_line count digest ∷ end_line ∷ []
     ≡ map (document_line base) ys ++ live_line count' digest' ∷ end_line ∷ [] = cc in
     let same = document_same base x y (All-head IsCover x xs p) (All-head IsCover y ys q) heads in
-    let r = tails_same base xs ys count digest count' digest' (All-tail IsCover x xs p) (All-tail IsCover y ys q) tails in
+    let r = tails_same base xs ys count digest count' digest' (All-tail IsCover x xs p)
+    (All-tail IsCover y ys q) tails in
     (ap (λ (c : CoverValue). c ∷ xs) same ∙ ap (λ (cs : List CoverValue). y ∷ cs) r.0, r.1)
 
 lines_same : (one other : CertificateValue) → IsCertificate one → IsCertificate other
@@ -176,7 +177,8 @@ pub one_text : CertificatesHaveOneText
 one_text one other p q e =
     let same = lines_same one other p q e in
     let first : opening_lines one.feed one.base one.version ++ tail_of one
-    ≡ opening_lines other.feed other.base other.version ++ tail_of other = sym (lines-are one) ∙ same ∙ lines-are other in
+    ≡ opening_lines other.feed other.base other.version ++ tail_of other = sym (lines-are one) ∙ same ∙
+    lines-are other in
     let named = feed_line_parts one.feed one.base other.feed other.base (cc) in
     let versions : version_line one.version ≡ version_line other.version = cc in
     let t = behind_opening one other.feed other.base other.version (tail_of other) (same ∙ lines-are other) in

@@ -148,7 +148,8 @@ module _ (base : List ℕ) (payloads : List (List ℕ)) (kept : List KeptValue) 
       let name = first-name head past best.document (archives_from kept best.document.prev)
       (sym (chain_of-best kept best e) ∙ shows.whole_chain) in
       ap (option_map (certificate_by base kept)) e
-      ∙ ap (λ (c : CertificateValue). Some c) (fields_same (certificate_by base kept best) (served_certificate head past)
+      ∙ ap (λ (c : CertificateValue). Some c) (fields_same (certificate_by base kept best)
+      (served_certificate head past)
       record {
         feed = ap (λ (n : FeedName). n.id) name;
         base = same;

@@ -45,8 +45,8 @@ impl Certificate {
     /// Errors:
     ///
     /// - `BadCertificate` exactly if the text isn't that of a certificate. `line` is the first line that is
-    ///   refused, counted from 1. A text that lacks lines, or the LF of its last line, is refused at the line that isn't
-    ///   whole. Bytes after the last line are one line more.
+    ///   refused, counted from 1. A text that lacks lines, or the LF of its last line, is refused at the line that
+    ///   isn't whole. Bytes after the last line are one line more.
     /// - `NoMemory`.
     pub fn read(alloc: Global, text: &[u8]) -> Result<Certificate, CertificateFault>
         requires { length text.now ≤ certificate_limit }

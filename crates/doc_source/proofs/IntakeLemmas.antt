@@ -46,7 +46,7 @@ pub takes_if : (T U : Type 0) (s t : IntakeState) (a b : SourceState) → (U →
 takes_if T U s t a b f m =
     record { read = m.read; ahead = m.ahead; taken = m.taken; limit = m.limit; from = λ told. m.from (f told) }
 
--- bytes taken behind a front of the bytes ahead
+-- bytes taken after a front of the bytes ahead
 pub takes_behind : (T : Type 0) (front : List ℕ) (s t : IntakeState) (a b : SourceState) → TakesMore T s t a b →
     TakesMore T (record s { ahead = front ++ s.ahead }) (record t { ahead = front ++ t.ahead }) a b
 takes_behind T front s t a b m = record {
@@ -68,7 +68,7 @@ takes_as T s t u a b m ahead taken limit = record {
   from = m.from;
 }
 
--- a piece that was read behind the bytes ahead, when these were moved to the front of the buffer
+-- a piece that was read after the bytes ahead, when these were moved to the front of the buffer
 pub takes_piece : (T : Type 0) (items buffer : List ℕ) (start end kept count taken limit : ℕ) (a b : SourceState) →
     kept ≡ end - start → take kept buffer ≡ take (end - start) (drop start items) → kept + count ≤ length buffer →
     (T → a.left ≡ take count (drop kept buffer) ++ b.left) →

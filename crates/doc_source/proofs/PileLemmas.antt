@@ -98,7 +98,7 @@ bad_at_end used limit ahead left at ends h none other place =
       place = place;
     }
 
--- bytes that go on behind the limit within an offer are too long
+-- bytes that go on after the limit within an offer are too long
 pub too_long_at : (used limit : ℕ) (ahead left : List ℕ) → length ahead ≡ limit - used → 0 < length left →
     HasNoOffer used ahead → GoesOn used ahead → IsTooLong used limit (ahead ++ left)
 too_long_at used limit ahead left h some none goes_on =
@@ -133,7 +133,7 @@ no_offer_in_line used part p offer b =
     let h = no_longer lf part [] line behind p (append-nil part ∙ e) in
     absurd (omega (arith, h, ap length e, length-append line (lf ∷ behind)))
 
--- the bytes behind the first line of the pile go on with an offer
+-- the bytes after the first line of the pile go on with an offer
 fits_behind : (used : ℕ) (part : List ℕ) (f : Fits used (head_at used ++ part)) →
     part ++ f.more ≡ line_of f.offer.address (length f.offer.bytes) ++ (lf ∷ (f.offer.bytes ++ (lf ∷ f.rest)))
 fits_behind used part f =

@@ -72,7 +72,7 @@ end_before T used s t a b told m is =
     subst (λ (x : List ℕ). IsEnd used s.limit x) (sym (takes_same T s t a b told m))
     (subst (λ (n : ℕ). IsEnd used n (t.ahead ++ b.left)) m.limit is)
 
--- the line that was found, and what is behind it
+-- the line that was found, and what is after it
 pub line_parts : (head end : ℕ) (ahead : List ℕ) → IsLineEnd ahead head end →
     drop head ahead ≡ take (end - head) (drop head ahead) ++ (lf ∷ drop (end + 1) ahead)
 line_parts head end ahead e =

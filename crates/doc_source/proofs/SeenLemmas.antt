@@ -98,7 +98,7 @@ has_head_more used ahead more h = record {
   whole = ap (λ (x : List ℕ). x ++ more) h.whole ∙ append_assoc (head_at used) h.rest more;
 }
 
--- the bytes behind the first line of the pile
+-- the bytes after the first line of the pile
 pub head_split : (used head : ℕ) (ahead : List ℕ) → head ≡ length (head_at used) → HasHead used ahead →
     ahead ≡ head_at used ++ drop head ahead
 head_split used head ahead len h =

@@ -5,7 +5,7 @@ use Rattle.atom_values.specs.Ascii.{lf}
 use Rattle.doc_source.specs.Outside.{SinkState, TakesPrefix}
 use Rattle.doc_source.specs.Pile.{count_text, offer_text}
 
--- behind the front of a text a prefix of the next part was taken
+-- after the front of a text a prefix of the next part was taken
 pub takes_more : (before mid after : SinkState) (front more rest text : List ℕ) → text ≡ front ++ (more ++ rest) →
     mid.taken ≡ before.taken ++ front → TakesPrefix mid after more → TakesPrefix before after text
 takes_more before mid after front more rest text split taken prefix = record {
@@ -17,7 +17,7 @@ takes_more before mid after front more rest text split taken prefix = record {
   taken = prefix.taken ∙ ap (λ (x : List ℕ). x ++ prefix.sent) taken ∙ append_assoc before.taken front prefix.sent;
 }
 
--- behind the front of a text the next part was taken
+-- after the front of a text the next part was taken
 pub took_more : (before mid after : SinkState) (front more : List ℕ) → mid.taken ≡ before.taken ++ front →
     after.taken ≡ mid.taken ++ more → after.taken ≡ before.taken ++ (front ++ more)
 took_more before mid after front more taken next =
@@ -30,7 +30,7 @@ pub took_made : (before mid after : SinkState) (front made more : List ℕ) → 
 took_made before mid after front made more is taken next =
     took_more before mid after front more taken (next ∙ ap (λ (x : List ℕ). mid.taken ++ x) is)
 
--- the parts of an offer, split behind the address and before the last LF
+-- the parts of an offer, split after the address and before the last LF
 pub behind_address : (address bytes : List ℕ) → offer_text (record { address = address; bytes = bytes })
     ≡ address ++ (count_text (length bytes) ++ (bytes ++ lf ∷ []))
 behind_address address bytes = append_assoc address (count_text (length bytes)) (bytes ++ lf ∷ [])

@@ -10,7 +10,7 @@ first_of byte bytes = position_or_len (λ b. b == byte) bytes
 abbrev pub scheme : List ℕ
 scheme = codes "http://"
 
--- the address behind its scheme
+-- the address after its scheme
 abbrev pub behind_scheme : List ℕ → List ℕ
 behind_scheme address = drop (length scheme) address
 

@@ -12,7 +12,7 @@ pub record IntakeState : Type 0 where
   pub taken : ℕ
   pub limit : ℕ
 
--- bytes were taken from the source and stand behind those ahead; `told` is whether the source's content is known
+-- bytes were taken from the source and stand after those ahead; `told` is whether the source's content is known
 pub record TakesMore (told : Type 0) (before after : IntakeState) (source rest : SourceState) : Type 0 where
   pub read : List ℕ
   pub ahead : after.ahead ≡ before.ahead ++ read

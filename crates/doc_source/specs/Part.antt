@@ -29,7 +29,7 @@ use Rattle.doc_source.specs.declared.fault.PileFault.{PileFault}
 use Rattle.doc_source.specs.declared.fault.PileFault.TheVariants.{BadPile, TooLong, SourceFault, NoMemory}
 use Rattle.doc_source.specs.declared.part.Part.{Part}
 
--- a part keeps the rules of its offer: at most the offer's bytes and one more were taken behind its line
+-- a part keeps the rules of its offer: at most the offer's bytes and one more were taken after its line
 pub record IsPart (part : Part) : Type 0 where
   pub is_address : IsAddress part.address
   pub short : part.count ≤ offer_limit

@@ -49,7 +49,7 @@ pile_text offers = pile_head ++ flat_map offer_text offers
 abbrev pub head_at : ℕ → List ℕ
 head_at used = if used == 0 then pile_head else []
 
--- the bytes are a prefix of what some pile has behind its first `used` bytes, which are whole offers
+-- the bytes are a prefix of what some pile has after its first `used` bytes, which are whole offers
 pub record GoesOn (used : ℕ) (bytes : List ℕ) : Type 0 where
   pub offers : List Offer
   pub more : List ℕ
@@ -86,7 +86,7 @@ pub record IsEnd (used limit : ℕ) (bytes : List ℕ) : Type 0 where
   pub whole : bytes ≡ head_at used
   pub short : length bytes ≤ limit - used
 
--- no offer is whole within the limit, the bytes go on behind it, and a pile can begin with those within it
+-- no offer is whole within the limit, the bytes go on after it, and a pile can begin with those within it
 pub record IsTooLong (used limit : ℕ) (bytes : List ℕ) : Type 0 where
   pub no_offer : HasNoOffer used (within used limit bytes)
   pub more : limit - used < length bytes

@@ -25,7 +25,7 @@ pub(crate) enum Filled {
 }
 
 /// The bytes that were taken from a source and aren't used yet. It takes at most `limit` bytes in all, and then one
-/// byte more to learn whether the source goes on behind them.
+/// byte more to learn whether the source goes on after them.
 #[derive(Debug, Drop)]
 pub(crate) struct Intake {
     buffer: Vec<u8>,
@@ -166,7 +166,7 @@ fn move_to_front(buffer: &mut [u8], start: usize, end: usize) -> usize
     end - start
 }
 
-/// Reads at most `room` bytes behind the first `filled` bytes of the buffer, and returns how many were read.
+/// Reads at most `room` bytes after the first `filled` bytes of the buffer, and returns how many were read.
 fn read_behind<S: Source>(
     source: &mut S,
     buffer: &mut [u8],

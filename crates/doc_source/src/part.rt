@@ -213,7 +213,7 @@ fn first_lf(bytes: &[u8]) -> Option<usize>
 }
 
 impl Part {
-    /// Reads the rest of the offer: its bytes, and the LF behind them. `used` is the offset in the pile at which the
+    /// Reads the rest of the offer: its bytes, and the LF after them. `used` is the offset in the pile at which the
     /// offers before this one end.
     pub(crate) fn read_on<S: Source>(
         &mut self,
@@ -290,7 +290,7 @@ impl Part {
     }
 }
 
-/// The refusal of the next offer, whose line begins behind the first line of the pile if nothing of the pile was used.
+/// The refusal of the next offer, whose line begins after the first line of the pile if nothing of the pile was used.
 fn bad_offer(used: u64) -> PileFault
     ensures { result ≡ PileFault.BadPile (used + length (head_at used)) }
 {

@@ -15,7 +15,7 @@ const SCHEME: &[u8] = b"http://";
 pub(crate) struct Target<'a> {
     /// The host, and its port if the address has one.
     pub(crate) authority: &'a [u8],
-    /// The address from the first `/` behind the host up to its end or to a `#`.
+    /// The address from the first `/` after the host up to its end or to a `#`.
     pub(crate) path: &'a [u8],
 }
 
@@ -58,7 +58,7 @@ fn is_visible(address: &[u8]) -> bool
     address.iter().all(|byte| byte.is_ascii_graphic())
 }
 
-/// The address behind its scheme. `None` if it has another scheme.
+/// The address after its scheme. `None` if it has another scheme.
 fn behind_scheme(address: &[u8]) -> Option<&[u8]>
     ensures { MatchOption result (bytes_eq (take 7 address.now) (codes "http://") ≡ false)
         (λ behind. (bytes_eq (take 7 address.now) (codes "http://") ≡ true)

@@ -44,8 +44,8 @@ AreInOrder version calls (line ∷ lines) = Follows version calls line × AreInO
 -- Crashes
 
 -- A crash at moment c, where `start` is the moment from which device calls are counted. The areas open to the first
--- operations of the history. All that a reply acknowledged are among them if the reply was begun before the moment. None
--- that a later connection added is among them.
+-- operations of the history. All that a reply acknowledged are among them if the reply was begun before the moment.
+-- None that a later connection added is among them.
 pub record OpensAt (start c : ℕ) (head : HeadValue) (history : List Op) (least : ℕ) (lines unbroken : List Line)
     (journal sealed : List ℕ) : Type 0 where
   pub past : OpensPast head history least journal sealed

@@ -61,7 +61,8 @@ pub(crate) fn create<D: Disk>(
     ensures answered { D.told → ComesTo
         (IsSent store.old request.now (λ draft. Create draft) now) store.old store.new result }
     ensures own { IfOk result IsOwn }
-    ensures steps { Steps D.told (D.state disk.old) (D.state disk.new) store.old store.new (result ≡ Err Stop.Disk) }
+    ensures steps { Steps D.told (D.state disk.old) (D.state disk.new) store.old store.new
+        (result ≡ Err Stop.Disk) }
     ensures leaves { ReadsOrCommits D.told
         (IsSent store.old request.now (λ draft. Create draft) now)
         (D.state disk.old) (D.state disk.new) store.old store.new (result ≡ Err Stop.Disk) }
@@ -89,7 +90,8 @@ pub(crate) fn replace<D: Disk>(
         (IsOfState (state_of store.old.history number)
         (IsSent store.old request.now (λ draft. Replace number draft) now)) store.old store.new result }
     ensures own { IfOk result IsOwn }
-    ensures steps { Steps D.told (D.state disk.old) (D.state disk.new) store.old store.new (result ≡ Err Stop.Disk) }
+    ensures steps { Steps D.told (D.state disk.old) (D.state disk.new) store.old store.new
+        (result ≡ Err Stop.Disk) }
     ensures leaves { ReadsOrCommits D.told
         (IsOfState (state_of store.old.history number)
         (IsSent store.old request.now (λ draft. Replace number draft) now))
@@ -120,7 +122,8 @@ pub(crate) fn delete<D: Disk>(
         (IsOfState (state_of store.old.history number) (IsAsked store.old (Delete number) now))
         store.old store.new result }
     ensures own { IfOk result IsOwn }
-    ensures steps { Steps D.told (D.state disk.old) (D.state disk.new) store.old store.new (result ≡ Err Stop.Disk) }
+    ensures steps { Steps D.told (D.state disk.old) (D.state disk.new) store.old store.new
+        (result ≡ Err Stop.Disk) }
     ensures leaves { ReadsOrCommits D.told
         (IsOfState (state_of store.old.history number) (IsAsked store.old (Delete number) now))
         (D.state disk.old) (D.state disk.new) store.old store.new (result ≡ Err Stop.Disk) }
@@ -145,7 +148,8 @@ fn change<D: Disk>(
     requires stands { D.told → StandsFor (D.state disk.old) store.old }
     ensures answered { D.told → ComesTo (IsAsked store.old ask now) store.old store.new result }
     ensures own { IfOk result IsOwn }
-    ensures steps { Steps D.told (D.state disk.old) (D.state disk.new) store.old store.new (result ≡ Err Stop.Disk) }
+    ensures steps { Steps D.told (D.state disk.old) (D.state disk.new) store.old store.new
+        (result ≡ Err Stop.Disk) }
     ensures leaves { ReadsOrCommits D.told (IsAsked store.old ask now)
         (D.state disk.old) (D.state disk.new) store.old store.new (result ≡ Err Stop.Disk) }
     ensures grows { Acknowledges result → Grows (D.state disk.old) (D.state disk.new) store.old store.new }
@@ -171,7 +175,8 @@ fn commit<D: Disk>(
     ensures answered { D.told → ComesTo (λ given. given ≡ done store.old.head.name ready.operation)
         store.old store.new result }
     ensures own { IfOk result IsOwn }
-    ensures steps { Steps D.told (D.state disk.old) (D.state disk.new) store.old store.new (result ≡ Err Stop.Disk) }
+    ensures steps { Steps D.told (D.state disk.old) (D.state disk.new) store.old store.new
+        (result ≡ Err Stop.Disk) }
     ensures leaves { ReadsOrCommits D.told (λ given. given ≡ done store.old.head.name ready.operation)
         (D.state disk.old) (D.state disk.new) store.old store.new (result ≡ Err Stop.Disk) }
     ensures grows { Acknowledges result → Grows (D.state disk.old) (D.state disk.new) store.old store.new }

@@ -31,8 +31,8 @@ use std::alloc::Global;
 ///   see.
 /// - 503 `no memory`: memory ran out before a commit, and the store is as it was.
 ///
-/// Cost: a GET of the feed makes no device call, and one of an archive or a member makes one. A change makes four, and
-/// four more where it seals an archive.
+/// Cost: a GET of the feed makes no device call, and one of an archive or a member makes one. A change makes four, or
+/// eight where a seal is due and missing.
 pub fn answer<D: Disk>(
     alloc: Global,
     store: &mut Store,
@@ -95,12 +95,14 @@ fn reply_of<D: Disk>(
     requires stands { D.told → StandsFor (D.state disk.old) store.old }
     ensures answered { D.told → ComesTo (IsOutcome store.old request.now now) store.old store.new result }
     ensures own { IfOk result IsOwn }
-    ensures steps { Steps D.told (D.state disk.old) (D.state disk.new) store.old store.new (result ≡ Err Stop.Disk) }
+    ensures steps { Steps D.told (D.state disk.old) (D.state disk.new) store.old store.new
+        (result ≡ Err Stop.Disk) }
     ensures leaves { ReadsOrCommits D.told (IsOutcome store.old request.now now) (D.state disk.old) (D.state disk.new)
         store.old store.new (result ≡ Err Stop.Disk) }
     ensures grows { request.now.verb ≢ Get → Acknowledges result
         → Grows (D.state disk.old) (D.state disk.new) store.old store.new }
-    ensures same { (request.now.verb ≡ Get) ⊎ (¬ Acknowledges result) → store.new.history ≡ store.old.history }
+    ensures same { (request.now.verb ≡ Get) ⊎ (¬ Acknowledges result)
+        → store.new.history ≡ store.old.history }
 {
     if let Verb::Other = request.verb {
         return Ok(line(501, Line7::NotImplemented));
@@ -128,12 +130,14 @@ fn of_feed<D: Disk>(
     ensures answered { D.told → ComesTo (IsOfFeed store.old request.now now request.now.verb)
         store.old store.new result }
     ensures own { IfOk result IsOwn }
-    ensures steps { Steps D.told (D.state disk.old) (D.state disk.new) store.old store.new (result ≡ Err Stop.Disk) }
+    ensures steps { Steps D.told (D.state disk.old) (D.state disk.new) store.old store.new
+        (result ≡ Err Stop.Disk) }
     ensures leaves { ReadsOrCommits D.told (IsOfFeed store.old request.now now request.now.verb)
         (D.state disk.old) (D.state disk.new) store.old store.new (result ≡ Err Stop.Disk) }
     ensures grows { request.now.verb ≢ Get → Acknowledges result
         → Grows (D.state disk.old) (D.state disk.new) store.old store.new }
-    ensures same { (request.now.verb ≡ Get) ⊎ (¬ Acknowledges result) → store.new.history ≡ store.old.history }
+    ensures same { (request.now.verb ≡ Get) ⊎ (¬ Acknowledges result)
+        → store.new.history ≡ store.old.history }
 {
     match request.verb {
         Verb::Get => show_feed(store),
@@ -153,7 +157,8 @@ fn of_archive<D: Disk>(
     requires stands { D.told → StandsFor (D.state disk.old) store.old }
     ensures answered { D.told → ComesTo (IsOfArchive store.old number verb) store.old store.new result }
     ensures own { IfOk result IsOwn }
-    ensures steps { Steps D.told (D.state disk.old) (D.state disk.new) store.old store.new (result ≡ Err Stop.Disk) }
+    ensures steps { Steps D.told (D.state disk.old) (D.state disk.new) store.old store.new
+        (result ≡ Err Stop.Disk) }
     ensures reads { OnlyReads (D.state disk.old) (D.state disk.new) store.old store.new }
     ensures undone { verb ≢ Get → ¬ Acknowledges result }
 {
@@ -177,12 +182,14 @@ fn of_member<D: Disk>(
     ensures answered { D.told → ComesTo (IsOfMember store.old request.now now number request.now.verb)
         store.old store.new result }
     ensures own { IfOk result IsOwn }
-    ensures steps { Steps D.told (D.state disk.old) (D.state disk.new) store.old store.new (result ≡ Err Stop.Disk) }
+    ensures steps { Steps D.told (D.state disk.old) (D.state disk.new) store.old store.new
+        (result ≡ Err Stop.Disk) }
     ensures leaves { ReadsOrCommits D.told (IsOfMember store.old request.now now number request.now.verb)
         (D.state disk.old) (D.state disk.new) store.old store.new (result ≡ Err Stop.Disk) }
     ensures grows { request.now.verb ≢ Get → Acknowledges result
         → Grows (D.state disk.old) (D.state disk.new) store.old store.new }
-    ensures same { (request.now.verb ≡ Get) ⊎ (¬ Acknowledges result) → store.new.history ≡ store.old.history }
+    ensures same { (request.now.verb ≡ Get) ⊎ (¬ Acknowledges result)
+        → store.new.history ≡ store.old.history }
 {
     match request.verb {
         Verb::Get => show_member(store, disk, number),

@@ -32,7 +32,8 @@ pub(crate) fn show_archive<D: Disk>(
     requires stands { D.told → StandsFor (D.state disk.old) store.old }
     ensures answered { D.told → ComesTo (IsOfArchive store.old number Get) store.old store.new result }
     ensures own { IfOk result IsOwn }
-    ensures steps { Steps D.told (D.state disk.old) (D.state disk.new) store.old store.new (result ≡ Err Stop.Disk) }
+    ensures steps { Steps D.told (D.state disk.old) (D.state disk.new) store.old store.new
+        (result ≡ Err Stop.Disk) }
     ensures reads { OnlyReads (D.state disk.old) (D.state disk.new) store.old store.new }
 {
     match store.archive(disk, number) {
@@ -55,7 +56,8 @@ pub(crate) fn show_member<D: Disk>(
     ensures answered { D.told → ComesTo
         (IsOfState (state_of store.old.history number) (IsMemberShown store.old number)) store.old store.new result }
     ensures own { IfOk result IsOwn }
-    ensures steps { Steps D.told (D.state disk.old) (D.state disk.new) store.old store.new (result ≡ Err Stop.Disk) }
+    ensures steps { Steps D.told (D.state disk.old) (D.state disk.new) store.old store.new
+        (result ≡ Err Stop.Disk) }
     ensures reads { OnlyReads (D.state disk.old) (D.state disk.new) store.old store.new }
 {
     match store.member(disk, number) {

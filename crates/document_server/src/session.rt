@@ -70,7 +70,8 @@ pub fn serve<D: Disk, C: Clock, L: Door>(
     requires few { requests ≤ 1_000_000 }
     // The session over the connections that the door gave, and what a crash leaves.
     ensures serves { D.told → ((fault : Fault) → result.end ≢ End.Load fault)
-        → Serves (D.state disk.old) (D.state disk.new) (C.coming clock.old) (L.state door.old) (L.state door.new)
+        → Serves (D.state disk.old) (D.state disk.new) (C.coming clock.old) (L.state door.old)
+        (L.state door.new)
         (C.told × L.told) result.lines.items (result.end ≡ End.DiskFault) }
     ensures most { length result.lines.items ≤ requests }
     ensures done { result.end ≡ End.Done
@@ -79,9 +80,11 @@ pub fn serve<D: Disk, C: Clock, L: Door>(
 
     // A store that isn't loaded.
     ensures refused { (fault : Fault) → result.end ≡ End.Load fault → D.told
-        → IsLoadFault (records ((D.state disk.old).content Journal)) (records ((D.state disk.old).content Sealed)) fault }
+        → IsLoadFault (records ((D.state disk.old).content Journal))
+        (records ((D.state disk.old).content Sealed)) fault }
     ensures only { D.told → (stored : Stored) → OpensTo (D.state disk.old).content stored
-        → (fault : Fault) → result.end ≡ End.Load fault → (fault ≡ Fault.DiskFault) ⊎ (fault ≡ Fault.NoMemory) }
+        → (fault : Fault) → result.end ≡ End.Load fault → (fault ≡ Fault.DiskFault)
+        ⊎ (fault ≡ Fault.NoMemory) }
     ensures safe { (result.end ≡ End.NoMemory) ⊎ ((fault : Fault) × (result.end ≡ End.Load fault)) → D.told
         → LeavesStores (D.state disk.old) (D.state disk.new) }
     ensures unopened { (result.end ≡ End.NoMemory) ⊎ ((fault : Fault) × (result.end ≡ End.Load fault))
@@ -93,7 +96,8 @@ pub fn serve<D: Disk, C: Clock, L: Door>(
         → Rose (D.state disk.old).faults (D.state disk.new).faults }
     ensures no_hidden_disk_fault { result.end ≢ End.DiskFault → result.end ≢ End.Load Fault.DiskFault
         → (D.state disk.new).faults ≡ (D.state disk.old).faults }
-    ensures door_fault { result.end ≡ End.DoorFault → Rose (L.state door.old).faults (L.state door.new).faults }
+    ensures door_fault { result.end ≡ End.DoorFault → Rose (L.state door.old).faults
+        (L.state door.new).faults }
     ensures no_hidden_door_fault { result.end ≢ End.DoorFault
         → (L.state door.new).faults ≡ (L.state door.old).faults }
 {
@@ -119,7 +123,8 @@ fn serve_into<D: Disk, C: Clock, L: Door>(
     requires some { 1 ≤ requests }
     requires few { requests ≤ 1_000_000 }
     ensures serves { D.told → ((fault : Fault) → result ≢ Err (End.Load fault))
-        → Serves (D.state disk.old) (D.state disk.new) (C.coming clock.old) (L.state door.old) (L.state door.new)
+        → Serves (D.state disk.old) (D.state disk.new) (C.coming clock.old) (L.state door.old)
+        (L.state door.new)
         (C.told × L.told) lines.new.items (end_of result ≡ End.DiskFault) }
     ensures most { length lines.new.items ≤ requests }
     ensures done { OnOk result
@@ -127,9 +132,11 @@ fn serve_into<D: Disk, C: Clock, L: Door>(
     ensures returned { L.told → (L.state door.new).out ≡ (L.state door.old).out }
 
     ensures refused { (fault : Fault) → result ≡ Err (End.Load fault) → D.told
-        → IsLoadFault (records ((D.state disk.old).content Journal)) (records ((D.state disk.old).content Sealed)) fault }
+        → IsLoadFault (records ((D.state disk.old).content Journal))
+        (records ((D.state disk.old).content Sealed)) fault }
     ensures only { D.told → (stored : Stored) → OpensTo (D.state disk.old).content stored
-        → (fault : Fault) → result ≡ Err (End.Load fault) → (fault ≡ Fault.DiskFault) ⊎ (fault ≡ Fault.NoMemory) }
+        → (fault : Fault) → result ≡ Err (End.Load fault) → (fault ≡ Fault.DiskFault)
+        ⊎ (fault ≡ Fault.NoMemory) }
     ensures safe { (result ≡ Err End.NoMemory) ⊎ ((fault : Fault) × (result ≡ Err (End.Load fault))) → D.told
         → LeavesStores (D.state disk.old) (D.state disk.new) }
     ensures unopened { (result ≡ Err End.NoMemory) ⊎ ((fault : Fault) × (result ≡ Err (End.Load fault)))
@@ -141,7 +148,8 @@ fn serve_into<D: Disk, C: Clock, L: Door>(
         → Rose (D.state disk.old).faults (D.state disk.new).faults }
     ensures no_hidden_disk_fault { result ≢ Err End.DiskFault → result ≢ Err (End.Load Fault.DiskFault)
         → (D.state disk.new).faults ≡ (D.state disk.old).faults }
-    ensures door_fault { result ≡ Err End.DoorFault → Rose (L.state door.old).faults (L.state door.new).faults }
+    ensures door_fault { result ≡ Err End.DoorFault → Rose (L.state door.old).faults
+        (L.state door.new).faults }
     ensures no_hidden_door_fault { result ≢ Err End.DoorFault
         → (L.state door.new).faults ≡ (L.state door.old).faults }
 {
@@ -182,10 +190,12 @@ fn serve_links<D: Disk, C: Clock, L: Door>(
     ensures own { IfErr result (λ end. (end ≡ End.DiskFault) ⊎ (end ≡ End.DoorFault)) }
     ensures mirror { LeavesAlone (D.state disk.old) (D.state disk.new) Mirror }
 
-    ensures disk_fault { result ≡ Err End.DiskFault → Rose (D.state disk.old).faults (D.state disk.new).faults }
+    ensures disk_fault { result ≡ Err End.DiskFault → Rose (D.state disk.old).faults
+        (D.state disk.new).faults }
     ensures no_hidden_disk_fault { result ≢ Err End.DiskFault
         → (D.state disk.new).faults ≡ (D.state disk.old).faults }
-    ensures door_fault { result ≡ Err End.DoorFault → Rose (L.state door.old).faults (L.state door.new).faults }
+    ensures door_fault { result ≡ Err End.DoorFault → Rose (L.state door.old).faults
+        (L.state door.new).faults }
     ensures no_hidden_door_fault { result ≢ Err End.DoorFault
         → (L.state door.new).faults ≡ (L.state door.old).faults }
 {
@@ -225,7 +235,8 @@ fn serve_link<D: Disk, C: Clock, K: Conn>(
     requires unspent { is_spent store.old ≡ false }
     requires stands { D.told → StandsFor (D.state disk.old) store.old }
     requires unbegun { (K.state link.old).begun ≡ None }
-    ensures serves { D.told → ServesOne (D.state disk.old) (D.state disk.new) (C.coming clock.old) (C.coming clock.new)
+    ensures serves { D.told → ServesOne (D.state disk.old) (D.state disk.new) (C.coming clock.old)
+        (C.coming clock.new)
         (K.state link.old) (K.state link.new) (C.told × K.told) store.old store.new result }
     ensures head { store.new.head ≡ store.old.head }
     ensures stays { is_spent store.new ≡ true → store.new.history ≡ store.old.history }
@@ -239,7 +250,8 @@ fn serve_link<D: Disk, C: Clock, K: Conn>(
     ensures unbegun { result.status ≡ 0 → (K.state link.new).begun ≡ None }
 
     ensures stands { is_spent store.new ≡ false → D.told → StandsFor (D.state disk.new) store.new }
-    ensures rests { is_spent store.new ≡ false → D.told → IsAtRest (D.state disk.old) → IsAtRest (D.state disk.new) }
+    ensures rests { is_spent store.new ≡ false → D.told → IsAtRest (D.state disk.old)
+        → IsAtRest (D.state disk.new) }
     ensures settled { is_spent store.new ≡ false → D.told → IsAtRest (D.state disk.old)
         → Settled (D.state disk.new) store.new.head store.new.history (length store.new.history) }
     ensures mirror { LeavesAlone (D.state disk.old) (D.state disk.new) Mirror }

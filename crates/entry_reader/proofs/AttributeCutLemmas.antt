@@ -75,7 +75,7 @@ behind_prefix prefix local is named before m (b ∷ k) split e n =
           ∙ sym (written prefix (k ++ more) is),
     )
 
--- the front of a qualified name, with letters behind it
+-- the front of a qualified name, with letters after it
 prefix_qname : (q : QName) → IsQName q → (before m : List ℕ) → name_text q ≡ before ++ m → (n : ℕ) →
     (r : QName) × IsQName r × (before ++ letters (suc n) ≡ name_text r)
 prefix_qname q is before m e n =
@@ -164,14 +164,14 @@ pub name_goes : (text end : List ℕ) → Reads whole_qname text (Err Cut) end �
     (r : QName) × IsQName r × (text ++ letters (suc n) ≡ name_text r)
 name_goes text end cut n = cut_name text end cut (λ m q is e. prefix_qname q is text m e n)
 
--- the text ends behind the name
+-- the text ends after the name
 pub name_last : (text name named : List ℕ) → IsFound whole_qname text name named → named ≡ [] → CanGrowName text
 name_last text name named f over =
     name_grows text [] f.spelled.0 f.spelled.3
     (sym f.spelled.2 ∙ sym f.spelled.1 ∙ sym (append-nil f.front) ∙ ap (λ xs. f.front ++ xs) (sym over) ∙ sym f.split
     ∙ sym (append-nil text))
 
--- behind a name that is whole
+-- after a name that is whole
 can_end : (text name named : List ℕ) → IsFound whole_qname text name named → named ≢ [] → (value more : List ℕ) →
     IsXmlText more → sign_behind name (name, value) (named ++ more) [] → CanEnd name text
 can_end text name named f some value more xml sign =

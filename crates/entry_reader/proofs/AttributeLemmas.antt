@@ -137,7 +137,7 @@ attribute_name = record {
   );
 }
 
--- the text ends behind the name
+-- the text ends after the name
 pub name_ended : (name text : List ℕ) → text ≡ [] → (end : List ℕ) → Reads (sign_behind name) text (Err Cut) end
 name_ended name text e end =
     ended_reads {P = sign_behind name}

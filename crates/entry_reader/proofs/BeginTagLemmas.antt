@@ -23,7 +23,7 @@ use Rattle.entry_reader.specs.declared.tag.Tag.{Tag as RawTag}
 use Rattle.entry_reader.specs.declared.tag.TagEnd.{TagEnd}
 use Rattle.entry_reader.specs.declared.tag.TagEnd.TheVariants.{Open as WholeTag, Empty as EmptyTag, Cut as CutTag}
 use Rattle.entry_reader.specs.declared.tag.TagEnd.TheVariants.{CutAtSlash}
-use Rattle.entry_reader.specs.declared.token.Place.{Place}
+use Rattle.entry_reader.specs.declared.token.Context.{Context}
 use Rattle.entry_reader.specs.Characters.{QName, IsQName, name_text}
 use Rattle.entry_reader.specs.Tokens.{Attribute, Tag, AreAttributes}
 use Rattle.entry_reader.specs.Tokens.Token.{opening}
@@ -41,7 +41,7 @@ use Rattle.entry_reader.proofs.EventLemmas.{led_by, one_more}
 use Rattle.entry_reader.proofs.ProgressLemmas.{no_names}
 
 -- a whole tag
-pub whole_tag : (end : TagEnd) (b : Bool) (place : Place) (before : List ℕ) (raw : RawTag) (after : List ℕ) →
+pub whole_tag : (end : TagEnd) (b : Bool) (place : Context) (before : List ℕ) (raw : RawTag) (after : List ℕ) →
     Some b ≡ emptiness end → IsTagTo end place before raw after → IsTagRead place before b raw after
 whole_tag WholeTag b place before raw after e read =
     let same : false ≡ b = cc in subst (λ b. IsTagRead place before b raw after) same read
@@ -142,8 +142,8 @@ tag_stage false tag s opened raw same root =
     (entered s tag)) (sym root)
     (ap (λ o. inside (record { name = tag.name; scope = inner_scope (scope_in s) tag }) o) same)
 
--- the reader behind a whole tag
-pub begin_led : (from : Point) (old new : Elements) (before : List ℕ) (x : IsAtText old before from) (place : Place)
+-- the reader after a whole tag
+pub begin_led : (from : Point) (old new : Elements) (before : List ℕ) (x : IsAtText old before from) (place : Context)
     (raw : RawTag) (b : Bool) (at : ℕ) (namespace : Namespace) (prefix local : Bor (List ℕ)) → old.empty ≡ false →
     IsTagRead place before b raw old.cursor.rest.now → IsXmlText old.cursor.rest.now → at ≡ from.at →
     IsAdmitted old raw.end →

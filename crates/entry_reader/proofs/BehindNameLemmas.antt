@@ -99,7 +99,7 @@ sign_closed name v s x y sign =
       (quoted.0, quoted.1, quoted.2, quoted.3, quoted.4, quoted.5),
     )
 
--- nothing behind an attribute matters
+-- nothing after an attribute matters
 pub attribute_closed : (a : List ℕ × List ℕ) (s x y : List ℕ) → attribute_parts a s x → attribute_parts a s y
 attribute_closed a s x y p =
     let sign = sign_closed p.0 a p.2 x y p.5 in (
@@ -213,7 +213,7 @@ regroup a b c d = simp append_assoc
 regroup_last : (a b c d e : List ℕ) → ((a ++ (b ++ c)) ++ d) ++ e ≡ a ++ (b ++ (c ++ (d ++ e)))
 regroup_last a b c d e = simp append_assoc
 
--- behind attributes that were read
+-- after attributes that were read
 behind_back : (read : List (List ℕ × List ℕ)) (front x : List ℕ) (vs : List (List ℕ × List ℕ)) (is_empty : Bool)
     (rest : List ℕ) → are_attributes read front → IsFound behind_name (front ++ x) (vs, is_empty) rest →
     (w : List (List ℕ × List ℕ)) × (vs ≡ read ++ w) × IsFound behind_name x (w, is_empty) rest
@@ -262,7 +262,7 @@ behind_back (a ∷ read) front x (v ∷ vs) is_empty rest are f =
     }) in
     (r.0, (λ k. sym two.0 k ∷ r.1 k), r.2)
 
--- what can stand behind white space: the end, or an attribute
+-- what may follow white space: the end, or an attribute
 pub record BehindSpaces (spaces text : List ℕ) (vs : List (List ℕ × List ℕ)) (is_empty : Bool) (rest : List ℕ)
     : Type 0 where
   pub stands : ((vs ≡ []) × (text ≡ tag_end is_empty ++ rest))
@@ -363,7 +363,7 @@ pub record TagState (text : List ℕ) (raws : List Raw) (rest : List ℕ) : Type
 pub no_state : (text : List ℕ) (raws : List Raw) → raws ≡ [] → TagState text raws text
 no_state text raws none = record { front = []; split = refl; are = none_are raws none }
 
--- what a continuation has behind the attributes that were read
+-- what a continuation has after the attributes that were read
 behind_state : {text : List ℕ} {raws : List Raw} {rest : List ℕ} {any : Bool} {spaced : List ℕ} →
     TagState text raws rest →
     (r : IsSpaceRead rest any spaced) (more : List ℕ) (v : List (List ℕ × List ℕ) × Bool) (end : List ℕ) →
@@ -388,7 +388,7 @@ end_read {text} {raws} {rest} {any} {spaced} s r is_empty after is = record {
   spelled = (s.front, r.spaces, s.are, r.are_spaces, refl);
 }
 
--- behind white space, neither the end of a tag nor an attribute that could be read
+-- after white space, neither the end of a tag nor an attribute that could be read
 pub tag_broken : {text : List ℕ} {raws : List Raw} {rest : List ℕ} {any : Bool} {spaced : List ℕ} →
     TagState text raws rest →
     (r : IsSpaceRead rest any spaced) → spaced ≢ [] →
@@ -439,7 +439,7 @@ state_has {text} {raws} {rest} s = λ more v end f.
     let b = behind_back (pairs raws) s.front (rest ++ more) v.0 v.1 end s.are (subst F whole f) in
     (firsts b.0, ap firsts b.1 ∙ firsts_append raws b.0)
 
--- the text ends behind white space
+-- the text ends after white space
 pub cut_behind : {text : List ℕ} {raws : List Raw} {rest : List ℕ} {any : Bool} {spaced : List ℕ} →
     TagState text raws rest →
     (r : IsSpaceRead rest any spaced) → spaced ≡ [] →
@@ -488,7 +488,7 @@ attribute_state {text} {raws} {rest} {any} {spaced} s r is kept after a =
           (are_append (pairs raws) ((a.0.name.now, a.0.written.now) ∷ []) s.front (r.spaces ++ f.front) s.are one);
     }
 
--- an attribute behind those that were read, in which the text ends
+-- an attribute after those that were read, in which the text ends
 grown : {text : List ℕ} {raws : List Raw} {rest : List ℕ} {any : Bool} {spaced : List ℕ} → TagState text raws rest →
     (r : IsSpaceRead rest any spaced) → any ≡ true → (n : ℕ) (named : List (List ℕ)) (a : List ℕ × List ℕ)
     (more : List ℕ) → IsXmlText more → attribute_parts a (spaced ++ more) [] →
@@ -559,7 +559,7 @@ cut_within {text} {raws} {rest} {any} {spaced} s r is some no_end no_attribute k
       cut),
 )
 
--- the text ends behind `/`
+-- the text ends after `/`
 pub cut_at_slash : {text : List ℕ} {raws : List Raw} {rest : List ℕ} {any : Bool} {spaced : List ℕ} →
     TagState text raws rest → (r : IsSpaceRead rest any spaced) → spaced ≡ codes "/" →
     behind_name (pairs raws, true) (text ++ codes ">") [] × (Starts behind_name text → ⊥)
@@ -607,7 +607,7 @@ no_end_at text b tail is no_end no_slash is_empty more end e =
     let one = heads_of b f.0 (tail ++ more) (f.1 ++ end) same in
     ⊎_elim (λ k. no_end (one ∙ k)) (λ k. no_slash (one ∙ k)) f.4
 
--- behind `/`
+-- after `/`
 pub slash_reads : {text : List ℕ} {raws : List Raw} {rest : List ℕ} {any : Bool} {spaced : List ℕ} →
     TagState text raws rest →
     (r : IsSpaceRead rest any spaced) → (tail : List ℕ) → spaced ≡ 47 ∷ tail → (result : Result TagEnd Lapse)

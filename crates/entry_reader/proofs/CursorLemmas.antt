@@ -61,7 +61,7 @@ pub name_some : (name : List ℕ) → IsName name → name ≢ []
 name_some [] is e = both_ways false refl is
 name_some (b ∷ bs) is e = cc
 
--- a front that goes as far as a name can, behind a first byte of a name
+-- a front that goes as far as a name can, after a first byte of a name
 pub name_from : (text front rest tail : List ℕ) (b : ℕ) → begins_name b ≡ true → text ≡ b ∷ tail →
     text ≡ front ++ rest → IsTrue (list_all continues_name front) → IsTrue (first_is_no continues_name rest) →
     IsName front
@@ -96,7 +96,7 @@ pub spaces_found : (before : List ℕ) (any : Bool) (after : List ℕ) → IsSpa
 spaces_found before any after read =
     record { front = read.spaces; split = read.split; spelled = (read.are_spaces, read.longest) }
 
--- `=` and the white space behind it
+-- `=` and the white space after it
 abbrev pub sign_behind : Unit {0} → Unit {0} → List ℕ → List ℕ → Type 0
 sign_behind _ = seq (exactly (codes "=")) (λ _. run is_space)
 
@@ -150,7 +150,7 @@ from_equals v s rest is = (
   ),
 )
 
--- behind a name: the end of a name without a prefix, or a colon and a name
+-- after a name: the end of a name without a prefix, or a colon and a name
 abbrev pub name_behind : List ℕ → List ℕ → List ℕ → List ℕ → Type 0
 name_behind name v text rest =
     ((v ≡ name) × (text ≡ []) × IsTrue (first_is_no continues_name rest) × IsTrue (first_is_no (nat_eq colon) rest))
@@ -229,7 +229,7 @@ from_qname v s rest is =
     ))
     is.3.0
 
--- a local name behind a prefix and its colon
+-- a local name after a prefix and its colon
 abbrev pub local_behind : List ℕ → List ℕ → List ℕ → List ℕ → Type 0
 local_behind name = mapped (λ local. name ++ colon ∷ local) whole_name
 
@@ -271,7 +271,7 @@ local_lives name = (
   ),
 )
 
--- no colon behind the name
+-- no colon after the name
 pub plain_found : (name after : List ℕ) → IsTrue (first_is_no continues_name after) →
     begins (colon ∷ []) after ≡ false →
     IsFound (name_behind name) after name after

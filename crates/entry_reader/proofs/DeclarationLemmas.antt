@@ -16,7 +16,7 @@ use Rattle.entry_reader.proofs.ReferenceLemmas.{first_same}
 use Rattle.entry_reader.proofs.ReferencePartLemmas.{one_left}
 use Rattle.entry_reader.proofs.CursorLemmas.{exactly_part, equals_part, quote_part}
 
--- bytes, and anything behind them
+-- bytes, and anything after them
 pub exactly_joins : {A : Type 0} (bytes : List ℕ) (R : A → List ℕ → List ℕ → Type 0) (v : A) (t : List ℕ) → R v t [] →
     Joins (exactly bytes) (λ _. R)
 exactly_joins bytes R v t is = record {
@@ -141,7 +141,7 @@ end_joins = record {
   goes = λ b s is. (tt, codes "?>", refl);
 }
 
--- nothing behind `standalone` matters
+-- nothing after `standalone` matters
 standalone_closed : (v : Unit {0}) (s rest : List ℕ) → a_standalone v s [] → a_standalone v s rest
 standalone_closed v s rest is =
     let sign = is.5 in

@@ -59,7 +59,7 @@ version_part =
     seq_part version_name (λ _. seq_part version_equals (λ _. seq_part version_quote
     (λ q. seq_part (number_joins q) (λ _. exactly_part (q ∷ [])))))
 
--- nothing behind a version matters
+-- nothing after a version matters
 version_closed : (v : Unit {0}) (s x rest : List ℕ) → a_version v s x → a_version v s rest
 version_closed v s x rest is =
     let sign = is.5 in
@@ -284,7 +284,7 @@ end_to any spaces tail rest are is d =
     })
     d
 
--- what is behind the version
+-- what is after the version
 record TailOf (utf8 : Bool) (text : List ℕ) : Type 0 where
   encoding : Option (List ℕ)
   encoded : List ℕ

@@ -1,4 +1,4 @@
--- The tree of a whole document: its root, and nothing behind it.
+-- The tree of a whole document: its root, and nothing after it.
 use Rattle.std.proofs.Common.{◌≡◌, ℕ, ◌+◌, List, [], ◌∷◌, ◌++◌, length, map, refl, sym, ap, subst, ◌∙◌, Bool, true}
 use Rattle.std.proofs.Common.{false, ◌≢◌, Ok, Option, Some, None}
 use Rattle.std.specs.Prelude.{if◌then◌else◌}
@@ -22,12 +22,12 @@ use Rattle.entry_reader.specs.Spells.{depth_limit}
 use Rattle.entry_reader.specs.Progress.{IsElementOf, IsEventOf, IsLed, IsOver, Leads, Point, pending}
 use Rattle.entry_reader.proofs.ProgressLemmas.{no_pending}
 
--- what follows in these open elements, and nothing behind the root
+-- what follows in these open elements, and nothing after the root
 abbrev IsInOpen : List Open → List Content → Type 0
 IsInOpen [] stack = stack ≡ nothing ∷ []
 IsInOpen (o ∷ outer) stack = (c : Content) × (rest : List Content) × (stack ≡ c ∷ rest) × IsInOpen outer rest
 
--- what follows behind a stage, to the end of a document
+-- what follows after a stage, to the end of a document
 abbrev pub IsBehind : Stage → List Content → Type 0
 IsBehind start stack = (e : Element) × (c : Content) × (stack ≡ element e c nothing ∷ [])
 IsBehind prolog stack = (e : Element) × (c : Content) × (stack ≡ element e c nothing ∷ [])
@@ -227,7 +227,7 @@ root_comes total first from (Some (Told part)) new none begins y over =
     root_leads from y.2.to (y.0 ++ pending new) (led_leads total first from y.0 new y.2 none) begins in
     absurd (not_said y.1.0 (pending new) y.1.3 (subst (λ t. IsAtRoot (t ++ pending new)) y.1.1 at))
 
--- the root, and the reader behind its tag
+-- the root, and the reader after its tag
 pub root_led : (total : ℕ) (first : List Event) (from : Point) (event : Option RawEvent) (raw : RawElement)
     (new : Elements) → event ≡ Some (Begin raw) → IsEventOf total first from (Ok event) new →
     (e : Element) × IsElementOf e raw × IsLed total first from (begin e ∷ []) new

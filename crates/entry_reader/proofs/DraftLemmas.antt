@@ -121,7 +121,7 @@ module _ (bytes : List ℕ) (utf8 : IsTrue (is_utf8 bytes)) (old mid : Elements)
         read = y.7;
       }
 
-  -- a fault behind the root's tag
+  -- a fault after the root's tag
   pub faulty : (fault : EntryFault) → IsFaultFrom mid.length x.to fault →
       IsFaultFrom (length bytes) (first_point bytes) fault
   faulty fault f =
@@ -130,7 +130,7 @@ module _ (bytes : List ℕ) (utf8 : IsTrue (is_utf8 bytes)) (old mid : Elements)
 
   module _ (at : ℕ) (why : Why) (stop new : Elements)
       (y : IsEntryFrom mid.length (pending mid) x.to root (Err (Refused at why)) stop) where
-    -- a fault behind an element that is refused
+    -- a fault after an element that is refused
     pub later_faulty : (fault : EntryFault) → IsDrainedFrom stop.length (pending stop) y.1.to (Err fault) new →
         IsFaultFrom (length bytes) (first_point bytes) fault
     later_faulty fault z = faulty fault (fault_on mid.length (pending mid) x.to y.0 stop y.1 fault z)

@@ -1,4 +1,4 @@
--- The encoding in a declaration, and what is behind it.
+-- The encoding in a declaration, and what is after it.
 use Rattle.std.proofs.Common.{◌≡◌, ◌≢◌, ℕ, Bool, true, false, not, ◌||◌, ◌==◌, List, [], ◌∷◌, ◌++◌, length}
 use Rattle.std.proofs.Common.{IsTrue, Some, refl, sym, ap, subst, ◌∙◌, inl, inr, ⊎_elim, codes, arith, append_assoc}
 use Rattle.std.proofs.Common.{nat_lt, eqb-true, drop}
@@ -179,7 +179,7 @@ word_goes b s is = (codes "=\"utf-8\"", one_encoding)
 pub encoding_part : IsPart an_encoding
 encoding_part = seq_part encoding_word (λ _. seq_part encoding_equals (λ _. seq_part encoding_quote encoding_name_part))
 
--- nothing behind an encoding matters
+-- nothing after an encoding matters
 pub encoding_closed : (v : Bool) (s x rest : List ℕ) → an_encoding v s x → an_encoding v s rest
 encoding_closed v s x rest is =
     let sign = is.5 in
@@ -247,7 +247,7 @@ encoding_joins = record {
   goes = λ b s is. (b, codes "?>", encoding_ends b);
 }
 
--- behind an encoding that was read
+-- after an encoding that was read
 pub encoding_then : (before : List ℕ) (b : Bool) (after : List ℕ) → IsFound an_encoding before b after →
     (r : Result Encoding Lapse) (end : List ℕ) → ReadsEncoding (behind_encoding b) after r end →
     ReadsEncoding (seq an_encoding behind_encoding) before r end
@@ -340,7 +340,7 @@ encoding_fails before Cut end last cut =
     )
 encoding_fails before NoMemory end last none = tt
 
--- the end of a declaration, behind its encoding
+-- the end of a declaration, after its encoding
 pub end_found : (named : Bool) (text end : List ℕ) → IsFound (seq any_spaces declaration_end) text tt end →
     IsFound (behind_encoding named) text named end
 end_found named text end f = record { front = f.front; split = f.split; spelled = (refl, f.spelled) }

@@ -101,7 +101,7 @@ utf8_is_name name e =
     (λ other. subst N (sym ((bytes_eq-Decides L (codes "us-ascii")).0 other)) refl)
     (or_cases (str_eq_ignore_ascii_case name (codes "utf-8")) (str_eq_ignore_ascii_case name (codes "us-ascii")) e))
 
--- the quote, behind the bytes before it
+-- the quote, after the bytes before it
 pub quote_behind : (q : ℕ) (rest taken after : List ℕ) → rest ≢ [] → IsTrue (first_is_no (apart q) rest) →
     rest ≡ taken ++ after → length taken ≡ min 1 (length rest) → rest ≡ q ∷ after
 quote_behind q [] taken after some ends split long = absurd (some refl)

@@ -10,7 +10,7 @@ use Rattle.entry_reader.specs.Reading.{seq, is_utf8, IsFound, StartsAs, Continue
 use Rattle.entry_reader.proofs.PartLemmas.{Joins, Leads, joins_leads, joins_fails, first_found, found_whole}
 use Rattle.entry_reader.proofs.PartLemmas.{whole_found}
 
--- behind the text that was read, a part goes on as one of what is left
+-- after the text that was read, a part goes on as one of what is left
 pub leads_encoding : {S Q : Bool → List ℕ → List ℕ → Type 0} {before after : List ℕ} → Leads S before Q after →
     ((more rest : List ℕ) → after ≡ [] → IsFound S (before ++ more) true rest → ContinuesAs Q true []) →
     (r : Result Encoding Lapse) (end : List ℕ) → ReadsEncoding Q after r end → ReadsEncoding S before r end

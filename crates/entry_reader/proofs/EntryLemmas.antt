@@ -53,7 +53,7 @@ parts_said b said parts are =
       faultless = subst (All IsFaultless) seen are.faultless;
     }
 
--- a child of which more is read, behind a content
+-- a child of which more is read, after a content
 child_begun : (b : Content) (e : Element) (stack : List Content) (inner rest : Content) (outer : List Content) →
     with_before b (with_element e stack) ≡ inner ∷ rest ∷ outer →
     (c : Content) × (k : Content) × (stack ≡ c ∷ k ∷ rest ∷ outer) × (joined b (element e c k) ≡ inner)
@@ -64,7 +64,7 @@ child_begun b e (c ∷ k ∷ later) inner rest outer same =
     let whole : joined b (element e c k) ≡ inner = cc in
     (c, k, ap (λ xs. c ∷ k ∷ xs) more, whole)
 
--- a child that is refused, behind children that aren't
+-- a child that is refused, after children that aren't
 child_fault : (b : Content) (e : Element) (c k inner : Content) (at : ℕ) (why : Why) →
     All IsFaultless (all_seen in_entry [] b) → IsFirstFault (all_seen in_entry (names_of b) (element e c k)) at why →
     joined b (element e c k) ≡ inner → IsFirstFault (all_seen in_entry [] inner) at why
@@ -123,7 +123,7 @@ module _ (total : ℕ) (first : List Event) (from : Point) (root : Element)
       (s.0, s.1, λ later inner rest outer same. inr (entry_name, inl (s.2 later inner rest outer same)))
 
   module _ (parts : Parts) (mid new : Elements) (x : ArePartsFrom total first from (Ok parts) mid) where
-    -- a fault behind the entry
+    -- a fault after the entry
     pub end_faulty : (fault : EntryFault) → IsDrainedFrom mid.length (pending mid) x.2.to (Err fault) new →
         IsFaultFrom total from fault
     end_faulty fault z = fault_on total first from x.1 mid x.2 fault z

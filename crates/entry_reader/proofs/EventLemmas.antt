@@ -1,4 +1,4 @@
--- What a token adds to the tree, and the reader behind it.
+-- What a token adds to the tree, and the reader after it.
 use Rattle.std.proofs.Common.{◌≡◌, ◌≢◌, ◌≤◌, ℕ, suc, ◌+◌, List, [], ◌∷◌, ◌++◌, length, map, reverse, false, refl, sym}
 use Rattle.std.proofs.Common.{ap, subst, ◌∙◌}
 use Rattle.std.proofs.Common.{append_assoc, arith, inl, inr, ⊎_elim, All, codes}
@@ -10,8 +10,8 @@ use Rattle.atom_values.specs.XmlText.{IsXmlText}
 use Rattle.entry_reader.specs.declared.elements.Elements.{Elements}
 use Rattle.entry_reader.specs.declared.elements.Stage.{Stage as RawStage}
 use Rattle.entry_reader.specs.declared.elements.Stage.TheVariants.{Start, Prolog, Root}
-use Rattle.entry_reader.specs.declared.token.Place.{Place}
-use Rattle.entry_reader.specs.declared.token.Place.TheVariants.{Start as AtStart, Outside, Inside}
+use Rattle.entry_reader.specs.declared.token.Context.{Context}
+use Rattle.entry_reader.specs.declared.token.Context.TheVariants.{Start as AtStart, Outside, Inside}
 use Rattle.entry_reader.specs.Characters.{begins}
 use Rattle.entry_reader.specs.Tokens.{Token, IsSpelled}
 use Rattle.entry_reader.specs.Tokens.Token.{declaration, character, referred, section, comment, instruction, opening}
@@ -89,7 +89,7 @@ said_outside prolog read out = refl
 said_outside epilog read out = refl
 said_outside (inside e outer) read out = absurd (out tt)
 
-silent_one : (place : Place) (s : Stage) (t : Token) → ((IsInContent place → ⊥) → IsInside s → ⊥) → MayStand place t →
+silent_one : (place : Context) (s : Stage) (t : Token) → ((IsInContent place → ⊥) → IsInside s → ⊥) → MayStand place t →
     IsSilentAt place t →
     CanStand depth_limit s t × (stage_after s t ≡ begun s) × ((at : ℕ) → events_of s at t ≡ [])
 silent_one place s comment out may silent = (tt, refl, λ at. refl)
@@ -131,7 +131,7 @@ module _ (tail : List ℕ) (behind : IsBehindXml tail) where
       (spelled_more l.token l.text (lexemes_text ls ++ after) tail are.0.0 (texts_xml ls after are.1 xml) behind
       section_xml line_xml are.0)
 
-  silent_stand : (place : Place) (s : Stage) (ls : List Lexeme) (after : List ℕ) →
+  silent_stand : (place : Context) (s : Stage) (ls : List Lexeme) (after : List ℕ) →
       ((IsInContent place → ⊥) → IsInside s → ⊥) → All (λ (l : Lexeme). MayStand place l.token) ls →
       All (λ (l : Lexeme). IsSilentAt place l.token) ls → AreSpelled ls after → IsXmlText after →
       Silent s ls (after ++ tail)
@@ -190,7 +190,7 @@ module _ (tail : List ℕ) (behind : IsBehindXml tail) where
         ),
       )
 
--- the reader behind lexemes
+-- the reader after lexemes
 pub led_by : (from : Point) (old new : Elements) (before : List ℕ) (x : IsAtText old before from) (ls : List Lexeme)
     (told : List Event) (opened : List Open) → before ≡ lexemes_text ls ++ new.cursor.rest.now →
     CanAllStand depth_limit from.stage ls (new.cursor.rest.now ++ x.tail) →
@@ -238,7 +238,7 @@ led_by from old new before x ls told opened split stand adds xml same stage name
 }
 
 -- a place outside content
-outside_place : (place : Place) (s : Stage) → IsPlaceOf place s → (IsInContent place → ⊥) → IsInside s → ⊥
+outside_place : (place : Context) (s : Stage) → IsPlaceOf place s → (IsInContent place → ⊥) → IsInside s → ⊥
 outside_place AtStart s is out h = subst IsInside is h
 outside_place Outside s is out h =
     ⊎_elim (λ p. let bad : IsInside prolog = subst IsInside p h in bad)
@@ -246,13 +246,13 @@ outside_place Outside s is out h =
 outside_place (Inside name) s is out h = absurd (out tt)
 
 -- a place in content
-pub content_place : (place : Place) (s : Stage) → IsPlaceOf place s → IsInContent place →
+pub content_place : (place : Context) (s : Stage) → IsPlaceOf place s → IsInContent place →
     (e : Open) × (outer : List Open) × (s ≡ inside e outer)
 content_place AtStart s is content = absurd content
 content_place Outside s is content = absurd content
 content_place (Inside name) s is content = (is.0, is.1, is.2)
 
--- the stage as a reader keeps it, behind a token that says nothing of elements
+-- the stage as a reader keeps it, after a token that says nothing of elements
 later : (raw : RawStage) (opened : List Open) (s : Stage) → IsStageOf raw false opened s →
     IsStageOf (later_stage raw) false opened (begun s)
 later Start [] s is = ap begun is
@@ -262,7 +262,7 @@ later Prolog (e ∷ outer) s is = absurd is
 later Root [] s is = ap begun is
 later Root (e ∷ outer) s is = ap begun is
 
-silent_by : (from : Point) (old : Elements) (before : List ℕ) (x : IsAtText old before from) (place : Place)
+silent_by : (from : Point) (old : Elements) (before : List ℕ) (x : IsAtText old before from) (place : Context)
     (ls : List Lexeme) → old.empty ≡ false → AreRead place before ls old.cursor.rest.now →
     Silent from.stage ls (old.cursor.rest.now ++ x.tail) → IsXmlText old.cursor.rest.now →
     IsLed old.length [] from [] (record old { stage = later_stage old.stage })
@@ -278,7 +278,7 @@ silent_by from old before x place ls told read all xml =
     (all.nothing from.at ∙ sym (no_pending new told)) xml (refl, refl, refl) stage x.names x.scopes x.depth
 
 -- tokens that say nothing of the tree are read
-pub silent_led : (from : Point) (old : Elements) (before : List ℕ) (x : IsAtText old before from) (place : Place)
+pub silent_led : (from : Point) (old : Elements) (before : List ℕ) (x : IsAtText old before from) (place : Context)
     (ls : List Lexeme) → old.empty ≡ false → IsPlaceOf place from.stage → AreRead place before ls old.cursor.rest.now →
     All (λ (l : Lexeme). IsSilentAt place l.token) ls → IsXmlText old.cursor.rest.now →
     IsLed old.length [] from [] (record old { stage = later_stage old.stage })
@@ -287,11 +287,11 @@ silent_led from old before x place ls told is read silent xml =
     (silent_stand x.tail x.behind place from.stage ls old.cursor.rest.now (outside_place place from.stage is) read.stand
     silent read.spelled xml) xml
 
-pub start_place : (place : Place) (s : Stage) → IsPlaceOf place s → place ≡ AtStart → s ≡ start
+pub start_place : (place : Context) (s : Stage) → IsPlaceOf place s → place ≡ AtStart → s ≡ start
 start_place place s is same = subst (λ p. IsPlaceOf p s) same is
 
 -- a declaration is read
-pub declared_led : (from : Point) (old : Elements) (before : List ℕ) (x : IsAtText old before from) (place : Place)
+pub declared_led : (from : Point) (old : Elements) (before : List ℕ) (x : IsAtText old before from) (place : Context)
     (ls : List Lexeme) (encoding : Option (List ℕ)) → old.empty ≡ false → IsPlaceOf place from.stage →
     AreRead place before ls old.cursor.rest.now → IsAlone (declaration encoding) ls → IsXmlText old.cursor.rest.now →
     IsLed old.length [] from [] (record old { stage = later_stage old.stage })
@@ -312,7 +312,7 @@ declared_led from old before x place ls encoding told is read alone xml =
     }) xml
 
 -- a declaration of another encoding is refused
-pub foreign_refused : (from : Point) (old : Elements) (before : List ℕ) (x : IsAtText old before from) (place : Place)
+pub foreign_refused : (from : Point) (old : Elements) (before : List ℕ) (x : IsAtText old before from) (place : Context)
     (total at : ℕ) → IsPlaceOf place from.stage → place ≡ AtStart → Starts foreign_declaration before → at ≡ from.at →
     IsRefusal total from at NotUtf8
 foreign_refused from old before x place total at is same foreign here =
@@ -334,7 +334,7 @@ foreign_refused from old before x place total at is same foreign here =
 
 -- characters of an element are read
 pub characters_led : (from : Point) (old : Elements) (before read : List ℕ) (x : IsAtText old before from)
-    (place : Place)
+    (place : Context)
     (ls : List Lexeme) → old.empty ≡ false → IsPlaceOf place from.stage → AreRead place before ls old.cursor.rest.now →
     IsInContent place → AreCharacters read ls → IsXmlText old.cursor.rest.now →
     (parts : List (List ℕ)) × (read ≡ flat_map (λ part. part) parts) × (parts ≢ [])
@@ -358,7 +358,7 @@ characters_led from old before read x place ls told is spelled content are xml =
 
 -- a single token of content that says this is read
 pub said_led : (from : Point) (old : Elements) (before said : List ℕ) (t : Token) (x : IsAtText old before from)
-    (place : Place) (ls : List Lexeme) → old.empty ≡ false → IsPlaceOf place from.stage →
+    (place : Context) (ls : List Lexeme) → old.empty ≡ false → IsPlaceOf place from.stage →
     AreRead place before ls old.cursor.rest.now → IsAlone t ls →
     (MayStand place t → IsInContent place) → ((s : Stage) → IsInside s → CanStand depth_limit s t) →
     ((s : Stage) → stage_after s t ≡ begun s) → ((s : Stage) (at : ℕ) → events_of s at t ≡ say said ∷ []) →
@@ -419,7 +419,7 @@ open_stage Prolog (k ∷ ks) e outer is = absurd is
 open_stage Root [] e outer is = absurd (inside_end e outer is)
 open_stage Root (k ∷ ks) e outer is = (refl, sym (inside_same e k outer ks is))
 
-pub closing_place : (place : Place) (s : Stage) (q : QName) → IsPlaceOf place s → IsNameOf q place → IsQName q →
+pub closing_place : (place : Context) (s : Stage) (q : QName) → IsPlaceOf place s → IsNameOf q place → IsQName q →
     (e : Open) × (outer : List Open) × (s ≡ inside e outer) × (q ≡ e.name)
 closing_place AtStart s q is name lawful = absurd name
 closing_place Outside s q is name lawful = absurd name
@@ -427,7 +427,7 @@ closing_place (Inside raw) s q is name lawful =
     (is.0, is.1, is.2, same_name q is.0.name lawful is.3.1 (sym name ∙ is.3.0))
 
 -- an end tag is read
-pub closing_led : (from : Point) (old new : Elements) (before : List ℕ) (x : IsAtText old before from) (place : Place)
+pub closing_led : (from : Point) (old new : Elements) (before : List ℕ) (x : IsAtText old before from) (place : Context)
     (ls : List Lexeme) (name : QName) → old.empty ≡ false → IsPlaceOf place from.stage →
     AreRead place before ls old.cursor.rest.now → IsAlone (closing name) ls → IsXmlText old.cursor.rest.now →
     IsClosed old new → IsLed old.length [] from (finish ∷ []) new × (depth_of new + 1 ≡ depth_of old)

@@ -79,7 +79,7 @@ lacks_not (b ∷ bytes) (a ∷ front) rest some none =
     (and_parts (not (begins (b ∷ bytes) (a ∷ (front ++ ((b ∷ bytes) ++ rest)))))
     (lacks (b ∷ bytes) (front ++ ((b ∷ bytes) ++ rest))) none).1
 
--- a text with the pattern behind it has a first place
+-- a text with the pattern after it has a first place
 pub record HasFirst (bytes text rest : List ℕ) : Type 0 where
   pub front : List ℕ
   pub behind : List ℕ

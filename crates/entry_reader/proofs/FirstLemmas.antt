@@ -126,7 +126,7 @@ unfolding lib.Utf8.encode
 mark_xml = text_from mark (is_utf8-from_IsUtf8 mark (IsUtf8-encode 0xFEFF refl))
     (ap (list_all is_xml_char) (chars-encodes (0xFEFF ∷ []) refl))
 
--- the text behind the mark
+-- the text after the mark
 pub behind_mark : (t tail : List ℕ) → IsXmlText t → IsBehindXml tail →
     (mark_of (t ++ tail) ≡ mark_of t) × IsXmlText (drop (length (mark_of t)) t)
     × (drop (length (mark_of t)) (t ++ tail) ≡ drop (length (mark_of t)) t ++ tail)
@@ -162,7 +162,7 @@ behind_mark t tail xml behind =
     ))
     (cases_Bool (begins mark t))
 
--- behind the longest XML text
+-- after the longest XML text
 pub behind_longest : (bytes : List ℕ) (n : ℕ) → IsUtf8 bytes → IsLongestXmlPrefix bytes n → IsBehindXml (drop n bytes)
 behind_longest bytes n utf8 longest front back more some e xml =
     let t = take n bytes in
@@ -202,7 +202,7 @@ behind_longest bytes n utf8 longest front back more some e xml =
           absurd (⊎_elim (λ l. longer l.0 l.1) (λ s. shorter s.0 s.1 size) (splits tail more front back e))
     ] in at front refl
 
--- behind XML text there is nothing
+-- after XML text there is nothing
 pub behind_whole : (bytes : List ℕ) → IsBehindXml (drop (length bytes) bytes)
 behind_whole bytes front back more some e xml =
     absurd (some (nil_from_length (drop (length bytes) bytes) (let size = length-drop (length bytes) bytes in

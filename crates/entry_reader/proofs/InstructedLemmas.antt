@@ -11,8 +11,8 @@ use Rattle.std.proofs.lemmas.List.Elements.{All-cons}
 use Rattle.atom_values.specs.XmlText.{IsXmlText}
 use Rattle.entry_reader.specs.declared.declaration.Encoding.{Encoding}
 use Rattle.entry_reader.specs.declared.declaration.Encoding.TheVariants.{Utf8, Foreign}
-use Rattle.entry_reader.specs.declared.token.Place.{Place}
-use Rattle.entry_reader.specs.declared.token.Place.TheVariants.{Start}
+use Rattle.entry_reader.specs.declared.token.Context.{Context}
+use Rattle.entry_reader.specs.declared.token.Context.TheVariants.{Start}
 use Rattle.entry_reader.specs.declared.token.Token.TheVariants.{Declaration, Silent}
 use Rattle.entry_reader.specs.Tokens.{Token, IsDeclaration, IsInstruction, IsSpelled, is_utf8_name}
 use Rattle.std.specs.Str.{str_eq_ignore_ascii_case}
@@ -39,7 +39,7 @@ use Rattle.entry_reader.proofs.TokenFirstLemmas.{xml_front}
 use Rattle.entry_reader.proofs.TokenReadLemmas.{one_read}
 
 -- an instruction as a token
-pub instruction_read : (place : Place) (before after : List ℕ) → IsXmlText before →
+pub instruction_read : (place : Context) (before after : List ℕ) → IsXmlText before →
     IsFound an_instruction before tt after → ReadsToken place before (Ok Silent) after
 instruction_read place before after xml f =
     let s = f.spelled in
@@ -61,7 +61,7 @@ declaration_xml name before front after xml split d =
     (d.spelled ∙ simp append_assoc) xml
 
 -- a declaration as a token
-utf8_read : (place : Place) → place ≡ Start → (before after : List ℕ) → IsXmlText before →
+utf8_read : (place : Context) → place ≡ Start → (before after : List ℕ) → IsXmlText before →
     IsFound utf8_declaration before tt after → ReadsToken place before (Ok (Declaration Utf8)) after
 utf8_read place start before after xml f =
     let name = f.spelled.0 in
@@ -74,12 +74,12 @@ utf8_read place start before after xml f =
       x.1,
     )
 
-foreign_read : (place : Place) → place ≡ Start → (before after : List ℕ) → IsXmlText before →
+foreign_read : (place : Context) → place ≡ Start → (before after : List ℕ) → IsXmlText before →
     IsFound foreign_declaration before tt after → ReadsToken place before (Ok (Declaration Foreign)) after
 foreign_read place start before after xml f =
     ((start, (tt, after, f)), (declaration_xml f.spelled.0 before f.front after xml f.split f.spelled.1).1)
 
-pub declaration_read : (place : Place) → place ≡ Start → (before after : List ℕ) → IsXmlText before → (k : Encoding) →
+pub declaration_read : (place : Context) → place ≡ Start → (before after : List ℕ) → IsXmlText before → (k : Encoding) →
     ReadsDeclaration before (Ok k) after → ReadsToken place before (Ok (Declaration k)) after
 declaration_read place start before after xml Utf8 f = utf8_read place start before after xml f
 declaration_read place start before after xml Foreign f = foreign_read place start before after xml f
@@ -143,7 +143,7 @@ no_foreign text none some =
     (declared_begins f.spelled.0 text f.front some.1 f.spelled.1 f.split))
 
 -- the text begins with `<?`
-instructed_only : {X : Type 0} (place : Place) (tail text more : List ℕ) → text ≡ 60 ∷ 63 ∷ tail →
+instructed_only : {X : Type 0} (place : Context) (tail text more : List ℕ) → text ≡ 60 ∷ 63 ∷ tail →
     (b : BeginsAt place (text ++ more)) →
     ((name : Option (List ℕ)) → IsDeclaration name b.front → (place ≡ Start) × IsTrue (is_utf8_name name) → X) →
     (IsInstruction b.front → X) → X
@@ -187,7 +187,7 @@ declared_split text is =
     (drop 5 text, begins_split (codes "<?xml") text p.0, not-true (first_is_no is_space (drop 5 text)) p.1)
 
 -- only a declaration begins there
-declared_only : {X : Type 0} (place : Place) (before more : List ℕ) → begins_declaration before ≡ true →
+declared_only : {X : Type 0} (place : Context) (before more : List ℕ) → begins_declaration before ≡ true →
     (b : BeginsAt place (before ++ more)) →
     ((name : Option (List ℕ)) → IsDeclaration name b.front → IsTrue (is_utf8_name name) → X) → X
 declared_only place before more begun b x =
@@ -197,7 +197,7 @@ declared_only place before more begun b x =
     (λ i. xml_no_instruction before more b.front b.rest d.0 d.1 d.2 b.split i)
 
 -- a declaration that isn't read
-pub declaration_lapse : (place : Place) → place ≡ Start → (before after : List ℕ) → begins_declaration before ≡ true →
+pub declaration_lapse : (place : Context) → place ≡ Start → (before after : List ℕ) → begins_declaration before ≡ true →
     (e : Lapse) → ReadsDeclaration before (Err e) after → ReadsToken place before (Err e) after
 declaration_lapse place start before after begun Broken r = λ more b.
     declared_only place before more begun b (λ name d utf8. r.0 (
@@ -248,7 +248,7 @@ no_declared name before more front rest none no_declaration e d =
     (splits before more (codes "<?xml") s.0 s.1)
 
 -- an instruction that isn't read
-pub instruction_lapse : (place : Place) (before after : List ℕ) → IsXmlText before →
+pub instruction_lapse : (place : Context) (before after : List ℕ) → IsXmlText before →
     IsTrue (begins (codes "<?") before) → (place ≡ Start → begins_declaration before ≡ false) → (e : Lapse) →
     Reads an_instruction before (Err e) after → ReadsToken place before (Err e) after
 instruction_lapse place before after xml begun no_declaration Broken none = λ more b.

@@ -17,7 +17,7 @@ use Rattle.entry_reader.proofs.InstructionNameLemmas.{longer_name, longer_no_xml
 use Rattle.entry_reader.proofs.OpenTokenLemmas.{lacks_front, lacks_space}
 use Rattle.entry_reader.proofs.XmlLemmas.{printable, printable_xml, printable_rest, xml_append}
 
--- XML characters behind the text make it an instruction
+-- XML characters after the text make it an instruction
 pub record InstructionGoes (before : List ℕ) : Type 0 where
   pub more : List ℕ
   pub is : IsInstruction (before ++ more)
@@ -54,7 +54,7 @@ grown_name (b ∷ bs) k is =
     (sym (list_all-append continues_name bs k) ∙ p.1) in
     longer_name (b ∷ bs) (and_from (begins_name b) (list_all continues_name bs) p.0 q.0)
 
--- the text ends within the name, or behind it
+-- the text ends within the name, or after it
 name_goes : (before opened k : List ℕ) → before ≡ codes "<?" ++ opened → IsName (opened ++ k) → IsXmlText before →
     InstructionGoes before
 name_goes before opened k is name xml = record {
@@ -116,7 +116,7 @@ nil_or : (text : List ℕ) → (text ≡ []) ⊎ (text ≢ [])
 nil_or [] = inl refl
 nil_or (b ∷ text) = inr (λ (e : b ∷ text ≡ []). cc)
 
--- the text ends behind the name
+-- the text ends after the name
 named_goes : (before k m front : List ℕ) → (s : IsInstruction front) → before ≡ codes "<?" ++ (s.name ++ k) →
     s.inside ++ codes "?>" ≡ k ++ m → front ≡ before ++ m → IsXmlText before → InstructionGoes before
 named_goes before k m front s is behind whole xml =

@@ -15,7 +15,7 @@ use Rattle.entry_reader.proofs.PartLemmas.{splits, chosen_reads}
 use Rattle.entry_reader.proofs.EncodingLemmas.{no_gap}
 use Rattle.entry_reader.proofs.TokenFirstLemmas.{heads_of}
 
--- behind a name without white space
+-- after a name without white space
 pub bare_end : (text : List ℕ) → text ≢ [] → IsTrue (first_is_no is_space text) → (r : Result (Unit {0}) Lapse)
     (end : List ℕ) → Reads (exactly (codes "?>")) text r end → Reads instruction_end text r end
 bare_end text some first = chosen_reads instruction_end (exactly (codes "?>")) text
@@ -51,7 +51,7 @@ lacks_rest : (p k x : List ℕ) → lacks p (k ++ x) ≡ true → lacks p x ≡ 
 lacks_rest p [] x none = none
 lacks_rest p (b ∷ k) x none = lacks_rest p k x (and_parts (not (begins p (b ∷ (k ++ x)))) (lacks p (k ++ x)) none).1
 
--- behind white space
+-- after white space
 end_forth : (spaces x : List ℕ) (front rest : List ℕ) → IsGap spaces → IsFound (up_to_end (codes "?>")) x front rest →
     IsFound instruction_end (spaces ++ x) tt rest
 end_forth spaces x front rest gap f = record {

@@ -21,7 +21,7 @@ use Rattle.entry_reader.proofs.CursorLemmas.{name_part, name_from, name_some}
 use Rattle.entry_reader.proofs.DeclarationLemmas.{exactly_joins}
 use Rattle.entry_reader.proofs.TagLemmas.{gap_first}
 
--- behind the name of an instruction
+-- after the name of an instruction
 abbrev pub name_rest : List ℕ → Unit {0} → List ℕ → List ℕ → Type 0
 name_rest name v s rest = (str_eq_ignore_ascii_case name (codes "xml") ≡ false) × instruction_end v s rest
 
@@ -45,7 +45,7 @@ to_instruction v s rest p =
       spelled = p.3 ∙ (λ i. p.4 i ++ (n.3 ∙ (λ k. n.4.0 k ++ e.1 k)) i) ∙ simp append_assoc;
     }
 
--- no name goes on behind that of an instruction
+-- no name goes on after that of an instruction
 pub name_end : (inside rest : List ℕ) →
     ((inside ≡ []) ⊎ ((gap : List ℕ) × (more : List ℕ) × IsGap gap × (inside ≡ gap ++ more))) →
     IsTrue (first_is_no continues_name ((inside ++ codes "?>") ++ rest))
@@ -179,7 +179,7 @@ xml_fails opened name named f some is found =
     both_ways (str_eq_ignore_ascii_case name (codes "xml"))
     (one_name opened name named found.0 f (λ over. absurd (some over)) found.1.0 found.1.1 found.1.2).0 is
 
--- behind a name that isn't `xml`
+-- after a name that isn't `xml`
 pub name_then : (opened name named : List ℕ) → IsFound whole_name opened name named → named ≢ [] →
     str_eq_ignore_ascii_case name (codes "xml") ≡ false → (r : Result (Unit {0}) Lapse) (end : List ℕ) →
     Reads instruction_end named r end → Reads named_end opened r end
@@ -228,7 +228,7 @@ longer_no_xml name = false_from_ne_true (str_eq_ignore_ascii_case (name ++ codes
     no_xml (L name) (sym (map-append to_ascii_lowercase name (codes "a"))
     ∙ (bytes_eq-Decides (L (name ++ codes "a")) (codes "xml")).0 e))
 
--- the text ends behind the name
+-- the text ends after the name
 pub name_cut : (opened name named : List ℕ) → IsFound whole_name opened name named → named ≡ [] → (end : List ℕ) →
     Reads named_end opened (Err Cut) end
 name_cut opened name named f over end = (

@@ -81,7 +81,7 @@ pub lines_alone : (text : List ℕ) → IsTrue (list_all not_cr text) → lines 
 lines_alone text clean =
     ap lines (sym (append-nil text)) ∙ lines_clean text [] clean ∙ append-nil text
 
--- behind CR, where no LF follows
+-- after CR, where no LF follows
 pub after_cr : (tail : List ℕ) → begins (10 ∷ []) tail ≡ false → lines_after true tail ≡ lines tail
 after_cr [] none = refl
 after_cr (b ∷ tail) none =

@@ -109,7 +109,7 @@ end_no_encoding q name set end x rest is d e =
     let one = heads_of f.0 101 (f.1 ++ x) later (ap (λ xs. xs ++ x) (sym f.2) ∙ behind) in
     both_ways (101 == f.0) f.4 (eq-eqb 101 f.0 (sym one))
 
--- an optional encoding, and the end of the declaration behind it
+-- an optional encoding, and the end of the declaration after it
 encoding_one : (a b : Option (List ℕ)) (s t end last x y : List ℕ) → IsOptionalSetting (codes "encoding") a s →
     IsOptionalEncoding a → IsOptionalSetting (codes "encoding") b t → IsOptionalEncoding b →
     seq any_spaces declaration_end tt end x → seq any_spaces declaration_end tt last y →

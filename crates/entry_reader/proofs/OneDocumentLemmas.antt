@@ -26,7 +26,7 @@ use Rattle.entry_reader.proofs.PartLemmas.{nil_front}
 use Rattle.entry_reader.proofs.ProgressLemmas.{not_foreign}
 use Rattle.entry_reader.proofs.StepLemmas.{spelled_some}
 
--- text behind a token, where nothing follows it
+-- text after a token, where nothing follows it
 last_text : (l : Lexeme) (ls : List Lexeme) → l.text ++ (lexemes_text ls ++ []) ≡ lexemes_text (l ∷ ls)
 last_text l ls = ap (λ r. l.text ++ r) (append-nil (lexemes_text ls))
 
@@ -77,7 +77,7 @@ never_stuck s (l ∷ ls) (k ∷ ks) rest x end y e none more =
     never_stuck (stage_after s l.token) ls ks rest x.2 end (subst P (sym one.0) y.2) text (subst Q (sym one.0) none)
     (subst R (sym one.0) more)
 
--- the mark, and the text behind it
+-- the mark, and the text after it
 pub marked : (bytes : List ℕ) → bytes ≡ mark_of bytes ++ drop (length (mark_of bytes)) bytes
 marked bytes =
     let G : List ℕ → Type 0 = λ m. bytes ≡ m ++ drop (length m) bytes in

@@ -14,8 +14,8 @@ use Rattle.std.proofs.lemmas.List.Elements.{All-cons}
 use Rattle.atom_values.specs.XmlText.{IsXmlText}
 use Rattle.entry_reader.specs.declared.cursor.Lapse.{Lapse}
 use Rattle.entry_reader.specs.declared.cursor.Lapse.TheVariants.{Broken, Cut, NoMemory}
-use Rattle.entry_reader.specs.declared.token.Place.{Place}
-use Rattle.entry_reader.specs.declared.token.Place.TheVariants.{Start, Outside, Inside}
+use Rattle.entry_reader.specs.declared.token.Context.{Context}
+use Rattle.entry_reader.specs.declared.token.Context.TheVariants.{Start, Outside, Inside}
 use Rattle.entry_reader.specs.declared.token.Token.{Token as RawToken}
 use Rattle.entry_reader.specs.declared.token.Token.TheVariants.{Declaration, Silent, Characters as Run, Reference}
 use Rattle.entry_reader.specs.declared.token.Token.TheVariants.{Section, Tag as TagToken, EndTag}
@@ -98,7 +98,7 @@ no_name_byte k b is none e =
     let B : ℕ → Type 0 = λ n. begins_name n ≡ true in
     absurd (both_ways (begins_name k) none (subst B is e))
 
--- behind any other byte only a tag can begin
+-- after any other byte only a tag can begin
 pub tag_only : (k : ℕ) (tail text : List ℕ) → text ≡ 60 ∷ k ∷ tail → k ≢ 33 → k ≢ 63 → k ≢ 47 → IsTagOnly text
 tag_only k tail text is no_mark no_question no_slash = λ more token front rest e spelled.
     let cases : OpenCases (λ t. IsOpening t → IsOpening token) k (IsOpening token) = record {
@@ -112,7 +112,7 @@ tag_only k tail text is no_mark no_question no_slash = λ more token front rest 
     open_cases (λ t. IsOpening t → IsOpening token) k tail text more front rest is e token spelled (λ o. o) cases
 
 -- the text begins with `</`
-closing_only : {X : Type 0} (place : Place) (tail text more : List ℕ) → text ≡ 60 ∷ 47 ∷ tail →
+closing_only : {X : Type 0} (place : Context) (tail text more : List ℕ) → text ≡ 60 ∷ 47 ∷ tail →
     (b : BeginsAt place (text ++ more)) →
     ((name : QName) → IsEndTag name b.front → IsNameOf name place → X) → X
 closing_only {X} place tail text more is b x =
@@ -127,20 +127,20 @@ closing_only {X} place tail text more is b x =
     } in
     open_cases P 47 tail text more b.front b.rest is b.split b.token b.spelled (b.spelled, b.stands) cases
 
-not_named : (name : QName) (place : Place) → ((n : Bor (List ℕ)) → place ≡ Inside n → ⊥) → IsNameOf name place → ⊥
+not_named : (name : QName) (place : Context) → ((n : Bor (List ℕ)) → place ≡ Inside n → ⊥) → IsNameOf name place → ⊥
 not_named name Start none is = is
 not_named name Outside none is = is
 not_named name (Inside n) none is = none n refl
 
 -- no end tag outside the root
-pub end_outside : (place : Place) → ((n : Bor (List ℕ)) → place ≡ Inside n → ⊥) → (before : List ℕ) →
+pub end_outside : (place : Context) → ((n : Bor (List ℕ)) → place ≡ Inside n → ⊥) → (before : List ℕ) →
     IsTrue (begins (codes "</") before) → (more : List ℕ) → BeginsAt place (before ++ more) → ⊥
 end_outside place none before begun more b =
     closing_only place (drop 2 before) before more (begins_split (codes "</") before begun) b
     (λ name is named. not_named name place none named)
 
 -- the name of the innermost open element
-record InsideName (place : Place) (name : List ℕ) : Type 0 where
+record InsideName (place : Context) (name : List ℕ) : Type 0 where
   q : QName
   is : IsQName q
   same : name ≡ name_text q
@@ -148,18 +148,18 @@ record InsideName (place : Place) (name : List ℕ) : Type 0 where
   stands : MayStand place (closing q)
   one : (r : QName) → IsNameOf r place → name ≡ name_text r
 
-inside_name : (place : Place) (n : Bor (List ℕ)) → place ≡ Inside n → IsFitPlace place → InsideName place n.now
+inside_name : (place : Context) (n : Bor (List ℕ)) → place ≡ Inside n → IsFitPlace place → InsideName place n.now
 inside_name place n is fit =
-    let F : Place → Type 0 = IsFitPlace in
+    let F : Context → Type 0 = IsFitPlace in
     let f = subst F is fit in
-    let N : Place → Type 0 = λ p. IsNameOf f.1.0 p in
+    let N : Context → Type 0 = λ p. IsNameOf f.1.0 p in
     record {
       q = f.1.0;
       is = f.1.1;
       same = f.1.2;
       xml = f.0;
       stands = subst N (sym is) f.1.2;
-      one = λ r named. let R : Place → Type 0 = IsNameOf r in subst R is named;
+      one = λ r named. let R : Context → Type 0 = IsNameOf r in subst R is named;
     }
 
 end_form : (q : QName) → IsQName q → (name front : List ℕ) → name ≡ name_text q →
@@ -177,7 +177,7 @@ form_end name r front rest same is =
     (is.spaces, is.are_spaces, is.spelled ∙ ap (λ xs. codes "</" ++ xs ++ is.spaces ++ codes ">") (sym same))
 
 -- the end tag of the innermost open element
-pub end_read : (place : Place) (n : Bor (List ℕ)) → place ≡ Inside n → (before after : List ℕ) → IsXmlText before →
+pub end_read : (place : Context) (n : Bor (List ℕ)) → place ≡ Inside n → (before after : List ℕ) → IsXmlText before →
     IsFitPlace place → IsFound (written_end_tag n.now) before tt after → ReadsToken place before (Ok EndTag) after
 end_read place n is before after xml fit f =
     let i = inside_name place n is fit in
@@ -192,7 +192,7 @@ end_read place n is before after xml fit f =
       x.1,
     )
 
-pub end_fails : (place : Place) (n : Bor (List ℕ)) → place ≡ Inside n → (before after : List ℕ) → IsXmlText before →
+pub end_fails : (place : Context) (n : Bor (List ℕ)) → place ≡ Inside n → (before after : List ℕ) → IsXmlText before →
     IsFitPlace place → IsTrue (begins (codes "</") before) → (e : Lapse) →
     Reads (written_end_tag n.now) before (Err e) after →
     ReadsToken place before (Err e) after
@@ -250,7 +250,7 @@ end_fails place n is before after xml fit begun Cut cut =
     )
 end_fails place n is before after xml fit begun NoMemory none = tt
 
-pub err_token : (place : Place) (before after : List ℕ) (e : Lapse) (r : Result RawToken Lapse) →
+pub err_token : (place : Context) (before after : List ℕ) (e : Lapse) (r : Result RawToken Lapse) →
     IsErrAnd r (λ s. s ≡ e) →
     ReadsToken place before (Err e) after → ReadsToken place before r after
 err_token place before after e (Ok v) same read = absurd same
@@ -414,7 +414,7 @@ comment_form inside front e first = record {
 }
 
 -- the text begins with `<!`
-marked_only : {X : Type 0} (place : Place) (tail text more : List ℕ) → text ≡ 60 ∷ 33 ∷ tail →
+marked_only : {X : Type 0} (place : Context) (tail text more : List ℕ) → text ≡ 60 ∷ 33 ∷ tail →
     (b : BeginsAt place (text ++ more)) →
     ((read : List ℕ) → IsSection read b.front → IsInContent place → X) → (IsComment b.front → X) → X
 marked_only {X} place tail text more is b x y =
@@ -429,7 +429,7 @@ marked_only {X} place tail text more is b x y =
     } in
     open_cases P 33 tail text more b.front b.rest is b.split b.token b.spelled (b.spelled, b.stands) cases
 
-pub section_read : (place : Place) → IsInContent place → (before after : List ℕ) → IsXmlText before →
+pub section_read : (place : Context) → IsInContent place → (before after : List ℕ) → IsXmlText before →
     (inside : Bor (List ℕ)) →
     IsFound written_section before inside.now after → ReadsToken place before (Ok (Section inside)) after
 section_read place content before after xml inside f =
@@ -464,7 +464,7 @@ pub comment_first : (front : List ℕ) → (is : IsComment front) → front ≡ 
     ++ (codes "-" ++ (is.inside ++ codes "-->"))
 comment_first front is = is.spelled ∙ simp append_assoc
 
-pub section_fails : (place : Place) → IsInContent place → (before after : List ℕ) → IsXmlText before →
+pub section_fails : (place : Context) → IsInContent place → (before after : List ℕ) → IsXmlText before →
     IsTrue (begins (codes "<![") before) → (e : Lapse) →
     Reads written_section before (Err e) after → ReadsToken place before (Err e) after
 unfolding section_marks
@@ -519,7 +519,7 @@ section_fails place content before after xml begun Cut cut =
     )
 section_fails place content before after xml begun NoMemory none = tt
 
-pub comment_read : (place : Place) (before after : List ℕ) → IsXmlText before → IsFound a_comment before tt after →
+pub comment_read : (place : Context) (before after : List ℕ) → IsXmlText before → IsFound a_comment before tt after →
     ReadsToken place before (Ok Silent) after
 comment_read place before after xml f =
     let s = f.spelled in
@@ -562,7 +562,7 @@ section_third (c ∷ tail) before more front rest read is e s =
     (tails_of 60 60 (33 ∷ (91 ∷ (u ++ rest))) (33 ∷ (c ∷ (tail ++ more))) same)) in
     inr (begins_from (codes "<![") before tail (is ∙ ap (λ k. 60 ∷ 33 ∷ k ∷ tail) (sym one)))
 
-pub comment_fails : (place : Place) (before after : List ℕ) → IsXmlText before → IsTrue (begins (codes "<!") before) →
+pub comment_fails : (place : Context) (before after : List ℕ) → IsXmlText before → IsTrue (begins (codes "<!") before) →
     (IsInContent place → begins (codes "<![") before ≡ false) → (e : Lapse) → Reads a_comment before (Err e) after →
     ReadsToken place before (Err e) after
 unfolding comment_marks
@@ -640,7 +640,7 @@ lone_none (closing name) s x e spelled =
     let f = token_begins (closing name) s x spelled in longer_than s x f.0 60 47 e f.1
 
 -- a lone `<`
-pub lone_cut : (place : Place) (before : List ℕ) → before ≡ codes "<" →
+pub lone_cut : (place : Context) (before : List ℕ) → before ≡ codes "<" →
     (BeginsAt place before → ⊥) × ((more : List ℕ) × (b : BeginsAt place (before ++ more)) × (IsOpening b.token → ⊥))
 lone_cut place before is = (
   (λ b. lone_none b.token b.front b.rest (sym is ∙ b.split) b.spelled),
@@ -690,7 +690,7 @@ space_low b e =
     (λ s. let k = eqb-true b 32 s in omega arith)
     (or_cases ((b == 9) || (b == 10) || (b == 13)) (b == 32) e)
 
--- spaces, or what is behind them
+-- spaces, or what is after them
 low_first : (spaces rest : List ℕ) (k : ℕ) → AreSpaces spaces → k < 128 → (b : ℕ) × (u : List ℕ)
     × (spaces ++ k ∷ rest ≡ b ∷ u) × (b < 128)
 low_first [] rest k are low = (k, rest, refl, low)
@@ -701,7 +701,7 @@ gap_byte : (gap : List ℕ) → IsGap gap → (b : ℕ) × (u : List ℕ) × (ga
 gap_byte [] is = absurd (is.1 refl)
 gap_byte (b ∷ gap) is = (b, gap, refl, space_low b (and_parts (is_space b) (list_all is_space gap) is.0).0)
 
--- the byte behind the name of a tag
+-- the byte after the name of a tag
 behind_byte : (read : List (List ℕ × List ℕ)) (is_empty : Bool) (back : List ℕ) → behind_name (read, is_empty) back [] →
     (b : ℕ) × (u : List ℕ) × (back ≡ b ∷ u) × (b < 128)
 behind_byte [] true back n =
@@ -738,7 +738,7 @@ tag_name_xml tag front is raw of xml =
 tag_ends : (tag : Tag) (front : List ℕ) → IsTag tag front → (u : List ℕ) × (front ≡ u ++ codes ">")
 tag_ends tag front is = ends tag.is_empty (codes "<" ++ name_text tag.name ++ is.inside ++ is.spaces) front is.spelled
 
-whole_read : (place : Place) (before after : List ℕ) → IsXmlText before → (raw : RawTag) (is_empty : Bool) (tag : Tag) →
+whole_read : (place : Context) (before after : List ℕ) → IsXmlText before → (raw : RawTag) (is_empty : Bool) (tag : Tag) →
     IsFound a_tag before tag after → IsTagOf tag raw → tag.is_empty ≡ is_empty →
     IsTagRead place before is_empty raw after × IsXmlText after
 whole_read place before after xml raw is_empty tag f of ends =
@@ -757,7 +757,7 @@ whole_read place before after xml raw is_empty tag f of ends =
       x.1,
     )
 
-tag_to : (place : Place) (before end after : List ℕ) → IsXmlText before → IsTagOnly before →
+tag_to : (place : Context) (before end after : List ℕ) → IsXmlText before → IsTagOnly before →
     (raw : RawTag) (k : TagEnd) →
     ReadsTagTo k before raw end → after ≡ (if is_cut k then [] else end) →
     IsTagTo k place before raw after × IsXmlText after
@@ -796,7 +796,7 @@ tag_to place before end after xml only raw CutAtSlash r is =
       subst X (sym is) xml_nil,
     )
 
-pub tag_token_fails : (place : Place) (before after : List ℕ) → IsTagOnly before → (e : Lapse) →
+pub tag_token_fails : (place : Context) (before after : List ℕ) → IsTagOnly before → (e : Lapse) →
     ReadsTag before (Err e) after → ReadsToken place before (Err e) after
 tag_token_fails place before after only Broken none = λ more b.
     opening_found b.token b.front b.rest (only more b.token b.front b.rest b.split b.spelled) b.spelled
@@ -831,13 +831,13 @@ one_byte (b ∷ []) begun short =
     ap (λ k. k ∷ []) (heads_of b 60 [] (drop 1 (b ∷ [])) whole)
 one_byte (b ∷ c ∷ text) begun short = absurd (omega arith)
 
-pub not_content : (place : Place) → ((n : Bor (List ℕ)) → place ≡ Inside n → ⊥) → IsInContent place → ⊥
+pub not_content : (place : Context) → ((n : Bor (List ℕ)) → place ≡ Inside n → ⊥) → IsInContent place → ⊥
 not_content Start none is = is
 not_content Outside none is = is
 not_content (Inside n) none is = none n refl
 
-pub content_of : (place : Place) (n : Bor (List ℕ)) → place ≡ Inside n → IsInContent place
-content_of place n is = let C : Place → Type 0 = IsInContent in subst C (sym is) tt
+pub content_of : (place : Context) (n : Bor (List ℕ)) → place ≡ Inside n → IsInContent place
+content_of place n is = let C : Context → Type 0 = IsInContent in subst C (sym is) tt
 
 pub no_open : {X : Type 0} (text : List ℕ) → begins (codes "<") text ≡ false → Starts foreign_declaration text → X
 no_open text none some =
@@ -845,7 +845,7 @@ no_open text none some =
     absurd (both_ways (begins (codes "<") text) none (begins_from (codes "<") text (63 ∷ drop 2 text) whole))
 
 -- a tag as a token
-pub tag_token_reads : (place : Place) (before after : List ℕ) → IsXmlText before → IsTagOnly before →
+pub tag_token_reads : (place : Context) (before after : List ℕ) → IsXmlText before → IsTagOnly before →
     (r : Result RawToken Lapse) → ReadsTagToken before r after → ReadsToken place before r after
 tag_token_reads place before after xml only (Ok (TagToken raw)) r =
     let t = tag_to place before r.0 after xml only raw raw.end r.1 r.2 in

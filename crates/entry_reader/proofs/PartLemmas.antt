@@ -43,13 +43,13 @@ nil_back s x e = nil_from_length x (let total = ap length e in omega (arith, len
 pub nil_front : (s x : List ℕ) → s ++ x ≡ [] → s ≡ []
 nil_front s x e = nil_from_length s (let total = ap length e in omega (arith, length-append s x))
 
--- a production whose spelling in a text is unique, and depends on at most the first byte behind it
+-- a production whose spelling in a text is unique, and depends on at most the first byte after it
 pub record IsPart {A : Type 0} (P : A → List ℕ → List ℕ → Type 0) : Type 0 where
   pub unique : (a b : A) (s x t y : List ℕ) → P a s x → P b t y → s ++ x ≡ t ++ y → (a ≡ b) × (s ≡ t)
   pub grows : (a : A) (s x more : List ℕ) → x ≢ [] → P a s x → P a s (x ++ more)
   pub shrinks : (a : A) (s x more : List ℕ) → P a s (x ++ more) → P a s x
 
--- the part can stand before what follows it, and something can follow it
+-- the part is allowed before what follows it, and something can follow it
 pub record Joins {A B : Type 0} (P : B → List ℕ → List ℕ → Type 0) (R : B → A → List ℕ → List ℕ → Type 0)
     : Type 0 where
   pub part : IsPart P
@@ -57,7 +57,7 @@ pub record Joins {A B : Type 0} (P : B → List ℕ → List ℕ → Type 0) (R 
   pub follows : (b : B) (s : List ℕ) (v : A) (t rest : List ℕ) → P b s [] → R b v t rest → P b s (t ++ rest)
   pub goes : (b : B) (s : List ℕ) → P b s [] → (v : A) × (t : List ℕ) × R b v t []
 
--- behind the text that was read, a spelling goes on as one of what is left
+-- after the text that was read, a spelling goes on as one of what is left
 pub record Leads {A : Type 0} (S : A → List ℕ → List ℕ → Type 0) (before : List ℕ)
     (Q : A → List ℕ → List ℕ → Type 0) (after : List ℕ) : Type 0 where
   pub forth : (v : A) (more rest : List ℕ) → IsFound Q (after ++ more) v rest → IsFound S (before ++ more) v rest
@@ -129,7 +129,7 @@ leads_reads {A} {S} {Q} {before} {after} l lives (Err Cut) end cut = (
 )
 leads_reads l lives (Err NoMemory) end none = tt
 
--- behind a part that was read
+-- after a part that was read
 grown : {B : Type 0} {P : B → List ℕ → List ℕ → Type 0} → IsPart P → (b : B) (s x more : List ℕ) → P b s x →
     (x ≡ [] → P b s (x ++ more)) → P b s (x ++ more)
 grown part b s [] more is at_end = at_end refl

@@ -91,7 +91,7 @@ plain_rest q is z y (reference c t ∷ ps) (reference k u ∷ ws) each_p each_w 
       r.3,
     )
 
--- a value behind a front
+-- a value after a front
 abbrev pub behind_front : ℕ → List ℕ → List ℕ → List ℕ → List ℕ → Type 0
 behind_front q front = mapped (λ w. front ++ w) (plain_behind q)
 
@@ -290,7 +290,7 @@ inner_fails q is inside tail rest and ends some none goes =
     (splits inside (rest ++ goes.0) r.front start.1 same))
     ends
 
--- no quote behind the value
+-- no quote after the value
 no_quote_none : (q : ℕ) → IsQuote q → (rest more after : List ℕ) → Ends q rest → (Continues (exactly (q ∷ [])) rest →
     ⊥) →
     (pieces : List Piece) → All (IsPiece q) pieces → rest ++ more ≡ flat_map piece_text pieces ++ q ∷ after → ⊥

@@ -129,7 +129,7 @@ led_nowhere e from at = record {
   same = refl;
 }
 
--- a stage that a token is behind isn't the first one
+-- a stage that a token is after isn't the first one
 -- the stages of open elements aren't the first one
 content_never : (opened : List Open) → content_stage opened ≡ start → ⊥
 content_never [] h = cc
@@ -171,7 +171,7 @@ no_foreign t encoding same other stands =
     let one : CanStand depth_limit start (declaration encoding) = subst (CanStand depth_limit start) same stands in
     both_ways (is_utf8_name encoding) other one.1
 
--- a declaration that can stand isn't one of another encoding
+-- a declaration that is allowed isn't one of another encoding
 pub not_foreign : (text : List ℕ) (l : Lexeme) (rest : List ℕ) → text ≡ l.text ++ rest → IsSpelled l.token l.text rest →
     CanStand depth_limit start l.token → Starts foreign_declaration text → ⊥
 not_foreign text l rest split spelled stands foreign =
@@ -262,7 +262,7 @@ fault_on total first from t b x (NotRead at why) y =
     refusal_on total from x.to x.more at why x.path (subst (λ n. IsRefusal n x.to at why) x.same y)
 fault_on total first from t b x NoMemory y = tt
 
--- the stage behind an empty element
+-- the stage after an empty element
 start_epilog : epilog ≡ start → ⊥
 start_epilog h = cc
 
@@ -345,7 +345,7 @@ element_ends old new from e shut at =
 pub no_pending : (e : Elements) → e.empty ≡ false → pending e ≡ []
 no_pending e h = ap (λ b. if b then finish ∷ [] else []) h
 
--- a stage behind the root has no open element
+-- a stage after the root has no open element
 ended_stage : (s : RawStage) (opened : List Open) → IsStageOf s false opened epilog → (s ≡ Root) × (opened ≡ [])
 ended_stage Start [] h = absurd (start_epilog h)
 ended_stage Start (e ∷ outer) h = absurd h
@@ -386,7 +386,7 @@ depth_within e from at =
     let deep = at.depth in
     omega arith
 
--- the depth inside an element, behind an event
+-- the depth inside an element, after an event
 pub depth_step : (event : RawEvent) (mid new depth after outer : ℕ) → IsDepthAfter (Some event) mid new →
     inner_depth event depth ≡ Some after → mid ≡ outer + depth → new ≡ outer + after
 depth_step (Begin raw) mid new depth after outer step next deep =

@@ -22,12 +22,12 @@ use Rattle.entry_reader.proofs.NumberLemmas.{IsBase, no_digit}
 abbrev pub a_reference : ℕ → List ℕ → List ℕ → Type 0
 a_reference c text rest = IsReference c text
 
--- behind `&#`
+-- after `&#`
 abbrev pub behind_hash : ℕ → List ℕ → List ℕ → Type 0
 behind_hash c text rest =
     numbered_behind 10 c text rest ⊎ ((digits : List ℕ) × (text ≡ 120 ∷ digits) × numbered_behind 16 c digits rest)
 
--- behind `&`
+-- after `&`
 abbrev pub behind_and : ℕ → List ℕ → List ℕ → Type 0
 behind_and c text rest =
     named_behind c text rest ⊎ ((number : List ℕ) × (text ≡ 35 ∷ number) × behind_hash c number rest)

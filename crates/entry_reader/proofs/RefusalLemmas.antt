@@ -30,7 +30,7 @@ use Rattle.entry_reader.specs.declared.tag.Tag.{Tag as RawTag}
 use Rattle.entry_reader.specs.declared.tag.TagEnd.{TagEnd}
 use Rattle.entry_reader.specs.declared.tag.TagEnd.TheVariants.{Open as WholeTag, Empty as EmptyTag, Cut as CutTag}
 use Rattle.entry_reader.specs.declared.tag.TagEnd.TheVariants.{CutAtSlash}
-use Rattle.entry_reader.specs.declared.token.Place.{Place}
+use Rattle.entry_reader.specs.declared.token.Context.{Context}
 use Rattle.entry_reader.specs.Characters.{QName, IsQName, IsName, begins, begins_name, name_text}
 use Rattle.entry_reader.specs.Tokens.{Tag, Token, IsSpelled, IsTag}
 use Rattle.entry_reader.specs.Tokens.Token.{declaration, character, referred, section, comment, instruction, opening}
@@ -48,7 +48,7 @@ use Rattle.entry_reader.proofs.BeginTagLemmas.{IsAdmitted, kept_open, lawful, ma
 use Rattle.entry_reader.proofs.OneTokenLemmas.{one_token}
 use Rattle.entry_reader.proofs.DeclaredXmlLemmas.{declared_xml}
 
--- nothing can stand here
+-- nothing is allowed here
 pub refused_here : (total : ℕ) (from : Point) (at : ℕ) (why : Why) → (Begins depth_limit from.stage from.text → ⊥) →
     (from.text ≡ [] → from.stage ≢ epilog) →
     (CanGoOn depth_limit from.stage from.text × (at ≡ total) × (why ≡ NotWellFormed))
@@ -134,7 +134,7 @@ HasTag before = (more : List ℕ) × (tag : Tag) × (front : List ℕ) × (rest 
 
 module _ (from : Point) (old : Elements) (before : List ℕ) (x : IsAtText old before from) (only : IsTagOnly before)
     (some : before ≢ []) where
-  -- no tag that the text or a continuation of it begins with can stand
+  -- no tag that the text or a continuation of it begins with is allowed
   abbrev pub NoTag : Type 0
   NoTag = (tag : Tag) (more front rest : List ℕ) → from.text ++ more ≡ front ++ rest →
       IsSpelled (opening tag) front rest →
@@ -205,7 +205,7 @@ module _ (from : Point) (old : Elements) (before : List ℕ) (x : IsAtText old b
       ] in
       at before some (has.4 ∙ ap (λ f. f ++ has.3) first.2) (sym x.text ∙ split))
 
-  -- no tag can stand here
+  -- no tag is allowed here
   pub tag_refused : (at : ℕ) (why : Why) → at ≡ from.at → NoTag → IsTokenFault depth_limit from.stage from.text why →
       IsRefusal old.length from at why
   tag_refused at why here none fault =
@@ -230,7 +230,7 @@ module _ (from : Point) (old : Elements) (before : List ℕ) (x : IsAtText old b
       none (one.0, b.rest, record { front = b.front; split = sym same ∙ b.split; spelled = one.1.1 }))
       text_some (inl (can, refl, refl)) tag_foreign
 
-  -- the input goes on with no XML character behind a tag in which the text ends
+  -- the input goes on with no XML character after a tag in which the text ends
   pub cut_short : x.tail ≢ [] → (Starts a_tag before → ⊥) → NoTag × (IsTooDeep depth_limit from.stage from.text → ⊥)
   cut_short tail none =
       let found : (tag : Tag) (more front rest : List ℕ) → from.text ++ more ≡ front ++ rest → IsXmlText front →
@@ -241,14 +241,14 @@ module _ (from : Point) (old : Elements) (before : List ℕ) (x : IsAtText old b
         λ deep. found deep.tag deep.more deep.front deep.rest deep.split deep.xml deep.is_tag,
       )
 
-read_tag : (place : Place) (before : List ℕ) (b : Bool) (raw : RawTag) (after : List ℕ) →
+read_tag : (place : Context) (before : List ℕ) (b : Bool) (raw : RawTag) (after : List ℕ) →
     IsTagRead place before b raw after → HasTag before
 read_tag place before b raw after r =
     let l : Lexeme = record { token = opening r.tag; text = r.alone.0 } in
     let one : AreRead place before (l ∷ []) after = subst (λ ls. AreRead place before ls after) r.alone.1 r.read in
     ([], r.tag, l.text, after, append-nil before ∙ one.split ∙ append_assoc l.text [] after, one.spelled.0.1)
 
-whole_deep : (from : Point) (old : Elements) (before : List ℕ) (x : IsAtText old before from) (place : Place) (b : Bool)
+whole_deep : (from : Point) (old : Elements) (before : List ℕ) (x : IsAtText old before from) (place : Context) (b : Bool)
     (raw : RawTag) (after : List ℕ) → IsTagRead place before b raw after → length (open_in from.stage) ≡ depth_limit →
     IsTooDeep depth_limit from.stage from.text
 whole_deep from old before x place b raw after r deep =
@@ -279,7 +279,7 @@ past_items [] past = refl
 past_items (k ∷ ks) past = absurd (both_ways false refl past)
 
 -- the tag that is read has a spelling
-has_tag : (end : TagEnd) (place : Place) (before : List ℕ) (raw : RawTag) (after : List ℕ) →
+has_tag : (end : TagEnd) (place : Context) (before : List ℕ) (raw : RawTag) (after : List ℕ) →
     IsTagTo end place before raw after → HasTag before
 has_tag WholeTag place before raw after r = read_tag place before false raw after r
 has_tag EmptyTag place before raw after r = read_tag place before true raw after r
@@ -290,7 +290,7 @@ has_tag CutTag place before raw after r =
 has_tag CutAtSlash place before raw after r =
     (codes ">", r.tag, before ++ codes ">", [], sym (append-nil (before ++ codes ">")), r.spelled.1)
 
-no_start : (end : TagEnd) (place : Place) (before : List ℕ) (raw : RawTag) (after : List ℕ) → is_cut end ≡ true →
+no_start : (end : TagEnd) (place : Context) (before : List ℕ) (raw : RawTag) (after : List ℕ) → is_cut end ≡ true →
     IsTagTo end place before raw after → Starts a_tag before → ⊥
 no_start WholeTag place before raw after cut r = absurd (both_ways false refl cut)
 no_start EmptyTag place before raw after cut r = absurd (both_ways false refl cut)
@@ -309,7 +309,7 @@ past_stage Root (e ∷ outer) items s is names past =
     subst (λ k. AllZip IsNameOfOpen (e ∷ outer) (reverse k)) none names
     in absurd bad
 
--- a tag that can stand, but for its prefix
+-- a tag that is allowed, but for its prefix
 can_begin : (from : Point) (old : Elements) (before : List ℕ) (x : IsAtText old before from) → old.empty ≡ false →
     is_past_root old.stage old.open.items ≡ false → length old.open.items < old.most → (tag : Tag) →
     IsTrue (is_some (namespace_of (inner_scope (scope_in from.stage) tag) tag.name.prefix)) →
@@ -355,7 +355,7 @@ outer_some (e ∷ opened) (level ∷ levels) p are some =
 
 -- a tag with this end whose text goes on
 deep_tag : (from : Point) (old : Elements) (before : List ℕ) (x : IsAtText old before from) (end : TagEnd)
-    (place : Place)
+    (place : Context)
     (raw : RawTag) (after : List ℕ) → (is_cut end && nat_lt old.end old.length) ≡ false →
     IsTagTo end place before raw after → length (open_in from.stage) ≡ depth_limit →
     IsTooDeep depth_limit from.stage from.text
@@ -420,7 +420,7 @@ cut_goes from old before x told inside shallow tail c =
 
 cut_admission : (from : Point) (old : Elements) (before : List ℕ) (x : IsAtText old before from)
     (only : IsTagOnly before)
-    (some : before ≢ []) (end : TagEnd) (place : Place) (raw : RawTag) (after : List ℕ) (fault : EntryFault) →
+    (some : before ≢ []) (end : TagEnd) (place : Context) (raw : RawTag) (after : List ℕ) (fault : EntryFault) →
     old.empty ≡ false → is_past_root old.stage old.open.items ≡ false → length old.open.items < old.most →
     (is_cut end && nat_lt old.end old.length) ≡ false → IsTagTo end place before raw after →
     admission_of_cut old.length end ≡ Err fault → IsFaultFrom old.length from fault
@@ -438,7 +438,7 @@ cut_admission from old before x only some CutTag place raw after fault told insi
 
 -- a tag that isn't admitted is refused
 pub admit_refused : (from : Point) (old : Elements) (before : List ℕ) (x : IsAtText old before from)
-    (only : IsTagOnly before) (some : before ≢ []) (place : Place) (raw : RawTag) (after : List ℕ) (at : ℕ)
+    (only : IsTagOnly before) (some : before ≢ []) (place : Context) (raw : RawTag) (after : List ℕ) (at : ℕ)
     (fault : EntryFault) → old.empty ≡ false → IsTagTo raw.end place before raw after → at ≡ from.at →
     admission old at raw.end ≡ Err fault → IsFaultFrom old.length from fault
 admit_refused from old before x only some place raw after at fault told r here e =
@@ -510,7 +510,7 @@ pub record OneTag (before : List ℕ) (raw : RawTag) : Type 0 where
   pub only : (more front rest : List ℕ) (other : Tag) → before ++ more ≡ front ++ rest →
       IsSpelled (opening other) front rest → other ≡ tag
 
-one_read : (place : Place) (before : List ℕ) (b : Bool) (raw : RawTag) (after : List ℕ) →
+one_read : (place : Context) (before : List ℕ) (b : Bool) (raw : RawTag) (after : List ℕ) →
     IsTagRead place before b raw after → OneTag before raw
 one_read place before b raw after r =
     let l : Lexeme = record { token = opening r.tag; text = r.alone.0 } in
@@ -527,7 +527,7 @@ one_read place before b raw after r =
           (one_token (opening other) (opening r.tag) front rest l.text (after ++ more) spelled one.spelled.0 whole).0;
     }
 
-one_tag : (end : TagEnd) (place : Place) (before : List ℕ) (raw : RawTag) (after : List ℕ) → end ≢ CutTag →
+one_tag : (end : TagEnd) (place : Context) (before : List ℕ) (raw : RawTag) (after : List ℕ) → end ≢ CutTag →
     IsTagTo end place before raw after → OneTag before raw
 one_tag WholeTag place before raw after whole r = one_read place before false raw after r
 one_tag EmptyTag place before raw after whole r = one_read place before true raw after r
@@ -569,7 +569,7 @@ tag_namespace from old before x raw one scopes prefix local found told opens fin
 
 -- a tag whose prefix isn't set is refused
 pub unset_refused : (from : Point) (old : Elements) (before : List ℕ) (x : IsAtText old before from)
-    (only : IsTagOnly before) (some : before ≢ []) (place : Place) (raw : RawTag) (after : List ℕ) (at : ℕ)
+    (only : IsTagOnly before) (some : before ≢ []) (place : Context) (raw : RawTag) (after : List ℕ) (at : ℕ)
     (scopes : Scopes) (prefix local : Bor (List ℕ)) → old.empty ≡ false → IsTagTo raw.end place before raw after →
     at ≡ from.at → IsAdmitted old raw.end → OpensScope raw.attributes.items old.scopes scopes →
     ((opened : List Open) → AreScopesOf opened scopes →
@@ -605,9 +605,9 @@ slash_end EmptyTag e whole = let bad : None ≡ Some true = e in absurd cc
 slash_end CutTag e whole = absurd (whole refl)
 slash_end CutAtSlash e whole = refl
 
--- a tag in which the text ends behind `/`
+-- a tag in which the text ends after `/`
 pub slash_refused : (from : Point) (old : Elements) (before : List ℕ) (x : IsAtText old before from)
-    (only : IsTagOnly before) (some : before ≢ []) (place : Place) (raw : RawTag) (after : List ℕ)
+    (only : IsTagOnly before) (some : before ≢ []) (place : Context) (raw : RawTag) (after : List ℕ)
     (scopes : Scopes) (prefix local : Bor (List ℕ)) (namespace : Namespace) → old.empty ≡ false →
     IsTagTo raw.end place before raw after → IsAdmitted old raw.end → None ≡ emptiness raw.end →
     OpensScope raw.attributes.items old.scopes scopes →

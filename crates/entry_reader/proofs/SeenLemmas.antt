@@ -46,7 +46,7 @@ named_more name b e inner same =
     ∙ ap (λ k. named name b ++ k)
     (cond-true (same_name e.name name) (record { element = e; content = inner } ∷ []) [] same)
 
--- the elements of two contents, one behind the other
+-- the elements of two contents, one after the other
 pub seen_joined : (w : Within) (before : List Name) (b c : Content) →
     all_seen w before (joined b c) ≡ all_seen w before b ++ all_seen w (before ++ names_of b) c
 seen_joined w before nothing c = ap (λ n. all_seen w n c) (sym (append-nil before))
@@ -129,7 +129,7 @@ text_refusal before (element e inner c) =
       place = refl;
     }
 
--- the first refusal behind elements without one
+-- the first refusal after elements without one
 pub fault_behind : (xs ys : List Seen) (at : ℕ) (why : Why) → All IsFaultless xs → IsFirstFault ys at why →
     IsFirstFault (xs ++ ys) at why
 fault_behind xs ys at why none f = record {

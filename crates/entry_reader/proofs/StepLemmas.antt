@@ -14,8 +14,8 @@ use Rattle.entry_reader.specs.Reading.{IsForeignRead}
 use Rattle.entry_reader.specs.declared.elements.Elements.{Elements}
 use Rattle.entry_reader.specs.declared.fault.EntryFault.TheVariants.{NotRead}
 use Rattle.entry_reader.specs.declared.fault.Why.TheVariants.{Doctype, NotWellFormed}
-use Rattle.entry_reader.specs.declared.token.Place.{Place}
-use Rattle.entry_reader.specs.declared.token.Place.TheVariants.{Start as AtStart, Outside, Inside}
+use Rattle.entry_reader.specs.declared.token.Context.{Context}
+use Rattle.entry_reader.specs.declared.token.Context.TheVariants.{Start as AtStart, Outside, Inside}
 use Rattle.entry_reader.specs.Characters.{IsNamed, begins, name_text}
 use Rattle.entry_reader.specs.Tokens.{Token, IsSpelled}
 use Rattle.entry_reader.specs.Tokens.Token.{declaration, character, referred, section, comment, instruction, opening}
@@ -150,26 +150,26 @@ spelled_less (character read) text rest tail s = (
       s.1,
 )
 
-content_inside : (place : Place) (s : Stage) → IsPlaceOf place s → IsInside s → IsInContent place
+content_inside : (place : Context) (s : Stage) → IsPlaceOf place s → IsInside s → IsInContent place
 content_inside AtStart s is h = absurd (subst IsInside is h)
 content_inside Outside s is h =
     ⊎_elim (λ p. let bad : IsInside prolog = subst IsInside p h in absurd bad)
     (λ p. let bad : IsInside epilog = subst IsInside p h in absurd bad) is
 content_inside (Inside name) s is h = tt
 
-inside_content : (place : Place) (s : Stage) → IsPlaceOf place s → IsInContent place → IsInside s
+inside_content : (place : Context) (s : Stage) → IsPlaceOf place s → IsInContent place → IsInside s
 inside_content place s is content =
     let c = content_place place s is content in subst IsInside (sym c.2) tt
 
-pub place_start : (place : Place) (s : Stage) → IsPlaceOf place s → s ≡ start → place ≡ AtStart
+pub place_start : (place : Context) (s : Stage) → IsPlaceOf place s → s ≡ start → place ≡ AtStart
 place_start AtStart s is e = refl
 place_start Outside s is e =
     ⊎_elim (λ p. let bad : prolog ≡ start = sym p ∙ e in absurd cc) (λ p. let bad : epilog ≡ start = sym p
     ∙ e in absurd cc) is
 place_start (Inside name) s is e = let bad : inside is.0 is.1 ≡ start = sym is.2 ∙ e in absurd cc
 
--- what can stand at a stage can stand at its place
-can_may : (place : Place) (s : Stage) (t : Token) → IsPlaceOf place s → CanStand depth_limit s t → MayStand place t
+-- what is allowed at a stage is allowed at its place
+can_may : (place : Context) (s : Stage) (t : Token) → IsPlaceOf place s → CanStand depth_limit s t → MayStand place t
 can_may place s (declaration encoding) is can = (place_start place s is can.0, can.1)
 can_may place s (character read) is can = ⊎_elim (λ h. inl (content_inside place s is h)) (λ spaces. inr spaces) can
 can_may place s (referred c) is can = content_inside place s is can
@@ -185,7 +185,7 @@ can_may (Inside raw) s (closing name) is can =
     let same : name ≡ is.0.name = subst (IsInnermost name) is.2 can in is.3.0 ∙ ap name_text (sym same)
 
 -- and a token that isn't a tag the other way round
-may_can : (place : Place) (s : Stage) (t : Token) (front rest : List ℕ) → IsPlaceOf place s → MayStand place t →
+may_can : (place : Context) (s : Stage) (t : Token) (front rest : List ℕ) → IsPlaceOf place s → MayStand place t →
     (IsOpening t → ⊥) → IsSpelled t front rest → CanStand depth_limit s t
 may_can place s (declaration encoding) front rest is may untagged spelled = (start_place place s is may.0, may.1)
 may_can place s (character read) front rest is may untagged spelled =
@@ -201,7 +201,7 @@ may_can place s (closing name) front rest is may untagged spelled =
 doctype_xml : IsXmlText (codes "<!DOCTYPE")
 doctype_xml = xml_ascii (codes "<!DOCTYPE") refl (λ e. cc)
 
--- a comment can stand at each stage
+-- a comment is allowed at each stage
 a_comment_stands : (s : Stage) → CanGoOn depth_limit s []
 a_comment_stands s = (
   codes "<!---->",
@@ -223,7 +223,7 @@ lexemes_some (l ∷ ls) after are some =
     let parts = length-append l.text (lexemes_text ls) in
     omega arith
 
-pub read_shorter : (place : Place) (before : List ℕ) (ls : List Lexeme) (after : List ℕ) →
+pub read_shorter : (place : Context) (before : List ℕ) (ls : List Lexeme) (after : List ℕ) →
     AreRead place before ls after → length after < length before
 read_shorter place before ls after read =
     let long = lexemes_some ls after read.spelled read.some in
@@ -250,12 +250,12 @@ moved e cursor before from x = record {
 }
 
 -- the name of the innermost open element
-pub fit_place : (place : Place) (s : Stage) → IsPlaceOf place s → IsFitPlace place
+pub fit_place : (place : Context) (s : Stage) → IsPlaceOf place s → IsFitPlace place
 fit_place AtStart s is = tt
 fit_place Outside s is = tt
 fit_place (Inside name) s is = (is.3.2, (is.0.name, is.3.1, is.3.0))
 
-module _ (from : Point) (old : Elements) (before : List ℕ) (x : IsAtText old before from) (place : Place)
+module _ (from : Point) (old : Elements) (before : List ℕ) (x : IsAtText old before from) (place : Context)
     (is : IsPlaceOf place from.stage) (some : before ≢ []) where
   text_some : from.text ≡ [] → from.stage ≢ epilog
   text_some none stage = some (nil_front before x.tail (sym x.text ∙ none))
@@ -308,7 +308,7 @@ module _ (from : Point) (old : Elements) (before : List ℕ) (x : IsAtText old b
       ] in
       never (place_start place from.stage is begun) (at x.tail refl)
 
-  -- no token can stand, and no tag
+  -- no token is allowed, and no tag
   refused : (at : ℕ) → at ≡ from.at → (CanGoOn depth_limit from.stage from.text → ⊥) →
       (IsTooDeep depth_limit from.stage from.text → ⊥) →
       (from.stage ≡ start → Starts foreign_declaration from.text → ⊥) →

@@ -234,7 +234,7 @@ from_tag tag text rest is =
       a.2,
     )
 
--- the first byte behind a name
+-- the first byte after a name
 space_first : (spaces : List ℕ) (b : ℕ) (rest : List ℕ) → AreSpaces spaces → continues_name b ≡ false →
     nat_eq colon b ≡ false →
     IsTrue (first_is_no continues_name (spaces ++ b ∷ rest)) × IsTrue (first_is_no (nat_eq colon) (spaces ++ b ∷ rest))
@@ -280,7 +280,7 @@ nil_or : (text : List ℕ) → (text ≡ []) ⊎ (text ≢ [])
 nil_or [] = inl refl
 nil_or (b ∷ text) = inr (λ (e : b ∷ text ≡ []). cc)
 
--- behind the name of a tag, a continuation goes on as the rest of one
+-- after the name of a tag, a continuation goes on as the rest of one
 pub behind_tag : (text opened name named : List ℕ) → text ≡ codes "<" ++ opened →
     IsFound whole_qname opened name named →
     (more : List ℕ) → (named ≡ [] → more ≡ []) → (tag : Tag) (rest : List ℕ) → IsFound a_tag (text ++ more) tag rest →

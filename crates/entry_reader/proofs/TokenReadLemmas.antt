@@ -12,7 +12,7 @@ use Rattle.std.proofs.lemmas.List.Folds.{list_all-append}
 use Rattle.atom_values.specs.XmlText.{IsXmlText}
 use Rattle.entry_reader.specs.declared.cursor.Lapse.{Lapse}
 use Rattle.entry_reader.specs.declared.cursor.Lapse.TheVariants.{Broken, Cut, NoMemory}
-use Rattle.entry_reader.specs.declared.token.Place.{Place}
+use Rattle.entry_reader.specs.declared.token.Context.{Context}
 use Rattle.entry_reader.specs.declared.token.Token.{Token as RawToken}
 use Rattle.entry_reader.specs.declared.token.Token.TheVariants.{Declaration, Silent, Characters as Run, Reference}
 use Rattle.entry_reader.specs.declared.token.Token.TheVariants.{Section, Tag as TagToken, EndTag}
@@ -32,7 +32,7 @@ use Rattle.entry_reader.proofs.TokenFirstLemmas.{token_begins, xml_rest, heads_o
 use Rattle.entry_reader.proofs.XmlLemmas.{printable_xml, printable_reference, xml_nil, xml_before}
 
 -- one token is read
-pub one_read : (place : Place) (before front after : List ℕ) (token : Token) → before ≡ front ++ after →
+pub one_read : (place : Context) (before front after : List ℕ) (token : Token) → before ≡ front ++ after →
     IsSpelled token front after → MayStand place token →
     AreRead place before (record { token = token; text = front } ∷ []) after
 one_read place before front after token split is stands =
@@ -45,7 +45,7 @@ one_read place before front after token split is stands =
       some = λ e. let g : l ∷ [] ≡ [] = e in cc;
     }
 
-all_stand : (place : Place) (read : List ℕ) (ls : List Lexeme) → AreCharacters read ls → IsInContent place →
+all_stand : (place : Context) (read : List ℕ) (ls : List Lexeme) → AreCharacters read ls → IsInContent place →
     All (λ (l : Lexeme). MayStand place l.token) ls
 all_stand place read [] are is = λ k d (below : k < 0). absurd (omega arith)
 all_stand place read (l ∷ ls) are is =
@@ -91,7 +91,7 @@ said_cases P b tail text more s x is other e (closing name) spelled p of_charact
     not_open b tail text more s x (codes "/" ++ f.0) is other e f.1
 
 -- a text that begins with `&` begins with no other token than a reference
-reference_only : (place : Place) (tail text more : List ℕ) → text ≡ 38 ∷ tail → BeginsAt place (text ++ more) →
+reference_only : (place : Context) (tail text more : List ℕ) → text ≡ 38 ∷ tail → BeginsAt place (text ++ more) →
     Starts a_reference (text ++ more)
 reference_only place tail text more is b =
     said_cases (λ t. IsSpelled t b.front b.rest) 38 tail text more b.front b.rest is (λ (k : 38 ≡ 60). omega arith)
@@ -103,7 +103,7 @@ reference_only place tail text more is b =
     (λ c spelled. (c, b.rest, record { front = b.front; split = b.split; spelled = spelled.1 }))
 
 -- a reference can go on in XML text
-reference_goes : (place : Place) → IsInContent place → (before end : List ℕ) → IsXmlText before →
+reference_goes : (place : Context) → IsInContent place → (before end : List ℕ) → IsXmlText before →
     Reads a_reference before (Err Cut) end →
     (more : List ℕ) × (b : BeginsAt place (before ++ more)) × (IsOpening b.token → ⊥)
 reference_goes place inside before end xml cut =
@@ -122,7 +122,7 @@ reference_goes place inside before end xml cut =
       (λ no. no),
     )
 
--- no text goes on with a line feed behind a run
+-- no text goes on with a line feed after a run
 pub no_feed : (test : ℕ → Bool) (after : List ℕ) → test 10 ≡ true → IsTrue (first_is_no test after) →
     begins (10 ∷ []) after ≡ false
 no_feed test [] is first = refl
@@ -145,7 +145,7 @@ plain_end b e =
 cut_broken : Cut ≡ Broken → ⊥
 cut_broken e = cc
 
--- what begins behind a run of plain characters
+-- what begins after a run of plain characters
 run_xml : (run after : List ℕ) → IsTrue (first_is_no is_plain after) → IsXmlText (run ++ after) →
     IsXmlText run × IsXmlText after
 run_xml run [] first is =
@@ -177,7 +177,7 @@ run_some (b ∷ before) run after some no_tag no_and no_bracket r none =
     (not_begun b (b ∷ before) before 93 refl no_bracket))
 
 -- characters of content
-run_reads : (place : Place) → IsInContent place → (before run after : List ℕ) → IsXmlText before → before ≢ [] →
+run_reads : (place : Context) → IsInContent place → (before run after : List ℕ) → IsXmlText before → before ≢ [] →
     begins (codes "<") before ≡ false → begins (codes "&") before ≡ false → begins (codes "]") before ≡ false →
     IsPlainRun before run after → (ls : List Lexeme) × AreRead place before ls after × AreCharacters (lines run) ls
     × IsXmlText after
@@ -197,7 +197,7 @@ run_reads place inside before run after xml some no_tag no_and no_bracket r =
     )
 
 -- a `]` alone
-bracket_reads : (place : Place) → IsInContent place → (before after : List ℕ) → IsXmlText before → before ≡ 93 ∷ after →
+bracket_reads : (place : Context) → IsInContent place → (before after : List ℕ) → IsXmlText before → before ≡ 93 ∷ after →
     begins (codes "]]>") before ≡ false →
     (ls : List Lexeme) × AreRead place before ls after × AreCharacters (lines (93 ∷ [])) ls × IsXmlText after
 bracket_reads place inside before after xml is no_end =
@@ -216,7 +216,7 @@ bracket_reads place inside before after xml is no_end =
     )
 
 -- `]]>` begins no token of content
-no_section_end : (place : Place) (before more : List ℕ) → IsTrue (begins (codes "]]>") before) →
+no_section_end : (place : Context) (before more : List ℕ) → IsTrue (begins (codes "]]>") before) →
     BeginsAt place (before ++ more) → ⊥
 no_section_end place before more begun b =
     let tail = drop 3 before in
@@ -237,7 +237,7 @@ no_section_end place before more begun b =
     let k = first_byte 93 (codes "]>" ++ tail) before more b.front b.rest f.0 38 is b.split f.1 in omega arith)
 
 -- what content says
-pub said_reads : (place : Place) → IsInContent place → (before : List ℕ) → IsXmlText before → before ≢ [] →
+pub said_reads : (place : Context) → IsInContent place → (before : List ℕ) → IsXmlText before → before ≢ [] →
     begins (codes "<") before ≡ false → (r : Result RawToken Lapse) (after : List ℕ) → ReadsSaid before r after →
     ReadsToken place before r after
 said_reads place inside before xml some no_tag (Ok (Declaration Utf8)) after r = absurd r
@@ -303,7 +303,7 @@ spaces_lines after (b ∷ s) are =
     (cases_Bool (b == 13))
 
 -- white space outside the root
-blank_all : (place : Place) → (IsInContent place → ⊥) → (read : List ℕ) (ls : List Lexeme) → AreCharacters read ls →
+blank_all : (place : Context) → (IsInContent place → ⊥) → (read : List ℕ) (ls : List Lexeme) → AreCharacters read ls →
     AreSpaces read →
     All (λ (l : Lexeme). MayStand place l.token) ls × All (λ (l : Lexeme). IsSilentAt place l.token) ls
 blank_all place outside read [] are spaces =
@@ -319,7 +319,7 @@ blank_all place outside read (l ∷ ls) are spaces =
       All-cons (λ (x : Lexeme). IsSilentAt place x.token) l ls (subst S (sym are.2) outside) more.1,
     )
 
-blank_found : (place : Place) → (IsInContent place → ⊥) → (before after : List ℕ) → IsXmlText before →
+blank_found : (place : Context) → (IsInContent place → ⊥) → (before after : List ℕ) → IsXmlText before →
     IsFound a_gap before tt after → ReadsToken place before (Ok Silent) after
 blank_found place outside before after xml f =
     let X : List ℕ → Type 0 = IsXmlText in
@@ -341,7 +341,7 @@ blank_found place outside before after xml f =
     )
 
 -- no white space, and nothing else that stands outside the root
-no_blank : (place : Place) → (IsInContent place → ⊥) → (b : ℕ) (tail before : List ℕ) → before ≡ b ∷ tail → b ≢ 60 →
+no_blank : (place : Context) → (IsInContent place → ⊥) → (b : ℕ) (tail before : List ℕ) → before ≡ b ∷ tail → b ≢ 60 →
     is_space b ≡ false → (more : List ℕ) → BeginsAt place (before ++ more) → ⊥
 no_blank place outside b tail before is other none more a =
     let P : Token → Type 0 = λ t. IsSpelled t a.front a.rest × MayStand place t in
@@ -367,7 +367,7 @@ no_blank place outside b tail before is other none more a =
     p.1)
     (λ c p. outside p.1)
 
-pub blank_reads : (place : Place) → (IsInContent place → ⊥) → (before : List ℕ) → IsXmlText before → before ≢ [] →
+pub blank_reads : (place : Context) → (IsInContent place → ⊥) → (before : List ℕ) → IsXmlText before → before ≢ [] →
     begins (codes "<") before ≡ false → (r : Result RawToken Lapse) (after : List ℕ) → ReadsBlank before r after →
     ReadsToken place before r after
 blank_reads place outside before xml some no_tag (Ok (Declaration x)) after r = absurd r

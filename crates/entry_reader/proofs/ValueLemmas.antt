@@ -148,7 +148,7 @@ first_reference q c t rest is (reference k u ∷ ps) each e =
       read = ap (λ x. encode_utf8 x ++ flat_map piece_read ps) (sym one.0);
     }
 
--- behind what was appended, the value goes on as that of the rest
+-- after what was appended, the value goes on as that of the rest
 abbrev pub GoesOn : List ℕ → List ℕ → List ℕ → Type 0
 GoesOn written items rest =
     (q : ℕ) (value : List ℕ) → IsValue q value written → (later : List ℕ) × IsValue q later rest ×

@@ -138,7 +138,7 @@ printable_reference c t is =
     numbered)
     is.1
 
--- what stands behind an ASCII character
+-- what stands after an ASCII character
 pub xml_behind : (b : ℕ) (text : List ℕ) → b < 128 → IsXmlText (b ∷ text) → IsXmlText text
 xml_behind b text low is =
     let p = xml_parts (b ∷ text) is in

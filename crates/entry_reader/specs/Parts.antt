@@ -39,7 +39,7 @@ joined nothing c = c
 joined (said read b) c = said read (joined b c)
 joined (element e inner b) c = element e inner (joined b c)
 
--- a content, and an element behind it
+-- a content, and an element after it
 abbrev pub with_child : Content → Element → Content → Content
 with_child b e inner = joined b (element e inner nothing)
 
@@ -55,7 +55,7 @@ count_of name names = length (filter (same_name name) names)
 abbrev pub IsFaultlessIn : Within → List Name → Element → Content → Type 0
 IsFaultlessIn within before e inner = All IsFaultless (all_seen within before (element e inner nothing))
 
--- Behind the events that are read inside an element, whatever follows in it and behind it, the first fault from the
+-- Behind the events that are read inside an element, whatever follows in it and after it, the first fault from the
 -- element on is this one.
 abbrev pub Refuses : Within → List Name → Element → List Event → ℕ → Why → Type 0
 Refuses within before e told at why =
@@ -135,7 +135,7 @@ pub record AreFieldsOf (b : Content) (fields : Fields) : Type 0 where
 abbrev pub slot_refusal : Bool → ℕ → Option ℕ → Option (ℕ × Why)
 slot_refusal taken at inner = if taken then Some (at, Twice) else option_map (λ place. (place, NotAnEntry)) inner
 
--- the fields behind a child with this text, whose first element is at `inner`
+-- the fields after a child with this text, whose first element is at `inner`
 abbrev pub taken_fields : Field → List ℕ → Option ℕ → ℕ → Fields → Fields
 taken_fields NameField text inner at old = record old {
   name = Some text;

@@ -23,8 +23,8 @@ use Rattle.entry_reader.specs.declared.fault.Why.{Why}
 use Rattle.entry_reader.specs.declared.fault.Why.TheVariants.{NotUtf8, Doctype, NotWellFormed, TooDeep}
 use Rattle.entry_reader.specs.declared.cursor.Lapse.{Lapse}
 use Rattle.entry_reader.specs.declared.cursor.Lapse.TheVariants.{Broken, Cut, NoMemory as OutOfMemory}
-use Rattle.entry_reader.specs.declared.token.Place.{Place}
-use Rattle.entry_reader.specs.declared.token.Place.TheVariants.{Start as AtStart, Outside, Inside}
+use Rattle.entry_reader.specs.declared.token.Context.{Context}
+use Rattle.entry_reader.specs.declared.token.Context.TheVariants.{Start as AtStart, Outside, Inside}
 use Rattle.entry_reader.specs.declared.elements.Content.{Content as RawContent}
 use Rattle.entry_reader.specs.declared.tag.TagEnd.{TagEnd}
 use Rattle.entry_reader.specs.declared.tag.TagEnd.TheVariants.{Open as WholeTag, Empty as EmptyTag, Cut as CutTag}
@@ -68,12 +68,12 @@ IsStageOf Root false opened stage = stage ≡ content_stage opened
 IsStageOf Root true (element ∷ outer) stage = stage ≡ content_stage outer
 IsStageOf _ _ _ _ = ⊥
 
--- the stage behind a token that says nothing of elements
+-- the stage after a token that says nothing of elements
 abbrev pub later_stage : RawStage → RawStage
 later_stage Start = Prolog
 later_stage stage = stage
 
--- the text behind the reader's: no XML text begins with its first byte, whatever follows it
+-- the text after the reader's: no XML text begins with its first byte, whatever follows it
 abbrev pub IsBehindXml : List ℕ → Type 0
 IsBehindXml tail =
     (front back more : List ℕ) → tail ≢ [] → tail ++ more ≡ front ++ back → IsXmlText front → front ≡ []
@@ -113,7 +113,7 @@ pub record IsLed (total : ℕ) (first : List Event) (from : Point) (told : List 
   pub order : first ++ more ≡ told ++ pending new
   pub same : new.length ≡ total
 
--- the rest of the document is refused: a token can't stand, or it begins with a declaration of another encoding
+-- the rest of the document is refused: a token isn't allowed, or it begins with a declaration of another encoding
 abbrev pub IsRefusal : ℕ → Point → ℕ → Why → Type 0
 IsRefusal total from at why =
     (IsStuckAt depth_limit from.stage from.text total at why
@@ -156,12 +156,12 @@ IsEventOf total first from (Err fault) new = IsFaultFrom total from fault
 abbrev pub IsNext : Elements → Result (Option RawEvent) EntryFault → Elements → Type 0
 IsNext old result new = (from : Point) → IsAt old from → IsEventOf old.length (pending old) from result new
 
--- what a tag is in the tree, or why it can't stand
+-- what a tag is in the tree, or why it isn't allowed
 abbrev pub IsBegun : ℕ → Point → Result RawEvent EntryFault → Elements → Type 0
 IsBegun total from (Ok event) new = IsEventOf total [] from (Ok (Some event)) new
 IsBegun total from (Err fault) new = IsEventOf total [] from (Err fault) new
 
--- how many elements are open behind an event
+-- how many elements are open after an event
 abbrev pub IsDepthAfter : Option RawEvent → ℕ → ℕ → Type 0
 IsDepthAfter None old new = new ≡ old
 IsDepthAfter (Some (Begin raw)) old new = new ≡ old + 1
@@ -176,7 +176,7 @@ abbrev pub left_of : Elements → ℕ
 left_of elements = 2 * length elements.cursor.rest.now + (if elements.empty then 1 else 0)
 
 -- the place of the next token, at a stage
-abbrev pub IsPlaceOf : Place → Stage → Type 0
+abbrev pub IsPlaceOf : Context → Stage → Type 0
 IsPlaceOf AtStart stage = stage ≡ start
 IsPlaceOf Outside stage = (stage ≡ prolog) ⊎ (stage ≡ epilog)
 IsPlaceOf (Inside name) stage =
@@ -215,7 +215,7 @@ fault_of end total at text Broken =
 abbrev pub IsUnfinished : Elements → Type 0
 IsUnfinished elements = (from : Point) → IsAt elements from → from.text ≡ [] → from.stage ≢ epilog
 
--- the start of a document, behind the mark
+-- the start of a document, after the mark
 abbrev pub first_point : List ℕ → Point
 first_point bytes = record {
   stage = start;
@@ -244,7 +244,7 @@ abbrev pub admission_of_cut : ℕ → TagEnd → Result (Unit {0}) EntryFault
 admission_of_cut total CutTag = Err (NotRead total NotWellFormed)
 admission_of_cut total _ = Ok tt
 
--- whether a tag that ends so can stand, whatever its prefix is and if its missing attributes set it
+-- whether a tag that ends so is allowed, whatever its prefix is and if its missing attributes set it
 abbrev pub admission : Elements → ℕ → TagEnd → Result (Unit {0}) EntryFault
 admission elements at end =
     if (is_past_root elements.stage elements.open.items) || (is_cut end && nat_lt elements.end elements.length)
@@ -268,7 +268,7 @@ AreInner inner told = (later : List Event) → contents (told ++ later) ≡ inne
 abbrev pub first_place : Content → Option ℕ
 first_place inner = option_map (λ c. c.element.place) (first_of (children inner))
 
--- how many elements are open inside the one that is read, behind an event; none if it ends that one
+-- how many elements are open inside the one that is read, after an event; none if it ends that one
 abbrev pub inner_depth : RawEvent → ℕ → Option ℕ
 inner_depth (Begin raw) depth = Some (depth + 1)
 inner_depth End depth = if depth == 0 then None else Some (depth - 1)

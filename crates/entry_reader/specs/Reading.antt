@@ -18,8 +18,8 @@ use Rattle.entry_reader.specs.declared.tag.Attribute.{Attribute as Raw}
 use Rattle.entry_reader.specs.declared.tag.Tag.{Tag as RawTag}
 use Rattle.entry_reader.specs.declared.tag.TagEnd.{TagEnd}
 use Rattle.entry_reader.specs.declared.tag.TagEnd.TheVariants.{Open as Whole, Empty, Cut as CutTag, CutAtSlash}
-use Rattle.entry_reader.specs.declared.token.Place.{Place}
-use Rattle.entry_reader.specs.declared.token.Place.TheVariants.{Start, Inside}
+use Rattle.entry_reader.specs.declared.token.Context.{Context}
+use Rattle.entry_reader.specs.declared.token.Context.TheVariants.{Start, Inside}
 use Rattle.entry_reader.specs.declared.token.Token.{Token as RawToken}
 use Rattle.entry_reader.specs.declared.token.Token.TheVariants.{Declaration, Silent, Characters as Run, Reference}
 use Rattle.entry_reader.specs.declared.token.Token.TheVariants.{Section, Tag as TagToken, EndTag}
@@ -128,7 +128,7 @@ pub record IsFirstPlace (pattern text : List ℕ) (at : ℕ) : Type 0 where
 abbrev pub one_quote : ℕ → List ℕ → List ℕ → Type 0
 one_quote q text rest = IsQuote q × (text ≡ q ∷ [])
 
--- `=` with white space round it, all that is behind it
+-- `=` with white space round it, all that is after it
 abbrev pub equals_sign : Unit {0} → List ℕ → List ℕ → Type 0
 equals_sign _ text rest =
     (before : List ℕ) × (behind : List ℕ) × AreSpaces before × AreSpaces behind
@@ -167,7 +167,7 @@ ReadsSaid before (Err lapse) after =
     (IsTrue (begins (codes "&") before) × Reads (λ c text rest. IsReference c text) before (Err lapse) after)
     ⊎ (IsTrue (begins (codes "]]>") before) × (lapse ≡ Broken))
 
--- `version` and its value, behind the white space before it (XML 1.0, production 24)
+-- `version` and its value, after the white space before it (XML 1.0, production 24)
 abbrev pub a_version : Unit {0} → List ℕ → List ℕ → Type 0
 a_version = seq (exactly (codes "version")) (λ _. seq equals_sign (λ _. seq one_quote (λ q.
     seq (exactly (codes "1.0")) (λ _. exactly (q ∷ [])))))
@@ -175,12 +175,12 @@ a_version = seq (exactly (codes "version")) (λ _. seq equals_sign (λ _. seq on
 abbrev pub yes_or_no : Unit {0} → List ℕ → List ℕ → Type 0
 yes_or_no _ text rest = (text ≡ codes "yes") ⊎ (text ≡ codes "no")
 
--- `standalone` and its value, behind the white space before it (XML 1.0, production 32)
+-- `standalone` and its value, after the white space before it (XML 1.0, production 32)
 abbrev pub a_standalone : Unit {0} → List ℕ → List ℕ → Type 0
 a_standalone = seq (exactly (codes "standalone")) (λ _. seq equals_sign (λ _. seq one_quote (λ q.
     seq yes_or_no (λ _. exactly (q ∷ [])))))
 
--- the end of a declaration, behind the longest white space that is there
+-- the end of a declaration, after the longest white space that is there
 abbrev pub spaced_end : Unit {0} → List ℕ → List ℕ → Type 0
 spaced_end = seq all_spaces (λ _. exactly (codes "?>"))
 
@@ -189,21 +189,21 @@ abbrev pub declaration_end : Bool → Unit {0} → List ℕ → List ℕ → Typ
 declaration_end spaced v text rest =
     ((spaced ≡ true) × seq a_standalone (λ (_ : Unit {0}). spaced_end) v text rest) ⊎ (text ≡ codes "?>")
 
--- a value in quotes that is the name of an encoding, behind the first quote, and whether its texts are UTF-8
+-- a value in quotes that is the name of an encoding, after the first quote, and whether its texts are UTF-8
 abbrev pub encoding_name : ℕ → Bool → List ℕ → List ℕ → Type 0
 encoding_name q utf8 text rest =
     IsQuote q × ((name : List ℕ) × IsTrue (is_encoding_name name) × (utf8 ≡ is_utf8_name (Some name))
     × (text ≡ name ++ q ∷ []))
 
--- `encoding` and its value, behind the white space before it (XML 1.0, production 80)
+-- `encoding` and its value, after the white space before it (XML 1.0, production 80)
 abbrev pub an_encoding : Bool → List ℕ → List ℕ → Type 0
 an_encoding = seq (exactly (codes "encoding")) (λ _. seq equals_sign (λ _. seq one_quote encoding_name))
 
--- behind the encoding of a declaration, whose texts are UTF-8 or not
+-- after the encoding of a declaration, whose texts are UTF-8 or not
 abbrev pub behind_encoding : Bool → Bool → List ℕ → List ℕ → Type 0
 behind_encoding named utf8 text rest = (utf8 ≡ named) × seq any_spaces declaration_end tt text rest
 
--- behind the version of a declaration, and whether its texts are UTF-8; an encoding only if white space was read
+-- after the version of a declaration, and whether its texts are UTF-8; an encoding only if white space was read
 abbrev pub behind_version : Bool → Bool → List ℕ → List ℕ → Type 0
 behind_version spaced utf8 text rest =
     ((spaced ≡ true) × seq an_encoding behind_encoding utf8 text rest)
@@ -225,15 +225,15 @@ StartsAs spells value text = (rest : List ℕ) × IsFound spells text value rest
 abbrev pub ContinuesAs : {A : Type 0} → (A → List ℕ → List ℕ → Type 0) → A → List ℕ → Type 0
 ContinuesAs spells value text = (more : List ℕ) × StartsAs spells value (text ++ more)
 
--- A part of a declaration is read with whether its texts are UTF-8. One of another encoding can't stand, so it is read
--- only whole.
+-- A part of a declaration is read with whether its texts are UTF-8. One of another encoding isn't allowed, so it is
+-- read only whole.
 abbrev pub ReadsEncoding : (Bool → List ℕ → List ℕ → Type 0) → List ℕ → Result Encoding Lapse → List ℕ → Type 0
 ReadsEncoding spells before (Ok encoding) after = IsFound spells before (is_utf8 encoding) after
 ReadsEncoding spells before (Err Broken) after = ¬ ContinuesAs spells true before × ¬ StartsAs spells false before
 ReadsEncoding spells before (Err Cut) after = ¬ StartsAs spells true before × ContinuesAs spells true before
 ReadsEncoding spells before (Err NoMemory) after = Unit {0}
 
--- a reference by name, behind its `&`
+-- a reference by name, after its `&`
 abbrev pub named_behind : ℕ → List ℕ → List ℕ → Type 0
 named_behind c text rest = IsNamed c (ampersand ∷ text)
 
@@ -250,7 +250,7 @@ utf8_declaration _ text rest = (name : Option (List ℕ)) × IsDeclaration name 
 abbrev pub foreign_declaration : Unit {0} → List ℕ → List ℕ → Type 0
 foreign_declaration _ text rest = (name : Option (List ℕ)) × IsDeclaration name text × (is_utf8_name name ≡ false)
 
--- a declaration of another encoding can't stand, so it is read only whole
+-- a declaration of another encoding isn't allowed, so it is read only whole
 abbrev pub ReadsDeclaration : List ℕ → Result Encoding Lapse → List ℕ → Type 0
 ReadsDeclaration before (Ok Utf8) after = IsFound utf8_declaration before tt after
 ReadsDeclaration before (Ok Foreign) after = IsFound foreign_declaration before tt after
@@ -271,13 +271,13 @@ pub record IsTagOf (read : Tag) (raw : RawTag) : Type 0 where
 abbrev pub a_tag : Tag → List ℕ → List ℕ → Type 0
 a_tag tag text rest = IsTag tag text
 
--- the spellings of a tag that sets its own prefix, so that it can stand in each scope
+-- the spellings of a tag that sets its own prefix, so that it is allowed in each scope
 abbrev pub own_tag : Tag → List ℕ → List ℕ → Type 0
 own_tag tag text rest =
     IsSpelled (opening tag) text rest
     × IsTrue (is_some (namespace_of (inner_scope outer_scope tag) tag.name.prefix))
 
--- something behind the text makes it a tag that sets its own prefix
+-- something after the text makes it a tag that sets its own prefix
 pub record CanOwn (text : List ℕ) : Type 0 where
   pub more : List ℕ
   pub tag : Tag
@@ -294,7 +294,7 @@ pub record IsTagAtSlash (before : List ℕ) (raw : RawTag) : Type 0 where
   pub none : ¬ Starts a_tag before
   pub only : (more : List ℕ) (other : Tag) (rest : List ℕ) → IsFound a_tag (before ++ more) other rest → other ≡ tag
 
--- a tag is read whole, or the text ends within it; behind `/` only `>` is missing, else it can still set its prefix
+-- a tag is read whole, or the text ends within it; after `/` only `>` is missing, else it can still set its prefix
 abbrev pub ReadsTagTo : TagEnd → List ℕ → RawTag → List ℕ → Type 0
 ReadsTagTo Whole before raw after = (tag : Tag) × IsFound a_tag before tag after × IsTagOf tag raw
     × (tag.is_empty ≡ false)
@@ -340,7 +340,7 @@ begins_declaration text = begins (codes "<?xml") text && not (first_is_no is_spa
 abbrev pub an_instruction : Unit {0} → List ℕ → List ℕ → Type 0
 an_instruction _ text rest = IsInstruction text
 
--- an instruction behind its name
+-- an instruction after its name
 abbrev pub instruction_end : Unit {0} → List ℕ → List ℕ → Type 0
 instruction_end _ text rest =
     (inside : List ℕ) × (text ≡ inside ++ codes "?>") × IsTrue (lacks (codes "?>") (inside ++ codes "?"))
@@ -360,7 +360,7 @@ written_end_tag name _ text rest =
 abbrev pub quoted_behind : List ℕ → ℕ → List ℕ × List ℕ → List ℕ → List ℕ → Type 0
 quoted_behind name q = mapped (λ written. (name, written)) (value_behind q)
 
--- behind the name of an attribute
+-- after the name of an attribute
 abbrev pub sign_behind : List ℕ → List ℕ × List ℕ → List ℕ → List ℕ → Type 0
 sign_behind name = seq equals_sign (λ _. seq one_quote (quoted_behind name))
 
@@ -397,7 +397,7 @@ IsAttributeCut before old kept =
     ((kept ≡ old) × CanGrowName before)
     ⊎ ((name : List ℕ) × (names kept ≡ names old ++ name ∷ []) × CanEnd name before)
 
--- attributes, each behind white space, by their names and values as they are written
+-- attributes, each after white space, by their names and values as they are written
 abbrev pub are_attributes : List (List ℕ × List ℕ) → List ℕ → Type 0
 are_attributes [] text = text ≡ []
 are_attributes (a ∷ more) text =
@@ -407,13 +407,13 @@ are_attributes (a ∷ more) text =
 abbrev pub tag_end : Bool → List ℕ
 tag_end is_empty = if is_empty then codes "/>" else codes ">"
 
--- the attributes of a tag and its end, behind its name
+-- the attributes of a tag and its end, after its name
 abbrev pub behind_name : List (List ℕ × List ℕ) × Bool → List ℕ → List ℕ → Type 0
 behind_name v text rest =
     (inside : List ℕ) × (spaces : List ℕ) × are_attributes v.0 inside × AreSpaces spaces
     × (text ≡ inside ++ (spaces ++ tag_end v.1))
 
--- XML characters behind the text make it whole attributes with these names, and maybe one more with a name longer
+-- XML characters after the text make it whole attributes with these names, and maybe one more with a name longer
 -- than n
 pub record CanGrow (n : ℕ) (named : List (List ℕ)) (text : List ℕ) : Type 0 where
   pub more : List ℕ
@@ -455,21 +455,21 @@ ReadsEmptyEnd before (Err Broken) after = (b : ℕ) × (c : ℕ) × (tail : List
 ReadsEmptyEnd before _ after = ⊥
 
 -- the name of the open element that a place is in, as it is written, is that of a qualified name
-abbrev pub IsFitPlace : Place → Type 0
+abbrev pub IsFitPlace : Context → Type 0
 IsFitPlace (Inside name) = IsXmlText name.now × ((q : QName) × IsQName q × (name.now ≡ name_text q))
 IsFitPlace _ = Unit {0}
 
-abbrev pub IsInContent : Place → Type 0
+abbrev pub IsInContent : Context → Type 0
 IsInContent (Inside name) = Unit {0}
 IsInContent _ = ⊥
 
 -- the end tag of an element with this name ends the innermost open element
-abbrev pub IsNameOf : QName → Place → Type 0
+abbrev pub IsNameOf : QName → Context → Type 0
 IsNameOf q (Inside name) = name.now ≡ name_text q
 IsNameOf q _ = ⊥
 
--- the token can stand at the place, whatever is open round it; whether a tag can stand its prefix tells
-abbrev pub MayStand : Place → Token → Type 0
+-- the token is allowed at the place, whatever is open round it; its prefix tells whether a tag is allowed
+abbrev pub MayStand : Context → Token → Type 0
 MayStand place (declaration encoding) = (place ≡ Start) × IsTrue (is_utf8_name encoding)
 MayStand place (character read) = IsInContent place ⊎ AreSpaces read
 MayStand place (referred c) = IsInContent place
@@ -483,8 +483,8 @@ abbrev pub IsOpening : Token → Type 0
 IsOpening (opening tag) = Unit {0}
 IsOpening _ = ⊥
 
--- a token that can stand at the place, or a tag, begins the text
-pub record BeginsAt (place : Place) (text : List ℕ) : Type 0 where
+-- a token that is allowed at the place, or a tag, begins the text
+pub record BeginsAt (place : Context) (text : List ℕ) : Type 0 where
   pub token : Token
   pub front : List ℕ
   pub rest : List ℕ
@@ -503,8 +503,8 @@ abbrev pub AreSpelled : List Lexeme → List ℕ → Type 0
 AreSpelled [] rest = Unit {0}
 AreSpelled (l ∷ ls) rest = IsSpelled l.token l.text (lexemes_text ls ++ rest) × AreSpelled ls rest
 
--- one or more lexemes that can stand at the place are read
-pub record AreRead (place : Place) (before : List ℕ) (lexemes : List Lexeme) (after : List ℕ) : Type 0 where
+-- one or more lexemes that are allowed at the place are read
+pub record AreRead (place : Context) (before : List ℕ) (lexemes : List Lexeme) (after : List ℕ) : Type 0 where
   pub split : before ≡ lexemes_text lexemes ++ after
   pub spelled : AreSpelled lexemes after
   pub stand : All (λ (l : Lexeme). MayStand place l.token) lexemes
@@ -521,14 +521,14 @@ AreCharacters read (l ∷ ls) =
     (first : List ℕ) × (more : List ℕ) × (l.token ≡ character first) × (read ≡ first ++ more) × AreCharacters more ls
 
 -- the token adds nothing to the tree
-abbrev pub IsSilentAt : Place → Token → Type 0
+abbrev pub IsSilentAt : Context → Token → Type 0
 IsSilentAt place comment = Unit {0}
 IsSilentAt place instruction = Unit {0}
 IsSilentAt place (character read) = ¬ IsInContent place
 IsSilentAt place _ = ⊥
 
 -- the lexemes that a token stands for
-abbrev pub IsTokenOf : Place → RawToken → List Lexeme → Type 0
+abbrev pub IsTokenOf : Context → RawToken → List Lexeme → Type 0
 IsTokenOf place (Declaration Utf8) lexemes = (name : Option (List ℕ)) × IsAlone (declaration name) lexemes
 IsTokenOf place (Declaration Foreign) lexemes = ⊥
 IsTokenOf place Silent lexemes = All (λ (l : Lexeme). IsSilentAt place l.token) lexemes
@@ -539,7 +539,7 @@ IsTokenOf place (TagToken raw) lexemes = ⊥
 IsTokenOf place EndTag lexemes = (name : QName) × IsAlone (closing name) lexemes
 
 -- a whole tag
-pub record IsTagRead (place : Place) (before : List ℕ) (is_empty : Bool) (raw : RawTag) (after : List ℕ) : Type 0 where
+pub record IsTagRead (place : Context) (before : List ℕ) (is_empty : Bool) (raw : RawTag) (after : List ℕ) : Type 0 where
   pub tag : Tag
   pub lexemes : List Lexeme
   pub alone : IsAlone (opening tag) lexemes
@@ -548,7 +548,7 @@ pub record IsTagRead (place : Place) (before : List ℕ) (is_empty : Bool) (raw 
   pub ends : tag.is_empty ≡ is_empty
   pub name : IsXmlText raw.name.now
 
--- a tag in which the text ends behind `/`: with `>` it is this tag, and it is no other
+-- a tag in which the text ends after `/`: with `>` it is this tag, and it is no other
 pub record IsCutAtSlash (before : List ℕ) (raw : RawTag) : Type 0 where
   pub tag : Tag
   pub spelled : IsSpelled (opening tag) (before ++ codes ">") []
@@ -559,23 +559,23 @@ pub record IsCutAtSlash (before : List ℕ) (raw : RawTag) : Type 0 where
 
 -- A tag is read, whole or as far as it goes. One that the text cuts can be finished, and can set its own prefix unless
 -- only `>` is missing.
-abbrev pub IsTagTo : TagEnd → Place → List ℕ → RawTag → List ℕ → Type 0
+abbrev pub IsTagTo : TagEnd → Context → List ℕ → RawTag → List ℕ → Type 0
 IsTagTo Whole place before raw after = IsTagRead place before false raw after
 IsTagTo Empty place before raw after = IsTagRead place before true raw after
 IsTagTo CutTag place before raw after = ¬ Starts a_tag before × Continues own_tag before
 IsTagTo CutAtSlash place before raw after = IsCutAtSlash before raw
 
 -- a token, or as much of the next tag as there is
-abbrev pub IsTokenRead : Place → List ℕ → RawToken → List ℕ → Type 0
+abbrev pub IsTokenRead : Context → List ℕ → RawToken → List ℕ → Type 0
 IsTokenRead place before (TagToken raw) after = IsTagOnly before × IsTagTo raw.end place before raw after
 IsTokenRead place before (Declaration Foreign) after = (place ≡ Start) × Starts foreign_declaration before
 IsTokenRead place before token after =
     (lexemes : List Lexeme) × AreRead place before lexemes after × IsTokenOf place token lexemes
 
--- A token is read exactly where the text begins with one that can stand at the place, or with a tag. `Broken`: no
--- continuation of the text does. `Cut`: the text doesn't, and some continuation begins with a token that can stand
+-- A token is read exactly where the text begins with one that is allowed at the place, or with a tag. `Broken`: no
+-- continuation of the text does. `Cut`: the text doesn't, and some continuation begins with a token that is allowed
 -- there and isn't a tag.
-abbrev pub ReadsToken : Place → List ℕ → Result RawToken Lapse → List ℕ → Type 0
+abbrev pub ReadsToken : Context → List ℕ → Result RawToken Lapse → List ℕ → Type 0
 ReadsToken place before (Ok token) after = IsTokenRead place before token after × IsXmlText after
 ReadsToken place before (Err Broken) after = (more : List ℕ) → ¬ BeginsAt place (before ++ more)
 ReadsToken place before (Err Cut) after =

@@ -32,7 +32,7 @@ IsNotUtf8At bytes at =
 abbrev pub IsInUtf8 : List ℕ → Type 0
 IsInUtf8 bytes = IsTrue (is_utf8 bytes) × ¬ IsForeign bytes
 
--- a token that can stand at the stage begins the text
+-- a token that is allowed at the stage begins the text
 pub record Begins (most : ℕ) (stage : Stage) (text : List ℕ) : Type 0 where
   pub token : Token
   pub front : List ℕ
@@ -41,7 +41,7 @@ pub record Begins (most : ℕ) (stage : Stage) (text : List ℕ) : Type 0 where
   pub spelled : IsSpelled token front rest
   pub stands : CanStand most stage token
 
--- some continuation of the text begins with a token that can stand at the stage
+-- some continuation of the text begins with a token that is allowed at the stage
 abbrev pub CanGoOn : ℕ → Stage → List ℕ → Type 0
 CanGoOn most stage text = (more : List ℕ) × Begins most stage (text ++ more)
 
@@ -56,21 +56,21 @@ pub record IsTooDeep (most : ℕ) (stage : Stage) (text : List ℕ) : Type 0 whe
   pub xml : IsXmlText front
   pub is_tag : IsTag tag front
 
--- why the token that the text begins with can't stand
+-- why the token that the text begins with isn't allowed
 abbrev pub IsTokenFault : ℕ → Stage → List ℕ → Why → Type 0
 IsTokenFault most stage text why =
     (IsTrue (begins (codes "<!DOCTYPE") text) × (why ≡ Doctype))
     ⊎ (IsTooDeep most stage text × (why ≡ TooDeep))
     ⊎ ((begins (codes "<!DOCTYPE") text ≡ false) × ¬ IsTooDeep most stage text × (why ≡ NotWellFormed))
 
--- from this stage on the text is these lexemes and then `rest`, where no token can stand
+-- from this stage on the text is these lexemes and then `rest`, where no token is allowed
 pub record IsStuck (most : ℕ) (stage : Stage) (text : List ℕ) (lexemes : List Lexeme) (rest : List ℕ) : Type 0 where
   pub split : text ≡ lexemes_text lexemes ++ rest
   pub stand : CanAllStand most stage lexemes rest
   pub no_more : ¬ Begins most (last_stage stage lexemes) rest
   pub unfinished : rest ≡ [] → last_stage stage lexemes ≢ epilog
 
--- The first token of the text that can't stand, from this stage on. If the text ends within a token that could still
+-- The first token of the text that isn't allowed, from this stage on. If the text ends within a token that could still
 -- stand, the offset is `end`, at which the text ends, and else that of the token.
 pub record IsStuckAt (most : ℕ) (stage : Stage) (text : List ℕ) (end at : ℕ) (why : Why) : Type 0 where
   pub lexemes : List Lexeme
@@ -81,7 +81,7 @@ pub record IsStuckAt (most : ℕ) (stage : Stage) (text : List ℕ) (end at : �
       ⊎ (¬ CanGoOn most (last_stage stage lexemes) rest × (at ≡ end - length rest)
       × IsTokenFault most (last_stage stage lexemes) rest why)
 
--- step 2: the first token of the input that can't stand
+-- step 2: the first token of the input that isn't allowed
 abbrev pub IsNotTokensAt : ℕ → List ℕ → ℕ → Why → Type 0
 IsNotTokensAt most bytes at why =
     (text : List ℕ) × (bytes ≡ mark_of bytes ++ text) × IsStuckAt most start text (length bytes) at why

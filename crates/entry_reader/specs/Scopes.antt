@@ -48,7 +48,7 @@ abbrev pub IsDeclaredPrefix : List ℕ → Option (List ℕ) → Type 0
 IsDeclaredPrefix name prefix =
     (a : Attribute) → IsQName a.name → name_text a.name ≡ name → prefix ≡ option_map (λ b. b.prefix) (declared a)
 
--- the declaration that an attribute is, if it is one, stands behind those of the level before
+-- the declaration that an attribute is, if it is one, stands after those of the level before
 abbrev pub AddsDeclaration : Raw → Level → Level → Type 0
 AddsDeclaration raw before after =
     (own : Scope) (a : Attribute) → IsLawfulOf a raw → IsLevelOf own before

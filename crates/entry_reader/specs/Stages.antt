@@ -1,4 +1,4 @@
--- Which tokens can stand where: the scopes of prefixes, the open elements, and texts of tokens.
+-- Which tokens are allowed where: the scopes of prefixes, the open elements, and texts of tokens.
 use Rattle.std.specs.Prelude.{◌≡◌, ℕ, ◌<◌, List, [], ◌∷◌, ◌++◌, length, filter_map, flat_map, IsTrue}
 use Rattle.std.specs.Prelude.{if◌then◌else◌, ◌⊎◌, Option, Some, None, is_some, codes, bytes_eq}
 use Rattle.entry_reader.specs.Characters.{QName, AreSpaces}
@@ -79,7 +79,7 @@ pub record CanBegin (most : ℕ) (stage : Stage) (tag : Tag) : Type 0 where
   pub depth : length (open_in stage) < most
   pub set : IsTrue (is_some (namespace_of (inner_scope (scope_in stage) tag) tag.name.prefix))
 
--- the token can stand at this stage, where elements have at most this depth
+-- the token is allowed at this stage, where elements have at most this depth
 abbrev pub CanStand : ℕ → Stage → Token → Type 0
 CanStand most stage (declaration encoding) = (stage ≡ start) × IsTrue (is_utf8_name encoding)
 CanStand most stage (character read) = IsInside stage ⊎ AreSpaces read
@@ -95,12 +95,12 @@ abbrev pub content_stage : List Open → Stage
 content_stage [] = epilog
 content_stage (element ∷ outer) = inside element outer
 
--- the stage behind the innermost open element
+-- the stage after the innermost open element
 abbrev pub left : Stage → Stage
 left (inside element outer) = content_stage outer
 left _ = epilog
 
--- the stage behind a token that says nothing of elements
+-- the stage after a token that says nothing of elements
 abbrev pub begun : Stage → Stage
 begun start = prolog
 begun stage = stage
@@ -108,7 +108,7 @@ begun stage = stage
 abbrev pub entered : Stage → Tag → Stage
 entered stage tag = inside (record { name = tag.name; scope = inner_scope (scope_in stage) tag }) (open_in stage)
 
--- the stage behind a token that stands at a stage
+-- the stage after a token that stands at a stage
 abbrev pub stage_after : Stage → Token → Stage
 stage_after stage (opening tag) = if tag.is_empty then left (entered stage tag) else entered stage tag
 stage_after stage (closing name) = left stage
@@ -122,12 +122,12 @@ pub record Lexeme : Type 0 where
 abbrev pub lexemes_text : List Lexeme → List ℕ
 lexemes_text lexemes = flat_map (λ (l : Lexeme). l.text) lexemes
 
--- the stage behind these lexemes
+-- the stage after these lexemes
 abbrev pub last_stage : Stage → List Lexeme → Stage
 last_stage stage [] = stage
 last_stage stage (l ∷ ls) = last_stage (stage_after stage l.token) ls
 
--- the lexemes can stand one after another, from this stage on and before the text `rest`
+-- the lexemes are allowed one after another, from this stage on and before the text `rest`
 abbrev pub CanAllStand : ℕ → Stage → List Lexeme → List ℕ → Type 0
 CanAllStand most stage [] rest = Unit {0}
 CanAllStand most stage (l ∷ ls) rest =

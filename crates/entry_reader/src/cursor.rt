@@ -8,7 +8,7 @@ ghost use Rattle.entry_reader.specs.Reading.{equals_sign, IsCutBefore, IsFirstPl
 /// Why no token is read.
 #[derive(Clone, Copy, Debug, PartialEq, Eq)]
 pub(crate) enum Lapse {
-    /// No continuation of the text begins with a token that can stand there.
+    /// No continuation of the text begins with a token that is allowed there.
     Broken,
     /// The text ends within a token, and a continuation of the text could finish it.
     Cut,

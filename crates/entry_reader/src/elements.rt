@@ -6,7 +6,7 @@ ghost use Rattle.entry_reader.specs.Entry.{app, atom, same_name, trimmed, withou
 ghost use Rattle.entry_reader.specs.Tree.{Element as TreeElement, mark_of};
 ghost use Rattle.entry_reader.specs.Spells.{depth_limit};
 ghost use Rattle.entry_reader.specs.Reading.{IsTagOnly, IsTagTo, IsTokenRead};
-ghost use Rattle.entry_reader.specs.declared.token.Place.{Place as Spot};
+ghost use Rattle.entry_reader.specs.declared.token.Context.{Context as Spot};
 ghost use Rattle.entry_reader.specs.Progress.{Point, IsAt, IsAtText, IsBehindXml, IsReading, IsNext, IsOver, IsUnfinished};
 ghost use Rattle.entry_reader.specs.Progress.{IsBegun, IsEventOf, IsPlaceOf, IsClosed, IsDepthAfter, depth_of, left_of, first_point};
 ghost use Rattle.entry_reader.specs.Progress.{IsAttributeFound, IsElementOf, IsDrained, IsContentRead, IsSkipped, admission, fault_of};
@@ -20,7 +20,7 @@ use crate::declaration::Encoding;
 use crate::fault::{EntryFault, Why};
 use crate::scopes::{Namespace, Scopes, split_name};
 use crate::tag::{Attribute, Tag, TagEnd};
-use crate::token::{Place, Token};
+use crate::token::{Context, Token};
 use crate::value::{push_character, push_lines, value};
 use atom_values::NoMemory;
 use std::alloc::Global;
@@ -331,14 +331,14 @@ impl<'a> Elements<'a> {
     }
 
     /// The place of the next token.
-    fn place(&self) -> Place<'a>
+    fn place(&self) -> Context<'a>
         requires { self.now.empty ≡ false }
         ensures { (from : Point) → IsAt self.now from → IsPlaceOf result from.stage }
     {
         match self.open.last() {
-            Some(name) => Place::Inside(name),
-            None if self.stage == Stage::Start => Place::Start,
-            None => Place::Outside,
+            Some(name) => Context::Inside(name),
+            None if self.stage == Stage::Start => Context::Start,
+            None => Context::Outside,
         }
     }
 
@@ -426,7 +426,7 @@ impl<'a> Elements<'a> {
         None
     }
 
-    /// Refuses a tag at offset `at` that can't stand there whatever its prefix is. Also refuses a tag that the
+    /// Refuses a tag at offset `at` that isn't allowed there whatever its prefix is. Also refuses a tag that the
     /// input cuts, unless only `>` is missing.
     fn admit(&self, at: usize, tag: &Tag<'_>) -> Result<(), EntryFault>
         ensures { result ≡ admission self.now at tag.now.end }
@@ -504,7 +504,7 @@ impl<'a> Elements<'a> {
     }
 }
 
-/// The fault of a token that can't stand at offset `at`, or of an input that ends too early.
+/// The fault of a token that isn't allowed at offset `at`, or of an input that ends too early.
 pub(crate) fn broken(at: usize) -> EntryFault
     ensures { result ≡ EntryFault.NotRead at Why.NotWellFormed }
 {

@@ -61,7 +61,7 @@ struct Parts {
 /// `NotRead` has the first of these reasons that holds:
 ///
 /// - `NotUtf8`: the bytes aren't UTF-8, or the declaration names another encoding.
-/// - `Doctype`, `TooDeep`, `NotWellFormed`: a token can't stand where it is. The first such token counts.
+/// - `Doctype`, `TooDeep`, `NotWellFormed`: a token isn't allowed where it is. The first such token counts.
 /// - `NotAnEntry`: the root isn't Atom's `entry`.
 /// - The reason of the first element in document order that has one. [`Why`] lists the reasons.
 /// - `Missing`: there is no `title`. The offset is that of the root.

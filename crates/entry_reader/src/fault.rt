@@ -13,7 +13,7 @@ pub enum Why {
     /// There is a document type declaration. The offset is that of the declaration.
     Doctype,
     /// The bytes aren't a well-formed document (XML 1.0, Namespaces in XML 1.0). The offset is that of the first
-    /// token that can't stand where it is, or the length of the input if the input ends too early.
+    /// token that isn't allowed where it is, or the length of the input if the input ends too early.
     NotWellFormed,
     /// An element is nested deeper than [`MAX_DEPTH`](crate::MAX_DEPTH).
     TooDeep,
@@ -74,7 +74,7 @@ impl From<NoMemory> for EntryFault {
 pub(crate) enum Stop {
     /// An element is refused. A fault of a later token comes before it, so the tokens are read on.
     Refused { at: usize, why: Why },
-    /// A token can't stand where it is, or memory ran out.
+    /// A token isn't allowed where it is, or memory ran out.
     Fault(EntryFault),
 }
 

@@ -63,7 +63,7 @@ fn has_same_names(alloc: Global, attributes: &[Attribute<'_>]) -> Result<bool, N
     Ok(false)
 }
 
-/// The lapse of a reference that ends at the end of its value: the text goes on, with a byte that can't stand in
+/// The lapse of a reference that ends at the end of its value: the text goes on, with a byte that isn't allowed in
 /// the reference.
 fn ended(lapse: Lapse) -> Lapse
     ensures cut { lapse ≡ Cut → result ≡ Broken }

@@ -1,7 +1,7 @@
 ghost use Rattle.std.specs.Prelude.{◌≡◌, ◌≢◌, [], MatchResult, Ok, Err, IsTrue, codes, true};
 ghost use Rattle.entry_reader.specs.Characters.{begins};
 ghost use Rattle.atom_values.specs.XmlText.{IsXmlText};
-ghost use Rattle.entry_reader.specs.declared.token.Place.TheVariants.{Start};
+ghost use Rattle.entry_reader.specs.declared.token.Context.TheVariants.{Start};
 ghost use Rattle.entry_reader.specs.Reading.{Reads, a_comment, written_section, written_end_tag};
 ghost use Rattle.entry_reader.specs.Reading.{IsForeignRead, an_instruction, begins_declaration, instruction_end, ReadsTagToken, ReadsBlank, ReadsSaid, IsFitPlace, IsInContent, ReadsToken, Starts, foreign_declaration};
 
@@ -29,8 +29,8 @@ pub(crate) enum Token<'a> {
 
 /// Where a token is read.
 #[derive(Clone, Copy, Debug)]
-pub(crate) enum Place<'a> {
-    /// At the beginning of the text, where a declaration can stand.
+pub(crate) enum Context<'a> {
+    /// At the beginning of the text, where a declaration is allowed.
     Start,
     /// After the start, and outside the root.
     Outside,
@@ -39,41 +39,41 @@ pub(crate) enum Place<'a> {
 }
 
 /// Whether the place is in the content of an element.
-fn is_content(place: Place<'_>) -> bool
+fn is_content(place: Context<'_>) -> bool
     ensures some { result ≡ true → IsInContent place.entry }
     ensures none { IsInContent place.entry → result ≡ true }
 {
     match place {
-        Place::Inside(_) => true,
-        Place::Start | Place::Outside => false,
+        Context::Inside(_) => true,
+        Context::Start | Context::Outside => false,
     }
 }
 
 /// Whether the place is the beginning of the text.
-fn is_start(place: Place<'_>) -> bool
+fn is_start(place: Context<'_>) -> bool
     ensures some { result ≡ true → place.entry ≡ Start }
     ensures none { place.entry ≡ Start → result ≡ true }
 {
     match place {
-        Place::Start => true,
-        Place::Inside(_) | Place::Outside => false,
+        Context::Start => true,
+        Context::Inside(_) | Context::Outside => false,
     }
 }
 
 impl<'a> Cursor<'a> {
     /// Reads the next token. The text isn't at its end.
-    pub(crate) fn token(&mut self, alloc: Global, place: Place<'a>) -> Result<Token<'a>, Lapse>
+    pub(crate) fn token(&mut self, alloc: Global, place: Context<'a>) -> Result<Token<'a>, Lapse>
         requires text { IsXmlText self.old.rest.now }
         requires some { self.old.rest.now ≢ [] }
         requires place { IsFitPlace place }
         ensures read { ReadsToken place.entry self.old.rest.now result self.new.rest.now }
-        // A declaration of another encoding is told from one that can stand, unless memory runs out.
+        // A declaration of another encoding is told from one that is allowed, unless memory runs out.
         ensures foreign { place.entry ≡ Start → Starts foreign_declaration self.old.rest.now
             → IsForeignRead result }
     {
         if !self.at(b"<") {
             return match place {
-                Place::Inside(_) => self.said(),
+                Context::Inside(_) => self.said(),
                 _ => self.blank(),
             };
         }
@@ -127,7 +127,7 @@ impl<'a> Cursor<'a> {
     }
 
     /// Reads a token that begins with `<!`: a comment, or in content a CDATA section.
-    fn marked(&mut self, place: Place<'_>) -> Result<Token<'a>, Lapse>
+    fn marked(&mut self, place: Context<'_>) -> Result<Token<'a>, Lapse>
         ensures { IsXmlText self.old.rest.now → IsTrue (begins (codes "<!") self.old.rest.now)
             → ReadsToken place.entry self.old.rest.now result self.new.rest.now }
     {
@@ -159,7 +159,7 @@ impl<'a> Cursor<'a> {
 
     /// Reads a token that begins with `<?`: an instruction, or at the start a declaration (XML 1.0, productions 16
     /// and 23).
-    fn instructed(&mut self, place: Place<'_>) -> Result<Token<'a>, Lapse>
+    fn instructed(&mut self, place: Context<'_>) -> Result<Token<'a>, Lapse>
         ensures read { IsXmlText self.old.rest.now → IsTrue (begins (codes "<?") self.old.rest.now)
             → ReadsToken place.entry self.old.rest.now result self.new.rest.now }
         ensures foreign { place.entry ≡ Start → Starts foreign_declaration self.old.rest.now
@@ -212,12 +212,12 @@ impl<'a> Cursor<'a> {
     }
 
     /// Reads the end tag of the innermost open element.
-    fn end_tag(&mut self, place: Place<'_>) -> Result<Token<'a>, Lapse>
+    fn end_tag(&mut self, place: Context<'_>) -> Result<Token<'a>, Lapse>
         ensures { IsXmlText self.old.rest.now → IsFitPlace place.entry
             → IsTrue (begins (codes "</") self.old.rest.now)
             → ReadsToken place.entry self.old.rest.now result self.new.rest.now }
     {
-        let Place::Inside(name) = place else {
+        let Context::Inside(name) = place else {
             return Err(Lapse::Broken);
         };
         self.closing(name)?;

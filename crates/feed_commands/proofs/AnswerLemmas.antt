@@ -80,7 +80,8 @@ of_mirror_once : (base : List ℕ) (fetch report : Bool) (capacity : ℕ) (outsi
     IsOfMirror base fetch report capacity outside one → IsOfMirror base fetch report capacity outside other
     → one ≡ other
 of_mirror_once base fetch report capacity outside one other p q =
-    let same : q.kept ≡ p.kept = loaded-once base (records (outside.content Mirrored)) q.kept p.kept q.loaded p.loaded in
+    let same : q.kept ≡ p.kept = loaded-once base (records (outside.content Mirrored)) q.kept p.kept
+    q.loaded p.loaded in
     mirror-end_once capacity base fetch report p.kept outside one other p.is
     (subst (λ (ks : List KeptValue). IsMirrorEnd capacity base fetch report ks outside other) same q.is)
 

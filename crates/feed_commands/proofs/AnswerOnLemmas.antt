@@ -35,7 +35,8 @@ use Rattle.member_rules.specs.declared.operation.Op.{Op}
 pub one-store : (content : Area → List ℕ) (one other : Stored) → OpensInOneWay → OpensTo content one
     → OpensTo content other → one ≡ other
 one-store content one other law p q =
-    let same = law (content Journal) (content Sealed) one.head other.head one.history other.history one.seals other.seals
+    let same = law (content Journal) (content Sealed) one.head other.head one.history other.history
+    one.seals other.seals
     p q in
     rw (same.0, same.1, same.2) refl
 
@@ -47,7 +48,8 @@ answer-on content on given opened law opens is = record {
   exact = λ stored other. is ∙ ap on (one-store content opened stored law opens other);
 }
 
-pub not-refusal : (fault : LoadFault) → (fault ≡ load.DiskFault) ⊎ (fault ≡ load.NoMemory) → IsRefusal (load_fault fault)
+pub not-refusal : (fault : LoadFault) → (fault ≡ load.DiskFault) ⊎ (fault ≡ load.NoMemory) →
+    IsRefusal (load_fault fault)
     → ⊥
 not-refusal fault (inl e) refusal = rw e at refusal
 not-refusal fault (inr e) refusal = rw e at refusal
@@ -87,7 +89,8 @@ archive-sealed store number written sealed is =
     rw (from, to, is) refl
 
 -- an archive that isn't
-unsealed : (number sealed : ℕ) → ((1 ≤ number) × (number ≤ sealed) → ⊥) → (nat_le 1 number && nat_le number sealed) ≡ false
+unsealed : (number sealed : ℕ) → ((1 ≤ number) × (number ≤ sealed) → ⊥) →
+    (nat_le 1 number && nat_le number sealed) ≡ false
 unsealed number sealed none = elim (cases_lt number 1) [
   | inl low ↦ let from : nat_le 1 number ≡ false = search (rules, tests) in rw from refl
   | inr some ↦ elim (cases_lt sealed number) [

@@ -59,7 +59,8 @@ module _ (capacity : ℕ) (base : List ℕ) where
           | inl e ↦ absurd (d.others.no_document e.given.document e.read.is_doc e.read.text)
           | inr e ↦ (
             e.is
-                ∙ ap (λ (at : ℕ). Err (refusals.NotADocument at)) (place_once bytes e.at d.at e.others.place d.others.place)
+                ∙ ap (λ (at : ℕ). Err (refusals.NotADocument at)) (place_once bytes e.at d.at e.others.place
+                d.others.place)
                 ∙ sym d.is,
             e.others.left_over ∙ sym d.others.left_over,
           )
@@ -161,8 +162,12 @@ module _ (capacity : ℕ) (base : List ℕ) where
   answers-plain kept [] [] left is = is
   answers-plain kept [] (answer ∷ answers) left is = absurd is
   answers-plain kept (offer ∷ offers) [] left is = absurd is
-  answers-plain kept (offer ∷ offers) (answer ∷ answers) left (fits, (next, one, more)) =
-      (next, answer-plain kept offer.address offer.bytes answer next fits one, answers-plain next offers answers left more)
+  answers-plain kept (offer ∷ offers) (answer ∷ answers) left (fits, (next, one, more)) = (
+    next,
+    answer-plain kept offer.address offer.bytes answer next fits one,
+    answers-plain next offers
+        answers left more,
+  )
 
 -- the capacity in the refusal `Full` is the mirror's
 

@@ -22,7 +22,8 @@ drill-text head seed count summary text head_is is printed =
     ∙ ap summary_text (is ∙ ap (λ (h : HeadValue). summary_of h (operations h seed count) count) head_is)
 
 not-failed : (ended : ℕ) → IsDone ended → ended ≢ 8
-not-failed ended done failed = ⊎_elim (λ e. absurd (omega (arith, e, failed))) (λ e. absurd (omega (arith, e, failed))) done
+not-failed ended done failed = ⊎_elim (λ e. absurd (omega (arith, e, failed)))
+    (λ e. absurd (omega (arith, e, failed))) done
 
 -- the text was printed, or the output failed
 pub drill-ends : (seed count : ℕ) (outside : Outside) (told : Type 0) (before after : SinkState) (ended : ℕ)

@@ -79,7 +79,8 @@ module _ (input_told disk_told : Type 0) (detailed : Bool) (first : MirrorValue)
       → (whole → input_told → ReadsTo input.left h.offers (Ok None))
       → GivesOffers first.capacity first.base first.kept input.left input_told disk_told s now failed whole
   giving-ends now source reader mirror report failed whole law h all =
-      gives-of disk_told first.capacity first.base first.kept s input.left input_told h.offers now mirror.kept failed whole
+      gives-of disk_told first.capacity first.base first.kept s input.left input_told h.offers now
+      mirror.kept failed whole
       law
       (reads-offers input_told detailed first.capacity first.base first.kept input.left h.offers reader source
       mirror.kept report
@@ -121,7 +122,8 @@ module _ (input_told disk_told : Type 0) (detailed : Bool) (first : MirrorValue)
         → ((a : Area) → a ≢ MirrorArea → LeavesAlone now later a) → later.faults ≡ now.faults
         → rest.faults ≡ source.faults
         → IsGiving input_told disk_told detailed first s later input rest after left added
-    giving-next later left added answer fresh is fits answered has same usable moments rests others faults input_faults =
+    giving-next later left added answer fresh is fits answered has same usable moments rests others faults
+        input_faults =
         let within : IsAnswerWithin first.capacity first.base mirror.kept offer.address offer.bytes answer left.kept =
         subst (λ (b : List ℕ). IsAnswerWithin first.capacity b mirror.kept offer.address offer.bytes answer left.kept)
         h.same.base
@@ -132,7 +134,8 @@ module _ (input_told disk_told : Type 0) (detailed : Bool) (first : MirrorValue)
           amid = amid-next input_told detailed first.capacity first.base first.kept input.left h.offers reader after
               source rest
               mirror.kept left.kept report added offer answer h.amid fresh limit bound used is read fits within has;
-          taking = taking-next disk_told first.capacity first.base first.kept s h.offers offer mirror now later h.same.base
+          taking = taking-next disk_told first.capacity first.base first.kept s h.offers offer mirror now
+              later h.same.base
               h.same.capacity
               (has-answered input_told detailed first.capacity first.base first.kept input.left h.offers reader
               source mirror.kept
@@ -151,7 +154,8 @@ module _ (input_told disk_told : Type 0) (detailed : Bool) (first : MirrorValue)
         → AlwaysLeaves now later MirrorArea (IsOfferStep mirror offer.address offer.bytes))
         → GivesOffers first.capacity first.base first.kept input.left input_told disk_told s later failed whole
     giving-failed later failed whole is part moments =
-        gives-failed disk_told first.capacity first.base first.kept s input.left input_told (h.offers ++ offer ∷ []) later
+        gives-failed disk_told first.capacity first.base first.kept s input.left input_told
+        (h.offers ++ offer ∷ []) later
         mirror.kept failed whole is part reads-next
         (taking-images disk_told first.capacity first.base first.kept s h.offers offer mirror now later h.same.base
         h.same.capacity
@@ -162,7 +166,8 @@ module _ (input_told disk_told : Type 0) (detailed : Bool) (first : MirrorValue)
 
     -- and the area has no room for it
     pub giving-full : (address bytes : List ℕ) (size needed most : ℕ) → address ≡ offer.address → bytes ≡ offer.bytes
-        → IsAnswerWithin mirror.capacity mirror.base mirror.kept address bytes (Err (NoRoom size needed most)) mirror.kept
+        → IsAnswerWithin mirror.capacity mirror.base mirror.kept address bytes
+        (Err (NoRoom size needed most)) mirror.kept
         → input_told
         → IsMirrored detailed first.capacity first.base first.kept input.left
         (fault_answer (full_fault size needed most))

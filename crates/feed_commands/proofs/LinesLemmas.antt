@@ -201,7 +201,8 @@ StopsAmid-met {T} {before} {input} {now} {rest} {more} g spent same k =
     }
 
 -- the test of an empty line
-pub some_from_test : (line read : List ℕ) (empty : Bool) → read ≡ line → empty ≡ eqb (length read) 0 → not empty ≡ true →
+pub some_from_test : (line read : List ℕ) (empty : Bool) → read ≡ line → empty ≡ eqb (length read) 0 →
+    not empty ≡ true →
     length line ≢ 0
 some_from_test line read empty same test some = λ none. both_ways empty (not-true empty some) (test
     ∙ eq-eqb (length read) 0 (ap length same ∙ none))

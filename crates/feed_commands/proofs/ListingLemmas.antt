@@ -54,7 +54,8 @@ module _ (told : Type 0) (first : MirrorValue) (s : DiskState) (before : List �
               let is : found.entry ≡ entry = let both = sym found.live ∙ at in cc in
               line
               ∙ ap (λ (bytes : List ℕ). bytes ++ entry_line entry) (h.entries t)
-              ∙ ap (λ (e : EntryValue). (before ++ flat_map entry_line (entries_up_to (live_at first.kept) after)) ++ entry_line e)
+              ∙ ap (λ (e : EntryValue). (before ++ flat_map entry_line (entries_up_to (live_at first.kept) after))
+              ++ entry_line e)
               (sym is)
               ∙ flat_map_more entry_line before (entries_up_to (live_at first.kept) after) found.entry
               ∙ ap (λ (entries : List EntryValue). before ++ flat_map entry_line entries)

@@ -269,7 +269,8 @@ module _ (before after : DiskState) (ended : ℕ) where
       (mirrored-weaker capacity base input before after (result ≡ Err (Other Disk)) (ended ≡ code_of ends.DiskFault)
       (IsOk result) (IsReported ended) failed reported) leaves
 
-  pub walk-left : (capacity : ℕ) (base : List ℕ) (answers : List ℕ → Option (List ℕ)) (result : Result Printed ReportFault)
+  pub walk-left : (capacity : ℕ) (base : List ℕ) (answers : List ℕ → Option (List ℕ))
+      (result : Result Printed ReportFault)
       → LeavesMirror before after (IsLater result)
       (LeavesFetched capacity base answers before after (result ≡ Err (Other Disk)) (IsOk result))
       → (IsAfterLoad ended → IsLater result) → (result ≡ Err (Other Disk) → ended ≡ code_of ends.DiskFault)

@@ -42,7 +42,8 @@ module _ (setting : WalkSetting) where
   answered-once kept address one other left more p q =
       let found : ◌≡◌ {A = Option (List ℕ)} (Some q.bytes) (Some p.bytes) = sym q.there ∙ p.there in
       let same : q.bytes ≡ p.bytes = cc in
-      answer-once setting.capacity setting.base kept (printed setting.base address) p.bytes one other left more p.answered
+      answer-once setting.capacity setting.base kept (printed setting.base address) p.bytes one other left
+      more p.answered
       (subst (λ (b : List ℕ). IsAnswerWithin setting.capacity setting.base kept (printed setting.base address) b other
       more) same q.answered)
 
@@ -122,10 +123,12 @@ module _ (setting : WalkSetting) where
       elim (last-answer kept address one sure p) [
         | inl a ↦ elim (last-answer kept address other too q) [
           | inl b ↦ b.0 ∙ sym a.0
-          | inr b ↦ absurd (some-none (setting.answers (printed setting.base address)) b.answered.bytes a.1 b.answered.there)
+          | inr b ↦ absurd (some-none (setting.answers (printed setting.base address)) b.answered.bytes a.1
+              b.answered.there)
         ]
         | inr a ↦ elim (last-answer kept address other too q) [
-          | inl b ↦ absurd (some-none (setting.answers (printed setting.base address)) a.answered.bytes b.1 a.answered.there)
+          | inl b ↦ absurd (some-none (setting.answers (printed setting.base address)) a.answered.bytes b.1
+              a.answered.there)
           | inr b ↦ last-same kept address one other a b
         ]
       ]
@@ -152,7 +155,8 @@ module _ (setting : WalkSetting) where
 
   walks-once : (kept : List KeptValue) (next : Option Address) (asked more : List Address)
       (accepted others : List Accepted) (left held : List KeptValue) (ending final : WalkEnding) → IsSure ending
-      → IsSure final → Walks setting kept next asked accepted left ending → Walks setting kept next more others held final
+      → IsSure final → Walks setting kept next asked accepted left ending →
+      Walks setting kept next more others held final
       → SameWalk asked more accepted others left held ending final
   walks-once kept next [] [] [] [] left held ending final sure too (p, ps) (q, qs) = record {
     asked_is = refl;
@@ -251,7 +255,8 @@ module _ (report : Bool) (capacity : ℕ) (base : List ℕ) (kept : List KeptVal
       subst (λ (e : WalkEnding). IsWalked p.asked p.accepted p.left e q.walked) same.ending_is
       (subst (λ (l : List KeptValue). IsWalked p.asked p.accepted l q.ending q.walked) same.left_is
       (subst (λ (told : List Accepted). IsWalked p.asked told q.left q.ending q.walked) same.accepted_is
-      (subst (λ (there : List Address). IsWalked there q.accepted q.left q.ending q.walked) same.asked_is q.is_walked))) in
+      (subst (λ (there : List Address). IsWalked there q.accepted q.left q.ending q.walked) same.asked_is
+      q.is_walked))) in
       let walked : q.walked ≡ p.walked =
       let asked = is.asked ∙ sym p.is_walked.asked in
       let taken = is.taken ∙ sym p.is_walked.taken in

@@ -168,7 +168,8 @@ module _ (report : Bool) (capacity : ℕ) (base : List ℕ) (kept : List KeptVal
       (Err (NoRoom q.size q.needed capacity)) ks) held.1
       (subst (λ (o : Offer). IsAnswerWithin capacity base q.left o.address o.bytes
       (Err (NoRoom q.size q.needed capacity)) q.left) same.1 q.full) in
-      let answer = answer-once capacity base p.left p.offer.address p.offer.bytes (Err (NoRoom p.size p.needed capacity))
+      let answer = answer-once capacity base p.left p.offer.address p.offer.bytes
+      (Err (NoRoom p.size p.needed capacity))
       (Err (NoRoom q.size q.needed capacity)) p.left p.left p.full full in
       let size : q.size ≡ p.size = let a = answer.0 in cc in
       let needed : q.needed ≡ p.needed = let a = answer.0 in cc in

@@ -56,7 +56,8 @@ module _ (outside : Outside) (told : Type 0) (before after : SinkState) (ended :
     is = inl record { stored = stored; opens = opens; is = refl };
     status = inr (failed, inl refl);
     prints = λ seen. record { prefix = prefix seen; whole = λ none. absurd (none rose) };
-    whole = λ seen. ⊎_elim (λ done. absurd (omega (arith, failed, done))) (λ done. absurd (omega (arith, failed, done)));
+    whole = λ seen. ⊎_elim (λ done. absurd (omega (arith, failed, done)))
+        (λ done. absurd (omega (arith, failed, done)));
   }
 
   -- the content opens to no store

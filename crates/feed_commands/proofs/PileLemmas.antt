@@ -106,7 +106,8 @@ module _ (told : Type 0) (stored : Stored) where
   pub head-prefix : (before after : SinkState) → TakesPrefix before after pile_head
       → TakesPrefix before after (pile_text (offers_of stored))
   head-prefix before after prefix = takes_more before before after [] pile_head
-      (flat_map offer_text (offers_of stored)) (pile_text (offers_of stored)) refl (sym (append-nil before.taken)) prefix
+      (flat_map offer_text (offers_of stored)) (pile_text (offers_of stored)) refl
+      (sym (append-nil before.taken)) prefix
 
   front-feed-due : (before after : SinkState) → after.taken ≡ before.taken ++ pile_head
       → TakesFront told (offers_of stored) (offer_of (subscription stored.head stored.history)

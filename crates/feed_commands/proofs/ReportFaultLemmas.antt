@@ -140,7 +140,8 @@ fault-mirror (Other NoMemory) ended may is = inr (inr (inr (inl is)))
 fault-mirror (Other Input) ended may is = inr (inr (inr (inr (inr (inr (inl is))))))
 fault-mirror (Other Disk) ended may is = inr (inr (inl is))
 fault-mirror (Other (BadStore bad)) ended may is = inr (inr (inr (inr (inl is))))
-fault-mirror (Other (Full area size needed capacity)) ended may is = inr (inr (inr (inr (inr (inr (inr (inr (inl is))))))))
+fault-mirror (Other (Full area size needed capacity)) ended may is = inr
+    (inr (inr (inr (inr (inr (inr (inr (inl is))))))))
 fault-mirror (Other (Refused (why.BadPile at))) ended may is = inr (inr (inr (inr (inr (inr (inr (inl is)))))))
 fault-mirror (Other (Refused why.TooLong)) ended may is = inr (inr (inr (inr (inr (inr (inr (inl is)))))))
 fault-mirror (Other (Refused _)) ended may is = absurd may

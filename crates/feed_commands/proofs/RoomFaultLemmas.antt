@@ -74,12 +74,14 @@ room-disk (Err why.NoMemory) e = absurd (cc)
 pub room-not_disk : (answer : Answer) (fault : Fault) → room_fault answer ≡ Some fault → fault ≢ Disk
     → answer ≢ Err why.DiskFault
 room-not_disk answer fault e other is =
-    let same : Some fault ≡ Some Disk = sym e ∙ (subst (λ (a : Answer). room_fault a ≡ room_fault (Err why.DiskFault)) (sym is) refl) in
+    let same : Some fault ≡ Some Disk = sym e ∙ (subst (λ (a : Answer). room_fault a ≡ room_fault (Err why.DiskFault))
+    (sym is) refl) in
     other (cc)
 
 pub room-not_taken : (answer : Answer) (fault : Fault) → room_fault answer ≡ Some fault → answer ≢ Ok Taken
 room-not_taken answer fault e is =
-    let same : Some fault ≡ None = sym e ∙ (subst (λ (a : Answer). room_fault a ≡ room_fault (Ok Taken)) (sym is) refl) in
+    let same : Some fault ≡ None = sym e ∙ (subst (λ (a : Answer). room_fault a ≡ room_fault (Ok Taken))
+    (sym is) refl) in
     absurd (cc)
 
 -- the fault of an offer that refuses is that of a full area

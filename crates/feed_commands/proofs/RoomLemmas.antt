@@ -103,7 +103,8 @@ module _ (store : StoreValue) where
         → seal_fault (stored_of store) ≡ Some (Full Sealed size needed capacity)
     seal-full size needed capacity same missing full =
         ap (option_and_then (room_fault Sealed store.head.capacity
-        (size_of (seals_of store.head store.history (seal_count store))))) (due-is (Some (next_seal store)) (missing, refl))
+        (size_of (seals_of store.head store.history (seal_count store)))))
+        (due-is (Some (next_seal store)) (missing, refl))
         ∙ room-full Sealed store.head.capacity _ (next_seal store)
         (omega (arith, full.over, full.is_size, full.is_needed, seals_size, same))
         ∙ ap (λ (n : ℕ). Some (Full Sealed n (length (next_seal store) + header_length) store.head.capacity))

@@ -94,8 +94,10 @@ pub no_command : (words : List (List ℕ)) (result : Result Command WordsFault) 
     → ((command : Command) → IsCommandOf words command → (result ≡ Ok command) ⊎ (result ≡ Err NoMemory))
     → (command : Command) → IsCommandOf words command → ⊥
 no_command words result is only command of_words = ⊎_elim
-    (λ (e : result ≡ Ok command). let other : ◌≡◌ {A = Result Command WordsFault} (Err Usage) (Ok command) = sym is ∙ e in cc)
-    (λ (e : result ≡ Err NoMemory). let other : ◌≡◌ {A = Result Command WordsFault} (Err Usage) (Err NoMemory) = sym is ∙ e in cc)
+    (λ (e : result ≡ Ok command). let other : ◌≡◌ {A = Result Command WordsFault} (Err Usage) (Ok command) =
+    sym is ∙ e in cc)
+    (λ (e : result ≡ Err NoMemory). let other : ◌≡◌ {A = Result Command WordsFault} (Err Usage) (Err NoMemory) =
+    sym is ∙ e in cc)
     (only command of_words)
 
 -- the words that were read as a command are those of that command

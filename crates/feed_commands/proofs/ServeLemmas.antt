@@ -23,7 +23,8 @@ use Rattle.feed_commands.proofs.PrintLemmas.{prints-from}
 -- the lines before one, that line, and those after it
 lines-split : (lines : List Line) (i : ℕ) (d : Line) → i < length lines
     → flat_map session_line lines
-    ≡ flat_map session_line (take i lines) ++ (session_line (get_or lines i d) ++ flat_map session_line (drop (suc i) lines))
+    ≡ flat_map session_line (take i lines) ++ (session_line (get_or lines i d) ++ flat_map session_line
+    (drop (suc i) lines))
 lines-split lines i d inside =
     ap (flat_map session_line) (sym (take-append-drop i lines))
     ∙ flat_map-append session_line (take i lines) (drop i lines)
@@ -46,7 +47,8 @@ line-prefix before mid after lines i d fault bytes inside is taken prefix =
     taken (subst (TakesPrefix mid after) is prefix)
 
 -- all lines of the connections were taken, and of the fault's a prefix
-pub fault-prefix : (before mid after : SinkState) (lines : List Line) (i : ℕ) (fault : Option SessionFault) (bytes : List ℕ)
+pub fault-prefix : (before mid after : SinkState) (lines : List Line) (i : ℕ) (fault : Option SessionFault)
+    (bytes : List ℕ)
     → length lines ≤ i → bytes ≡ fault_text fault
     → mid.taken ≡ before.taken ++ flat_map session_line (take i lines) → TakesPrefix mid after bytes
     → TakesPrefix before after (session_text lines fault)
@@ -57,7 +59,8 @@ fault-prefix before mid after lines i fault bytes all is taken prefix =
 
 -- the lines and the fault are those of the session
 pub session-prints : {T E : Type 0} (r : Result T E) (before after : SinkState) (shown lines : List Line)
-    (told fault : Option SessionFault) → shown ≡ lines → told ≡ fault → TakesPrefix before after (session_text shown told)
+    (told fault : Option SessionFault) → shown ≡ lines → told ≡ fault → TakesPrefix before after
+    (session_text shown told)
     → OnOk r (after.taken ≡ before.taken ++ session_text shown told) → HasCause before.faults after.faults r
     → Prints before after (session_text lines fault)
 session-prints r before after shown lines told fault same_lines same_fault prefix whole cause =
@@ -95,7 +98,8 @@ pub opened-load : (end : End) (fault : LoadFault) → IsOpened end → end ≡ s
 opened-load end fault opened is = subst IsOpened is opened
 
 -- without a fault the session came to its defined end, or memory ran out
-pub served-whole : (end : End) (told : Option SessionFault) (printed : Result (Unit {0}) Failed) (ended before after : ℕ)
+pub served-whole : (end : End) (told : Option SessionFault) (printed : Result (Unit {0}) Failed)
+    (ended before after : ℕ)
     → told ≡ end_fault end → ended ≡ code_of (session_status told printed)
     → ((fault : LoadFault) → end ≡ session.Load fault → (fault ≡ load.DiskFault) ⊎ (fault ≡ load.NoMemory))
     → (end ≡ session.DiskFault → ⊥) → (end ≡ session.Load load.DiskFault → ⊥) → (end ≡ session.DoorFault → ⊥)

@@ -7,7 +7,8 @@ pub joins : (o0 o1 o2 s t : List ℕ) → o1 ≡ o0 ++ s → o2 ≡ o1 ++ t → 
 joins o0 o1 o2 s t one other = other ∙ ap (λ (x : List ℕ). x ++ t) one ∙ append_assoc o0 s t
 
 -- the same where the second step may fail
-pub joins_on : {T E : Type 0} (result : Result T E) (o0 o1 o2 s t : List ℕ) → o1 ≡ o0 ++ s → OnOk result (o2 ≡ o1 ++ t) →
+pub joins_on : {T E : Type 0} (result : Result T E) (o0 o1 o2 s t : List ℕ) → o1 ≡ o0 ++ s →
+    OnOk result (o2 ≡ o1 ++ t) →
     OnOk result (o2 ≡ o0 ++ (s ++ t))
 joins_on (Ok _) o0 o1 o2 s t one other = joins o0 o1 o2 s t one other
 joins_on (Err _) o0 o1 o2 s t one other = other

@@ -127,7 +127,8 @@ module _ (told : Type 0) (capacity : ℕ) (base : List ℕ) (start : List KeptVa
           answered = subst (λ (os : List Offering).
               AreAnsweredWithin capacity base start os (has.answers ++ Ok Taken ∷ []) left)
               (sym (map-append offering offers (offer ∷ [])))
-              (answers-push capacity base start (map offering offers) has.answers mirror.kept (offering offer) (Ok Taken)
+              (answers-push capacity base start (map offering offers) has.answers mirror.kept
+              (offering offer) (Ok Taken)
               left has.answered tt answer);
         };
         loads = subst (λ (b : List ℕ). LoadsTo b left image) base_is more.loads;
@@ -162,7 +163,8 @@ module _ (told : Type 0) (capacity : ℕ) (base : List ℕ) (start : List KeptVa
   -- the offers that were given, as far as they were answered
   pub gives-of : (input : List ℕ) (input_told : Type 0) (offers : List Offer) (t : DiskState) (kept : List KeptValue)
       (failed whole : Type 0) → BegunAreWhole → (input_told → ReadsOffers input offers)
-      → (whole → input_told → ReadsTo input offers (Ok None)) → HasAnswered capacity base start offers kept → IsTaking told capacity base start offers s t kept
+      → (whole → input_told → ReadsTo input offers (Ok None)) → HasAnswered capacity base start offers kept →
+      IsTaking told capacity base start offers s t kept
       → (told → records (t.content MirrorArea) ≡ payloads_of kept)
       → GivesOffers capacity base start input input_told told s t failed whole
   gives-of input input_told offers t kept failed whole law read all has h payloads = record {

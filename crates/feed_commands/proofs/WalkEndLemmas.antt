@@ -110,7 +110,8 @@ walk-fault-of : (report : Bool) (capacity : ℕ) (base : List ℕ) (kept now : L
 walk-fault-of report capacity base kept now answers before after faults.FetchFault went refusal = absurd refusal
 walk-fault-of report capacity base kept now answers before after (faults.Full size needed most) went refusal =
     let setting = walk_setting capacity base answers in
-    let walks = subst (λ (e : WalkEnding). Walks setting kept (Some Feed) went.asked went.accepted went.held e) went.result
+    let walks = subst (λ (e : WalkEnding). Walks setting kept (Some Feed) went.asked went.accepted went.held
+    e) went.result
     went.walks in
     let same = filled-capacity setting went.asked went.accepted kept went.held (Some Feed) size needed most walks in
     subst (λ (c : ℕ). IsFetched report capacity base kept answers
@@ -121,7 +122,8 @@ walk-fault-of report capacity base kept now answers before after (faults.Full si
       left = went.held;
       size = size;
       needed = needed;
-      walks = subst (λ (c : ℕ). Walks setting kept (Some Feed) went.asked went.accepted went.held (filled size needed c))
+      walks = subst (λ (c : ℕ). Walks setting kept (Some Feed) went.asked went.accepted went.held
+          (filled size needed c))
           same walks;
       is = refl;
     })

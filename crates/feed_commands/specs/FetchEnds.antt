@@ -71,8 +71,8 @@ pub record AsksOfMirror (capacity : ℕ) (base : List ℕ) (kept : List KeptValu
     pub walks : WalksFromFeed (walk_setting capacity base before.answers) kept asked accepted left ending
     pub addresses : after.asked ≡ before.asked ++ map (printed base) asked
 
--- The walk of a mirror that held `kept`, up to its end or to a fault. While it goes on, a crash leaves of a disk at rest the
--- documents held after the first few that it takes.
+-- The walk of a mirror that held `kept`, up to its end or to a fault. While it goes on, a crash leaves of a disk at
+-- rest the documents held after the first few that it takes.
 pub record GoesWalk (capacity : ℕ) (base : List ℕ) (kept : List KeptValue) (answers : List ℕ → Option (List ℕ))
     (before after : DiskState) (failed whole : Type 0) : Type 0 where
   pub asked : List Address

@@ -62,7 +62,8 @@ pub record HasAnswered (capacity : ℕ) (base : List ℕ) (kept : List KeptValue
   pub answers : List MirrorAnswer
   pub answered : AreAnsweredWithin capacity base kept (map offering offers) answers left
 
--- the input is a pile: the answer is the report, or else the certificate, of a mirror that held `kept` before its offers
+-- the input is a pile: the answer is the report, or else the certificate, of a mirror that held `kept` before its
+-- offers
 pub record IsReport (report : Bool) (capacity : ℕ) (base : List ℕ) (kept : List KeptValue) (input : List ℕ)
     (given : Answer) : Type 0 where
   pub offers : List Offer

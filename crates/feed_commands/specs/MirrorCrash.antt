@@ -33,9 +33,9 @@ abbrev pub LeavesSteps : DiskState → DiskState → (List ℕ → Type 0) → T
 LeavesSteps before after IsStep =
     AlwaysLeaves before after Mirror (λ image. StandsFor (before.image_now Mirror) image ⊎ IsStep image)
 
--- The mirror was loaded and took documents of a pile. A crash leaves those that it held before, with those that it takes
--- of the first few offers. If no device call failed, it leaves all of them at the end. At a report these are all offers
--- of the pile.
+-- The mirror was loaded and took documents of a pile. A crash leaves those that it held before, with those that it
+-- takes of the first few offers. If no device call failed, it leaves all of them at the end. At a report these are all
+-- offers of the pile.
 pub record LeavesMirrored (capacity : ℕ) (base input : List ℕ) (before after : DiskState) (failed reported : Type 0)
     : Type 0 where
   pub kept : List KeptValue

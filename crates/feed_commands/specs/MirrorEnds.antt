@@ -64,8 +64,8 @@ abbrev pub IsPileRefusal : Bool → ℕ → List ℕ → (Area → List ℕ) →
 IsPileRefusal report capacity base content input given =
     IsPileEnd report capacity base content input given ⊎ IsBadMirror base content given
 
--- The offers of a pile that were given to a mirror, up to the end of the pile or to a fault. While they are, a crash leaves
--- of a disk at rest the documents held after the first few of them.
+-- The offers of a pile that were given to a mirror, up to the end of the pile or to a fault. While they are, a crash
+-- leaves of a disk at rest the documents held after the first few of them.
 pub record GivesOffers (capacity : ℕ) (base : List ℕ) (kept : List KeptValue) (input : List ℕ)
     (input_told disk_told : Type 0) (before after : DiskState) (failed whole : Type 0) : Type 0 where
   pub offers : List Offer

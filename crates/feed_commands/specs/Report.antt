@@ -127,8 +127,8 @@ room_fault (Err DiskFault) = Some faults.Disk
 room_fault (Err NoMemory) = Some faults.NoMemory
 room_fault _ = None
 
--- A mirror that holds `kept`, and whose area has this capacity, answers the offers in order with these answers. There is
--- room for each document that it takes. It holds `left` afterwards.
+-- A mirror that holds `kept`, and whose area has this capacity, answers the offers in order with these answers. There
+-- is room for each document that it takes. It holds `left` afterwards.
 abbrev pub AreAnsweredWithin : ℕ → List ℕ → List KeptValue → List Offering → List MirrorAnswer → List KeptValue → Type 0
 AreAnsweredWithin capacity base kept [] [] left = left ≡ kept
 AreAnsweredWithin capacity base kept [] (answer ∷ answers) left = ⊥

@@ -75,8 +75,8 @@ abbrev pub Fetches : Command → Type 0
 Fetches (Mirror base true report capacity) = Unit {0}
 Fetches _ = ⊥
 
--- whether the command has an answer that disk, clock, input and source determine: each but `serve`, which depends on the
--- door
+-- whether the command has an answer that disk, clock, input and source determine: each but `serve`, which depends on
+-- the door
 abbrev pub IsAnswering : Command → Type 0
 IsAnswering (Serve listen requests) = ⊥
 IsAnswering _ = Unit {0}
@@ -87,7 +87,8 @@ IsAtOnce (Serve listen requests) = ⊥
 IsAtOnce (Show Pile) = ⊥
 IsAtOnce _ = Unit {0}
 
--- whether the command has one defined end, with the status 0, and returns nothing but what it prints: each but `mirror`,
+-- whether the command has one defined end, with the status 0, and returns nothing but what it prints: each but
+-- `mirror`,
 -- `audit` and `drill`
 abbrev pub IsTextual : Command → Type 0
 IsTextual (Mirror base fetch report capacity) = ⊥
@@ -220,7 +221,8 @@ IsDone ended = (ended ≡ code_of ends.Done) ⊎ (ended ≡ code_of ends.Incompl
 -- the exit statuses that input, clock and disk determine: the defined ends and the refusals
 abbrev pub IsDetermined : ℕ → Type 0
 IsDetermined ended =
-    (ended ≡ code_of ends.Done) ⊎ (ended ≡ code_of ends.Incomplete) ⊎ (ended ≡ code_of ends.BadStore) ⊎ (ended ≡ code_of ends.BadInput)
+    (ended ≡ code_of ends.Done) ⊎ (ended ≡ code_of ends.Incomplete) ⊎ (ended ≡ code_of ends.BadStore) ⊎
+    (ended ≡ code_of ends.BadInput)
     ⊎ (ended ≡ code_of ends.Full) ⊎ (ended ≡ code_of ends.Refused)
 
 -- the exit statuses after an answer: these, and a failure of the output

@@ -76,7 +76,8 @@ counts_in false counts = []
 
 -- The report, or else the certificate, of documents that the feed with this head served after some of these operations:
 -- nothing is refused, and the mirror shows as much of the feed as it held and was offered.
-pub record IsServedReport (report : Bool) (head : HeadValue) (history : List Op) (kept : List KeptValue) (offers : List Offering)
+pub record IsServedReport (report : Bool) (head : HeadValue) (history : List Op) (kept : List KeptValue)
+    (offers : List Offering)
     (given : Answer) : Type 0 where
   pub counts : Counts
   pub none_refused : counts.refused ≡ 0
@@ -92,7 +93,8 @@ abbrev pub IsReported : ℕ → Type 0
 IsReported ended = (ended ≡ code_of Done) ⊎ (ended ≡ code_of Incomplete) ⊎ (ended ≡ code_of OutputFault)
 
 -- the program ended with this report, of which the output took a prefix if a call on it failed
-pub record EndsServed (report : Bool) (head : HeadValue) (history : List Op) (kept : List KeptValue) (offers : List Offering)
+pub record EndsServed (report : Bool) (head : HeadValue) (history : List Op) (kept : List KeptValue)
+    (offers : List Offering)
     (told : Type 0) (before after : SinkState) (ended : ℕ) : Type 0 where
   pub answer : Answer
   pub is : IsServedReport report head history kept offers answer

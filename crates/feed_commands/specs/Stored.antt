@@ -46,7 +46,8 @@ room_fault area capacity size payload =
 
 abbrev pub seal_fault : Stored → Option Fault
 seal_fault stored =
-    option_and_then (room_fault Sealed stored.head.capacity (size_of (seals_of stored.head stored.history stored.seals)))
+    option_and_then (room_fault Sealed stored.head.capacity (size_of
+    (seals_of stored.head stored.history stored.seals)))
     (missing_seal stored)
 
 abbrev pub operation_fault : Stored → Op → Option Fault

@@ -67,15 +67,16 @@ pub struct Ended {
 ///   subscription document. `apply W` applies them to an empty history, and uses no store.
 /// - `show` reads the input as one document and prints its summary. `show feed`, `show archive J` and `show member N`
 ///   print a document of the store, and `show pile` the subscription document and all archives as a pile.
-/// - `serve` serves the feed of the store at an address, one connection after the other, and then prints a line for each.
-/// - `mirror` mirrors the feed below a base address into the mirror's area of the disk, and prints a certificate of what it
-///   holds, or the address of the first missing document. With `--report` it prints a report instead, which has a line for
-///   each refused document and each live entry. The documents come from the pile that is the input, or from the source
-///   with `--fetch`.
+/// - `serve` serves the feed of the store at an address, one connection after the other, and then prints a line for
+///   each.
+/// - `mirror` mirrors the feed below a base address into the mirror's area of the disk, and prints a certificate of
+///   what it holds, or the address of the first missing document. With `--report` it prints a report instead, which has
+///   a line for each refused document and each live entry. The documents come from the pile that is the input, or from
+///   the source with `--fetch`.
 /// - `audit` reads a certificate and a pile from the input, and prints whether the documents of the pile cover the
 ///   certificate.
-/// - `drill` runs a store and a mirror with generated requests, crashes and gifts on disks in memory, and prints a summary
-///   of their life.
+/// - `drill` runs a store and a mirror with generated requests, crashes and gifts on disks in memory, and prints a
+///   summary of their life.
 ///
 /// At any other end the line of that end is printed. A failure to print that line changes no status.
 pub fn run<D: Disk, C: Clock, L: Door, F: Fetch, I: Source, O: Sink>(
@@ -145,7 +146,8 @@ pub fn run<D: Disk, C: Clock, L: Door, F: Fetch, I: Source, O: Sink>(
         → AddsNothing command → D.told → LeavesStores (D.state disk.old) (D.state disk.new) }
     ensures made { (name : FeedName) (window capacity : ℕ)
         → IsCommandOf (map string_bytes words.now) (Init name window capacity) → D.told
-        → MakesStoreAt (D.state disk.old) (D.state disk.new) name window capacity C.told (C.coming clock.old 0)
+        → MakesStoreAt (D.state disk.old) (D.state disk.new) name window capacity C.told
+        (C.coming clock.old 0)
         ((result.status ≡ code_of status.Done) ⊎ (result.status ≡ code_of status.OutputFault)) }
     ensures applied { IsCommandOf (map string_bytes words.now) (Apply None) → D.told
         → AppliesSafely (D.state disk.old) (D.state disk.new) (C.coming clock.old) (I.state input.old).left
@@ -156,8 +158,8 @@ pub fn run<D: Disk, C: Clock, L: Door, F: Fetch, I: Source, O: Sink>(
     ensures mirror { MirrorsNot (map string_bytes words.now)
         → LeavesAlone (D.state disk.old) (D.state disk.new) Mirror }
 
-    // `serve`: the session over the connections that the door gave, its lines, and what a crash leaves. No other command
-    // uses the door.
+    // `serve`: the session over the connections that the door gave, its lines, and what a crash leaves. No other
+    // command uses the door.
     ensures serves { (listen : List ℕ) (requests : ℕ)
         → IsCommandOf (map string_bytes words.now) (Serve listen requests)
         → EndsServing requests (D.state disk.old) (D.state disk.new) (C.coming clock.old)
@@ -305,7 +307,8 @@ fn answer<D: Disk, C: Clock, I: Source>(
     ensures faults { result ≢ Err Fault.Input → (I.state input.new).faults ≡ (I.state input.old).faults }
     ensures safe { AddsNothing command → D.told → LeavesStores (D.state disk.old) (D.state disk.new) }
     ensures made { (name : FeedName) (window capacity : ℕ) → command ≡ Init name window capacity → D.told
-        → MakesStoreAt (D.state disk.old) (D.state disk.new) name window capacity C.told (C.coming clock.old 0)
+        → MakesStoreAt (D.state disk.old) (D.state disk.new) name window capacity C.told
+        (C.coming clock.old 0)
         (IsOk result) }
     ensures applied { command ≡ Apply None → D.told
         → AppliesSafely (D.state disk.old) (D.state disk.new) (C.coming clock.old) (I.state input.old).left

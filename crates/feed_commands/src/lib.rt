@@ -1,9 +1,9 @@
-//! The commands of `feed_tool`: all that the program does, over a disk, a clock, a door, a source of documents, an input
-//! and an output that the caller lends.
+//! The commands of `feed_tool`: all that the program does, over a disk, a clock, a door, a source of documents, an
+//! input and an output that the caller lends.
 //!
-//! Begin with [`run`], which reads the words and runs their command. For every input, clock and failure its contract says
-//! which exit status the program ends with and which bytes it prints. A test calls it as the program does, with objects
-//! in memory:
+//! Begin with [`run`], which reads the words and runs their command. For every input, clock and failure its contract
+//! says which exit status the program ends with and which bytes it prints. A test calls it as the program does, with
+//! objects in memory:
 //!
 //! ```
 //! let mut disk = MemoryDisk::new(alloc, journal, sealed, mirror, Many::new(alloc));
@@ -19,7 +19,8 @@
 //! The commands are in `commands`. A command has one answer to an input, and the law in `laws.rt` says so.
 //!
 //! Stands on `document_server` for the server, on `doc_source` for piles, the source, the input and the output, on
-//! `mirror_walk` for the mirror, on `coverage_certificate` and `coverage_auditor` for certificates, on `archive_sealer` and
+//! `mirror_walk` for the mirror, on `coverage_certificate` and `coverage_auditor` for certificates, on `archive_sealer`
+//! and
 //! `atom_grammar` for the documents, and on the crates below them.
 #![tactic(auto)]
 

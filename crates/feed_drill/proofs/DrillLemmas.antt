@@ -210,7 +210,7 @@ module _ (head : HeadValue) (seed count : ℕ) (old between : LifeValue) (course
   abbrev turn : Turn
   turn = turn_of (live_numbers history) (suc count) (drilled head seed count).state
 
-  -- the turn's offers come behind its requests
+  -- the turn's offers come after its requests
   had-more : (life : LifeValue) (held : List KeptValue)
       → Goes (moment_of between later (kept ∷ [])) (offer_events head.name.base (suc count) (clock_at (suc count)))
       (moment_of life later (held ∷ []))

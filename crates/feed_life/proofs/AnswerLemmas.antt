@@ -44,7 +44,8 @@ module _ (base address : List ℕ) where
   find-found zero number e = absurd (cc)
   find-found (suc high) number e = elim (cases_Bool (is_at (suc high))) [
     | inl passed ↦
-        let same : suc high ≡ number = cc (cond-true (is_at (suc high)) (Some (suc high)) (find is_at (numbers_from high)) passed) in
+        let same : suc high ≡ number = cc (cond-true (is_at (suc high)) (Some (suc high))
+        (find is_at (numbers_from high)) passed) in
         record {
           from_one = omega arith;
           within = omega arith;

@@ -41,11 +41,13 @@ pub store-opened : (head : HeadValue) (history : List Op) (before after : Memory
     → (AreWhole (state_of before) → Settled (state_of after) store.head store.history (length store.history))
     → (AreWhole (state_of before) → IsAtRest (state_of after)) → IsOpened head history before after store
 store-opened head history before after store one is_store stands logs same settled rests =
-    let whole = settled-whole (state_of before) head history (length history) (memory_is_disk before) tt is_store.settled in
+    let whole = settled-whole (state_of before) head history (length history) (memory_is_disk before) tt
+    is_store.settled in
     let opens = opens-same ((state_of before).content Journal) ((state_of before).content Sealed)
     ((state_of after).content Journal) ((state_of after).content Sealed) store.head store.history (seal_count store)
     (same Journal) (same Sealed) stands.opens in
-    let one_way = one ((state_of before).content Journal) ((state_of before).content Sealed) store.head head store.history
+    let one_way = one ((state_of before).content Journal) ((state_of before).content Sealed) store.head
+    head store.history
     history (seal_count store) is_store.seals opens is_store.opens in
     record {
       loaded = record {

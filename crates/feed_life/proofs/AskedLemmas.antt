@@ -144,7 +144,14 @@ asked-inside : (old : LifeValue) (request : RequestValue) (now : ℕ) (history :
     → Lives old history held → IsAnswered old.head request now history old.disk disk reply line sealed
     → Sends old.head.name.base request reply line.version found → sent ≡ old.sent ++ docs_of found
     → CountsCalls old.disk disk line
-    → IsAsked old (record old { disk = disk; sent = sent; version = line.version; sealed = sealed; lost = false }) request
+    → IsAsked old (record old {
+      disk = disk;
+      sent = sent;
+      version = line.version;
+      sealed = sealed;
+      lost =
+          false;
+    }) request
     now history held line
 asked-inside old request now history held disk reply line sealed found sent lives given sends sent_is calls =
     let journal = lives.store.opens.is_journal in

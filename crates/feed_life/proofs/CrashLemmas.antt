@@ -44,7 +44,8 @@ crash-past head operations least images left crash past =
       seals = past.seals;
       opens = past.opens;
       settled = λ journal sealed first second.
-          subst (λ (j : List ℕ). OpensPast head later (length later) j sealed) (sym (crash.synced Journal journal first))
+          subst (λ (j : List ℕ). OpensPast head later (length later) j sealed)
+          (sym (crash.synced Journal journal first))
           (subst (λ (s : List ℕ). OpensPast head later (length later) ((state_of left).content Journal) s)
           (sym (crash.synced Sealed sealed second)) record {
             journal_whole = past.journal_whole;

@@ -67,7 +67,8 @@ module _ {D : Type 0} (s t : DiskState) (before after : StoreFetchValue D) where
 
 -- a read gave other bytes than the store has
 pub gets-changed : {D T : Type 0} (told : Type 0) (state : D → DiskState) (s : DiskState)
-    (before read after : StoreFetchValue D) (result : Result T GetFault) → Reads s (state read.disk) before read → ¬ told
+    (before read after : StoreFetchValue D) (result : Result T GetFault) →
+    Reads s (state read.disk) before read → ¬ told
     → after ≡ record read { failures = counted read.failures } → result ≡ Err Failed
     → Gets told s (state after.disk) before after result
 gets-changed {D = D} {T = T} told state s before read after result reads untold is fails =
@@ -91,7 +92,8 @@ same-calls store left is =
     is ∙ ap (λ (v : StoreValue). record store { seals = record store.seals { calls = v.seals.calls } }) (sym is)
 
 -- a read by the fetch whose fields are these
-pub reads-inside : {D : Type 0} (state : D → DiskState) (inside before : StoreFetchValue D) (left : StoreValue) (disk : D)
+pub reads-inside : {D : Type 0} (state : D → DiskState) (inside before : StoreFetchValue D)
+    (left : StoreValue) (disk : D)
     → inside ≡ before
     → left ≡ record inside.store { seals = record inside.store.seals { calls = left.seals.calls } }
     → ((a : Area) → LeavesAlone (state inside.disk) (state disk) a)
@@ -111,7 +113,8 @@ pub disk-inside : {D T : Type 0} (told : Type 0) (state : D → DiskState) (resu
     → result ≡ Err Failed
     → Gets told (state before.disk) (state disk) before (record inside { store = left; disk = disk }) result
 disk-inside {D = D} told state result inside before left disk view unspent is areas later rose fails =
-    subst (λ (f : StoreFetchValue D). Gets told (state f.disk) (state disk) f (record inside { store = left; disk = disk })
+    subst (λ (f : StoreFetchValue D). Gets told (state f.disk) (state disk) f
+    (record inside { store = left; disk = disk })
     result) view (gets-disk (state inside.disk) (state disk) inside (record inside { store = left; disk = disk }) told
     result (ap (λ (f : StoreFetchValue D). is_spent f.store) view ∙ unspent) is refl areas later rose fails)
 
@@ -126,7 +129,8 @@ gets-limited {D = D} {T = T} told state s before read after (Ok found) limit siz
     subst (λ (f : StoreFetchValue D). Gets {T = T} told s (state f.disk) before f (Ok found)) (sym same)
     (gets-read s (state read.disk) before read told (Ok found) reads (λ e. cc))
 gets-limited told state s before read after (Err why) limit size reads short same fault long failures =
-    gets-changed told state s before read after (Err why) reads (λ tells. let within = short tells in omega arith) failures
+    gets-changed told state s before read after (Err why) reads (λ tells. let within = short tells in omega
+    arith) failures
     (cc)
 
 -- the addresses asked have no part in it
@@ -162,7 +166,8 @@ gets-asked told s t before after other left result store failures store_left fai
 }
 
 -- a call before which an address was put among those asked, and after which they may be others
-pub gets-put : {D T : Type 0} (told : Type 0) (state : D → DiskState) (t : DiskState) (inside before after : StoreFetchValue D)
+pub gets-put : {D T : Type 0} (told : Type 0) (state : D → DiskState) (t : DiskState)
+    (inside before after : StoreFetchValue D)
     (put : List (List ℕ)) (result : Result T GetFault) → inside ≡ before
     → Gets told (state inside.disk) t (record inside { asked = put }) after result
     → Gets told (state before.disk) t before after result
@@ -176,5 +181,6 @@ pub gets-taken : {D T : Type 0} (told : Type 0) (state : D → DiskState) (s : D
     → Gets told s (state after.disk) before after result
     → Gets told s (state inside.disk) before (record inside { asked = left }) result
 gets-taken {D = D} {T = T} told state s before inside after left result view gets =
-    gets-asked told s (state inside.disk) before inside before (record inside { asked = left }) result refl refl refl refl
+    gets-asked told s (state inside.disk) before inside before (record inside { asked = left }) result refl
+    refl refl refl
     (subst (λ (f : StoreFetchValue D). Gets {T = T} told s (state f.disk) before f result) (sym view) gets)

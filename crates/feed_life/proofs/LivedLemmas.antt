@@ -47,7 +47,8 @@ midway-more head mirrors events index event old new line within is steps midway 
       held = step.left;
       lives = step.lives;
       so_far = λ last lived. midway.so_far last
-          (subst (λ (l : List Event). LivesOn old midway.history midway.held l last) (sym rest) (new, line, step, lived));
+          (subst (λ (l : List Event). LivesOn old midway.history midway.held l last) (sym rest)
+          (new, line, step, lived));
     }
 
 pub midway-all : (head : HeadValue) (mirrors : ℕ) (events : List Event) (index : ℕ) (life : LifeValue)

@@ -57,7 +57,8 @@ module _ (head : HeadValue) (history operations : List Op) (lawful : IsLawful he
     served_at version from within =
         let whole = take version (history ++ operations) in
         let same : take doc.version whole ≡ take doc.version history =
-        take-take doc.version version (history ++ operations) from ∙ take-append-le doc.version history operations sent.past in
+        take-take doc.version version (history ++ operations) from ∙ take-append-le doc.version history
+        operations sent.past in
         served-stays head whole doc.version (prefix-lawful head (history ++ operations) version lawful)
         (omega (arith, length-take version (history ++ operations), sent.past, longer)) doc.address doc.bytes
         (subst (λ (h : List Op). Served head h doc.address doc.bytes) (sym same)

@@ -72,7 +72,8 @@ mirror_left old mirror store disk stops = record old {
 
 module _ (old : LifeValue) (history : List Op) (held : List (List KeptValue)) (mirror : ℕ) (stop : Option Stop)
     (store disk : MemoryValue) (stops : ℕ) (lives : Lives old history held)
-    (is_store : IsStoreOf old.head history store) (alive : old.lost ≡ false) (stops_are : stops ≡ with_stop stop old.mirror_stops) where
+    (is_store : IsStoreOf old.head history store) (alive : old.lost ≡ false)
+    (stops_are : stops ≡ with_stop stop old.mirror_stops) where
   abbrev left : LifeValue
   left = mirror_left old mirror store disk stops
 

@@ -206,7 +206,7 @@ module _ (head : HeadValue) (request : RequestValue) (now : ℕ) (stop : Stop) (
     history_is = whole ∙ runs.replied.history_is;
   }
 
-  -- a request that left this history behind its stop
+  -- a request that left this history after its stop
   run-into : (later : List Op) → (later ≡ history) ⊎ (later ≡ runs.whole)
       → (runs.number < stop.call → IsReplied head request now history later disk left runs.reply)
       → IsRunInto head request now stop history later disk left

@@ -208,7 +208,8 @@ module _ (head : HeadValue) (history : List Op) (is_head : IsHead head) (lawful 
             let found = best_of-holds (IsHeldOf head history) held best mirrors.held e in
             let version = version-of head history best.document found.1 found.0.of_feed in
             let greatest = shows.newest.greatest (subscription head history) newest-offered newest-kind in
-            let last : best.document.span.last ≡ length history = omega (arith, greatest, newest-last, version.past) in (
+            let last : best.document.span.last ≡ length history = omega
+            (arith, greatest, newest-last, version.past) in (
               best,
               record {
                 best_is = e;
@@ -268,7 +269,8 @@ module _ (head : HeadValue) (history : List Op) (is_head : IsHead head) (lawful 
     offers-served asked accepted left ending walks =
         All-append (λ (offer : Offering). Served head history offer.address offer.bytes) (map own_offer kept)
         (accepted_offers (setting_by head history) asked accepted) own
-        (accepted-served head history (setting_by head history) source asked accepted kept left (Some Feed) ending walks)
+        (accepted-served head history (setting_by head history) source asked accepted kept left
+        (Some Feed) ending walks)
 
     offers-taken : (asked : List Address) (accepted : List Accepted) (left : List KeptValue) (ending : WalkEnding)
         → WalksFromFeed (setting_by head history) kept asked accepted left ending

@@ -122,20 +122,23 @@ module _ (law : BegunAreWhole) (answer : StoresAnswerWhatIsServed) (head : HeadV
           accepted = went.accepted;
           ending = went.ending;
           walks = went.walks;
-          ends = walk-ends head history ready.has.is_head ready.has.lawful kept ready.loaded ready.served served-by went.asked
+          ends = walk-ends head history ready.has.is_head ready.has.lawful kept ready.loaded ready.served
+              served-by went.asked
               went.accepted went.held went.ending result went.walks finished went.result;
         };
         mirror = record {
           loads = rest-loads law head.name.base went.held loaded (state_of after)
               ((stands worked).payloads ∙ ap payloads_of held_is)
               (subst (IsAtRest (state_of after)) held_is (rests worked rest));
-          served = walk-holds head history ready.has.is_head ready.has.lawful kept ready.loaded ready.served served-by went.asked
+          served = walk-holds head history ready.has.is_head ready.has.lawful kept ready.loaded ready.served
+              served-by went.asked
               went.accepted went.held went.ending went.walks;
         };
         leaves = subst (λ (s : WalkSetting).
             AlwaysLeaves (state_of before) (state_of after) MirrorArea (IsWalkStep s kept)) same
             (subst (λ (ks : List KeptValue).
-            AlwaysLeaves (state_of before) (state_of after) MirrorArea (IsWalkStep (setting_of mirror source) ks)) kept_is
+            AlwaysLeaves (state_of before) (state_of after) MirrorArea
+            (IsWalkStep (setting_of mirror source) ks)) kept_is
             (moments rest));
         few = subst (λ (ks : List KeptValue). TakesFew (state_of before) (state_of after) ks went.held) kept_is
             (subst (TakesFew (state_of before) (state_of after) mirror.kept) held_is (most worked));
@@ -261,7 +264,8 @@ module _ (head : HeadValue) (history : List Op) (kept : List KeptValue) (stop : 
             loads = crash-only (LoadsTo head.name.base step.left) (λ a. (state_of after).image_at a at.moment) left
                 MirrorArea at.crash step.loads;
             served = walk-holds head history ready.has.is_head ready.has.lawful kept ready.loaded ready.served
-                (answer head history ready.has.is_head ready.has.lawful) step.asked step.accepted step.left cut_short step.walks;
+                (answer head history ready.has.is_head ready.has.lawful) step.asked step.accepted step.left
+                cut_short step.walks;
           };
         }
 

@@ -126,7 +126,7 @@ TakesCalls store None number = Unit {0}
 TakesCalls store (Some operation) number =
     (seal : Option (List ℕ)) × IsDueSeal store seal × (number ≡ commit_calls seal)
 
--- A request that was answered behind the load of its store, by this number of device calls. It left the history `whole`
+-- A request that was answered after the load of its store, by this number of device calls. It left the history `whole`
 -- on the disk `ran`. The disk left is the image of that disk by the stop. It has the history before, or `whole`. Past
 -- the last device call it has all that the request leaves without the stop.
 pub record IsRunInto (head : HeadValue) (request : RequestValue) (now : ℕ) (stop : Stop) (history later : List Op)

@@ -28,13 +28,13 @@ pub record IsImageBy (stop : Stop) (begun : ℕ) (ran left : MemoryValue) : Type
   pub within : begun + stop.call ≤ clock_of ran → left ≡ crashed_disk ran (begun + stop.call) stop.choice
   pub past : clock_of ran < begun + stop.call → IsImageAfter ran stop.choice left
 
--- a crash by a stop before the first device call behind the load of what is on a disk
+-- a crash by a stop before the first device call after the load of what is on a disk
 pub record IsCutBefore (stop : Stop) (disk left : MemoryValue) : Type 0 where
   pub loaded : MemoryValue
   pub same : HasPayloadsOf disk loaded
   pub image : IsImageAfter loaded stop.choice left
 
--- a crash by a stop of the device calls behind the load of what is on a disk, which led to the disk `ran`
+-- a crash by a stop of the device calls after the load of what is on a disk, which led to the disk `ran`
 pub record IsCutWithin (stop : Stop) (disk ran left : MemoryValue) : Type 0 where
   pub loaded : MemoryValue
   pub same : HasPayloadsOf disk loaded

@@ -48,8 +48,8 @@ pub record IsGiven (head : HeadValue) (doc : SentDoc) (kept after : List KeptVal
   pub answered : IsAnswerWithin head.capacity head.name.base kept doc.address doc.bytes answer after
   pub unrefused : IfErr answer IsForRoom
 
--- A gift that ran into a stop. It left `whole` on the disk `ran`, by few device calls, and the disk left is the image of
--- that disk by the stop.
+-- A gift that ran into a stop. It left `whole` on the disk `ran`, by few device calls, and the disk left is the image
+-- of that disk by the stop.
 pub record IsGivenInto (head : HeadValue) (history : List Op) (doc : SentDoc) (stop : Stop) (kept : List KeptValue)
     (disk left : MemoryValue) : Type 0 where
   pub whole : List KeptValue
@@ -126,8 +126,8 @@ pub record IsWalkedPart (head : HeadValue) (history : List Op) (kept after : Lis
   pub accepted : List Accepted
   pub walks : WalksFromFeed (setting_by head history) kept asked accepted after cut_short
 
--- A walk that ran into a stop. It left `whole` on the disk `ran`, by few device calls for each document that it took. The
--- disk left is the image of that disk by the stop. A crash past the last device call leaves `whole`.
+-- A walk that ran into a stop. It left `whole` on the disk `ran`, by few device calls for each document that it took.
+-- The disk left is the image of that disk by the stop. A crash past the last device call leaves `whole`.
 pub record IsPastWalk (head : HeadValue) (history : List Op) (stop : Stop) (disk left : MemoryValue)
     (kept after : List KeptValue) : Type 0 where
   pub whole : List KeptValue

@@ -20,8 +20,8 @@
 //! - No mirror refuses a document that the store sent. It accepts it or its area is full.
 //! - A mirror that shows a version shows the feed's entries of that version, and its certificate is the feed's own.
 //!
-//! `specs/Events.antt` says what each event does, and `IsLifeOf` there what several do in turn. `specs/Crashes.antt` says
-//! which image of a disk a stop leaves, and `specs/Headline.antt` what a life keeps, whatever comes later.
+//! `specs/Events.antt` says what each event does, and `IsLifeOf` there what several do in turn. `specs/Crashes.antt`
+//! says which image of a disk a stop leaves, and `specs/Headline.antt` what a life keeps, whatever comes later.
 //!
 //! [`StoreFetch`] is the documents of a store as a source that a mirror can walk. Each of them is one that the feed
 //! serves: the law [`stores_answer_what_is_served`] says so.

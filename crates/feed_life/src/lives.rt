@@ -202,7 +202,7 @@ impl Life {
     }
 }
 
-/// Puts a document that was sent, if there is one, behind the others.
+/// Puts a document that was sent, if there is one, after the others.
 fn keep(sent: &mut Vec<SentDoc>, found: Option<SentDoc>) -> Result<(), NoMemory>
     ensures { OnOk result (sent.new.items ≡ sent.old.items ++ docs_of found) }
 {

@@ -115,8 +115,8 @@ fn walk_amid(
     Ok(left)
 }
 
-// A proof drops each part of a mirror and of a source at each exit of the function that owns it. So each of the next four
-// functions owns one of them, and has two exits.
+// A proof drops each part of a mirror and of a source at each exit of the function that owns it. So each of the next
+// four functions owns one of them, and has two exits.
 
 /// Loads the mirror of a disk, which walks over documents.
 fn walk_by(

@@ -30,7 +30,8 @@ use Rattle.member_rules.proofs.OperationLemmas.{operations_compared}
 
 -- these bytes are read as an operation that sets this entry, unless memory runs out
 module _ (result : Result Op CodecFault) (payload : List ℕ) (entry : EntryValue) (is_entry : IsEntry entry)
-    (sets : Sets payload entry) (only : (operation : Op) → IsOperation operation → payload ≡ text_of operations operation
+    (sets : Sets payload entry) (only : (operation : Op) → IsOperation operation →
+    payload ≡ text_of operations operation
     → (result ≡ Ok operation) ⊎ (result ≡ Err NoMemory)) where
   pub no_removal : (removal : RemovalValue) → result ≡ Ok (Remove removal) → ⊥
   no_removal removal is = ⊎_elim
@@ -64,7 +65,8 @@ sets_one payload entry other is_entry is_other (inr a) (inr b) =
 
 -- the journal's payload of an operation's index is its bytes
 payload_of : (payloads : List (List ℕ)) (head : HeadValue) (history : List Op) (version : ℕ) (operation : Op)
-    (payload : List ℕ) → IsJournal payloads head history → 1 ≤ version → slice_get history (version - 1) ≡ Some operation
+    (payload : List ℕ) → IsJournal payloads head history → 1 ≤ version → slice_get history (version - 1) ≡
+    Some operation
     → slice_get payloads version ≡ Some payload → payload ≡ text_of operations operation
 payload_of payloads head history zero operation payload is from_one there found = absurd (omega arith)
 payload_of payloads head history (suc index) operation payload is from_one there found =
@@ -94,15 +96,22 @@ module _ (head : HeadValue) (history : List Op) (is_head : IsHead head) (lawful 
       → slice_get payloads version ≡ Some payload → Sets payload entry
   live_sets payloads payload is found = ⊎_elim
       (λ added. inl (payload_of payloads head history version (Add entry) payload is from_one added found))
-      (λ changed. inr (payload_of payloads head history version (Change entry) payload is from_one changed found)) set_by
+      (λ changed. inr (payload_of payloads head history version (Change entry) payload is from_one changed
+      found)) set_by
 
 -- the operation that the state of a live member names is one of the history
-pub state_within : (history : List Op) (number version : ℕ) (updated : ℤ) → state_of history number ≡ Live updated version
+pub state_within : (history : List Op) (number version : ℕ) (updated : ℤ) →
+    state_of history number ≡ Live updated version
     → version ≤ length history
 state_within history number version updated state =
     let set = version-is history number updated version state in
     ⊎_elim (λ added. omega (arith, set.counted, slice_get_within history (version - 1) (Add set.entry) added))
-    (λ changed. omega (arith, set.counted, slice_get_within history (version - 1) (Change set.entry) changed)) set.set_by
+    (λ changed. omega (
+      arith,
+      set.counted,
+      slice_get_within history (version - 1) (Change set.entry)
+          changed,
+    )) set.set_by
 
 module _ (store : StoreValue) (is_head : IsHead store.head) (number version : ℕ) (updated : ℤ)
     (state : state_of store.history number ≡ Live updated version) (payloads : List (List ℕ)) (payload : List ℕ)

@@ -67,7 +67,8 @@ record IsThere (history : List Op) (index : ℕ) (payload : List ℕ) : Type 0 w
   there : slice_get history index ≡ Some operation
   text : payload ≡ text_of operations operation
 
-operation_there : (found : Option Op) (history : List Op) (index : ℕ) (payload : List ℕ) → slice_get history index ≡ found
+operation_there : (found : Option Op) (history : List Op) (index : ℕ) (payload : List ℕ) →
+    slice_get history index ≡ found
     → option_map (text_of operations) found ≡ Some payload → IsThere history index payload
 operation_there None history index payload there text = absurd (cc)
 operation_there (Some operation) history index payload there text = record {
@@ -118,7 +119,8 @@ good_records payloads head history (suc index) at is from_one bad =
 
 -- a store that opens has no fault, but a failed call and out of memory
 pub opens_without : (journal sealed : List ℕ) (head : HeadValue) (history : List Op) (seals : ℕ)
-    → Opens journal sealed head history seals → (fault : LoadFault) → IsLoadFault (records journal) (records sealed) fault
+    → Opens journal sealed head history seals → (fault : LoadFault) → IsLoadFault (records journal)
+    (records sealed) fault
     → (fault ≡ DiskFault) ⊎ (fault ≡ NoMemory)
 opens_without journal sealed head history seals opens NotInit none =
     absurd (nonempty (sym opens.is_journal.is ∙ none))
@@ -138,7 +140,12 @@ opens_without journal sealed head history seals opens (SealCount count found) ba
 opens_without journal sealed head history seals opens (BadSeal index) bad =
     let same = journal_one (records journal) bad.head head bad.history history bad.is_journal opens.is_journal in
     let inside : index ≤ length (records sealed) =
-    omega (arith, bad.wrong.from_one, slice_get_within (records sealed) (index - 1) bad.wrong.payload bad.wrong.there) in
+    omega (
+      arith,
+      bad.wrong.from_one,
+      slice_get_within (records sealed) (index - 1) bad.wrong.payload
+          bad.wrong.there,
+    ) in
     let right : bad.wrong.payload ≡ seal_of head history index =
     some_same bad.wrong.payload (seal_of head history index)
     (sym bad.wrong.there ∙ opens.are_seals index bad.wrong.from_one inside) in

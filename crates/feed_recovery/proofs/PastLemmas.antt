@@ -92,7 +92,8 @@ leaves-more s m t head history operation least grown first second =
 pub settled-whole : {told : Type 0} (s : DiskState) (head : HeadValue) (operations : List Op) (least : ℕ)
     → IsDisk told s → told → Settled s head operations least → AreWhole s
 settled-whole s head operations least disk tells settled =
-    let past = settled (s.content Journal) (s.content Sealed) (disk.content tells Journal) (disk.content tells Sealed) in
+    let past = settled (s.content Journal) (s.content Sealed) (disk.content tells Journal)
+    (disk.content tells Sealed) in
     record { journal = past.journal_whole; sealed = past.sealed_whole }
 
 -- the store that the content opens to has the head of a settled disk
@@ -100,6 +101,7 @@ pub settled-head : {told : Type 0} (s : DiskState) (head : HeadValue) (operation
     → IsDisk told s → told → OpensInOneWay → Settled s head operations least → (stored : Stored)
     → OpensTo s.content stored → stored.head ≡ head
 settled-head s head operations least disk tells one settled stored opens =
-    let past = settled (s.content Journal) (s.content Sealed) (disk.content tells Journal) (disk.content tells Sealed) in
+    let past = settled (s.content Journal) (s.content Sealed) (disk.content tells Journal)
+    (disk.content tells Sealed) in
     (one (s.content Journal) (s.content Sealed) stored.head head stored.history (take past.version operations)
     stored.seals past.seals opens past.opens).0

@@ -171,7 +171,8 @@ module _ (store : StoreValue) (operation : Op) (lawful : IsLawful store.head (st
     spare = spare;
   }
 
-  pub keeps_added : OperationsAreLong → KeepsStore store → IsTableOf members store.head.created (store.history ++ operation ∷ [])
+  pub keeps_added : OperationsAreLong → KeepsStore store → IsTableOf members store.head.created
+      (store.history ++ operation ∷ [])
       → log.area ≡ store.journal.area
       → log.size ≡ store.journal.size + length (text_of operations operation) + header_length → KeepsStore next
   keeps_added long keeps table area size =

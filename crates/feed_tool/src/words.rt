@@ -6,7 +6,7 @@ use std::env;
 use std::io::ErrorKind;
 use std::rt::Env;
 
-/// Returns the words behind the program's name. If one of them, or the program's own name, isn't UTF-8, the list is
+/// Returns the words after the program's name. If one of them, or the program's own name, isn't UTF-8, the list is
 /// empty, which names no command.
 pub fn given_words<R: Env + AllocGlobal>(rt: &R) -> Result<Vec<String>, NoMemory> {
     let args = match env::args(rt) {

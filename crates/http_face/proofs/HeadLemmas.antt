@@ -64,7 +64,7 @@ many_fields bytes more behind h short reads many =
       many,
     )
 
--- no head ends behind the limit
+-- no head ends after the limit
 pub no_head-long : (bytes more : List ℕ) → length bytes ≡ head_limit → HasNoHead bytes → HasNoHead (bytes ++ more)
 no_head-long bytes more long none h behind b =
     let room = head_limit - length (print_request h) in
@@ -81,5 +81,6 @@ field_count buf headers count fields fits e =
     omega (arith, simp (length-map, length-take) at (ap length e), fits)
 
 -- equal refusals have equal faults
-pub err_same : {A : Type 0} {one other : RequestFault} → ◌≡◌ {A = Result A RequestFault} (Err one) (Err other) → one ≡ other
+pub err_same : {A : Type 0} {one other : RequestFault} → ◌≡◌ {A = Result A RequestFault} (Err one)
+    (Err other) → one ≡ other
 err_same e = cc

@@ -8,7 +8,7 @@ pub mod HeadLemmas
 pub mod PutLemmas
 -- `write_reply`: `status`, for the number of the status
 pub mod PhraseLemmas
--- `read_request`: `heard` and `refused`, for the body behind a head
+-- `read_request`: `heard` and `refused`, for the body after a head
 pub mod BodyLemmas
 -- `read_request`: `heard` and `refused`, from a head and a body to the bytes of the connection
 pub mod RequestLemmas

@@ -44,7 +44,7 @@ put_then_cut {told} {a} {b} {s} {t} {n} {sent} h k = record {
   taken = λ seen. put_sent s.sent t.sent sent h.front k.front (h.taken seen) (k.taken seen);
 }
 
--- one text behind the other
+-- one text after the other
 pub put_then : {A : Type 0} (told : Type 0) (a b : List ℕ) (s t u : PutState) (r : Result A CutOff) →
     HasPut told a s t → Puts told b t u r → Puts told (a ++ b) s u r
 put_then told a b s t u (Ok x) h k = record {

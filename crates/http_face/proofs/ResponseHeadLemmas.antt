@@ -38,7 +38,7 @@ no_response-many bytes more behind h reads many k rest b =
     let same = response_prefix_free bytes more h k behind rest reads b.reads in
     omega (arith, many, b.few, ap (λ (x : ResponseHead). length x.fields) same.0)
 
--- no head ends behind the limit
+-- no head ends after the limit
 pub no_response-long : (bytes more : List ℕ) → length bytes ≡ head_limit → HasNoResponseHead bytes →
     HasNoResponseHead (bytes ++ more)
 no_response-long bytes more long none h behind b =

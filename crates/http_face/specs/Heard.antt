@@ -94,7 +94,7 @@ abbrev pub body_by : Result ℕ RequestFault → ℕ → List ℕ → Result (Li
 body_by (Ok size) all behind = sized_body size all behind
 body_by (Err fault) all behind = Err fault
 
--- the body behind a head of this method and these fields
+-- the body after a head of this method and these fields
 abbrev pub body_of : List ℕ → List (List ℕ × List ℕ) → ℕ → List ℕ → Result (List ℕ) RequestFault
 body_of method fields all behind =
     if has_body (verb_of method) then body_by (stated_size fields) all behind else Ok []

@@ -56,7 +56,7 @@ abbrev pub found_by : Result (Option ℕ) ResponseFault → List ℕ → Result 
 found_by (Ok extent) behind = body_within extent behind
 found_by (Err fault) behind = Err fault
 
--- the answer of a response with this status, these fields and these bytes behind its head: the document, or
+-- the answer of a response with this status, these fields and these bytes after its head: the document, or
 -- None if the server has none (RFC 9110 section 15)
 abbrev pub answer_by : ℕ → List (List ℕ × List ℕ) → List ℕ → Result (Option (List ℕ)) ResponseFault
 answer_by status fields behind =

@@ -44,7 +44,7 @@ fn piece_of(alloc: Global) -> Result<Vec<u8>, AllocError>
     vec![in alloc; 0; PIECE]
 }
 
-/// Reads behind the bytes of the body until it has `most` bytes or the connection ends.
+/// Reads after the bytes of the body until it has `most` bytes or the connection ends.
 fn read_on<C: Conn>(
     conn: &mut C,
     mut body: Vec<u8>,

@@ -32,7 +32,8 @@ pub(crate) fn read_body<C: Conn>(
         (ahead.now ++ (C.state conn.old).left) ≡ Err fault) }
     ensures most { C.told → TakesAtMost size (C.state conn.old) (C.state conn.new) }
     ensures reads { Reads (C.state conn.old) (C.state conn.new) }
-    ensures failed { result ≡ Err RequestFault.ConnFault → Rose (C.state conn.old).faults (C.state conn.new).faults }
+    ensures failed { result ≡ Err RequestFault.ConnFault → Rose (C.state conn.old).faults
+        (C.state conn.new).faults }
     ensures unfailed { result ≢ Err RequestFault.ConnFault
         → (C.state conn.new).faults ≡ (C.state conn.old).faults }
 {
@@ -59,7 +60,8 @@ fn read_into<C: Conn>(
     ensures own { result ≢ Err RequestFault.NoMemory }
     ensures most { C.told → TakesAtMost (length body.old) (C.state conn.old) (C.state conn.new) }
     ensures reads { Reads (C.state conn.old) (C.state conn.new) }
-    ensures failed { result ≡ Err RequestFault.ConnFault → Rose (C.state conn.old).faults (C.state conn.new).faults }
+    ensures failed { result ≡ Err RequestFault.ConnFault → Rose (C.state conn.old).faults
+        (C.state conn.new).faults }
     ensures unfailed { result ≢ Err RequestFault.ConnFault
         → (C.state conn.new).faults ≡ (C.state conn.old).faults }
 {

@@ -15,7 +15,7 @@ use httparse::spans::HeaderSpan;
 /// The most digits of a length.
 const MAX_DIGITS: usize = 30;
 
-/// The value of the first field of this name, and the fields behind it.
+/// The value of the first field of this name, and the fields after it.
 pub(crate) fn find<'b, 'h>(
     bytes: &'b [u8],
     headers: &'h [HeaderSpan],

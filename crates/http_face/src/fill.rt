@@ -1,4 +1,4 @@
-//! Reads into a buffer behind the bytes that it has.
+//! Reads into a buffer after the bytes that it has.
 
 ghost use Rattle.std.specs.Prelude.{◌≡◌, ◌+◌, ◌-◌, ◌≤◌, ◌<◌, ◌++◌, [], length, take, IfOk, OnErr};
 ghost use Rattle.atom_values.specs.Counts.{HasCause};
@@ -7,7 +7,7 @@ ghost use Rattle.http_face.specs.Conn.{Reads, TakesAtMost};
 use crate::conn::Conn;
 use atom_values::Failed;
 
-/// Reads once behind the first `filled` bytes of the buffer, and returns how many bytes were read.
+/// Reads once after the first `filled` bytes of the buffer, and returns how many bytes were read.
 pub(crate) fn read_behind<C: Conn>(
     conn: &mut C,
     buffer: &mut [u8],
@@ -26,7 +26,7 @@ pub(crate) fn read_behind<C: Conn>(
     conn.read(&mut buffer[filled..])
 }
 
-/// Reads behind the first `filled` bytes until the buffer is full or the connection ends, and returns how many bytes
+/// Reads after the first `filled` bytes until the buffer is full or the connection ends, and returns how many bytes
 /// the buffer has then.
 pub(crate) fn fill_up<C: Conn>(
     conn: &mut C,

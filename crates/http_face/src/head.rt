@@ -26,7 +26,7 @@ const FIELD_ROOM: usize = 5_461;
 #[derive(Clone, Copy, Debug)]
 pub(crate) struct ReadHead {
     pub(crate) spans: RequestSpans,
-    /// How many bytes were read: those of the head, and some behind it.
+    /// How many bytes were read: those of the head, and some after it.
     pub(crate) filled: usize,
 }
 
@@ -51,7 +51,8 @@ pub(crate) fn read_head<C: Conn>(
         → C.told → HasNoHead (C.state conn.old).left × IsHeadFault (C.state conn.old).left fault) }
     ensures most { C.told → TakesAtMost head_limit (C.state conn.old) (C.state conn.new) }
     ensures reads { Reads (C.state conn.old) (C.state conn.new) }
-    ensures failed { result ≡ Err RequestFault.ConnFault → Rose (C.state conn.old).faults (C.state conn.new).faults }
+    ensures failed { result ≡ Err RequestFault.ConnFault → Rose (C.state conn.old).faults
+        (C.state conn.new).faults }
     ensures unfailed { result ≢ Err RequestFault.ConnFault
         → (C.state conn.new).faults ≡ (C.state conn.old).faults }
 {

@@ -108,7 +108,7 @@ impl Copies for Request {
 }
 
 /// Returns the request that the bytes of a connection begin with. It reads at most 81,920 bytes, and may read bytes
-/// behind the request.
+/// after the request.
 ///
 /// - If the bytes begin with no head: `BadHead`, `HeadTooLarge` or `EndedEarly`. If two of them fit, either may come.
 /// - If they begin with the head of a POST or PUT, the first that fits of `NoLength`, `TwoLengths`, `BadHead` (the
@@ -119,13 +119,15 @@ impl Copies for Request {
 pub fn read_request<C: Conn>(alloc: Global, conn: &mut C) -> Result<Request, RequestFault>
     ensures heard { IfOk result (λ request. C.told → IsHeard (C.state conn.old).left request) }
     ensures only { (request : RequestValue) → IsHeard (C.state conn.old).left request → C.told
-        → (result ≡ Ok request) ⊎ (result ≡ Err RequestFault.ConnFault) ⊎ (result ≡ Err RequestFault.NoMemory) }
+        → (result ≡ Ok request) ⊎ (result ≡ Err RequestFault.ConnFault)
+        ⊎ (result ≡ Err RequestFault.NoMemory) }
     ensures rules { IfOk result IsRequest }
     ensures refused { IfErr result (λ fault. fault ≢ RequestFault.ConnFault → fault ≢ RequestFault.NoMemory
         → C.told → IsMisheard (C.state conn.old).left fault) }
     ensures most { C.told → TakesAtMost 81_920 (C.state conn.old) (C.state conn.new) }
     ensures reads { Reads (C.state conn.old) (C.state conn.new) }
-    ensures failed { result ≡ Err RequestFault.ConnFault → Rose (C.state conn.old).faults (C.state conn.new).faults }
+    ensures failed { result ≡ Err RequestFault.ConnFault → Rose (C.state conn.old).faults
+        (C.state conn.new).faults }
     ensures unfailed { result ≢ Err RequestFault.ConnFault
         → (C.state conn.new).faults ≡ (C.state conn.old).faults }
 {
@@ -149,7 +151,8 @@ fn read_within<C: Conn>(
         → C.told → IsMisheard (C.state conn.old).left fault) }
     ensures most { C.told → TakesAtMost 81_920 (C.state conn.old) (C.state conn.new) }
     ensures reads { Reads (C.state conn.old) (C.state conn.new) }
-    ensures failed { result ≡ Err RequestFault.ConnFault → Rose (C.state conn.old).faults (C.state conn.new).faults }
+    ensures failed { result ≡ Err RequestFault.ConnFault → Rose (C.state conn.old).faults
+        (C.state conn.new).faults }
     ensures unfailed { result ≢ Err RequestFault.ConnFault
         → (C.state conn.new).faults ≡ (C.state conn.old).faults }
 {
@@ -164,7 +167,7 @@ fn read_within<C: Conn>(
     )
 }
 
-/// Makes the request of a head. `bytes` are the bytes that were read: the head, and some behind it.
+/// Makes the request of a head. `bytes` are the bytes that were read: the head, and some after it.
 fn request_of<C: Conn>(
     alloc: Global,
     conn: &mut C,
@@ -192,7 +195,8 @@ fn request_of<C: Conn>(
         ≡ Err fault) }
     ensures most { C.told → TakesAtMost body_limit (C.state conn.old) (C.state conn.new) }
     ensures reads { Reads (C.state conn.old) (C.state conn.new) }
-    ensures failed { result ≡ Err RequestFault.ConnFault → Rose (C.state conn.old).faults (C.state conn.new).faults }
+    ensures failed { result ≡ Err RequestFault.ConnFault → Rose (C.state conn.old).faults
+        (C.state conn.new).faults }
     ensures unfailed { result ≢ Err RequestFault.ConnFault
         → (C.state conn.new).faults ≡ (C.state conn.old).faults }
 {

@@ -22,7 +22,7 @@ pub const MAX_ANSWER: usize = 67_108_864;
 /// Returns the answer of the response that the bytes of a connection begin with: the body of a response with
 /// status 200, and `None` for the statuses 404 and 410.
 ///
-/// The body has the length that a `Content-Length` field states, and then bytes behind it needn't be read. If
+/// The body has the length that a `Content-Length` field states, and then bytes after it needn't be read. If
 /// the response has no such field, the body goes on up to the end of the connection. At most 67,125,249 bytes
 /// are read.
 ///
@@ -84,7 +84,7 @@ fn read_within<C: Conn>(
     )
 }
 
-/// Makes the answer of a head. `bytes` are the bytes that were read: the head, and some behind it.
+/// Makes the answer of a head. `bytes` are the bytes that were read: the head, and some after it.
 fn answer_of<C: Conn>(
     alloc: Global,
     conn: &mut C,

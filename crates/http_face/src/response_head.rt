@@ -18,7 +18,7 @@ use httparse::{Error, Status};
 #[derive(Clone, Copy, Debug)]
 pub(crate) struct ReadResponseHead {
     pub(crate) spans: ResponseSpans,
-    /// How many bytes were read: those of the head, and some behind it.
+    /// How many bytes were read: those of the head, and some after it.
     pub(crate) filled: usize,
 }
 

@@ -123,7 +123,7 @@ fn phrase(status: u16) -> &'static [u8]
     }
 }
 
-/// Puts a part behind what waits. A part for which the buffer has no room is sent from where it lies.
+/// Puts a part after what waits. A part for which the buffer has no room is sent from where it lies.
 fn put<C: Conn>(conn: &mut C, waiting: &mut Waiting, part: &[u8]) -> Result<(), CutOff>
     requires begun { IsSome (C.state conn.old).begun }
     ensures puts { Puts C.told part.now (put_state (C.state conn.old).sent waiting.old)
@@ -141,7 +141,7 @@ fn put<C: Conn>(conn: &mut C, waiting: &mut Waiting, part: &[u8]) -> Result<(), 
     Ok(())
 }
 
-/// Sends what waits, if `size` bytes don't fit behind it.
+/// Sends what waits, if `size` bytes don't fit after it.
 fn make_room<C: Conn>(conn: &mut C, waiting: &mut Waiting, size: usize) -> Result<(), CutOff>
     requires begun { IsSome (C.state conn.old).begun }
     ensures puts { Puts C.told [] (put_state (C.state conn.old).sent waiting.old)

@@ -1,5 +1,5 @@
-//! Steps of a life beside those of the fold that the tests keep by themselves. After each one, all that the life shows is
-//! compared.
+//! Steps of a life beside those of the fold that the tests keep by themselves. After each one, all that the life shows
+//! is compared.
 
 use crate::events::{Crash, Does, life, step};
 use crate::fold::{Fold, address};

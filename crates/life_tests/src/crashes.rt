@@ -28,8 +28,8 @@ fn begun(rt: &impl Abort, alloc: Global, window: u32) -> Life {
     life
 }
 
-/// A request that seals an archive makes eight calls, of which the last four append the operation. After a crash it is made
-/// again if it was lost, and the mirror walks.
+/// A request that seals an archive makes eight calls, of which the last four append the operation. After a crash it is
+/// made again if it was lost, and the mirror walks.
 fn expect_request(rt: &impl Abort, alloc: Global, call: u64, left: Left) {
     let mut life = begun(rt, alloc, 1);
     let line = step(rt, alloc, &mut life, Does::Make(3), Some((call, left)));
@@ -58,8 +58,8 @@ fn a_request_crashes_at_each_call(rt: HostRuntime) {
     }
 }
 
-/// Requests of a store with two live members: a POST, a PUT and a DELETE, which append their operation with four calls, and
-/// requests that append nothing.
+/// Requests of a store with two live members: a POST, a PUT and a DELETE, which append their operation with four calls,
+/// and requests that append nothing.
 const REQUESTS: [Does; 6] = [
     Does::Make(3),
     Does::Replace(1, 3),
@@ -200,7 +200,7 @@ fn an_event_may_change_nothing(rt: HostRuntime) {
     );
 }
 
-/// The document of seven short entries doesn't fit into a mirror of 4,096 bytes behind the first two documents.
+/// The document of seven short entries doesn't fit into a mirror of 4,096 bytes after the first two documents.
 #[test]
 fn a_mirror_may_be_full(rt: HostRuntime) {
     let alloc = rt.alloc();

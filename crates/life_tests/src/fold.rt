@@ -1,5 +1,5 @@
-//! A feed and its mirrors as the tests keep them by themselves: the list of operations, the documents that each mirror holds, and
-//! the texts of the documents.
+//! A feed and its mirrors as the tests keep them by themselves: the list of operations, the documents that each mirror
+//! holds, and the texts of the documents.
 
 use crate::events::{Crash, Does, Left};
 use chain_links::Address;
@@ -32,8 +32,8 @@ pub struct Fold {
     pub mirror_stops: u64,
 }
 
-/// How many payloads of an area are there after a crash within this call of appends of four calls each. Until the third call
-/// of an append the new payload is lost, and then it is there if unsynced bytes are as they were written.
+/// How many payloads of an area are there after a crash within this call of appends of four calls each. Until the third
+/// call of an append the new payload is lost, and then it is there if unsynced bytes are as they were written.
 pub fn appended((call, left): Crash) -> u64 {
     let whole = call.saturating_sub(1) / 4;
     let amid = call.saturating_sub(1) % 4;
@@ -156,7 +156,8 @@ impl Fold {
         }
     }
 
-    /// Adds an operation. Of its seal, if one is due and missing, and of itself at most this many payloads are appended.
+    /// Adds an operation. Of its seal, if one is due and missing, and of itself at most this many payloads are
+    /// appended.
     fn add(&mut self, rt: &impl Abort, change: Change, payloads: u64) {
         let due = self.prev(self.version().saturating_add(1));
         let seals = if due > self.seals { 1 } else { 0 };
@@ -179,7 +180,8 @@ impl Fold {
         self.sent.push((doc, version)).expect(rt, "memory");
     }
 
-    /// A gift or a walk, of which at most this many payloads are appended. Returns whether its mirror and its document exist.
+    /// A gift or a walk, of which at most this many payloads are appended. Returns whether its mirror and its document
+    /// exist.
     fn offer(&mut self, rt: &impl Abort, does: Does, payloads: u64) -> bool {
         let version = self.version();
         let prev = self.prev(version);
@@ -276,8 +278,8 @@ impl Fold {
 const OPENING: &str =
     "<?xml version=\"1.0\" encoding=\"utf-8\"?>\n<feed xmlns=\"http://www.w3.org/2005/Atom\" xmlns:fh=\"http://purl.org/syndication/history/1.0\" xmlns:at=\"http://purl.org/atompub/tombstones/1.0\" xmlns:app=\"http://www.w3.org/2007/app\" xmlns:sp=\"urn:archived-feed:span:1\">\n<id>urn:uuid:6d1f0c5a-93be-4c27-8d10-2b7f9e4a5c36</id>\n<title>Feed</title>\n";
 
-/// The timestamp of an operation, or of a feed without operations. The clock stands still, so each is a millisecond after the
-/// one before.
+/// The timestamp of an operation, or of a feed without operations. The clock stands still, so each is a millisecond
+/// after the one before.
 fn moment(rt: &impl Abort, alloc: Global, operation: u32) -> String {
     let text = match operation {
         0 => format!(in alloc; "1970-01-01T00:00:00Z"),

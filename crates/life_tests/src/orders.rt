@@ -1,4 +1,5 @@
-//! Lives in which a mirror gets documents out of order, and the documents and the certificate of a life as literal texts.
+//! Lives in which a mirror gets documents out of order, and the documents and the certificate of a life as literal
+//! texts.
 
 use crate::events::{Does, life, step};
 use atom_values::Many;

@@ -162,8 +162,8 @@ pair_found first second input middle rest a b f s = record {
       ∙ sym (append_assoc (first.bytes a) (second.bytes b) rest);
 }
 
--- After some fields of `whole` were read at `input`, `left` remains to be read at `middle`. Its value completes the value
--- of the whole.
+-- After some fields of `whole` were read at `input`, `left` remains to be read at `middle`. Its value completes the
+-- value of the whole.
 pub record Continues {A B : Type 0} (whole : Field B) (input : List ℕ) (left : Field A) (middle : List ℕ) (complete : A
     → B) : Type 0 where
   pub found : (value : A) (rest : List ℕ) → BeginsWith left.Is left.bytes middle value rest

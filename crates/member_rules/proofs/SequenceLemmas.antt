@@ -166,8 +166,8 @@ one_read field input rest v f = record {
   split = f.split ∙ ap (λ z. z ++ rest) (sym (joined-one (field.bytes v)));
 }
 
--- After some fields of `whole` were read at `input`, `left` remains to be read at `middle`. Its value completes the value
--- of the whole.
+-- After some fields of `whole` were read at `input`, `left` remains to be read at `middle`. Its value completes the
+-- value of the whole.
 pub record Continues {A B : Type 0} (whole : Pieced B) (input : List ℕ) (left : Pieced A) (middle : List ℕ)
     (complete : A → B) : Type 0 where
   pub found : (value : A) (rest : List ℕ) → BeginsWith left.Is (text_of left) middle value rest
@@ -266,7 +266,7 @@ stops_refused p input rest s = record {
       (append-nil (p.pieces begins.value) ∙ begins.begins ∙ append_assoc s.read (q ∷ []) begins.later) e;
 }
 
--- some bytes are left behind a whole value
+-- some bytes are left after a whole value
 left_refused : {A : Type 0} (p : Pieced A) → AreCompared p → (input rest : List ℕ) (v : A)
     → BeginsWith p.Is (text_of p) input v rest → rest ≢ [] → IsRefused p [] input rest
 left_refused p compared input rest v found some = record {

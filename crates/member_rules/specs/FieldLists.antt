@@ -18,7 +18,7 @@ both first second = record {
   pieces = λ pair. first.pieces pair.0 ++ (second pair.0).pieces pair.1;
 }
 
--- Some fields of a value are read up to `rest`, where the next field of no value can stand, whatever is written behind
+-- Some fields of a value are read up to `rest`, where the next field of no value is allowed, whatever is written after
 -- the fields of that value.
 pub record StopsAt {A : Type 0} (pieced : Pieced A) (input rest : List ℕ) : Type 0 where
   pub read : List (List ℕ)
@@ -31,7 +31,7 @@ pub record StopsAt {A : Type 0} (pieced : Pieced A) (input rest : List ℕ) : Ty
   pub stuck : (other : A) → pieced.Is other → (behind : List (List ℕ)) (field after : List ℕ) (left : List (List ℕ))
       → pieced.pieces other ++ behind ≡ read ++ field ∷ left → rest ≡ field ++ after → ⊥
 
--- the fault has its cause: on a mismatch `rest` begins with the field that can't stand there; out of memory has no
+-- the fault has its cause: on a mismatch `rest` begins with the field that isn't allowed there; out of memory has no
 -- cause in the input
 abbrev pub IsFault : {A : Type 0} → Pieced A → List ℕ → FieldFault → List ℕ → Type 0
 IsFault pieced input Mismatch rest = StopsAt pieced input rest
@@ -42,7 +42,7 @@ abbrev pub ReadsAll : {A B : Type 0} → (A → B) → Pieced B → List ℕ →
 ReadsAll view pieced input (Ok value) rest = BeginsWith pieced.Is (text_of pieced) input (view value) rest
 ReadsAll view pieced input (Err fault) rest = IsFault pieced input fault rest
 
--- the input is the fields of a value and nothing behind them
+-- the input is the fields of a value and nothing after them
 abbrev pub ReadsWhole : {A : Type 0} → Pieced A → List ℕ → Result A FieldFault → List ℕ → Type 0
 ReadsWhole pieced input (Ok value) rest = pieced.Is value × (input ≡ text_of pieced value)
 ReadsWhole pieced input (Err Mismatch) rest = IsRefused pieced [] input rest

@@ -113,8 +113,8 @@ fn delete(members: &Members, number: u32, now: u64) -> Result<Op, RuleFault>
     Ok(Op::Remove(Removal { tombstone, moment }))
 }
 
-/// The `updated` of the member's entry. It refuses by `NotFound` a member that was never made, and by `Deleted` one that
-/// is deleted.
+/// The `updated` of the member's entry. It refuses by `NotFound` a member that was never made, and by `Deleted` one
+/// that is deleted.
 fn live_updated(members: &Members, number: u32) -> Result<Stamp, RuleFault>
     ensures entry { (created : ℤ) (history : List Op) → IsTableOf members.now created history
         → let entry = decision.live_entry history number in

@@ -8,8 +8,8 @@ ghost use Rattle.atom_writer.specs.Pieced.{HasOneReading};
 // The functions of this file do nothing. Each exists for its contract, which is a law over the definitions of specs/.
 
 /// The law of the chain (RFC 5005 section 4). For each cut of a lawful history into spans, the subscription document
-/// followed by its archives down to the first shows exactly the live entries. Each document but the first is followed by
-/// the one before it, the last one's span begins at 1, and each keeps the rules of documents.
+/// followed by its archives down to the first shows exactly the live entries. Each document but the first is followed
+/// by the one before it, the last one's span begins at 1, and each keeps the rules of documents.
 ///
 /// Windows are one such cut, so the law holds for the documents that a feed serves.
 pub fn chain_shows_the_fold()

@@ -221,12 +221,15 @@ answered-loaded setting kept address Taken left loaded answered =
     (loaded-more setting.base kept plain.given loaded (kept-text answered.bytes plain.given plain.read)
     (taken-next setting.base kept there plain.given (sym plain.first_fit)))
 answered-loaded setting kept address Known left loaded answered =
-    subst (λ (ks : List KeptValue). IsLoadedOf setting.base (payloads_of ks) ks) (sym answered.answered.left_over) loaded
+    subst (λ (ks : List KeptValue). IsLoadedOf setting.base (payloads_of ks) ks)
+    (sym answered.answered.left_over) loaded
 answered-loaded setting kept address Stale left loaded answered =
-    subst (λ (ks : List KeptValue). IsLoadedOf setting.base (payloads_of ks) ks) (sym answered.answered.left_over) loaded
+    subst (λ (ks : List KeptValue). IsLoadedOf setting.base (payloads_of ks) ks)
+    (sym answered.answered.left_over) loaded
 
 -- the documents that a walk leaves held were taken one after another, for the crates above
-pub walks-loaded : (setting : WalkSetting) (asked : List Address) (accepted : List Accepted) (kept left : List KeptValue)
+pub walks-loaded : (setting : WalkSetting) (asked : List Address) (accepted : List Accepted)
+    (kept left : List KeptValue)
     (next : Option Address) (ending : WalkEnding) → Walks setting kept next asked accepted left ending
     → IsLoadedOf setting.base (payloads_of kept) kept → IsLoadedOf setting.base (payloads_of left) left
 walks-loaded setting [] [] kept left next ending walks loaded =

@@ -72,7 +72,8 @@ fn a_complete_mirror_prints_its_own(rt: HostRuntime) {
     }
 }
 
-/// The runs of mirrors on one disk, one after the other: the documents that are offered, the status and what is printed.
+/// The runs of mirrors on one disk, one after the other: the documents that are offered, the status and what is
+/// printed.
 static KEPT: [(&[usize], u8, &str); 3] = [
     (&[0, 1, 3], 3, NO_ARCHIVE),
     (&[2], 0, THIRTEEN),
@@ -134,8 +135,8 @@ fn a_walk_that_is_complete_prints_one(rt: HostRuntime) {
     }
 }
 
-/// Mirrors a pile where this call of the output fails, and returns whether the run ends by it. Expects that it prints the
-/// certificate, whole or up to there.
+/// Mirrors a pile where this call of the output fails, and returns whether the run ends by it. Expects that it prints
+/// the certificate, whole or up to there.
 fn is_output_fault<D: Disk>(
     rt: &impl Abort,
     alloc: Global,
@@ -167,7 +168,7 @@ fn each_call_of_the_output_may_fail(rt: HostRuntime) {
         }
         failed = call;
     }
-    // Four documents, what is before them, and what is behind them.
+    // Four documents, what is before them, and what is after them.
     assert!(rt; failed == 6, "{failed}");
 }
 

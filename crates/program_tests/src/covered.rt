@@ -1,5 +1,5 @@
-//! The certificate of a generated history, audited against its documents: in any order, and with one of them changed, lost
-//! or doubled.
+//! The certificate of a generated history, audited against its documents: in any order, and with one of them changed,
+//! lost or doubled.
 
 use crate::audit::audited;
 use crate::certificates::MIRROR;
@@ -78,7 +78,7 @@ fn store_of(rt: &impl Abort, alloc: Global, history: &History) -> MemoryDisk {
     disk
 }
 
-/// A document: its address behind the base, and its text.
+/// A document: its address after the base, and its text.
 #[derive(Drop)]
 struct Document {
     path: String,
@@ -174,7 +174,7 @@ struct Audited<'a> {
     accepted: &'a str,
 }
 
-/// The orders in which the documents are offered: the place of the first one, and how far each is behind the one before
+/// The orders in which the documents are offered: the place of the first one, and how far each is after the one before
 /// it, counted round.
 static ORDERS: [(usize, usize); 5] = [(0, 1), (14, 14), (6, 1), (0, 2), (3, 7)];
 

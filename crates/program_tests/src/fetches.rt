@@ -44,8 +44,9 @@ fn filled(rt: &impl Abort, alloc: Global) -> MemoryDisk {
 /// All documents, each at its own address: pairs of the index of an address and of that of a document.
 const ALL: &[(usize, usize)] = &[(0, 0), (1, 1), (2, 2), (3, 3), (4, 4), (5, 5)];
 
-/// A mirror on an empty disk, which fetches twice: what the source has at first, its call that fails then (0 means none),
-/// how the first run ends, and the addresses after the base that each run asks. The second run finds all documents.
+/// A mirror on an empty disk, which fetches twice: what the source has at first, its call that fails then (0 means
+/// none), how the first run ends, and the addresses after the base that each run asks. The second run finds all
+/// documents.
 static WALKS: [(&[(usize, usize)], u64, u8, &str, &str, &str); 11] = [
     (
         ALL,
@@ -225,8 +226,8 @@ fn ends_so(rt: &impl Abort, alloc: Global, end: &End, status: u8, printed: &str)
     end.is(status, printed.as_bytes())
 }
 
-/// Fetches twice into an empty disk, and compares how the first run ends, that the second one is complete, and what both
-/// ask.
+/// Fetches twice into an empty disk, and compares how the first run ends, that the second one is complete, and what
+/// both ask.
 fn expect_walks<D: Disk>(
     rt: &impl Abort,
     alloc: Global,

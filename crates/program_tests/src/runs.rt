@@ -1,7 +1,8 @@
 //! Runs of the program with objects in memory.
 //!
-//! A proof drops each part of a large value at each exit of the function that owns it. So `whole_end` alone owns the words,
-//! the clock, the input and the output of a run. The functions that make a disk are few, and all others borrow it.
+//! A proof drops each part of a large value at each exit of the function that owns it. So `whole_end` alone owns the
+//! words, the clock, the input and the output of a run. The functions that make a disk are few, and all others borrow
+//! it.
 
 use atom_values::{Bytes, Many};
 use doc_source::{Fetch, ListSink, ListSource, PileFetch};

@@ -21,8 +21,8 @@ static REQUESTS: [&[u8]; 6] = [
 /// The status and the version of each connection.
 const LINES: [(u16, u32); 6] = [(201, 1), (200, 2), (410, 2), (410, 2), (410, 2), (404, 2)];
 
-/// A run of `serve`: the device call, the call of the door and that of the output that fail, how it ends, and the lines that it
-/// returns. Calls are numbered from 1, and device calls from the first of `init`; 0 means none.
+/// A run of `serve`: the device call, the call of the door and that of the output that fail, how it ends, and the lines
+/// that it returns. Calls are numbered from 1, and device calls from the first of `init`; 0 means none.
 static RUNS: [((u64, u64, u64), u8, &str, &[(u16, u32)]); 6] = [
     (
         (0, 0, 0),

@@ -72,7 +72,7 @@ fn names_the_offset_that_it_refuses(rt: HostRuntime) {
     }
 }
 
-/// The lines behind the opening. The two lines before the link have 77 bytes.
+/// The lines after the opening. The two lines before the link have 77 bytes.
 const QUOTED: &str =
     "<updated>2023-11-14T22:13:20Z</updated>\n<author><name>Editor</name></author>\n<link rel='self' href='http://feed.example/feed'/>\n";
 

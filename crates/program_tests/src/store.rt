@@ -7,7 +7,7 @@ use feed_disk::{Area, Choice, Disk, MemoryDisk};
 use std::alloc::Global;
 use std::process::Abort;
 
-/// The words of `init` but for those behind the name.
+/// The words of `init` but for those after the name.
 const INIT: [&str; 9] = [
     "init",
     "--base",
@@ -20,7 +20,7 @@ const INIT: [&str; 9] = [
     "Editor",
 ];
 
-/// Runs `init`, with these words behind those of every store here.
+/// Runs `init`, with these words after those of every store here.
 pub fn init<D: Disk>(
     rt: &impl Abort,
     alloc: Global,
@@ -32,8 +32,8 @@ pub fn init<D: Disk>(
     ran(rt, alloc, disk, words.as_slice(), b"")
 }
 
-/// Makes a store on an empty disk, of which one call fails behind `init`. The calls are numbered from 1, those of `init`
-/// among them; 0 means none.
+/// Makes a store on an empty disk, of which one call fails after `init`. The calls are numbered from 1, those of
+/// `init` among them; 0 means none.
 pub fn made(rt: &impl Abort, alloc: Global, options: &[&'static str], failing: u64) -> MemoryDisk {
     let mut disk = empty_disk(rt, alloc, failing);
     assert!(rt; init(rt, alloc, &mut disk, options).is(0, b"ready\n"));
@@ -44,7 +44,7 @@ pub fn made(rt: &impl Abort, alloc: Global, options: &[&'static str], failing: u
 #[derive(Clone, Copy)]
 enum Printed {
     Text(&'static str),
-    /// A feed document, which has this text behind its opening.
+    /// A feed document, which has this text after its opening.
     Feed(&'static str),
     /// A feed document, of which `show` prints this.
     Summary(&'static str),
@@ -305,8 +305,8 @@ fn a_bad_store_is_refused(rt: HostRuntime) {
     expect_steps(&rt, alloc, &mut disk, &SPOILT);
 }
 
-/// A byte of a store with two operations and one seal, and the line that refuses the store. Byte 0 of an area is the gate of
-/// its first payload, and byte 5 the payload's first byte.
+/// A byte of a store with two operations and one seal, and the line that refuses the store. Byte 0 of an area is the
+/// gate of its first payload, and byte 5 the payload's first byte.
 static BAD_BYTES: [((Area, u64, u8), &str); 4] = [
     ((Area::Sealed, 0, 0), "seal count 2 0\n"),
     ((Area::Sealed, 5 + 2, b'X'), "bad seal 1\n"),
@@ -364,7 +364,7 @@ enum Outcome {
     Wrong,
 }
 
-/// Makes a store again and adds a member, behind an `init` that failed.
+/// Makes a store again and adds a member, after an `init` that failed.
 fn outcome_again<D: Disk>(rt: &impl Abort, alloc: Global, disk: &mut D) -> Outcome {
     let again = init(rt, alloc, disk, &[]).status;
     let applied = ran(rt, alloc, disk, APPLY, b"add Hello\n").status;
@@ -404,9 +404,9 @@ fn letter_of(rt: &impl Abort, alloc: Global, failing: u64) -> u8 {
     }
 }
 
-/// How the commands end if a call of the disk fails, for each call from the first on. `init` makes 12 calls: it opens two empty
-/// areas, with 4 calls each, and appends the head with 4. `apply` makes 8 to load the store, and 4 to append the operation.
-/// Only the last of these leaves the operation.
+/// How the commands end if a call of the disk fails, for each call from the first on. `init` makes 12 calls: it opens
+/// two empty areas, with 4 calls each, and appends the head with 4. `apply` makes 8 to load the store, and 4 to append
+/// the operation. Only the last of these leaves the operation.
 const LETTERS: &[u8] = b"iiiiiiiiiiiiuuuuuuuuuuuc.";
 
 #[test]
@@ -459,8 +459,8 @@ fn digits_left(rt: &impl Abort, alloc: Global, choice: &Choice) -> Vec<u8> {
     digits
 }
 
-/// How a crash fills unsynced bytes, and the versions that are left by a crash within the last two calls: a write of the
-/// gate and its sync. A crash within any call before leaves the version before.
+/// How a crash fills unsynced bytes, and the versions that are left by a crash within the last two calls: a write of
+/// the gate and its sync. A crash within any call before leaves the version before.
 const CRASHES: [(Choice, &str); 3] = [
     (Choice::Old, "11"),
     (Choice::New, "22"),

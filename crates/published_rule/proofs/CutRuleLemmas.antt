@@ -1,4 +1,4 @@
--- The documents of a cut of a history: each is later than those behind it.
+-- The documents of a cut of a history: each is later than those after it.
 use Rattle.std.proofs.Common.{◌≡◌, ◌≢◌, inl, inr, ℕ, zero, suc, ◌+◌, ◌-◌, ◌<◌, ◌≤◌, ℤ, ◌<ℤ◌, nat_eq, List, [], ◌∷◌}
 use Rattle.std.proofs.Common.{length, map, take, drop, slice_get, Contains, All, IfSome, Option, Some, None, refl, ap}
 use Rattle.std.proofs.Common.{sym, subst, subst₂, ◌∙◌, take_all, arith}

@@ -1,4 +1,4 @@
--- In documents of which each is later than those behind it, an entry counts exactly where it shows.
+-- In documents of which each is later than those after it, an entry counts exactly where it shows.
 use Rattle.std.proofs.Common.{◌≡◌, ◌≢◌, ◌⊎◌, inl, inr, ℕ, zero, suc, ◌<◌, ◌<ℤ◌, ◌≤ℤ◌, nat_eq, List, [], ◌∷◌, ◌++◌}
 use Rattle.std.proofs.Common.{length, map, get_or, slice_get, Some, Contains, All, refl, ap, sym, subst, ◌∙◌, arith}
 use Rattle.std.specs.List.{IsDistinct}
@@ -250,7 +250,8 @@ counts-here document older number entry dated kept member = record {
   ];
   undeleted = λ other tombstone there has. elim (Contains-split document other older there) [
     | inl same ↦
-        let only = only-item document other number entry (Gone tombstone) dated.0 kept member same has.gone has.member in
+        let only = only-item document other number entry (Gone tombstone) dated.0 kept member same
+        has.gone has.member in
         absurd (cc)
     | inr behind ↦
         absurd ((dated.1 other behind).items (Gone tombstone) (Kept entry) has.gone kept (member ∙ sym has.member))

@@ -6,7 +6,8 @@ ghost use Rattle.published_rule.specs.Laws.{CutsKeepTheRule, ChainsKeepTheRule, 
 /// where the newest document that has an item of its member has that entry. So a reader that goes by `updated` and
 /// `when` shows the same entries as one that goes by the order of the chain.
 ///
-/// It holds for each cut of the history into spans, and so for the chain that a feed serves after any of its operations.
+/// It holds for each cut of the history into spans, and so for the chain that a feed serves after any of its
+/// operations.
 pub fn published_rule_shows_the_chain()
     ensures cuts { CutsKeepTheRule }
     ensures chains { ChainsKeepTheRule }

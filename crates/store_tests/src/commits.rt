@@ -1,5 +1,5 @@
-//! One commit: the bytes of the journal at each of its device calls, and the stores that crashes leave. A program in Python
-//! wrote the bytes from docs/FORMATS.md.
+//! One commit: the bytes of the journal at each of its device calls, and the stores that crashes leave. A program in
+//! Python wrote the bytes from docs/FORMATS.md.
 
 use crate::disks::{Filling, append_area, crashed, disk_of};
 use crate::stores::{add, head};
@@ -12,10 +12,10 @@ use std::process::Abort;
 const HEAD: &[u8] =
     b"\x01\x00\x00\x00O\x01\x00\x00\x00\x14http://feed.example/m\x1F\x0CZ\x93\xBEL'\x8D\x10+\x7F\x9EJ\x5C6\x00\x00\x00\x04Feed\x00\x00\x00\x06Editor\x00\x00\x00\x04\x00\x00\x00\x00@\x00\x00\x00\x00\x00:\x16>\xE9\xC8\x00";
 
-/// The journal behind the head: the closed gate, and `/`.
+/// The journal after the head: the closed gate, and `/`.
 const EMPTY: &[u8] = b"\x00/";
 
-/// The journal behind the head once the operation is written: the closed gate, the 49 bytes of its frame, and `/`.
+/// The journal after the head once the operation is written: the closed gate, the 49 bytes of its frame, and `/`.
 const WRITTEN: &[u8] =
     b"\x00\x00\x00\x00,\x01\x00\x00\x00\x01\x00\x00:\x16>\xE9\xC8\x01\x00\x00:\x16>\xE9\xC8\x01\x00\x00\x00\x00\x05Hello\x00\x00\x00\x00\x00\x00\x00\x01\x00\x00\x00\x00\x00\x00/";
 
@@ -47,8 +47,8 @@ fn journal_of<D: Disk>(rt: &impl Abort, alloc: Global, disk: &mut D) -> Vec<u8> 
     journal
 }
 
-/// Returns the number of operations that a load finds. Then makes a member, and returns the new version and the number of
-/// operations that a further load finds.
+/// Returns the number of operations that a load finds. Then makes a member, and returns the new version and the number
+/// of operations that a further load finds.
 fn versions<D: Disk>(rt: &impl Abort, alloc: Global, disk: &mut D) -> [u32; 3] {
     let mut store = Store::load(alloc, disk).expect(rt, "a store");
     let found = store.version();
@@ -70,7 +70,7 @@ fn left(
     (journal, versions(rt, alloc, &mut image))
 }
 
-/// A crash: the call of the commit, from 1, and the unsynced bytes. Then the journal behind the head, and the version.
+/// A crash: the call of the commit, from 1, and the unsynced bytes. Then the journal after the head, and the version.
 static CRASHES: [(u64, Filling, Option<&[u8]>, u32); 20] = [
     (0, Filling::New, Some(EMPTY), 0),
     // The write of the frame.

@@ -67,7 +67,7 @@ fn first_option<'a>(flags: &[&str], words: &'a [String]) -> Option<(Given<'a>, &
     Some((given, left))
 }
 
-/// The name behind `--`, and the value behind `=` if there is one. `None` if the word doesn't begin with `--`.
+/// The name after `--`, and the value after `=` if there is one. `None` if the word doesn't begin with `--`.
 fn name_of(word: &str) -> Option<(&str, Option<&str>)>
     ensures found { IfSome result (λ x. MatchOption x.1 (word.now ≡ codes "--" ++ x.0.now)
         (λ value. word.now ≡ codes "--" ++ x.0.now ++ codes "=" ++ value.now)) }

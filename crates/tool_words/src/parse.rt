@@ -14,7 +14,7 @@ use std::alloc::{AllocError, Global};
 ///
 /// `Usage` if the words are spelt in another way. `NoMemory` if memory runs out.
 ///
-/// The words are tested before `clap` parses them, since `clap` takes more: an empty value, a value behind `=` that
+/// The words are tested before `clap` parses them, since `clap` takes more: an empty value, a value after `=` that
 /// begins with `-`, and `--` at the end.
 pub(crate) fn parsed<'a>(
     alloc: Global,

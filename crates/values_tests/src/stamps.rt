@@ -31,8 +31,8 @@ fn prints(rt: HostRuntime) {
     }
 }
 
-/// Date texts, and milliseconds since 1970. The first is an example of RFC 4287 section 3.3, and the next five are those of
-/// RFC 3339 section 5.8.
+/// Date texts, and milliseconds since 1970. The first is an example of RFC 4287 section 3.3, and the next five are
+/// those of RFC 3339 section 5.8.
 static READ: [(&str, i64); 18] = [
     ("2003-12-13T18:30:02.25+01:00", 1_071_336_602_250),
     ("1985-04-12T23:20:50.52Z", 482_196_050_520),

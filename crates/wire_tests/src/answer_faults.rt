@@ -154,8 +154,8 @@ fn counts_left(
     go_on(rt, alloc, &mut left)
 }
 
-/// How a crash fills unsynced bytes, and the numbers of operations and of seals that it leaves. The first four calls are
-/// the seal's write, its sync, the write of the gate and its sync. The last four are those of the operation.
+/// How a crash fills unsynced bytes, and the numbers of operations and of seals that it leaves. The first four calls
+/// are the seal's write, its sync, the write of the gate and its sync. The last four are those of the operation.
 const CRASHES: [(Choice, [(u32, u32); 8]); 3] = [
     (
         Choice::Old,

@@ -327,8 +327,8 @@ struct Session {
     found: Found,
 }
 
-/// The number of operations that a load finds after a crash that leaves the old bytes, on the disk as it reads, and after a
-/// crash that leaves the new bytes.
+/// The number of operations that a load finds after a crash that leaves the old bytes, on the disk as it reads, and
+/// after a crash that leaves the new bytes.
 type Found = [u32; 3];
 
 /// Returns the number of operations that a load finds.
@@ -372,8 +372,8 @@ fn post_failing(rt: &impl Abort, alloc: Global, failing: u64) -> Session {
     }
 }
 
-/// How many operations a load finds if a call of the commit fails: the write of the operation, its sync, the write of the
-/// gate, and its sync.
+/// How many operations a load finds if a call of the commit fails: the write of the operation, its sync, the write of
+/// the gate, and its sync.
 static FOUND: [Found; 4] = [[0, 0, 0], [0, 0, 0], [0, 0, 1], [0, 1, 1]];
 
 #[test]

@@ -91,7 +91,8 @@ pub fn history_of<C: Clock, I: Source>(
         → (applied_history head.now (C.coming clock.old) (I.state input.old).left).fault ≡ Some fault) }
     ensures input { result ≡ Err Fault.Input → Rose (I.state input.old).faults (I.state input.new).faults }
     ensures unrefused { result ≡ Err Fault.Input → I.told → C.told
-        → IsUnrefused (history_step head.now (C.coming clock.old)) [] (I.state input.old) (I.state input.new) }
+        → IsUnrefused (history_step head.now (C.coming clock.old)) [] (I.state input.old)
+        (I.state input.new) }
     ensures no_disk { result ≢ Err Fault.Disk }
     ensures faults { result ≢ Err Fault.Input → (I.state input.new).faults ≡ (I.state input.old).faults }
 {

@@ -27,7 +27,8 @@ pub fn drill<O: Sink>(alloc: Global, seed: u64, count: u32, output: &mut O) -> E
     ensures statuses { MayEndDrill result.status }
     ensures drills { EndsDrilling seed count result.life result.status }
     ensures answered { IsAnswered result.status → (outside : Outside)
-        → EndsWith (DrillOf seed count) outside O.told (O.state output.old) (O.state output.new) result.status }
+        → EndsWith (DrillOf seed count) outside O.told (O.state output.old) (O.state output.new)
+        result.status }
     ensures alone { O.told → IsAlone result.status
         → Prints (O.state output.old) (O.state output.new) (alone_line result.status) }
     ensures output_fault { result.status ≡ code_of status.OutputFault

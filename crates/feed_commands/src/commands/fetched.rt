@@ -131,8 +131,8 @@ fn load_and_walk<D: Disk, F: Fetch>(
     report_loaded(alloc, base, report, mirror, disk, fetch)
 }
 
-/// Walks with a mirror that was loaded, and drops it. It is a function of its own, because the proof drops a mirror field
-/// by field.
+/// Walks with a mirror that was loaded, and drops it. It is a function of its own, because the proof drops a mirror
+/// field by field.
 fn report_loaded<D: Disk, F: Fetch>(
     alloc: Global,
     base: &Base,

@@ -58,9 +58,9 @@ impl From<PileFault> for Fault {
     }
 }
 
-/// Mirrors the feed below a base address from the pile that is the input, into the mirror's area of the disk. Prints the
-/// report if `report`, and else the certificate of what is held, or the line of the first missing document. Each document
-/// of the pile is in memory until it was offered.
+/// Mirrors the feed below a base address from the pile that is the input, into the mirror's area of the disk. Prints
+/// the report if `report`, and else the certificate of what is held, or the line of the first missing document. Each
+/// document of the pile is in memory until it was offered.
 pub fn mirror<D: Disk, I: Source, O: Sink>(
     alloc: Global,
     base: &Base,
@@ -118,7 +118,8 @@ pub(crate) fn end_unreported<O: Sink>(alloc: Global, output: &mut O, fault: &Rep
     ensures lines { result.lines.items ≡ [] }
     ensures life { result.life ≡ None }
     ensures status { result.status ≡ code_of (report_answer fault.now).status }
-    ensures prints { O.told → Prints (O.state output.old) (O.state output.new) (report_answer fault.now).printed }
+    ensures prints { O.told → Prints (O.state output.old) (O.state output.new)
+        (report_answer fault.now).printed }
     ensures faults { (O.state output.old).faults ≤ (O.state output.new).faults }
 {
     // The result isn't used: the status is that of the first fault, whether or not its line could be printed.
@@ -166,8 +167,8 @@ fn load_and_offer<D: Disk, I: Source>(
     Ok(report_loaded(alloc, base, report, mirror, disk, input)?)
 }
 
-/// Offers the documents to a mirror that was loaded, and drops it. It is a function of its own, because the proof drops a
-/// mirror field by field.
+/// Offers the documents to a mirror that was loaded, and drops it. It is a function of its own, because the proof drops
+/// a mirror field by field.
 fn report_loaded<D: Disk, I: Source>(
     alloc: Global,
     base: &Base,

@@ -160,9 +160,11 @@ fn print_documents<D: Disk, O: Sink>(
         → (O.state output.new).taken ≡ (O.state output.old).taken ++ pile_of (stored_of store.old)) }
     ensures prefix { result ≡ Err PrintFault.Output → D.told → O.told
         → TakesPrefix (O.state output.old) (O.state output.new) (pile_of (stored_of store.old)) }
-    ensures cut { (fault : FaultValue) → result ≡ Err (PrintFault.Other fault) → O.told → (left : List OfferValue)
+    ensures cut { (fault : FaultValue) → result ≡ Err (PrintFault.Other fault) → O.told
+        → (left : List OfferValue)
         × TakesFront D.told (offers_of (stored_of store.old)) left (O.state output.old) (O.state output.new) }
-    ensures opened { (fault : FaultValue) → result ≡ Err (PrintFault.Other fault) → D.told → ¬ IsRefusal fault }
+    ensures opened { (fault : FaultValue) → result ≡ Err (PrintFault.Other fault) → D.told
+        → ¬ IsRefusal fault }
     ensures faults { (fault : FaultValue) → result ≡ Err (PrintFault.Other fault) → MayEndPile fault }
     ensures areas { (a : AreaValue) → LeavesAlone (D.state disk.old) (D.state disk.new) a }
     ensures disk { result ≡ Err (PrintFault.Other Fault.Disk)

@@ -148,9 +148,11 @@ impl Report {
             (IsOfferStep mirror.old address.now bytes.now) }
         ensures rests { result ≢ Err Fault.Disk → D.told → IsAtRest (D.state disk.old) mirror.old.kept
             → IsAtRest (D.state disk.new) mirror.new.kept }
-        ensures others { (a : AreaValue) → a ≢ MirrorArea → LeavesAlone (D.state disk.old) (D.state disk.new) a }
+        ensures others { (a : AreaValue) → a ≢ MirrorArea → LeavesAlone (D.state disk.old)
+            (D.state disk.new) a }
         ensures disk { result ≡ Err Fault.Disk → Rose (D.state disk.old).faults (D.state disk.new).faults }
-        ensures disk_faults { result ≢ Err Fault.Disk → (D.state disk.new).faults ≡ (D.state disk.old).faults }
+        ensures disk_faults { result ≢ Err Fault.Disk → (D.state disk.new).faults
+            ≡ (D.state disk.old).faults }
     {
         let answer = mirror.offer(disk, address, bytes);
         if let Some(fault) = room_fault(&answer) {
@@ -210,7 +212,8 @@ impl Report {
         ensures never { IfErr result (λ fault. D.told → ¬ IsRefusal fault) }
         ensures areas { (a : AreaValue) → LeavesAlone (D.state disk.old) (D.state disk.new) a }
         ensures disk { result ≡ Err Fault.Disk → Rose (D.state disk.old).faults (D.state disk.new).faults }
-        ensures disk_faults { result ≢ Err Fault.Disk → (D.state disk.new).faults ≡ (D.state disk.old).faults }
+        ensures disk_faults { result ≢ Err Fault.Disk → (D.state disk.new).faults
+            ≡ (D.state disk.old).faults }
     {
         if !self.detailed {
             return certified(alloc, base, mirror, disk);
@@ -239,7 +242,8 @@ impl Report {
         ensures never { IfErr result (λ fault. D.told → ¬ IsRefusal fault) }
         ensures areas { (a : AreaValue) → LeavesAlone (D.state disk.old) (D.state disk.new) a }
         ensures disk { result ≡ Err Fault.Disk → Rose (D.state disk.old).faults (D.state disk.new).faults }
-        ensures disk_faults { result ≢ Err Fault.Disk → (D.state disk.new).faults ≡ (D.state disk.old).faults }
+        ensures disk_faults { result ≢ Err Fault.Disk → (D.state disk.new).faults
+            ≡ (D.state disk.old).faults }
     {
         push_counts(&mut self.text, self.counts)?;
         match mirror.outcome()? {

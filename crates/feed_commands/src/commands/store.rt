@@ -41,7 +41,8 @@ pub fn apply<D: Disk, C: Clock, I: Source>(
         (fault_answer fault)) }
     ensures applied { D.told → AppliesSafely (D.state disk.old) (D.state disk.new)
         (C.coming clock.old) (I.state input.old).left (C.told × I.told) (result ≡ Err Fault.Disk) }
-    ensures opens { D.told → C.told → I.told → HasAnswer result → OpensToApplied (D.state disk.old) (D.state disk.new)
+    ensures opens { D.told → C.told → I.told → HasAnswer result
+        → OpensToApplied (D.state disk.old) (D.state disk.new)
         (C.coming clock.old) (I.state input.old).left }
     ensures mirror { LeavesAlone (D.state disk.old) (D.state disk.new) Mirror }
     ensures disk { result ≡ Err Fault.Disk → Rose (D.state disk.old).faults (D.state disk.new).faults }
@@ -168,7 +169,8 @@ pub fn show_feed<D: Disk>(alloc: Global, disk: &mut D) -> Result<Vec<u8>, Fault>
 
 /// Returns the text of an archive of the store.
 pub fn show_archive<D: Disk>(alloc: Global, number: u32, disk: &mut D) -> Result<Vec<u8>, Fault>
-    ensures answer { IfOk result (λ written. D.told → IsAnswerOn (D.state disk.old).content (archive_answer number)
+    ensures answer { IfOk result (λ written. D.told → IsAnswerOn (D.state disk.old).content
+        (archive_answer number)
         record { status = status.Done; printed = written.items }) }
     ensures refused { IfErr result (λ fault. IsRefusal fault → D.told
         → IsAnswerOn (D.state disk.old).content (archive_answer number) (fault_answer fault)) }
@@ -185,7 +187,8 @@ pub fn show_archive<D: Disk>(alloc: Global, number: u32, disk: &mut D) -> Result
 
 /// Returns the document of a live member of the store.
 pub fn show_member<D: Disk>(alloc: Global, number: u32, disk: &mut D) -> Result<Vec<u8>, Fault>
-    ensures answer { IfOk result (λ written. D.told → IsAnswerOn (D.state disk.old).content (member_answer number)
+    ensures answer { IfOk result (λ written. D.told → IsAnswerOn (D.state disk.old).content
+        (member_answer number)
         record { status = status.Done; printed = written.items }) }
     ensures refused { IfErr result (λ fault. IsRefusal fault → D.told
         → IsAnswerOn (D.state disk.old).content (member_answer number) (fault_answer fault)) }

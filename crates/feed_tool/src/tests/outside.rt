@@ -87,7 +87,8 @@ impl RuntimeClock for FixedTime {
     }
 }
 
-/// What the system's clock tells, and the milliseconds that `SystemClock` returns. A system can't tell a time before 1970.
+/// What the system's clock tells, and the milliseconds that `SystemClock` returns. A system can't tell a time before
+/// 1970.
 static TIMES: [(Option<u64>, u64); 6] = [
     (None, 0),
     (Some(0), 0),

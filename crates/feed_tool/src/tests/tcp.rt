@@ -21,7 +21,7 @@ fn empty_disk(rt: &impl Abort, alloc: Global) -> MemoryDisk {
     )
 }
 
-/// Connects a client, which sends a request of 4 bytes and `rest` kilobytes behind it.
+/// Connects a client, which sends a request of 4 bytes and `rest` kilobytes after it.
 fn client_of<R>(rt: &R, address: SocketAddr, rest: usize) -> TcpStream
 where
     R: Net<Stream = TcpStream> + Abort,

@@ -1,4 +1,4 @@
--- The port that the digits behind `:` write.
+-- The port that the digits after `:` write.
 use Rattle.std.proofs.Common.{◌≤◌, ◌∷◌, Some, ap, ◌∙◌, arith, refl}
 use Rattle.chain_links.proofs.front.port.Goals as goal
 

@@ -26,7 +26,8 @@ returns-then-not-follows c =
     (λ i. record { address = n.address i; span = n.span i; prev = n.prev i }) in
     let older_place : c.place-older.result ≡ place_of older =
     (λ i. record { address = o.address i; span = o.span i; prev = o.prev i }) in
-    let named = subst (λ a. IsAddress a) (sym o.address) (placed-address older.kind older.span older.prev o.rules.placed) in
+    let named = subst (λ a. IsAddress a) (sym o.address) (placed-address older.kind older.span older.prev
+    o.rules.placed) in
     let broken : is_followed newer older ≡ false = elim (cases_Bool (is_followed newer older)) [
       | inl follows ↦
           let adjoins = followed-adjoins newer older follows in

@@ -14,7 +14,8 @@ loop-at-preserved c =
     let item = c.index-items-at.result in
     let updates = c.in_ok-list_item.ensures.updates in
     let there : slice_get items at ≡ Some item =
-    slice_get-get_or items at item (omega (arith, c.loop-at-test.true)) ∙ ap (λ (i : Item). Some i) (sym c.index-items-at.is) in
+    slice_get-get_or items at item (omega (arith, c.loop-at-test.true)) ∙ ap (λ (i : Item). Some i)
+    (sym c.index-items-at.is) in
     let within : (1 ≤ item_number item) × (item_number item < 2 ^ 32) =
     (c.list_item.ensures.from_one, c.list_item.ensures.small) in
     record {

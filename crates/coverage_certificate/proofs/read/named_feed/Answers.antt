@@ -12,7 +12,8 @@ pub returns-in_err-feed-clause-none : goal.returns-in_err-feed-clause-none
 returns-in_err-feed-clause-none c = λ _ feed base is e.
     let cut = c.in_ok-id.ensures.cases in
     let parts = feed_fields c.args.line.now c.in_ok-fields.fields.now c.in_ok-id.id.now c.in_ok-id.behind.now
-    c.in_ok-fields.ensures.found (cut_is c.in_ok-fields.fields.now c.in_ok-id.id.now c.in_ok-id.behind.now 36 cut.1 cut.2)
+    c.in_ok-fields.ensures.found (cut_is c.in_ok-fields.fields.now c.in_ok-id.id.now c.in_ok-id.behind.now
+    36 cut.1 cut.2)
     cut.3 feed base e in
     let h : None ≡ Some feed = c.in_err-feed.ensures.only feed is parts.0 in cc
 
@@ -20,7 +21,8 @@ pub returns-in_err-after-clause-none : goal.returns-in_err-after-clause-none
 returns-in_err-after-clause-none c = λ _ feed base is e.
     let cut = c.in_ok-id.ensures.cases in
     let parts = feed_fields c.args.line.now c.in_ok-fields.fields.now c.in_ok-id.id.now c.in_ok-id.behind.now
-    c.in_ok-fields.ensures.found (cut_is c.in_ok-fields.fields.now c.in_ok-id.id.now c.in_ok-id.behind.now 36 cut.1 cut.2)
+    c.in_ok-fields.ensures.found (cut_is c.in_ok-fields.fields.now c.in_ok-id.id.now c.in_ok-id.behind.now
+    36 cut.1 cut.2)
     cut.3 feed base e in
     let h : None ≡ Some base = c.in_err-after.ensures.only base parts.1 in cc
 

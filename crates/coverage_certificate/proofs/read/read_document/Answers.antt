@@ -11,5 +11,6 @@ returns-in_err-line-clause-none c = λ _.
 pub returns-in_err-document_of-clause-none : goal.returns-in_err-document_of-clause-none
 returns-in_err-document_of-clause-none c = λ _.
     none_line (IsDocumentLine c.args.base.now c.args.is_first)
-    (λ line is. document_line_lacks c.args.base.now c.args.is_first line c.text-rules.ensures.base is) c.args.text.now _ _
+    (λ line is. document_line_lacks c.args.base.now c.args.is_first line c.text-rules.ensures.base is)
+    c.args.text.now _ _
     c.in_ok-line.ensures.found (c.in_err-document_of.ensures.none refl)

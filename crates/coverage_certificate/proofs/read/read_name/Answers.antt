@@ -9,4 +9,5 @@ returns-in_default-clause-none c = λ _. none_text IsFeedLine c.args.text.now (c
 
 pub returns-in-None-clause-none : goal.returns-in-None-clause-none
 returns-in-None-clause-none c = λ _.
-    none_line IsFeedLine feed_line_lacks c.args.text.now _ _ c.in-Some.ensures.found (c.in_ok-found.ensures.none c.in-None.is)
+    none_line IsFeedLine feed_line_lacks c.args.text.now _ _ c.in-Some.ensures.found
+    (c.in_ok-found.ensures.none c.in-None.is)

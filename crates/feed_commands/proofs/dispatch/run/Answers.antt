@@ -34,7 +34,8 @@ returns-in-Err-NoMemory-clause-made g c = λ name window capacity of_words told.
     (⊎_elim (λ e. omega (arith, e, c.end_with.ensures.status)) (λ e. omega (arith, e, c.end_with.ensures.status)))
 
 pub returns-in-Ok-write_all-clause-answered : goal.returns-in-Ok-write_all-clause-answered
-returns-in-Ok-write_all-clause-answered g c = read_all _ c.read_words.result c.in-Ok.command _ c.in-Ok.is c.read_words.ensures.only
+returns-in-Ok-write_all-clause-answered g c = read_all _ c.read_words.result c.in-Ok.command _ c.in-Ok.is
+    c.read_words.ensures.only
     (λ seen answered. rw c.end_as-in-Ok-write_all.ensures.status
     (ends-done c.in-Ok.command _ _ _ _ c.in-Ok-answer.text.items
     (c.in-Ok-answer.ensures.answer (g.F.Fetch.state c.args.fetch.now) (seen-unfetched c.in-Ok.command _ _ _ _ seen))
@@ -45,7 +46,8 @@ returns-in-Ok-write_all-clause-answered g c = read_all _ c.read_words.result c.i
     (λ sink. rw (← c.as_slice.ensures.value) (c.in-Ok-write_all.ensures.whole sink))))
 
 pub returns-in-Ok-write_all-clause-safe : goal.returns-in-Ok-write_all-clause-safe
-returns-in-Ok-write_all-clause-safe g c = read_all _ c.read_words.result c.in-Ok.command _ c.in-Ok.is c.read_words.ensures.only
+returns-in-Ok-write_all-clause-safe g c = read_all _ c.read_words.result c.in-Ok.command _ c.in-Ok.is
+    c.read_words.ensures.only
     c.answer.ensures.safe
 
 pub returns-in-Ok-write_all-clause-made : goal.returns-in-Ok-write_all-clause-made
@@ -61,7 +63,8 @@ returns-in-Ok-write_all-clause-applied g c = λ of_words told.
     c.read_words.ensures.only refl (Apply None) of_words) told)
 
 pub returns-in-Ok-answer-clause-answered : goal.returns-in-Ok-answer-clause-answered
-returns-in-Ok-answer-clause-answered g c = read_all _ c.read_words.result c.in-Ok.command _ c.in-Ok.is c.read_words.ensures.only
+returns-in-Ok-answer-clause-answered g c = read_all _ c.read_words.result c.in-Ok.command _ c.in-Ok.is
+    c.read_words.ensures.only
     (λ seen answered. rw c.end_as-in-Err-write_all.ensures.status
     (ends-unsent c.in-Ok.command _ _ _ _ c.in-Ok-answer.text.items
     (c.in-Ok-answer.ensures.answer (g.F.Fetch.state c.args.fetch.now) (seen-unfetched c.in-Ok.command _ _ _ _ seen))
@@ -71,7 +74,8 @@ returns-in-Ok-answer-clause-answered g c = read_all _ c.read_words.result c.in-O
     c.write_all-in-Ok-answer.ensures.counts))))
 
 pub returns-in-Ok-answer-clause-safe : goal.returns-in-Ok-answer-clause-safe
-returns-in-Ok-answer-clause-safe g c = read_all _ c.read_words.result c.in-Ok.command _ c.in-Ok.is c.read_words.ensures.only
+returns-in-Ok-answer-clause-safe g c = read_all _ c.read_words.result c.in-Ok.command _ c.in-Ok.is
+    c.read_words.ensures.only
     c.answer.ensures.safe
 
 pub returns-in-Ok-answer-clause-made : goal.returns-in-Ok-answer-clause-made
@@ -417,7 +421,8 @@ returns-in-Drill-clause-complete g c =
 
 pub returns-in-Drill-clause-drills : goal.returns-in-Drill-clause-drills
 returns-in-Drill-clause-drills g c =
-    same_drill (λ s n. EndsDrilling s n c.drill.result.life c.drill.result.status) _ c.read_words.result c.in-Ok.command _ _
+    same_drill (λ s n. EndsDrilling s n c.drill.result.life c.drill.result.status) _ c.read_words.result
+    c.in-Ok.command _ _
     c.in-Ok.is c.in-Drill.is c.read_words.ensures.only c.drill.ensures.drills
 
 pub returns-in-Drill-clause-no_life : goal.returns-in-Drill-clause-no_life

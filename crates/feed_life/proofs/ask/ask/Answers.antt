@@ -17,7 +17,8 @@ returns c = record {
       (λ other. c.answer-reply.ensures.stands other tt) (λ other. c.answer-reply.ensures.settled other tt) refl
       c.version.ensures refl c.sealed.ensures;
   calls =
-      subst (λ (n : ℕ). (number : ℕ) × MakesCalls (state_of c.args.disk.now) (state_of c.answer-reply.new.disk) 0 n number)
+      subst (λ (n : ℕ). (number : ℕ) × MakesCalls (state_of c.args.disk.now)
+      (state_of c.answer-reply.new.disk) 0 n number)
       (sym c.calls.ensures.calls)
       (calls_then (state_of c.args.disk.now) (state_of c.open.new.disk) (state_of c.answer-reply.new.disk) 0
       (call_count c.in_ok-store.store) (call_count c.answer-reply.new.store) c.in_ok-store.ensures.calls.0

@@ -10,7 +10,8 @@ pub returns-in-None-clause-walked : goal.returns-in-None-clause-walked
 returns-in-None-clause-walked c =
     subst (λ (stop : Option Stop). OnOk c.walk.result ((history : List Op) (kept : List KeptValue)
     → IsStoreOf c.args.head.now history c.args.store_disk.now → IsMirrorOf c.args.head.now history c.args.disk.now kept
-    → LeavesWalked c.args.head.now history stop kept c.args.disk.now c.walk.new.disk)) (sym c.in-None.is) c.walk.ensures.walked
+    → LeavesWalked c.args.head.now history stop kept c.args.disk.now c.walk.new.disk)) (sym c.in-None.is)
+    c.walk.ensures.walked
 
 pub returns-in_ok-disk-in-Some-clause-walked : goal.returns-in_ok-disk-in-Some-clause-walked
 returns-in_ok-disk-in-Some-clause-walked c history kept is_store is_mirror =

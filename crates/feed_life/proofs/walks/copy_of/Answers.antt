@@ -7,4 +7,5 @@ pub returns-in-Ok-clause-copy : goal.returns-in-Ok-clause-copy
 returns-in-Ok-clause-copy c =
     crash-last c.image.result c.args.disk.now c.size.new.self (c.calls-before.result + 1) c.size.ensures.areas
     (omega (arith, c.calls-before.ensures))
-    (crash-made c.image.result c.size.new.self (c.calls-before.result + 1) New c.image.ensures.disk c.image.ensures.among)
+    (crash-made c.image.result c.size.new.self (c.calls-before.result + 1) New c.image.ensures.disk
+    c.image.ensures.among)

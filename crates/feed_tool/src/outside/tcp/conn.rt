@@ -11,16 +11,16 @@ use std::net::{Net, OpenStream};
 use std::rt;
 use std::time::{Duration, Instant};
 
-/// How long a client may take to receive its whole reply. It is longer than the time for a request, since a reply may be
-/// large.
+/// How long a client may take to receive its whole reply. It is longer than the time for a request, since a reply may
+/// be large.
 const REPLY_SECONDS: u64 = 30;
 
 /// A connection with a client over TCP.
 ///
-/// The request has a deadline from the acceptance of the connection, and the reply has one from its beginning. A call that
-/// has to wait does so at most until the deadline, so a client that sends or takes a few bytes at a time doesn't extend it.
-/// A call that has what it needs at once works past the deadline too: a client that kept its time isn't cut off because
-/// the server was busy with others.
+/// The request has a deadline from the acceptance of the connection, and the reply has one from its beginning. A call
+/// that has to wait does so at most until the deadline, so a client that sends or takes a few bytes at a time doesn't
+/// extend it. A call that has what it needs at once works past the deadline too: a client that kept its time isn't cut
+/// off because the server was busy with others.
 #[derive(Drop)]
 pub struct TcpConn<'a, R: Net + rt::Clock> {
     runtime: &'a R,
@@ -57,7 +57,8 @@ impl<'a, R: Net + rt::Clock> TcpConn<'a, R> {
         if left.is_zero() { None } else { Some(left) }
     }
 
-    /// Has a read wait until the deadline at most, if it waits. `None` if the deadline has passed, or the limit can't be set.
+    /// Has a read wait until the deadline at most, if it waits. `None` if the deadline has passed, or the limit can't
+    /// be set.
     fn limit_read(&self) -> Option<()> {
         if !self.socket.waits {
             return Some(());

@@ -12,9 +12,9 @@ use std::rt;
 
 /// A TCP port, on which clients connect. It never runs out of connections.
 ///
-/// It gives one connection at a time, each once its request begins to arrive or its time is over. So a silent client holds
-/// nobody up, and the server doesn't wait for a client that has connected and not yet sent its request. A client that has
-/// its reply and still sends is read beside the others.
+/// It gives one connection at a time, each once its request begins to arrive or its time is over. So a silent client
+/// holds nobody up, and the server doesn't wait for a client that has connected and not yet sent its request. A client
+/// that has its reply and still sends is read beside the others.
 ///
 /// A connection that fails is its own fault, and never the door's.
 #[derive(Drop)]

@@ -13,12 +13,12 @@ use std::os::fd::AsRawFd;
 use std::time::{Duration, Instant};
 use std::{rt, str, thread};
 
-/// How long a client may take for its whole request. Requests are read one at a time, so a client that sends a part of its
-/// request and then waits holds up all others.
+/// How long a client may take for its whole request. Requests are read one at a time, so a client that sends a part of
+/// its request and then waits holds up all others.
 const REQUEST_SECONDS: u64 = 10;
 
-/// How many connections may wait for their requests. If one more comes, the one that has waited longest is closed. It is
-/// well below the number of descriptors that a process has by default.
+/// How many connections may wait for their requests. If one more comes, the one that has waited longest is closed. It
+/// is well below the number of descriptors that a process has by default.
 const MAX_WAITING: usize = 512;
 
 /// How many clients that have their replies may still be sending. If one more comes, the oldest of them is cut off.
@@ -98,8 +98,8 @@ pub(super) struct Port<R: Net + rt::Clock> {
 }
 
 impl<R: Net + rt::Clock> Port<R> {
-    /// Binds a port, or returns `None`. std sets SO_REUSEADDR, so after a restart the port can be bound at once, while the
-    /// system still keeps the connections of the last run.
+    /// Binds a port, or returns `None`. std sets SO_REUSEADDR, so after a restart the port can be bound at once, while
+    /// the system still keeps the connections of the last run.
     pub(super) fn bind(alloc: Global, runtime: &R, at: &[u8]) -> Option<Port<R>> {
         let listener = TcpListener::bind(runtime, str::from_utf8(at).ok()?).ok()?;
         listener.set_nonblocking(true).ok()?;
@@ -127,8 +127,8 @@ impl<R: Net + rt::Clock> Port<R> {
         self.listener.local_addr().ok()
     }
 
-    /// Returns the next client whose request begins to arrive, or whose time is over. `Failed` if the clock can't be read,
-    /// the system can't report, or `accept` failed for good or `MAX_FAILURES` times in a row.
+    /// Returns the next client whose request begins to arrive, or whose time is over. `Failed` if the clock can't be
+    /// read, the system can't report, or `accept` failed for good or `MAX_FAILURES` times in a row.
     pub(super) fn next(&mut self, runtime: &R) -> Result<Waiting<R::Stream>, Failed> {
         for _ in 0..u64::MAX {
             let now = Instant::now(runtime).map_err(|_| Failed)?;

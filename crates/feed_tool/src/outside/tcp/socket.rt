@@ -12,8 +12,8 @@ pub(super) fn deadline_in(clock: &impl rt::Clock, seconds: u64) -> Option<Instan
         .checked_add(Duration::from_secs(seconds))
 }
 
-/// A stream, and whether its calls wait. Most calls have what they need at once. So calls wait only if they have to, which
-/// saves the system calls that bound their time.
+/// A stream, and whether its calls wait. Most calls have what they need at once. So calls wait only if they have to,
+/// which saves the system calls that bound their time.
 #[derive(Drop)]
 pub(super) struct Socket<S> {
     pub(super) stream: S,

@@ -13,14 +13,16 @@ returns-in_err-matches-clause-only c = λ seed count i.
 pub returns-in_err-seed-clause-only : goal.returns-in_err-seed-clause-only
 returns-in_err-seed-clause-only c = λ seed count i.
     let (are, has) = c.in_ok-matches.ensures.found in
-    let values = drill_values (map (string_bytes {Z = Global}) c.args.words.now) c.in_ok-matches.matches seed count i are
+    let values = drill_values (map (string_bytes {Z = Global}) c.args.words.now) c.in_ok-matches.matches
+    seed count i are
     has in
     absurd (let e = c.in_err-seed.ensures.only i.seed_word seed values.0 i.is_seed in cc)
 
 pub returns-in_err-count-clause-only : goal.returns-in_err-count-clause-only
 returns-in_err-count-clause-only c = λ seed count i.
     let (are, has) = c.in_ok-matches.ensures.found in
-    let values = drill_values (map (string_bytes {Z = Global}) c.args.words.now) c.in_ok-matches.matches seed count i are
+    let values = drill_values (map (string_bytes {Z = Global}) c.args.words.now) c.in_ok-matches.matches
+    seed count i are
     has in
     absurd (let e = c.in_err-count.ensures.only i.count_word count values.1 i.is_count in cc)
 
@@ -39,7 +41,8 @@ returns-clause-found c =
 pub returns-clause-only : goal.returns-clause-only
 returns-clause-only c = λ seed count i.
     let (are, has) = c.in_ok-matches.ensures.found in
-    let values = drill_values (map (string_bytes {Z = Global}) c.args.words.now) c.in_ok-matches.matches seed count i are
+    let values = drill_values (map (string_bytes {Z = Global}) c.args.words.now) c.in_ok-matches.matches
+    seed count i are
     has in
     inl (same_drill seed c.in_ok-seed.seed count c.in_ok-count.count
     (c.in_ok-seed.ensures.only i.seed_word seed values.0 i.is_seed)

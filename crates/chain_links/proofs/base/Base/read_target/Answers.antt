@@ -37,4 +37,5 @@ pub returns-in_ok-after-in-None-clause-only : goal.returns-in_ok-after-in-None-c
 returns-in_ok-after-in-None-clause-only c = λ address is target.
     ⊎_elim (λ whole. absurd (none-some _ (sym c.in-None.is ∙ c.read.ensures.only address is whole)))
     (λ path. c.read_suffix.ensures.only address is (same_Some _ _ (c.in_ok-after-in-None.ensures.only
-    (suffix_text address) (path.2 ∙ ap (λ x. x ++ suffix_text address) (sym (c.path.ensures.path path.0 path.1)))))) target
+    (suffix_text address) (path.2 ∙ ap (λ x. x ++ suffix_text address)
+    (sym (c.path.ensures.path path.0 path.1)))))) target

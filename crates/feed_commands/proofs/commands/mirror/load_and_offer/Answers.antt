@@ -49,9 +49,11 @@ pub returns-in_err-report_loaded-clause-kept : goal.returns-in_err-report_loaded
 returns-in_err-report_loaded-clause-kept g c =
     let p = err_from_is_err_and c.from_residual-in_err-report_loaded.result
     c.from_residual-in_err-report_loaded.ensures.1 in
-    rw (p.1, p.2) (λ disk input whole. leaves-taken _ _ _ _ (mirrored-weaker c.args.capacity c.args.base.now (g.I.Source.state c.args.input.now).left
+    rw (p.1, p.2) (λ disk input whole. leaves-taken _ _ _ _ (mirrored-weaker c.args.capacity c.args.base.now
+    (g.I.Source.state c.args.input.now).left
     (g.D.Disk.state c.args.disk.now) (g.D.Disk.state c.report_loaded.new.disk) (c.report_loaded.result ≡ Err Disk)
-    _ (IsOk c.report_loaded.result) _ (λ e. cc (e, c.in_err-report_loaded.is, c.in_err-report_loaded.was)) (λ ok. absurd (false≢true ok))
+    _ (IsOk c.report_loaded.result) _ (λ e. cc (e, c.in_err-report_loaded.is, c.in_err-report_loaded.was))
+    (λ ok. absurd (false≢true ok))
     (leaves-offers (g.D.Disk.state c.args.disk.now) (g.D.Disk.state c.load.new.disk)
     (g.D.Disk.state c.report_loaded.new.disk) (g.met.D.Disk.is_disk c.args.disk.now) disk whole c.args.capacity
     c.args.base.now c.in_ok-mirror.mirror.kept
@@ -71,9 +73,11 @@ returns-clause-others g c = λ a other.
     alone_joins _ _ _ a (c.in_ok-mirror.ensures.others a other) (c.report_loaded.ensures.others a other)
 
 pub returns-clause-kept : goal.returns-clause-kept
-returns-clause-kept g c = λ disk input whole. leaves-taken _ _ _ _ (mirrored-weaker c.args.capacity c.args.base.now (g.I.Source.state c.args.input.now).left
+returns-clause-kept g c = λ disk input whole. leaves-taken _ _ _ _ (mirrored-weaker c.args.capacity c.args.base.now
+    (g.I.Source.state c.args.input.now).left
     (g.D.Disk.state c.args.disk.now) (g.D.Disk.state c.report_loaded.new.disk) (c.report_loaded.result ≡ Err Disk)
-    _ (IsOk c.report_loaded.result) _ (λ e. cc (e, c.in_ok-report_loaded.is, c.in_ok-report_loaded.was)) (λ ok. rw c.in_ok-report_loaded.was refl)
+    _ (IsOk c.report_loaded.result) _ (λ e. cc (e, c.in_ok-report_loaded.is, c.in_ok-report_loaded.was))
+    (λ ok. rw c.in_ok-report_loaded.was refl)
     (leaves-offers (g.D.Disk.state c.args.disk.now) (g.D.Disk.state c.load.new.disk)
     (g.D.Disk.state c.report_loaded.new.disk) (g.met.D.Disk.is_disk c.args.disk.now) disk whole c.args.capacity
     c.args.base.now c.in_ok-mirror.mirror.kept

@@ -84,7 +84,8 @@ returns-in_err-offer-2-clause-refused g c =
     ∙ ap (λ (o : Option Offer). c.loop-offer.reader.used + length (used_text c.loop-offer.reader.used (Ok o)))
     c.in-Some.is)
     (λ t. subst (λ (o : Option Offer).
-    IsPileAnswer c.loop-offer.reader.used c.loop-offer.reader.limit (unused c.loop-offer.reader (g.I.Source.state c.loop-offer.input)) (Ok o))
+    IsPileAnswer c.loop-offer.reader.used c.loop-offer.reader.limit
+    (unused c.loop-offer.reader (g.I.Source.state c.loop-offer.input)) (Ok o))
     c.in-Some.is (c.in_ok-offer.ensures.answer h.amid.fresh t))
     (λ t. subst (λ (o : Option Offer). unused c.loop-offer.reader (g.I.Source.state c.loop-offer.input)
     ≡ used_text c.loop-offer.reader.used (Ok o) ++ unused c.next.new.self (g.I.Source.state c.next.new.source))
@@ -108,7 +109,8 @@ returns-in_err-offer-2-clause-gives g c =
     ∙ ap (λ (o : Option Offer). c.loop-offer.reader.used + length (used_text c.loop-offer.reader.used (Ok o)))
     c.in-Some.is)
     (λ t. subst (λ (o : Option Offer).
-    IsPileAnswer c.loop-offer.reader.used c.loop-offer.reader.limit (unused c.loop-offer.reader (g.I.Source.state c.loop-offer.input)) (Ok o))
+    IsPileAnswer c.loop-offer.reader.used c.loop-offer.reader.limit
+    (unused c.loop-offer.reader (g.I.Source.state c.loop-offer.input)) (Ok o))
     c.in-Some.is (c.in_ok-offer.ensures.answer h.amid.fresh t))
     (λ t. subst (λ (o : Option Offer). unused c.loop-offer.reader (g.I.Source.state c.loop-offer.input)
     ≡ used_text c.loop-offer.reader.used (Ok o) ++ unused c.next.new.self (g.I.Source.state c.next.new.source))
@@ -125,7 +127,8 @@ returns-in_err-offer-2-clause-gives g c =
     (c.offer.ensures.moments told rest)))
     (λ other given. subst (λ disk. GivesOffers c.args.mirror.now.capacity c.args.mirror.now.base c.args.mirror.now.kept
     (g.I.Source.state c.args.input.now).left g.I.Source.told g.D.Disk.told (g.D.Disk.state c.args.disk.now)
-    (g.D.Disk.state disk) (c.from_residual-in_err-offer-2.result ≡ Err Disk) (IsOk c.from_residual-in_err-offer-2.result))
+    (g.D.Disk.state disk) (c.from_residual-in_err-offer-2.result ≡ Err Disk)
+    (IsOk c.from_residual-in_err-offer-2.result))
     (sym (c.in_err-offer-2.ensures.unmoved other).1) given)
 
 pub returns-in_err-offer-2-clause-others : goal.returns-in_err-offer-2-clause-others
@@ -150,7 +153,8 @@ loop-offer-preserved g c =
     ∙ ap (λ (o : Option Offer). c.loop-offer.reader.used + length (used_text c.loop-offer.reader.used (Ok o)))
     c.in-Some.is)
     (λ t. subst (λ (o : Option Offer).
-    IsPileAnswer c.loop-offer.reader.used c.loop-offer.reader.limit (unused c.loop-offer.reader (g.I.Source.state c.loop-offer.input)) (Ok o))
+    IsPileAnswer c.loop-offer.reader.used c.loop-offer.reader.limit
+    (unused c.loop-offer.reader (g.I.Source.state c.loop-offer.input)) (Ok o))
     c.in-Some.is (c.in_ok-offer.ensures.answer h.amid.fresh t))
     (λ t. subst (λ (o : Option Offer). unused c.loop-offer.reader (g.I.Source.state c.loop-offer.input)
     ≡ used_text c.loop-offer.reader.used (Ok o) ++ unused c.next.new.self (g.I.Source.state c.next.new.source))
@@ -185,6 +189,8 @@ returns-clause-gives g c =
     c.loop-offer.report _ _ c.begun_images_are_whole.ensures h
     (λ whole told. reads-to g.I.Source.told c.args.report.now.detailed first.capacity first.base first.kept
     (g.I.Source.state c.args.input.now).left
-    h.offers c.loop-offer.reader (g.I.Source.state c.loop-offer.input) c.loop-offer.mirror.kept c.loop-offer.report h.amid
+    h.offers c.loop-offer.reader (g.I.Source.state c.loop-offer.input) c.loop-offer.mirror.kept
+    c.loop-offer.report h.amid
     (Ok None) told (subst (λ (o : Option Offer). IsPileAnswer c.loop-offer.reader.used c.loop-offer.reader.limit
-    (unused c.loop-offer.reader (g.I.Source.state c.loop-offer.input)) (Ok o)) c.in_default.is (c.in_ok-offer.ensures.answer h.amid.fresh told)))
+    (unused c.loop-offer.reader (g.I.Source.state c.loop-offer.input)) (Ok o)) c.in_default.is
+    (c.in_ok-offer.ensures.answer h.amid.fresh told)))

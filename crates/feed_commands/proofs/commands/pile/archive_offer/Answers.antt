@@ -9,5 +9,6 @@ pub returns-clause-offer : goal.returns-clause-offer
 returns-clause-offer g c = λ told.
     archive-offer c.args.store.now.head c.args.store.now.history c.args.number _ _
     (c.from_vec.ensures ∙ c.in_ok-address.ensures
-    ∙ ap (λ (head : HeadValue). printed head.name.base (Archive c.args.number)) (c.behind-store.view_is ∙ c.head.ensures))
+    ∙ ap (λ (head : HeadValue). printed head.name.base (Archive c.args.number))
+    (c.behind-store.view_is ∙ c.head.ensures))
     (c.from_vec-2.ensures ∙ c.in_ok-bytes.ensures.document told)

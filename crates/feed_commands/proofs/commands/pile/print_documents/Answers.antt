@@ -35,7 +35,8 @@ loop-number-init g c = record {
       let after = g.O.Sink.state c.print_offer.new.output in
       let all : c.sealed-number.result ≡ sealed_count c.args.store.now =
       c.sealed-number.ensures ∙ ap sealed_count c.in_ok-feed_offer.ensures.same in
-      subst (λ (number : ℕ). TakesFront g.D.Disk.told (offers_of stored) (archives_of stored number) before after) (sym all)
+      subst (λ (number : ℕ). TakesFront g.D.Disk.told (offers_of stored) (archives_of stored number) before
+      after) (sym all)
       (front-feed g.D.Disk.told stored _ before (g.O.Sink.state c.write_pile_head.new.sink) after
       c.in_ok-feed_offer.ensures.offer (c.in_ok-write_pile_head.ensures.whole told)
       (c.in_ok-print_offer.ensures.whole told));

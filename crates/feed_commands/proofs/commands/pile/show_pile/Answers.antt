@@ -26,7 +26,8 @@ returns-in-Err-Other-clause-answered g c = λ told answered moments input source
     let refused = c.print_pile.ensures.refused fault (failed-by c.in-Err-Other.is c.in-Err-Other.field-0-is)
     (answered-refusal fault (rw c.end_with.ensures.status at answered)) told in
     ends-unopened _ g.O.Sink.told _ _ _ fault refused.0 c.end_with.ensures.status
-    (λ sink. subst (λ (sent : SinkState). Prints sent (g.O.Sink.state c.end_with.new.output) (fault_answer fault).printed)
+    (λ sink. subst (λ (sent : SinkState). Prints sent (g.O.Sink.state c.end_with.new.output)
+    (fault_answer fault).printed)
     (ap g.O.Sink.state refused.1) (c.end_with.ensures.prints sink))
 
 pub returns-in-Err-Other-clause-complete : goal.returns-in-Err-Other-clause-complete

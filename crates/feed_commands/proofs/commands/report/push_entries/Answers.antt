@@ -5,11 +5,13 @@ use Rattle.feed_commands.proofs.commands.report.push_entries.Goals as goal
 
 pub returns-in_err-entry-clause-areas : goal.returns-in_err-entry-clause-areas
 returns-in_err-entry-clause-areas g c = λ a.
-    alone_joins _ (g.D.Disk.state c.loop-number.disk) _ a (c.loop-number.invariant.areas a) (c.in_err-entry.ensures.areas a)
+    alone_joins _ (g.D.Disk.state c.loop-number.disk) _ a (c.loop-number.invariant.areas a)
+    (c.in_err-entry.ensures.areas a)
 
 pub returns-in_err-push_entry-clause-areas : goal.returns-in_err-push_entry-clause-areas
 returns-in_err-push_entry-clause-areas g c = λ a.
-    alone_joins _ (g.D.Disk.state c.loop-number.disk) _ a (c.loop-number.invariant.areas a) (c.in_ok-entry.ensures.areas a)
+    alone_joins _ (g.D.Disk.state c.loop-number.disk) _ a (c.loop-number.invariant.areas a)
+    (c.in_ok-entry.ensures.areas a)
 
 pub loop-number-preserved-in_ok-push_entry : goal.loop-number-preserved-in_ok-push_entry
 loop-number-preserved-in_ok-push_entry g c =

@@ -19,7 +19,8 @@ returns-clause-serves g c =
       end = end;
       status = session-status end c.of-fault.result c.print_session-printed.result c.code.result
           c.of-fault.ensures (c.code.ensures ∙ ap code_of c.status_of.ensures);
-      prints = λ told. session-prints c.print_session-printed.result _ _ c.as_slice.result.now session.result.lines.items
+      prints = λ told. session-prints c.print_session-printed.result _ _ c.as_slice.result.now
+          session.result.lines.items
           c.of-fault.result _ c.as_slice.ensures.items c.of-fault.ensures
           (c.print_session-printed.ensures.prefix told)
           (on_ok_weaker c.print_session-printed.result (λ whole. whole told) c.print_session-printed.ensures.whole)
@@ -66,13 +67,15 @@ pub returns-clause-disk_fault : goal.returns-clause-disk_fault
 returns-clause-disk_fault g c = λ is.
     c.serve-session.ensures.disk_fault (disk-code c.serve-session.result.end c.print_session-printed.result
     (sym (c.code.ensures ∙ ap code_of c.status_of.ensures
-    ∙ ap (λ (f : Option SessionFault). code_of (session_status f c.print_session-printed.result)) c.of-fault.ensures) ∙ is))
+    ∙ ap (λ (f : Option SessionFault). code_of (session_status f c.print_session-printed.result))
+    c.of-fault.ensures) ∙ is))
 
 pub returns-clause-door_fault : goal.returns-clause-door_fault
 returns-clause-door_fault g c = λ is.
     c.serve-session.ensures.door_fault (door-code c.serve-session.result.end c.print_session-printed.result
     (sym (c.code.ensures ∙ ap code_of c.status_of.ensures
-    ∙ ap (λ (f : Option SessionFault). code_of (session_status f c.print_session-printed.result)) c.of-fault.ensures) ∙ is))
+    ∙ ap (λ (f : Option SessionFault). code_of (session_status f c.print_session-printed.result))
+    c.of-fault.ensures) ∙ is))
 
 pub returns-clause-no_hidden_door_fault : goal.returns-clause-no_hidden_door_fault
 returns-clause-no_hidden_door_fault g c = λ other.

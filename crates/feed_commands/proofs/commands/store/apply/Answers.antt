@@ -32,7 +32,8 @@ returns-in_err-store-clause-unrefused g c =
 
 pub returns-in_err-apply_lines-clause-refused : goal.returns-in_err-apply_lines-clause-refused
 returns-in_err-apply_lines-clause-refused g c =
-    let p = err_from_is_err_and c.from_residual-in_err-apply_lines.result c.from_residual-in_err-apply_lines.ensures.1 in
+    let p = err_from_is_err_and c.from_residual-in_err-apply_lines.result
+    c.from_residual-in_err-apply_lines.ensures.1 in
     let store = c.in_ok-store.store in
     let before = (g.D.Disk.state c.args.disk.now).content in
     let loaded = (g.D.Disk.state c.load.new.disk).content in
@@ -47,7 +48,8 @@ returns-in_err-apply_lines-clause-refused g c =
 
 pub returns-in_err-apply_lines-clause-applied : goal.returns-in_err-apply_lines-clause-applied
 returns-in_err-apply_lines-clause-applied g c =
-    let p = err_from_is_err_and c.from_residual-in_err-apply_lines.result c.from_residual-in_err-apply_lines.ensures.1 in
+    let p = err_from_is_err_and c.from_residual-in_err-apply_lines.result
+    c.from_residual-in_err-apply_lines.ensures.1 in
     let store = c.in_ok-store.store in
     let before = g.D.Disk.state c.args.disk.now in
     let loaded = g.D.Disk.state c.load.new.disk in
@@ -59,12 +61,14 @@ returns-in_err-apply_lines-clause-applied g c =
     (c.in_ok-store.ensures.opens told).opens)
     (c.in_ok-store.ensures.moments told)
     (λ whole.
-    c.in_err-apply_lines.ensures.leaves told (c.in_ok-store.ensures.rests told whole) (c.in_ok-store.ensures.settled told whole))
+    c.in_err-apply_lines.ensures.leaves told (c.in_ok-store.ensures.rests told whole)
+    (c.in_ok-store.ensures.settled told whole))
     (λ e. let is : c.in_err-apply_lines.field-0.0 ≡ Disk = cc in ap Err is))
 
 pub returns-in_err-apply_lines-clause-opens : goal.returns-in_err-apply_lines-clause-opens
 returns-in_err-apply_lines-clause-opens g c =
-    let p = err_from_is_err_and c.from_residual-in_err-apply_lines.result c.from_residual-in_err-apply_lines.ensures.1 in
+    let p = err_from_is_err_and c.from_residual-in_err-apply_lines.result
+    c.from_residual-in_err-apply_lines.ensures.1 in
     let store = c.in_ok-store.store in
     let fault = c.in_err-apply_lines.field-0.0 in
     let before = (g.D.Disk.state c.args.disk.now).content in
@@ -80,7 +84,8 @@ returns-in_err-apply_lines-clause-opens g c =
 
 pub returns-in_err-apply_lines-clause-unrefused : goal.returns-in_err-apply_lines-clause-unrefused
 returns-in_err-apply_lines-clause-unrefused g c =
-    let p = err_from_is_err_and c.from_residual-in_err-apply_lines.result c.from_residual-in_err-apply_lines.ensures.1 in
+    let p = err_from_is_err_and c.from_residual-in_err-apply_lines.result
+    c.from_residual-in_err-apply_lines.ensures.1 in
     let store = c.in_ok-store.store in
     let before = (g.D.Disk.state c.args.disk.now).content in
     let loaded = (g.D.Disk.state c.load.new.disk).content in
@@ -105,7 +110,8 @@ returns-in_err-subscription-clause-applied g c =
     (c.in_ok-store.ensures.opens told).opens)
     (c.in_ok-store.ensures.moments told)
     (λ whole.
-    c.in_ok-apply_lines.ensures.leaves told (c.in_ok-store.ensures.rests told whole) (c.in_ok-store.ensures.settled told whole))
+    c.in_ok-apply_lines.ensures.leaves told (c.in_ok-store.ensures.rests told whole)
+    (c.in_ok-store.ensures.settled told whole))
     (λ e. cc)
 
 pub returns-in_err-subscription-clause-refused : goal.returns-in_err-subscription-clause-refused
@@ -147,7 +153,8 @@ returns-clause-applied g c =
     (c.in_ok-store.ensures.opens told).opens)
     (c.in_ok-store.ensures.moments told)
     (λ whole.
-    c.in_ok-apply_lines.ensures.leaves told (c.in_ok-store.ensures.rests told whole) (c.in_ok-store.ensures.settled told whole))
+    c.in_ok-apply_lines.ensures.leaves told (c.in_ok-store.ensures.rests told whole)
+    (c.in_ok-store.ensures.settled told whole))
     (λ e. cc)
 
 pub returns-clause-opens : goal.returns-clause-opens

@@ -85,10 +85,12 @@ loop-lines-preserved g c =
       grown = omega (arith, held.grown, grows);
       progress = λ told clock source.
           subst (λ (n : ℕ).
-          Progress (stored_step moments) (stored_of opened) (g.I.Source.state c.args.input.now).left c.next.new.self rest
+          Progress (stored_step moments) (stored_of opened) (g.I.Source.state c.args.input.now).left
+          c.next.new.self rest
           n (stored_of after)) more
           (Progress-step (stored_step moments) (stored_step-prefix moments) (stored_of opened)
-          (g.I.Source.state c.args.input.now).left c.loop-lines.lines input c.next.new.self rest before (stored_of store)
+          (g.I.Source.state c.args.input.now).left c.loop-lines.lines input c.next.new.self rest before
+          (stored_of store)
           (stored_of after) (held.progress told clock source)
           (c.in_ok-next.ensures.found (ap Ok c.if-branch.true) source)
           (line-is moments store before c.next.new.self.line _ _ _ (Ok (stored_of after)) c.line.ensures
@@ -128,7 +130,8 @@ returns-in_err-next-clause-refused g c =
     rw (p.1, p.2) (λ refusal told clock source.
     refusal-of_lines (λ (fault : Fault).
     applied_store moments opened start.left ≡ record { feed = store; fault = Some fault }) c.in_err-next.field-0.0
-    (λ e. Progress-long (stored_step moments) opened start.left c.loop-lines.lines (g.I.Source.state c.loop-lines.input) _ store
+    (λ e. Progress-long (stored_step moments) opened start.left c.loop-lines.lines
+    (g.I.Source.state c.loop-lines.input) _ store
     (c.loop-lines.invariant.progress told clock source) (c.in_err-next.ensures.too_long (ap Err e) source))
     refusal)
 
@@ -139,9 +142,11 @@ returns-in_err-next-clause-leaves g c = λ told rests settled.
     let start = g.I.Source.state c.args.input.now in
     let opened = stored_of c.args.store.now in
     let store = stored_of c.loop-lines.store in
-    lines-leave (g.D.Disk.state c.args.disk.now) (g.D.Disk.state c.loop-lines.disk) moments start.left (g.C.Clock.told × g.I.Source.told) _ opened
+    lines-leave (g.D.Disk.state c.args.disk.now) (g.D.Disk.state c.loop-lines.disk) moments start.left
+    (g.C.Clock.told × g.I.Source.told) _ opened
     store
-    (λ seen. Progress-made (stored_step moments) opened start.left c.loop-lines.lines (g.I.Source.state c.loop-lines.input) _ store
+    (λ seen. Progress-made (stored_step moments) opened start.left c.loop-lines.lines
+    (g.I.Source.state c.loop-lines.input) _ store
     (held.progress told seen.0 seen.1)) (held.leaves told rests settled) (held.settled told rests settled)
 
 pub returns-in_err-next-clause-unrefused : goal.returns-in_err-next-clause-unrefused
@@ -150,7 +155,8 @@ returns-in_err-next-clause-unrefused g c =
     let moments = g.C.Clock.coming c.args.clock.now in
     rw (p.1, p.2) (λ e told clock source.
     let same : lines_fault c.in_err-next.field-0.0 ≡ Input = cc in
-    Progress-amid (stored_step moments) (stored_of c.args.store.now) (g.I.Source.state c.args.input.now) c.loop-lines.lines
+    Progress-amid (stored_step moments) (stored_of c.args.store.now) (g.I.Source.state c.args.input.now)
+    c.loop-lines.lines
     (g.I.Source.state c.loop-lines.input) (g.I.Source.state c.next.new.input) _ (stored_of c.loop-lines.store)
     (c.loop-lines.invariant.progress told clock source)
     (c.in_err-next.ensures.amid (ap Err (input-of_lines c.in_err-next.field-0.0 same)) source))
@@ -205,7 +211,8 @@ returns-in_err-apply_line-clause-leaves g c =
           subst (λ d.
           LeavesLines start (g.D.Disk.state d) moments input (g.C.Clock.told × g.I.Source.told) opened
           (◌≡◌ {A = Result (Unit {0}) Fault} (Err fault) (Err Disk))) (sym same)
-          (lines-leave start disk moments input (g.C.Clock.told × g.I.Source.told) _ opened store made (held.leaves told rests settled)
+          (lines-leave start disk moments input (g.C.Clock.told × g.I.Source.told) _ opened store made
+          (held.leaves told rests settled)
           (held.settled told rests settled))
     ])
 
@@ -213,7 +220,8 @@ pub returns-clause-made : goal.returns-clause-made
 returns-clause-made g c = λ told clock source.
     let moments = g.C.Clock.coming c.args.clock.now in
     Progress-end (stored_step moments) (stored_of c.args.store.now) (g.I.Source.state c.args.input.now).left
-    c.loop-lines.lines (g.I.Source.state c.loop-lines.input) _ (stored_of c.loop-lines.store) (c.loop-lines.invariant.progress told clock source)
+    c.loop-lines.lines (g.I.Source.state c.loop-lines.input) _ (stored_of c.loop-lines.store)
+    (c.loop-lines.invariant.progress told clock source)
     (c.in_ok-next.ensures.none (ap Ok c.if-branch.false) source)
 
 pub returns-clause-leaves : goal.returns-clause-leaves
@@ -223,7 +231,9 @@ returns-clause-leaves g c = λ told rests settled.
     let start = g.I.Source.state c.args.input.now in
     let opened = stored_of c.args.store.now in
     let store = stored_of c.loop-lines.store in
-    lines-leave (g.D.Disk.state c.args.disk.now) (g.D.Disk.state c.loop-lines.disk) moments start.left (g.C.Clock.told × g.I.Source.told) _ opened
+    lines-leave (g.D.Disk.state c.args.disk.now) (g.D.Disk.state c.loop-lines.disk) moments start.left
+    (g.C.Clock.told × g.I.Source.told) _ opened
     store
-    (λ seen. Progress-made (stored_step moments) opened start.left c.loop-lines.lines (g.I.Source.state c.loop-lines.input) _ store
+    (λ seen. Progress-made (stored_step moments) opened start.left c.loop-lines.lines
+    (g.I.Source.state c.loop-lines.input) _ store
     (held.progress told seen.0 seen.1)) (held.leaves told rests settled) (held.settled told rests settled)

@@ -8,7 +8,8 @@ use Rattle.feed_life.proofs.store_fetch.StoreFetch.archive.Goals as goal
 pub returns-in-Ok-clause-gets : goal.returns-in-Ok-clause-gets
 returns-in-Ok-clause-gets g c =
     gets-limited g.D.Disk.told g.D.Disk.state _ _ _ _ _ offer_limit (vec_len c.in-Ok.written)
-    (reads-inside g.D.Disk.state _ _ c.archive.new.self c.archive.new.disk c.self.view_is (c.in-Ok.ensures.same (λ e. cc))
+    (reads-inside g.D.Disk.state _ _ c.archive.new.self c.archive.new.disk c.self.view_is
+    (c.in-Ok.ensures.same (λ e. cc))
     c.in-Ok.ensures.areas (c.in-Ok.ensures.unfailed (λ e. cc)))
     (λ told.
     let unspent : is_spent c.self.inside.store ≡ false = ap (λ f. is_spent f.store) c.self.view_is ∙ c.requires in

@@ -94,7 +94,8 @@ invariant_of-self-2 g c =
     let size : log.size ≡ c.self.inside.journal.size + length (text_of operations operation) + header_length =
     ap (λ (v : LogValue). v.size) ok
     ∙ ap (λ (l : List ℕ). c.self.inside.journal.size + length l + header_length) c.ready.invariant in
-    let pushed : c.self.inside.history.items ++ operation ∷ [] ≡ c.push.new.self.items = grind (arith, common_steps) in (
+    let pushed : c.self.inside.history.items ++ operation ∷ [] ≡ c.push.new.self.items = grind
+    (arith, common_steps) in (
       subst (λ (l : List Op). KeepsStore (record (store g before) {
         history = l;
         members = c.commit.new.self;

@@ -12,7 +12,11 @@ pub read-requires-clause-within : goal.read-requires-clause-within
 read-requires-clause-within g c =
     let store = c.args.self.now in
     let keeps = subst KeepsStore c.self.view_is c.self.invariant.0 in
-    let sealed : c.args.number ≤ sealed_count store = omega (arith, c.sealed-sealed.ensures, c.if-number-sealed.false) in
+    let sealed : c.args.number ≤ sealed_count store = omega (
+      arith,
+      c.sealed-sealed.ensures,
+      c.if-number-sealed.false,
+    ) in
     omega (
       arith,
       sealed-within store keeps c.args.number sealed,
@@ -25,7 +29,11 @@ returns-in-Ok-clause-document g c = λ tells.
     let store = c.args.self.now in
     let s = g.D.Disk.state c.args.disk.now in
     let keeps = subst KeepsStore c.self.view_is c.self.invariant.0 in
-    let sealed : c.args.number ≤ sealed_count store = omega (arith, c.sealed-sealed.ensures, c.if-number-sealed.false) in
+    let sealed : c.args.number ≤ sealed_count store = omega (
+      arith,
+      c.sealed-sealed.ensures,
+      c.if-number-sealed.false,
+    ) in
     let from_one : 1 ≤ c.args.number = omega (arith, c.if-number-eq0.false) in
     let found = subst (λ (a : Area). slice_get (records (s.content a)) (c.args.number - 1) ≡ Some c.in-Ok.text.items)
     c.self.invariant.0.sealed_area (c.in-Ok.ensures.payload tells) in

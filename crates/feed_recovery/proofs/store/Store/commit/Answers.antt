@@ -48,7 +48,8 @@ returns-clause-settled g c =
     ok_both c.append_operation.result (g.D.Disk.told → StandsFor t store)
     (g.D.Disk.told → IsAtRest m → IsAtRest t)
     (g.D.Disk.told → IsAtRest s → Settled t store.head store.history (length store.history))
-    (λ stands rests tells start. rest_settles c.begun_images_are_whole.ensures t store.head store.history (seal_count store)
+    (λ stands rests tells start. rest_settles c.begun_images_are_whole.ensures t store.head store.history
+    (seal_count store)
     (stands tells).opens
     (rests tells (c.in_ok-append_seal.ensures.rests tells start)))
     c.append_operation.ensures.stands c.append_operation.ensures.rests

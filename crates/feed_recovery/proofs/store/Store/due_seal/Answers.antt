@@ -27,6 +27,7 @@ of-requires c =
       journal = c.self.inside.journal;
       seals = c.self.inside.seals;
       spare = 0;
-    }) c.as_slice.result.now c.len-number.result c.in_ok-document.document c.in_ok-text.text.items c.as_slice.ensures.value
+    }) c.as_slice.result.now c.len-number.result c.in_ok-document.document c.in_ok-text.text.items
+    c.as_slice.ensures.value
     c.len-number.ensures c.in_ok-document.ensures c.in_ok-text.ensures in
     subst (λ (bytes : List ℕ). length bytes ≤ payload_limit) (sym is ∙ sym c.as_slice-2.ensures.value) short

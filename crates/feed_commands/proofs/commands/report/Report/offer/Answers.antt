@@ -4,7 +4,8 @@ use Rattle.feed_commands.proofs.commands.report.Report.offer.Goals as goal
 
 pub returns-in-Some-clause-usable : goal.returns-in-Some-clause-usable
 returns-in-Some-clause-usable g c = λ other.
-    let not_disk = room-not_disk c.offer-answer.result c.in-Some.fault (sym c.in-Some.ensures) (λ e. other (ap Err e)) in
+    let not_disk = room-not_disk c.offer-answer.result c.in-Some.fault (sym c.in-Some.ensures)
+    (λ e. other (ap Err e)) in
     record { unspent = c.offer-answer.ensures.unspent not_disk; stands = c.offer-answer.ensures.stands not_disk }
 
 pub returns-in_err-add-clause-usable : goal.returns-in_err-add-clause-usable
