@@ -15,8 +15,8 @@ use Rattle.feed_recovery.specs.declared.fault.PrepareFault.{PrepareFault}
 use Rattle.feed_recovery.specs.declared.fault.PrepareFault.TheVariants as prepare
 use Rattle.document_server.specs.Answer.{ComesTo, Gains, Grows, IsReplied, IsSealedBy, OnlyReads, ReadsOrCommits, Steps}
 use Rattle.document_server.specs.Reply.{HasRoomFor, IsAsked, IsRefusedBy, Outcome, done, done_reply, unchanged}
-use Rattle.document_server.specs.declared.stop.Stop.{Stop}
-use Rattle.document_server.specs.declared.stop.Stop.TheVariants.{Disk, Changed, NoMemory}
+use Rattle.document_server.specs.declared.failure.Failure.{Failure}
+use Rattle.document_server.specs.declared.failure.Failure.TheVariants.{Disk, Changed, NoMemory}
 use Rattle.atom_writer.specs.declared.doc.FeedName.{FeedName}
 use Rattle.http_face.specs.declared.reply.Reply.{Reply}
 use Rattle.member_rules.specs.Head.{HeadValue, IsHead}
@@ -189,7 +189,7 @@ module _ (old prepared : StoreValue) (members journal seals spare : ℕ)
   }
 
   pub comes-roomy : (part whole : Outcome → Type 0) → ((given : Outcome) → part given → whole given)
-      → (new : StoreValue) (result : Result Reply Stop)
+      → (new : StoreValue) (result : Result Reply Failure)
       → ComesTo part prepared new result → ComesTo whole old new result
   comes-roomy part whole to new (Ok reply) comes = record {
     given = comes.given;

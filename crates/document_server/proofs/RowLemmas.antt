@@ -18,8 +18,8 @@ use Rattle.http_face.specs.declared.request.Verb.TheVariants.{Get, Head, Post, P
 use Rattle.document_server.specs.Answer.{ComesTo, IsOwn, IsReadAs, IsRefusal, ReadsOrCommits, absent_reply}
 use Rattle.document_server.specs.Reply.{IsAsked, IsAtAddress, IsOfArchive, IsOfFeed, IsOfMember, IsOfState, IsOutcome}
 use Rattle.document_server.specs.Reply.{IsSent, Outcome, gone, not_allowed, not_found, unchanged}
-use Rattle.document_server.specs.declared.stop.Stop.{Stop}
-use Rattle.document_server.specs.declared.stop.Stop.TheVariants.{Disk, Changed, NoMemory}
+use Rattle.document_server.specs.declared.failure.Failure.{Failure}
+use Rattle.document_server.specs.declared.failure.Failure.TheVariants.{Disk, Changed, NoMemory}
 use Rattle.member_rules.specs.declared.ask.Ask.{Ask}
 use Rattle.member_rules.specs.declared.state.State.{State}
 use Rattle.member_rules.specs.declared.state.State.TheVariants as member
@@ -141,7 +141,8 @@ sent-read store request asked now draft given (media, is_draft, spells) is =
 -- what comes of a part of the answer comes of the whole
 
 pub comes-as : (part whole : Outcome → Type 0) → ((given : Outcome) → part given → whole given)
-    → (old new : StoreValue) (result : Result Reply Stop) → ComesTo part old new result → ComesTo whole old new result
+    → (old new : StoreValue) (result : Result Reply Failure) → ComesTo part old new result →
+    ComesTo whole old new result
 comes-as part whole to old new (Ok reply) comes = record {
   given = comes.given;
   is_one = to comes.given comes.is_one;

@@ -20,8 +20,8 @@ use Rattle.http_face.specs.declared.reply.Line7.TheVariants as line
 use Rattle.http_face.specs.declared.reply.Reply.{Reply}
 use Rattle.document_server.specs.Reply.{Outcome, disk_fault, entry_refusal, gone, is_entry_media, line_reply, no_memory}
 use Rattle.document_server.specs.Reply.{not_found}
-use Rattle.document_server.specs.declared.stop.Stop.{Stop}
-use Rattle.document_server.specs.declared.stop.Stop.TheVariants.{Disk, Changed, NoMemory}
+use Rattle.document_server.specs.declared.failure.Failure.{Failure}
+use Rattle.document_server.specs.declared.failure.Failure.TheVariants.{Disk, Changed, NoMemory}
 use Rattle.member_rules.specs.declared.operation.Op.{Op}
 use Rattle.member_rules.specs.declared.state.State.{State}
 use Rattle.member_rules.specs.declared.state.State.TheVariants as member
@@ -90,7 +90,7 @@ pub record LeavesAnswered (outcomes : Outcome → Type 0) (before after : DiskSt
 -- The parts of an answer
 
 -- the result of a part of the answer
-abbrev pub ComesTo : (Outcome → Type 0) → StoreValue → StoreValue → Result Reply Stop → Type 0
+abbrev pub ComesTo : (Outcome → Type 0) → StoreValue → StoreValue → Result Reply Failure → Type 0
 ComesTo outcomes old new (Ok reply) = IsReplied outcomes old new reply
 ComesTo outcomes old new (Err Disk) = Unit {0}
 ComesTo outcomes old new (Err Changed) = ⊥
@@ -132,9 +132,9 @@ ReadsOrCommits told outcomes before after old new failed =
     OnlyReads before after old new ⊎ Commits told outcomes before after old new failed
 
 -- a change is acknowledged
-abbrev pub Acknowledges : Result Reply Stop → Type 0
+abbrev pub Acknowledges : Result Reply Failure → Type 0
 Acknowledges (Ok reply) = IsDone reply
-Acknowledges (Err stop) = ⊥
+Acknowledges (Err failure) = ⊥
 
 -- a reply other than `disk`, whose status is 503 only for `no memory`
 pub record IsOwn (reply : Reply) : Type 0 where

@@ -7,9 +7,9 @@ ghost use Rattle.feed_recovery.specs.Store.{StandsFor, is_spent};
 ghost use Rattle.member_rules.specs.Fold.{state_of};
 ghost use Rattle.member_rules.specs.declared.ask.Ask.TheVariants.{Create, Replace, Delete};
 
+use crate::failure::Failure;
 use crate::media::is_entry_media;
 use crate::replies::{line, made_change, refused, refused_entry};
-use crate::stop::Stop;
 use atom_values::{Draft, NoMemory};
 use entry_reader::{EntryFault, read_entry};
 use feed_disk::Disk;
@@ -55,17 +55,17 @@ pub(crate) fn create<D: Disk>(
     disk: &mut D,
     request: &Request,
     now: u64,
-) -> Result<Reply, Stop>
+) -> Result<Reply, Failure>
     requires unspent { is_spent store.old ≡ false }
     requires stands { D.told → StandsFor (D.state disk.old) store.old }
     ensures answered { D.told → ComesTo
         (IsSent store.old request.now (λ draft. Create draft) now) store.old store.new result }
     ensures own { IfOk result IsOwn }
     ensures steps { Steps D.told (D.state disk.old) (D.state disk.new) store.old store.new
-        (result ≡ Err Stop.Disk) }
+        (result ≡ Err Failure.Disk) }
     ensures leaves { ReadsOrCommits D.told
         (IsSent store.old request.now (λ draft. Create draft) now)
-        (D.state disk.old) (D.state disk.new) store.old store.new (result ≡ Err Stop.Disk) }
+        (D.state disk.old) (D.state disk.new) store.old store.new (result ≡ Err Failure.Disk) }
     ensures grows { Acknowledges result → Grows (D.state disk.old) (D.state disk.new) store.old store.new }
     ensures same { ¬ Acknowledges result → store.new.history ≡ store.old.history }
 {
@@ -83,7 +83,7 @@ pub(crate) fn replace<D: Disk>(
     number: u32,
     request: &Request,
     now: u64,
-) -> Result<Reply, Stop>
+) -> Result<Reply, Failure>
     requires unspent { is_spent store.old ≡ false }
     requires stands { D.told → StandsFor (D.state disk.old) store.old }
     ensures answered { D.told → ComesTo
@@ -91,11 +91,11 @@ pub(crate) fn replace<D: Disk>(
         (IsSent store.old request.now (λ draft. Replace number draft) now)) store.old store.new result }
     ensures own { IfOk result IsOwn }
     ensures steps { Steps D.told (D.state disk.old) (D.state disk.new) store.old store.new
-        (result ≡ Err Stop.Disk) }
+        (result ≡ Err Failure.Disk) }
     ensures leaves { ReadsOrCommits D.told
         (IsOfState (state_of store.old.history number)
         (IsSent store.old request.now (λ draft. Replace number draft) now))
-        (D.state disk.old) (D.state disk.new) store.old store.new (result ≡ Err Stop.Disk) }
+        (D.state disk.old) (D.state disk.new) store.old store.new (result ≡ Err Failure.Disk) }
     ensures grows { Acknowledges result → Grows (D.state disk.old) (D.state disk.new) store.old store.new }
     ensures same { ¬ Acknowledges result → store.new.history ≡ store.old.history }
 {
@@ -115,7 +115,7 @@ pub(crate) fn delete<D: Disk>(
     disk: &mut D,
     number: u32,
     now: u64,
-) -> Result<Reply, Stop>
+) -> Result<Reply, Failure>
     requires unspent { is_spent store.old ≡ false }
     requires stands { D.told → StandsFor (D.state disk.old) store.old }
     ensures answered { D.told → ComesTo
@@ -123,10 +123,10 @@ pub(crate) fn delete<D: Disk>(
         store.old store.new result }
     ensures own { IfOk result IsOwn }
     ensures steps { Steps D.told (D.state disk.old) (D.state disk.new) store.old store.new
-        (result ≡ Err Stop.Disk) }
+        (result ≡ Err Failure.Disk) }
     ensures leaves { ReadsOrCommits D.told
         (IsOfState (state_of store.old.history number) (IsAsked store.old (Delete number) now))
-        (D.state disk.old) (D.state disk.new) store.old store.new (result ≡ Err Stop.Disk) }
+        (D.state disk.old) (D.state disk.new) store.old store.new (result ≡ Err Failure.Disk) }
     ensures grows { Acknowledges result → Grows (D.state disk.old) (D.state disk.new) store.old store.new }
     ensures same { ¬ Acknowledges result → store.new.history ≡ store.old.history }
 {
@@ -143,15 +143,15 @@ fn change<D: Disk>(
     disk: &mut D,
     ask: Ask,
     now: u64,
-) -> Result<Reply, Stop>
+) -> Result<Reply, Failure>
     requires unspent { is_spent store.old ≡ false }
     requires stands { D.told → StandsFor (D.state disk.old) store.old }
     ensures answered { D.told → ComesTo (IsAsked store.old ask now) store.old store.new result }
     ensures own { IfOk result IsOwn }
     ensures steps { Steps D.told (D.state disk.old) (D.state disk.new) store.old store.new
-        (result ≡ Err Stop.Disk) }
+        (result ≡ Err Failure.Disk) }
     ensures leaves { ReadsOrCommits D.told (IsAsked store.old ask now)
-        (D.state disk.old) (D.state disk.new) store.old store.new (result ≡ Err Stop.Disk) }
+        (D.state disk.old) (D.state disk.new) store.old store.new (result ≡ Err Failure.Disk) }
     ensures grows { Acknowledges result → Grows (D.state disk.old) (D.state disk.new) store.old store.new }
     ensures same { ¬ Acknowledges result → store.new.history ≡ store.old.history }
 {
@@ -167,7 +167,7 @@ fn commit<D: Disk>(
     store: &mut Store,
     disk: &mut D,
     ready: Ready,
-) -> Result<Reply, Stop>
+) -> Result<Reply, Failure>
     requires unspent { is_spent store.old ≡ false }
     requires prepared { MayCommit store.old ready }
     requires room { HasRoom store.old }
@@ -176,9 +176,9 @@ fn commit<D: Disk>(
         store.old store.new result }
     ensures own { IfOk result IsOwn }
     ensures steps { Steps D.told (D.state disk.old) (D.state disk.new) store.old store.new
-        (result ≡ Err Stop.Disk) }
+        (result ≡ Err Failure.Disk) }
     ensures leaves { ReadsOrCommits D.told (λ given. given ≡ done store.old.head.name ready.operation)
-        (D.state disk.old) (D.state disk.new) store.old store.new (result ≡ Err Stop.Disk) }
+        (D.state disk.old) (D.state disk.new) store.old store.new (result ≡ Err Failure.Disk) }
     ensures grows { Acknowledges result → Grows (D.state disk.old) (D.state disk.new) store.old store.new }
     ensures same { ¬ Acknowledges result → store.new.history ≡ store.old.history }
 {

@@ -13,8 +13,8 @@ ghost use Rattle.http_face.specs.declared.request.Verb.TheVariants.{Get};
 
 use crate::change::{create, delete, replace};
 use crate::document::{show_archive, show_feed, show_member};
+use crate::failure::Failure;
 use crate::replies::{line, refused_method};
-use crate::stop::Stop;
 use chain_links::Address;
 use feed_disk::Disk;
 use feed_journal::begun_images_are_whole;
@@ -77,9 +77,9 @@ pub fn answer<D: Disk>(
     begun_images_are_whole();
     match reply_of(alloc, store, disk, request, now) {
         Ok(reply) => reply,
-        Err(Stop::Disk) => line(500, Line7::Disk),
-        Err(Stop::Changed) => line(500, Line7::Changed),
-        Err(Stop::NoMemory) => line(503, Line7::NoMemory),
+        Err(Failure::Disk) => line(500, Line7::Disk),
+        Err(Failure::Changed) => line(500, Line7::Changed),
+        Err(Failure::NoMemory) => line(503, Line7::NoMemory),
     }
 }
 
@@ -90,15 +90,15 @@ fn reply_of<D: Disk>(
     disk: &mut D,
     request: &Request,
     now: u64,
-) -> Result<Reply, Stop>
+) -> Result<Reply, Failure>
     requires unspent { is_spent store.old ≡ false }
     requires stands { D.told → StandsFor (D.state disk.old) store.old }
     ensures answered { D.told → ComesTo (IsOutcome store.old request.now now) store.old store.new result }
     ensures own { IfOk result IsOwn }
     ensures steps { Steps D.told (D.state disk.old) (D.state disk.new) store.old store.new
-        (result ≡ Err Stop.Disk) }
+        (result ≡ Err Failure.Disk) }
     ensures leaves { ReadsOrCommits D.told (IsOutcome store.old request.now now) (D.state disk.old) (D.state disk.new)
-        store.old store.new (result ≡ Err Stop.Disk) }
+        store.old store.new (result ≡ Err Failure.Disk) }
     ensures grows { request.now.verb ≢ Get → Acknowledges result
         → Grows (D.state disk.old) (D.state disk.new) store.old store.new }
     ensures same { (request.now.verb ≡ Get) ⊎ (¬ Acknowledges result)
@@ -124,16 +124,16 @@ fn of_feed<D: Disk>(
     disk: &mut D,
     request: &Request,
     now: u64,
-) -> Result<Reply, Stop>
+) -> Result<Reply, Failure>
     requires unspent { is_spent store.old ≡ false }
     requires stands { D.told → StandsFor (D.state disk.old) store.old }
     ensures answered { D.told → ComesTo (IsOfFeed store.old request.now now request.now.verb)
         store.old store.new result }
     ensures own { IfOk result IsOwn }
     ensures steps { Steps D.told (D.state disk.old) (D.state disk.new) store.old store.new
-        (result ≡ Err Stop.Disk) }
+        (result ≡ Err Failure.Disk) }
     ensures leaves { ReadsOrCommits D.told (IsOfFeed store.old request.now now request.now.verb)
-        (D.state disk.old) (D.state disk.new) store.old store.new (result ≡ Err Stop.Disk) }
+        (D.state disk.old) (D.state disk.new) store.old store.new (result ≡ Err Failure.Disk) }
     ensures grows { request.now.verb ≢ Get → Acknowledges result
         → Grows (D.state disk.old) (D.state disk.new) store.old store.new }
     ensures same { (request.now.verb ≡ Get) ⊎ (¬ Acknowledges result)
@@ -152,13 +152,13 @@ fn of_archive<D: Disk>(
     disk: &mut D,
     number: u32,
     verb: Verb,
-) -> Result<Reply, Stop>
+) -> Result<Reply, Failure>
     requires unspent { is_spent store.old ≡ false }
     requires stands { D.told → StandsFor (D.state disk.old) store.old }
     ensures answered { D.told → ComesTo (IsOfArchive store.old number verb) store.old store.new result }
     ensures own { IfOk result IsOwn }
     ensures steps { Steps D.told (D.state disk.old) (D.state disk.new) store.old store.new
-        (result ≡ Err Stop.Disk) }
+        (result ≡ Err Failure.Disk) }
     ensures reads { OnlyReads (D.state disk.old) (D.state disk.new) store.old store.new }
     ensures undone { verb ≢ Get → ¬ Acknowledges result }
 {
@@ -176,16 +176,16 @@ fn of_member<D: Disk>(
     number: u32,
     request: &Request,
     now: u64,
-) -> Result<Reply, Stop>
+) -> Result<Reply, Failure>
     requires unspent { is_spent store.old ≡ false }
     requires stands { D.told → StandsFor (D.state disk.old) store.old }
     ensures answered { D.told → ComesTo (IsOfMember store.old request.now now number request.now.verb)
         store.old store.new result }
     ensures own { IfOk result IsOwn }
     ensures steps { Steps D.told (D.state disk.old) (D.state disk.new) store.old store.new
-        (result ≡ Err Stop.Disk) }
+        (result ≡ Err Failure.Disk) }
     ensures leaves { ReadsOrCommits D.told (IsOfMember store.old request.now now number request.now.verb)
-        (D.state disk.old) (D.state disk.new) store.old store.new (result ≡ Err Stop.Disk) }
+        (D.state disk.old) (D.state disk.new) store.old store.new (result ≡ Err Failure.Disk) }
     ensures grows { request.now.verb ≢ Get → Acknowledges result
         → Grows (D.state disk.old) (D.state disk.new) store.old store.new }
     ensures same { (request.now.verb ≡ Get) ⊎ (¬ Acknowledges result)

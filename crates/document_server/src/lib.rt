@@ -21,13 +21,13 @@ mod clock;
 mod dispatch;
 mod document;
 mod door;
+mod failure;
 mod laws;
 mod line;
 mod media;
 mod replies;
 mod script_door;
 mod session;
-mod stop;
 
 pub use clock::Clock;
 pub use dispatch::answer;

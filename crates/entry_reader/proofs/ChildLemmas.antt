@@ -22,8 +22,8 @@ use Rattle.std.specs.Prelude.{Result}
 use Rattle.std.specs.Result.{IsErrAnd}
 use Rattle.entry_reader.specs.declared.elements.Elements.{Elements}
 use Rattle.entry_reader.specs.declared.elements.Element.{Element as RawElement}
-use Rattle.entry_reader.specs.declared.fault.Stop.{Stop}
-use Rattle.entry_reader.specs.declared.fault.Stop.TheVariants.{Refused}
+use Rattle.entry_reader.specs.declared.fault.EarlyEnd.{EarlyEnd}
+use Rattle.entry_reader.specs.declared.fault.EarlyEnd.TheVariants.{Refused}
 use Rattle.entry_reader.specs.Progress.{AreInner, IsAt, IsElementOf, IsLed, Point, first_place, pending}
 use Rattle.entry_reader.specs.Parts.{IsFaultlessIn, IsFirstRefusal, IsPartRead, IsStopped, Refuses}
 use Rattle.entry_reader.proofs.FieldLemmas.{name_is}
@@ -246,13 +246,14 @@ refuses_read before e inner told are at why fault later content rest outer same 
 
 -- a part that ends early
 pub part_stopped : {A : Type 0} (total : ℕ) (first : List Event) (from : Point) (before : List Name) (e : Element)
-    (R : Content → A → Type 0) (stop : Stop) (r : Result A Stop) (new : Elements) → IsErrAnd r (λ s. s ≡ stop) →
+    (R : Content → A → Type 0) (stop : EarlyEnd) (r : Result A EarlyEnd) (new : Elements) → IsErrAnd r (λ s. s ≡ stop) →
     IsStopped total first from in_entry before e stop new → IsPartRead total first from in_entry before e R r new
 part_stopped total first from before e R stop r new same stopped =
     stop_is (λ r. IsPartRead total first from in_entry before e R r new) stop r same stopped
 
 -- a child that is refused itself before its content is read
-pub stopped_here : (old : Elements) (from : Point) (before : List Name) (e : Element) (raw : RawElement) (stop : Stop)
+pub stopped_here : (old : Elements) (from : Point) (before : List Name) (e : Element) (raw : RawElement)
+    (stop : EarlyEnd)
     (why : Why) → IsAt old from → IsElementOf e raw → stop ≡ Refused raw.at why →
     ((inner rest : Content) → IsFirstFault (all_seen in_entry before (element e inner rest)) e.place why) →
     IsStopped old.length (pending old) from in_entry before e stop old
@@ -263,7 +264,8 @@ stopped_here old from before e raw stop why at of same fault =
 
 -- a child that is refused itself when its content is read
 pub stopped_read : (total : ℕ) (first : List Event) (from : Point) (before : List Name) (e : Element) (raw : RawElement)
-    (stop : Stop) (why : Why) (inner : Content) (told : List Event) (new : Elements) → IsLed total first from told new →
+    (stop : EarlyEnd) (why : Why) (inner : Content) (told : List Event) (new : Elements) →
+    IsLed total first from told new →
     AreInner inner told → IsElementOf e raw → stop ≡ Refused raw.at why →
     ((rest : Content) → IsFirstFault (all_seen in_entry before (element e inner rest)) e.place why) →
     IsStopped total first from in_entry before e stop new

@@ -9,7 +9,7 @@ use Rattle.atom_values.specs.Entry.{DraftValue}
 use Rattle.atom_values.proofs.DateTextReadLemmas.{value_of-states}
 use Rattle.entry_reader.specs.declared.elements.Elements.{Elements}
 use Rattle.entry_reader.specs.declared.fault.EntryFault.{EntryFault}
-use Rattle.entry_reader.specs.declared.fault.Stop.TheVariants.{Refused}
+use Rattle.entry_reader.specs.declared.fault.EarlyEnd.TheVariants.{Refused}
 use Rattle.entry_reader.specs.declared.fault.Why.{Why}
 use Rattle.entry_reader.specs.Tree.{Element, Content, IsDocument, contents}
 use Rattle.entry_reader.specs.Tree.Content.{nothing}

@@ -8,8 +8,8 @@ use Rattle.atom_values.specs.Entry.{DraftValue}
 use Rattle.entry_reader.specs.declared.elements.Elements.{Elements}
 use Rattle.entry_reader.specs.declared.entry.Parts.{Parts}
 use Rattle.entry_reader.specs.declared.fault.EntryFault.{EntryFault}
-use Rattle.entry_reader.specs.declared.fault.Stop.{Stop}
-use Rattle.entry_reader.specs.declared.fault.Stop.TheVariants.{Refused, Fault}
+use Rattle.entry_reader.specs.declared.fault.EarlyEnd.{EarlyEnd}
+use Rattle.entry_reader.specs.declared.fault.EarlyEnd.TheVariants.{Refused, Fault}
 use Rattle.entry_reader.specs.declared.fault.Why.{Why}
 use Rattle.entry_reader.specs.declared.fault.Why.TheVariants.{Missing, NotAnEntry}
 use Rattle.entry_reader.specs.Tree.{Name, Element, Event, Content, contents, with_element}
@@ -78,7 +78,7 @@ module _ (total : ℕ) (first : List Event) (from : Point) (told : List Event) (
     (e : Element) (x : IsLed total first from told mid) (part : ArePart b [] told)
     (none : All IsFaultless (all_seen in_entry [] b)) (y : IsLed mid.length (pending mid) x.to (begin e ∷ []) new) where
   -- a child that ends the reading of an entry
-  pub child_stopped : (stop : Stop) → IsStopped new.length (pending new) y.to in_entry (names_of b) e stop last →
+  pub child_stopped : (stop : EarlyEnd) → IsStopped new.length (pending new) y.to in_entry (names_of b) e stop last →
       ArePartsFrom total first from (Err stop) last
   child_stopped (Fault fault) s =
       fault_on total first from told mid x fault (fault_on mid.length (pending mid) x.to (begin e ∷ []) new y fault s)
@@ -116,7 +116,7 @@ module _ (total : ℕ) (first : List Event) (from : Point) (root : Element)
   entry_name = name_is root.name (atom (codes "entry")) is
 
   -- an entry of which a child is refused, or that ends early
-  pub parts_stopped : (stop : Stop) (new : Elements) → ArePartsFrom total first from (Err stop) new →
+  pub parts_stopped : (stop : EarlyEnd) (new : Elements) → ArePartsFrom total first from (Err stop) new →
       IsEntryFrom total first from root (Err stop) new
   parts_stopped (Fault fault) new s = s
   parts_stopped (Refused at why) new s =

@@ -738,7 +738,8 @@ tag_name_xml tag front is raw of xml =
 tag_ends : (tag : Tag) (front : List ℕ) → IsTag tag front → (u : List ℕ) × (front ≡ u ++ codes ">")
 tag_ends tag front is = ends tag.is_empty (codes "<" ++ name_text tag.name ++ is.inside ++ is.spaces) front is.spelled
 
-whole_read : (place : Context) (before after : List ℕ) → IsXmlText before → (raw : RawTag) (is_empty : Bool) (tag : Tag) →
+whole_read : (place : Context) (before after : List ℕ) → IsXmlText before →
+    (raw : RawTag) (is_empty : Bool) (tag : Tag) →
     IsFound a_tag before tag after → IsTagOf tag raw → tag.is_empty ≡ is_empty →
     IsTagRead place before is_empty raw after × IsXmlText after
 whole_read place before after xml raw is_empty tag f of ends =

@@ -16,7 +16,7 @@ use Rattle.entry_reader.specs.Faults.{dates, inline_texts, inside_of, is_one_of,
 use Rattle.entry_reader.specs.Faults.Within.{in_entry, in_person, in_text}
 use Rattle.std.specs.Prelude.{Result, Ok, Err}
 use Rattle.std.specs.Result.{IsErrAnd}
-use Rattle.entry_reader.specs.declared.fault.Stop.{Stop}
+use Rattle.entry_reader.specs.declared.fault.EarlyEnd.{EarlyEnd}
 use Rattle.atom_values.specs.declared.person.Person.{Person}
 use Rattle.entry_reader.specs.declared.elements.Elements.{Elements}
 use Rattle.entry_reader.specs.declared.person.Fields.{Fields}
@@ -257,9 +257,10 @@ module _ (total : ℕ) (first : List Event) (from : Point) (before : List Name) 
       ] in at fields.name refl
 
 -- a part that is stopped
-pub stop_is : {A : Type 0} (P : Result A Stop → Type 0) (stop : Stop) (r : Result A Stop) → IsErrAnd r (λ s. s ≡ stop) →
+pub stop_is : {A : Type 0} (P : Result A EarlyEnd → Type 0) (stop : EarlyEnd) (r : Result A EarlyEnd) →
+    IsErrAnd r (λ s. s ≡ stop) →
     P (Err stop) → P r
 stop_is P stop (Ok v) same none = absurd same
 stop_is {A} P stop (Err x) same none =
-    let F : Stop → Type 0 = λ s. P (Err s) in
+    let F : EarlyEnd → Type 0 = λ s. P (Err s) in
     subst F (sym same) none

@@ -248,7 +248,8 @@ read_tag place before b raw after r =
     let one : AreRead place before (l ∷ []) after = subst (λ ls. AreRead place before ls after) r.alone.1 r.read in
     ([], r.tag, l.text, after, append-nil before ∙ one.split ∙ append_assoc l.text [] after, one.spelled.0.1)
 
-whole_deep : (from : Point) (old : Elements) (before : List ℕ) (x : IsAtText old before from) (place : Context) (b : Bool)
+whole_deep : (from : Point) (old : Elements) (before : List ℕ) (x : IsAtText old before from)
+    (place : Context) (b : Bool)
     (raw : RawTag) (after : List ℕ) → IsTagRead place before b raw after → length (open_in from.stage) ≡ depth_limit →
     IsTooDeep depth_limit from.stage from.text
 whole_deep from old before x place b raw after r deep =

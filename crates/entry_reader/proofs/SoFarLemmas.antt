@@ -9,7 +9,7 @@ use Rattle.std.proofs.lemmas.List.{length-map, map-append}
 use Rattle.std.proofs.lemmas.List.Elements.{All-append, All-head}
 use Rattle.entry_reader.specs.declared.elements.Elements.{Elements}
 use Rattle.entry_reader.specs.declared.entry.Parts.{Parts}
-use Rattle.entry_reader.specs.declared.fault.Stop.{Stop}
+use Rattle.entry_reader.specs.declared.fault.EarlyEnd.{EarlyEnd}
 use Rattle.entry_reader.specs.declared.fault.Why.TheVariants.{Twice}
 use Rattle.entry_reader.specs.Tree.{Name, Element, Content, Event}
 use Rattle.entry_reader.specs.Tree.Content.{nothing, element}
@@ -28,7 +28,7 @@ use Rattle.entry_reader.proofs.SeenLemmas.{named_more, named_other, seen_joined}
 
 -- a part that is read, of which more can be said
 pub part_mapped : {A : Type 0} (total : ℕ) (first : List Event) (from : Point) (within : Within) (before : List Name)
-    (e : Element) (R S : Content → A → Type 0) (r : Result A Stop) (new : Elements) →
+    (e : Element) (R S : Content → A → Type 0) (r : Result A EarlyEnd) (new : Elements) →
     IsPartRead total first from within before e R r new → ((inner : Content) (v : A) → R inner v → S inner v) →
     IsPartRead total first from within before e S r new
 part_mapped total first from within before e R S (Ok v) new x more = (x.0, x.1, x.2, x.3, more x.0 v x.4)

@@ -197,7 +197,8 @@ run_reads place inside before run after xml some no_tag no_and no_bracket r =
     )
 
 -- a `]` alone
-bracket_reads : (place : Context) → IsInContent place → (before after : List ℕ) → IsXmlText before → before ≡ 93 ∷ after →
+bracket_reads : (place : Context) → IsInContent place → (before after : List ℕ) → IsXmlText before →
+    before ≡ 93 ∷ after →
     begins (codes "]]>") before ≡ false →
     (ls : List Lexeme) × AreRead place before ls after × AreCharacters (lines (93 ∷ [])) ls × IsXmlText after
 bracket_reads place inside before after xml is no_end =

@@ -16,8 +16,8 @@ use Rattle.atom_values.specs.Entry.{DraftValue}
 use Rattle.entry_reader.specs.declared.elements.Elements.{Elements}
 use Rattle.entry_reader.specs.declared.entry.Parts.{Parts}
 use Rattle.entry_reader.specs.declared.fault.EntryFault.{EntryFault}
-use Rattle.entry_reader.specs.declared.fault.Stop.{Stop}
-use Rattle.entry_reader.specs.declared.fault.Stop.TheVariants.{Refused, Fault}
+use Rattle.entry_reader.specs.declared.fault.EarlyEnd.{EarlyEnd}
+use Rattle.entry_reader.specs.declared.fault.EarlyEnd.TheVariants.{Refused, Fault}
 use Rattle.entry_reader.specs.declared.fault.Why.{Why}
 use Rattle.entry_reader.specs.declared.fault.Why.TheVariants.{Missing, NotAnEntry, OutOfLine, TooMany, Twice, Xhtml}
 use Rattle.entry_reader.specs.declared.person.Field.{Field}
@@ -63,14 +63,14 @@ Refuses within before e told at why =
     → IsFirstFault (all_seen within before (element e inner rest)) at why
 
 -- why the reading of an element ends early
-abbrev pub IsStopped : ℕ → List Event → Point → Within → List Name → Element → Stop → Elements → Type 0
+abbrev pub IsStopped : ℕ → List Event → Point → Within → List Name → Element → EarlyEnd → Elements → Type 0
 IsStopped total first from within before e (Fault fault) new = IsFaultFrom total from fault
 IsStopped total first from within before e (Refused at why) new =
     (told : List Event) × IsLed total first from told new × Refuses within before e told at why
 
 -- the rest of an element is read, of which R says what is made of its content
 abbrev pub IsPartRead : {A : Type 0} → ℕ → List Event → Point → Within → List Name → Element → (Content → A → Type 0) →
-    Result A Stop → Elements → Type 0
+    Result A EarlyEnd → Elements → Type 0
 IsPartRead total first from within before e R (Ok value) new =
     (inner : Content) × (told : List Event) × IsLed total first from told new × AreInner inner told × R inner value
 IsPartRead total first from within before e R (Err stop) new = IsStopped total first from within before e stop new
@@ -151,17 +151,17 @@ taken_fields Email text inner at old = record old {
 }
 
 -- the person with this name, unless a child is refused
-abbrev pub named_person : List ℕ → Fields → Option (ℕ × Why) → Result Person Stop
+abbrev pub named_person : List ℕ → Fields → Option (ℕ × Why) → Result Person EarlyEnd
 named_person name fields None = Ok (record { name = name; uri = fields.uri; email = fields.email })
 named_person name fields (Some (at, why)) = Err (Refused at why)
 
 -- the person with these fields at an offset, or why it is refused
-abbrev pub person_in : Option (List ℕ) → Fields → ℕ → Bool → Result Person Stop
+abbrev pub person_in : Option (List ℕ) → Fields → ℕ → Bool → Result Person EarlyEnd
 person_in None fields at full = Err (Refused at Missing)
 person_in (Some name) fields at full =
     if full then Err (Refused at TooMany) else named_person name fields fields.refused
 
-abbrev pub person_of : Fields → ℕ → Bool → Result Person Stop
+abbrev pub person_of : Fields → ℕ → Bool → Result Person EarlyEnd
 person_of fields at full = person_in fields.name fields at full
 
 -- the rest of a child of a person is read
@@ -195,7 +195,7 @@ pub record IsSoFar (b : Content) (parts : Parts) : Type 0 where
   pub faultless : All IsFaultless (all_seen in_entry [] b)
 
 -- the rest of an entry is read, or why a child is refused, whatever follows
-abbrev pub ArePartsFrom : ℕ → List Event → Point → Result Parts Stop → Elements → Type 0
+abbrev pub ArePartsFrom : ℕ → List Event → Point → Result Parts EarlyEnd → Elements → Type 0
 ArePartsFrom total first from (Ok parts) new =
     (inner : Content) × (told : List Event) × IsLed total first from told new × AreInner inner told
     × IsSoFar inner parts
@@ -207,7 +207,7 @@ ArePartsFrom total first from (Err (Refused at why)) new =
     → IsFirstFault (all_seen in_entry [] inner) at why)
 
 -- the whole entry is read, or why not
-abbrev pub IsEntryFrom : ℕ → List Event → Point → Element → Result DraftValue Stop → Elements → Type 0
+abbrev pub IsEntryFrom : ℕ → List Event → Point → Element → Result DraftValue EarlyEnd → Elements → Type 0
 IsEntryFrom total first from root (Ok draft) new =
     (inner : Content) × (told : List Event) × (more : List Event) × IsLed total first from (told ++ more) new
     × AreInner inner told × (root.name ≡ atom (codes "entry")) × All IsFaultless (all_seen in_entry [] inner)

@@ -539,7 +539,8 @@ IsTokenOf place (TagToken raw) lexemes = ⊥
 IsTokenOf place EndTag lexemes = (name : QName) × IsAlone (closing name) lexemes
 
 -- a whole tag
-pub record IsTagRead (place : Context) (before : List ℕ) (is_empty : Bool) (raw : RawTag) (after : List ℕ) : Type 0 where
+pub record IsTagRead (place : Context) (before : List ℕ) (is_empty : Bool) (raw : RawTag) (after : List ℕ)
+    : Type 0 where
   pub tag : Tag
   pub lexemes : List Lexeme
   pub alone : IsAlone (opening tag) lexemes

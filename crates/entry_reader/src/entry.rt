@@ -17,7 +17,7 @@ ghost use Rattle.std.specs.Prelude.{◌+◌, ◌<◌, OnOk, Some, None, is_some,
 ghost use Rattle.entry_reader.specs.declared.fault.Why.{Why};
 
 use crate::elements::{Element, Elements, Event, broken};
-use crate::fault::{EntryFault, Stop, Why};
+use crate::fault::{EarlyEnd, EntryFault, Why};
 use crate::person::person;
 use crate::reference::is_xml_char;
 use crate::rules::Ruled;
@@ -89,8 +89,8 @@ pub fn read_entry(alloc: Global, bytes: &[u8]) -> Result<Draft, EntryFault>
     };
     match entry(alloc, &mut elements, &root) {
         Ok(draft) => Ok(draft),
-        Err(Stop::Fault(fault)) => Err(fault),
-        Err(Stop::Refused { at, why }) => {
+        Err(EarlyEnd::Fault(fault)) => Err(fault),
+        Err(EarlyEnd::Refused { at, why }) => {
             elements.drain()?;
             Err(EntryFault::NotRead { at, why })
         }
@@ -117,7 +117,11 @@ fn xml_length(bytes: &[u8]) -> Result<usize, EntryFault>
 }
 
 /// Reads the entry with this root, and the rest of the document.
-fn entry<'a>(alloc: Global, elements: &mut Elements<'a>, root: &Element<'a>) -> Result<Draft, Stop>
+fn entry<'a>(
+    alloc: Global,
+    elements: &mut Elements<'a>,
+    root: &Element<'a>,
+) -> Result<Draft, EarlyEnd>
     requires reading { IsReading elements.old }
     requires inside { 1 ≤ depth_of elements.old }
     ensures read { (from : Point) (e : TreeElement) → IsAt elements.old from → IsElementOf e root.now
@@ -137,7 +141,7 @@ fn entry<'a>(alloc: Global, elements: &mut Elements<'a>, root: &Element<'a>) -> 
 }
 
 /// Reads the children of an entry, to its end.
-fn read_parts(alloc: Global, elements: &mut Elements<'_>) -> Result<Parts, Stop>
+fn read_parts(alloc: Global, elements: &mut Elements<'_>) -> Result<Parts, EarlyEnd>
     requires reading { IsReading elements.old }
     requires inside { 1 ≤ depth_of elements.old }
     ensures { (from : Point) → IsAt elements.old from
@@ -155,19 +159,19 @@ fn read_parts(alloc: Global, elements: &mut Elements<'_>) -> Result<Parts, Stop>
 }
 
 /// The refusal of an element for its own sake.
-fn refused(element: &Element<'_>, why: Why) -> Stop
-    ensures { result ≡ Stop.Refused element.now.at why }
+fn refused(element: &Element<'_>, why: Why) -> EarlyEnd
+    ensures { result ≡ EarlyEnd.Refused element.now.at why }
 {
-    Stop::Refused {
+    EarlyEnd::Refused {
         at: element.at,
         why,
     }
 }
 
 /// Refuses an element whose slot is filled: an earlier element has the same name.
-fn once<T>(slot: &Option<T>, element: &Element<'_>) -> Result<(), Stop>
+fn once<T>(slot: &Option<T>, element: &Element<'_>) -> Result<(), EarlyEnd>
     ensures { MatchResult result (λ _. is_some slot.now ≡ false)
-        (λ stop. (is_some slot.now ≡ true) × (stop ≡ Stop.Refused element.now.at Why.Twice)) }
+        (λ stop. (is_some slot.now ≡ true) × (stop ≡ EarlyEnd.Refused element.now.at Why.Twice)) }
 {
     if slot.is_some() {
         Err(refused(element, Why::Twice))
@@ -177,14 +181,14 @@ fn once<T>(slot: &Option<T>, element: &Element<'_>) -> Result<(), Stop>
 }
 
 /// The refusal of an element that its list has no room for, or out of memory.
-fn list_stop(fault: ListFault, element: &Element<'_>) -> Stop
+fn list_end(fault: ListFault, element: &Element<'_>) -> EarlyEnd
     ensures full { (count : ℕ) → fault ≡ ListFault.TooMany count
-        → result ≡ Stop.Refused element.now.at Why.TooMany }
-    ensures memory { fault ≡ ListFault.NoMemory → result ≡ Stop.Fault EntryFault.NoMemory }
+        → result ≡ EarlyEnd.Refused element.now.at Why.TooMany }
+    ensures memory { fault ≡ ListFault.NoMemory → result ≡ EarlyEnd.Fault EntryFault.NoMemory }
 {
     match fault {
         ListFault::TooMany { count: _ } => refused(element, Why::TooMany),
-        ListFault::NoMemory => Stop::Fault(EntryFault::NoMemory),
+        ListFault::NoMemory => EarlyEnd::Fault(EntryFault::NoMemory),
     }
 }
 
@@ -250,7 +254,7 @@ impl Parts {
         alloc: Global,
         elements: &mut Elements<'a>,
         child: &Element<'a>,
-    ) -> Result<(), Stop>
+    ) -> Result<(), EarlyEnd>
         requires reading { IsReading elements.old }
         requires inside { 1 ≤ depth_of elements.old }
         ensures read { (from : Point) (b : Inner) (e : TreeElement) → IsAt elements.old from
@@ -285,7 +289,7 @@ impl Parts {
         alloc: Global,
         elements: &mut Elements<'a>,
         child: &Element<'a>,
-    ) -> Result<(), Stop>
+    ) -> Result<(), EarlyEnd>
         requires reading { IsReading elements.old }
         requires inside { 1 ≤ depth_of elements.old }
         ensures read { (from : Point) (before : List Name) (e : TreeElement) → IsAt elements.old from
@@ -300,7 +304,7 @@ impl Parts {
         once(&self.id, child)?;
         let content = elements.content()?;
         if let Some((at, why)) = inner_fault(&content) {
-            return Err(Stop::Refused { at, why });
+            return Err(EarlyEnd::Refused { at, why });
         }
         self.id = Some(copied_text(alloc, content.trimmed())?);
         Ok(())
@@ -313,7 +317,7 @@ impl Parts {
         alloc: Global,
         elements: &mut Elements<'a>,
         child: &Element<'a>,
-    ) -> Result<(), Stop>
+    ) -> Result<(), EarlyEnd>
         requires reading { IsReading elements.old }
         requires inside { 1 ≤ depth_of elements.old }
         ensures read { (from : Point) (b : Inner) (e : TreeElement) → IsAt elements.old from
@@ -344,7 +348,7 @@ impl Parts {
         alloc: Global,
         elements: &mut Elements<'a>,
         child: &Element<'a>,
-    ) -> Result<(), Stop>
+    ) -> Result<(), EarlyEnd>
         requires reading { IsReading elements.old }
         requires inside { 1 ≤ depth_of elements.old }
         ensures read { (from : Point) (before : List Name) (e : TreeElement) → IsAt elements.old from
@@ -364,7 +368,7 @@ impl Parts {
             return Err(refused(child, Why::TooMany));
         }
         if let Err(fault) = self.links.push(link) {
-            return Err(list_stop(fault, child));
+            return Err(list_end(fault, child));
         }
         Ok(elements.skip()?)
     }
@@ -375,7 +379,7 @@ impl Parts {
         alloc: Global,
         elements: &mut Elements<'a>,
         child: &Element<'a>,
-    ) -> Result<(), Stop>
+    ) -> Result<(), EarlyEnd>
         requires reading { IsReading elements.old }
         requires inside { 1 ≤ depth_of elements.old }
         ensures read { (from : Point) (before : List Name) (e : TreeElement) → IsAt elements.old from
@@ -395,7 +399,7 @@ impl Parts {
             return Err(refused(child, Why::TooMany));
         }
         if let Err(fault) = self.categories.push(category) {
-            return Err(list_stop(fault, child));
+            return Err(list_end(fault, child));
         }
         Ok(elements.skip()?)
     }
@@ -448,7 +452,7 @@ fn date<'a>(
     elements: &mut Elements<'a>,
     child: &Element<'a>,
     slot: &mut Option<Stamp>,
-) -> Result<(), Stop>
+) -> Result<(), EarlyEnd>
     requires reading { IsReading elements.old }
     requires inside { 1 ≤ depth_of elements.old }
     ensures read { (from : Point) (before : List Name) (e : TreeElement) → IsAt elements.old from
@@ -464,7 +468,7 @@ fn date<'a>(
         return Err(refused(child, Why::BadDate));
     };
     if let Some((at, why)) = inner_fault(&content) {
-        return Err(Stop::Refused { at, why });
+        return Err(EarlyEnd::Refused { at, why });
     }
     *slot = Some(moment);
     Ok(())
@@ -476,7 +480,7 @@ fn author<'a>(
     elements: &mut Elements<'a>,
     child: &Element<'a>,
     persons: &mut Many<Person, MAX_PERSONS>,
-) -> Result<(), Stop>
+) -> Result<(), EarlyEnd>
     requires reading { IsReading elements.old }
     requires inside { 1 ≤ depth_of elements.old }
     ensures read { (from : Point) (before : List Name) (e : TreeElement) → IsAt elements.old from
@@ -491,7 +495,7 @@ fn author<'a>(
     let person = person(alloc, elements, child, full)?;
     match persons.push(person) {
         Ok(()) => Ok(()),
-        Err(fault) => Err(list_stop(fault, child)),
+        Err(fault) => Err(list_end(fault, child)),
     }
 }
 
@@ -527,7 +531,7 @@ fn construct<'a>(
     elements: &mut Elements<'a>,
     child: &Element<'a>,
     slot: &mut Option<Text>,
-) -> Result<(), Stop>
+) -> Result<(), EarlyEnd>
     requires reading { IsReading elements.old }
     requires inside { 1 ≤ depth_of elements.old }
     ensures read { (from : Point) (before : List Name) (e : TreeElement) → IsAt elements.old from
@@ -545,7 +549,7 @@ fn construct<'a>(
     once(slot, child)?;
     let content = elements.content()?;
     if let Some((at, why)) = inner_fault(&content) {
-        return Err(Stop::Refused { at, why });
+        return Err(EarlyEnd::Refused { at, why });
     }
     *slot = Some(Text {
         kind,
@@ -592,7 +596,7 @@ fn is_draft(elements: &mut Elements<'_>) -> Result<bool, EntryFault>
 }
 
 /// Reads a control element (RFC 5023 section 13.1.1). `Draft` if a `draft` in it has another text than `no`.
-fn control<'a>(elements: &mut Elements<'a>, control: &Element<'a>) -> Result<(), Stop>
+fn control<'a>(elements: &mut Elements<'a>, control: &Element<'a>) -> Result<(), EarlyEnd>
     requires reading { IsReading elements.old }
     requires inside { 1 ≤ depth_of elements.old }
     ensures read { (from : Point) (before : List Name) (e : TreeElement) → IsAt elements.old from

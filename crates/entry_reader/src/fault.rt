@@ -71,32 +71,32 @@ impl From<NoMemory> for EntryFault {
 
 /// Why the reading of a part ends early.
 #[derive(Clone, Copy, Debug, PartialEq, Eq)]
-pub(crate) enum Stop {
+pub(crate) enum EarlyEnd {
     /// An element is refused. A fault of a later token comes before it, so the tokens are read on.
     Refused { at: usize, why: Why },
     /// A token isn't allowed where it is, or memory ran out.
     Fault(EntryFault),
 }
 
-impl From<EntryFault> for Stop {
+impl From<EntryFault> for EarlyEnd {
     ghost use Rattle.std.specs.Prelude.{◌≡◌};
-    ghost use Rattle.entry_reader.specs.declared.fault.Stop.TheVariants.{Fault};
+    ghost use Rattle.entry_reader.specs.declared.fault.EarlyEnd.TheVariants.{Fault};
 
     ghost from_gives = { λ fault stop. stop ≡ Fault fault };
 
-    fn from(fault: EntryFault) -> Stop {
-        Stop::Fault(fault)
+    fn from(fault: EntryFault) -> EarlyEnd {
+        EarlyEnd::Fault(fault)
     }
 }
 
-impl From<NoMemory> for Stop {
+impl From<NoMemory> for EarlyEnd {
     ghost use Rattle.std.specs.Prelude.{◌≡◌};
     ghost use Rattle.entry_reader.specs.declared.fault.EntryFault.TheVariants.{NoMemory as OutOfMemory};
-    ghost use Rattle.entry_reader.specs.declared.fault.Stop.TheVariants.{Fault};
+    ghost use Rattle.entry_reader.specs.declared.fault.EarlyEnd.TheVariants.{Fault};
 
     ghost from_gives = { λ _ stop. stop ≡ Fault OutOfMemory };
 
-    fn from(_error: NoMemory) -> Stop {
-        Stop::Fault(EntryFault::NoMemory)
+    fn from(_error: NoMemory) -> EarlyEnd {
+        EarlyEnd::Fault(EntryFault::NoMemory)
     }
 }

@@ -8,7 +8,7 @@ ghost use Rattle.entry_reader.specs.Progress.{Point, AreInner, IsAt, IsElementOf
 ghost use Rattle.entry_reader.specs.Parts.{AreFieldsOf, AreFieldsFrom, IsFieldOf, IsFieldsChild, IsPartRead, IsFaultlessIn, count_of, person_of, taken_fields};
 
 use crate::elements::{Content, Element, Elements, Event};
-use crate::fault::{EntryFault, Stop, Why};
+use crate::fault::{EarlyEnd, EntryFault, Why};
 use crate::text::{inner_fault, text};
 use atom_values::{AtomText, NoMemory, Person};
 use std::alloc::Global;
@@ -100,7 +100,7 @@ impl Fields {
 impl Fields {
     /// The person at offset `at` with these fields, or its refusal. `full` says that the list of persons has no
     /// room.
-    fn person(self, at: usize, full: bool) -> Result<Person, Stop>
+    fn person(self, at: usize, full: bool) -> Result<Person, EarlyEnd>
         ensures { result ≡ person_of self at full }
     {
         let Fields {
@@ -110,19 +110,19 @@ impl Fields {
             refused,
         } = self;
         let Some(name) = name else {
-            return Err(Stop::Refused {
+            return Err(EarlyEnd::Refused {
                 at,
                 why: Why::Missing,
             });
         };
         if full {
-            return Err(Stop::Refused {
+            return Err(EarlyEnd::Refused {
                 at,
                 why: Why::TooMany,
             });
         }
         if let Some((at, why)) = refused {
-            return Err(Stop::Refused { at, why });
+            return Err(EarlyEnd::Refused { at, why });
         }
         Ok(Person { name, uri, email })
     }
@@ -168,7 +168,7 @@ pub(crate) fn person<'a>(
     elements: &mut Elements<'a>,
     element: &Element<'a>,
     full: bool,
-) -> Result<Person, Stop>
+) -> Result<Person, EarlyEnd>
     requires reading { IsReading elements.old }
     requires inside { 1 ≤ depth_of elements.old }
     ensures read { (from : Point) (before : List Name) (e : TreeElement) → IsAt elements.old from

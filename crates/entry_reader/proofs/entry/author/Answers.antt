@@ -42,5 +42,5 @@ returns-in-Err-clause-read c = λ from before e at of is count.
     absurd (own TooMany (inl ((refl, is), limit))))
     (λ memory.
     subst (λ k. IsStopped old.length (pending old) from in_entry before e k new)
-    (sym (c.list_stop.ensures.memory memory)) tt)
+    (sym (c.list_end.ensures.memory memory)) tt)
     c.in-Err.ensures.refusals

@@ -1,5 +1,5 @@
 use Rattle.std.proofs.Common.{[], ◌∷◌, sym, ap, ◌∙◌, codes}
-use Rattle.entry_reader.specs.declared.fault.Stop.TheVariants.{Fault}
+use Rattle.entry_reader.specs.declared.fault.EarlyEnd.TheVariants.{Fault}
 use Rattle.entry_reader.specs.declared.fault.Why.TheVariants.{Draft}
 use Rattle.entry_reader.specs.Faults.{is_one_of, persons, single_parts}
 use Rattle.entry_reader.specs.Progress.{pending}

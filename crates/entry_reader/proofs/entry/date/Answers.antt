@@ -1,7 +1,7 @@
 use Rattle.std.proofs.Common.{option_map, refl, sym, ap, subst, ◌∙◌}
 use Rattle.std.specs.Prelude.{ℤ}
 use Rattle.atom_values.specs.DateText.{States}
-use Rattle.entry_reader.specs.declared.fault.Stop.TheVariants.{Fault}
+use Rattle.entry_reader.specs.declared.fault.EarlyEnd.TheVariants.{Fault}
 use Rattle.entry_reader.specs.declared.fault.Why.TheVariants.{BadDate, Twice}
 use Rattle.entry_reader.specs.Entry.{text_of, trimmed}
 use Rattle.entry_reader.specs.Faults.{constructs, dates, is_one_of, single_parts}

@@ -1,5 +1,5 @@
 use Rattle.std.proofs.Common.{Err, sym, ap, subst, ◌∙◌}
-use Rattle.entry_reader.specs.declared.fault.Stop.TheVariants.{Refused, Fault}
+use Rattle.entry_reader.specs.declared.fault.EarlyEnd.TheVariants.{Refused, Fault}
 use Rattle.entry_reader.specs.declared.fault.Why.TheVariants.{Missing, NotAnEntry}
 use Rattle.entry_reader.specs.Progress.{pending}
 use Rattle.entry_reader.specs.Parts.{IsEntryFrom}

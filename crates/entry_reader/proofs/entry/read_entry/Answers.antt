@@ -1,7 +1,7 @@
 use Rattle.std.proofs.Common.{◌≡◌, ◌⊎◌, Ok, Err, Some, None, refl, sym, ap, subst, ◌∙◌, inl, inr, rules, length}
 use Rattle.entry_reader.specs.declared.elements.Event.TheVariants.{Begin, End, Said}
 use Rattle.entry_reader.specs.declared.fault.EntryFault.TheVariants.{NotRead, NoMemory}
-use Rattle.entry_reader.specs.declared.fault.Stop.TheVariants.{Refused, Fault}
+use Rattle.entry_reader.specs.declared.fault.EarlyEnd.TheVariants.{Refused, Fault}
 use Rattle.entry_reader.specs.Refusal.{IsRefusedAt}
 use Rattle.entry_reader.specs.Progress.{IsFaultFrom, first_point, pending}
 use Rattle.entry_reader.specs.Parts.{IsEntryFrom}

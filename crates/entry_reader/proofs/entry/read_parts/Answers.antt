@@ -1,7 +1,7 @@
 use Rattle.std.proofs.Common.{rules, ◌≡◌, ◌<◌, ◌+◌, ◌∷◌, ◌++◌, [], List, Some, Ok, refl, ap, subst, ◌∙◌, arith, map}
 use Rattle.std.specs.Prelude.{IsSome}
 use Rattle.entry_reader.specs.declared.elements.Event.TheVariants.{Begin, End, Said}
-use Rattle.entry_reader.specs.declared.fault.Stop.TheVariants.{Fault}
+use Rattle.entry_reader.specs.declared.fault.EarlyEnd.TheVariants.{Fault}
 use Rattle.entry_reader.specs.Tree.{Content, Event}
 use Rattle.entry_reader.specs.Tree.Content.{nothing}
 use Rattle.entry_reader.specs.Tree.Event.{begin, finish, say}

@@ -1,5 +1,5 @@
 use Rattle.std.proofs.Common.{◌≡◌, sym, subst}
-use Rattle.entry_reader.specs.declared.fault.Stop.TheVariants.{Fault}
+use Rattle.entry_reader.specs.declared.fault.EarlyEnd.TheVariants.{Fault}
 use Rattle.entry_reader.specs.Entry.{person}
 use Rattle.entry_reader.specs.Faults.Within.{in_entry}
 use Rattle.entry_reader.specs.Progress.{pending}

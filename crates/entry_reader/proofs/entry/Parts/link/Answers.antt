@@ -2,7 +2,7 @@ use Rattle.std.proofs.Common.{◌≡◌, ◌≤◌, ◌<◌, [], ◌∷◌, ◌+
 use Rattle.std.proofs.Common.{None, Err}
 use Rattle.std.proofs.lemmas.Bool.{both_ways}
 use Rattle.atom_values.specs.Entry.{link_limit}
-use Rattle.entry_reader.specs.declared.fault.Stop.TheVariants.{Fault}
+use Rattle.entry_reader.specs.declared.fault.EarlyEnd.TheVariants.{Fault}
 use Rattle.entry_reader.specs.declared.fault.Why.TheVariants.{Missing, TooMany}
 use Rattle.entry_reader.specs.Tree.Content.{nothing}
 use Rattle.entry_reader.specs.Entry.{app, attribute_in, link, same_name}
@@ -48,13 +48,13 @@ returns-in-Err-clause-read c = λ from before e at of is count.
     (λ full.
     let most = c.in-Err.ensures.full.0 (ap (λ f. Err f) full) in
     let limit : link_limit ≤ count_of e.name before = omega arith in
-    stopped_here old from before e c.args.child.now c.list_stop.result TooMany at of (c.list_stop.ensures.full _ full)
+    stopped_here old from before e c.args.child.now c.list_end.result TooMany at of (c.list_end.ensures.full _ full)
     (λ inner. item_many before e inner (ap (is_one_of single_parts) is)
     (ap (λ n. same_name n (app (codes "control"))) is) (link_part before e inner is value.1)
     (inr (inl ((refl, ap (is_one_of (codes "link" ∷ [])) is), limit)))))
     (λ memory.
     subst (λ s. IsStopped old.length (pending old) from in_entry before e s old)
-    (sym (c.list_stop.ensures.memory memory)) tt)
+    (sym (c.list_end.ensures.memory memory)) tt)
     c.in-Err.ensures.refusals
 
 pub returns-in_err-skip-clause-read : goal.returns-in_err-skip-clause-read

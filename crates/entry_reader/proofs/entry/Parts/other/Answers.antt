@@ -1,6 +1,6 @@
 use Rattle.std.proofs.Common.{◌≡◌, sym, ap, ◌∙◌, codes, false, refl}
 use Rattle.std.proofs.lemmas.Bool.{or_from}
-use Rattle.entry_reader.specs.declared.fault.Stop.TheVariants.{Fault}
+use Rattle.entry_reader.specs.declared.fault.EarlyEnd.TheVariants.{Fault}
 use Rattle.entry_reader.specs.Entry.{app, atom, construct}
 use Rattle.entry_reader.specs.Faults.{constructs, is_one_of}
 use Rattle.entry_reader.specs.Faults.Within.{in_entry}
