@@ -5,7 +5,7 @@ use Rattle.std.proofs.lemmas.List.Elements.{All-weaker}
 use Rattle.atom_values.specs.Counts.{counter_limit}
 use Rattle.document_server.specs.Door.{DoorState, SameLinks}
 use Rattle.document_server.specs.Serving.{AreInOrder, CountsFrom, HasSession, LeavesServed, LeavesServing, OpensAt}
-use Rattle.document_server.specs.Serving.{OpensBehind, Serves, ServesFrom, end_of}
+use Rattle.document_server.specs.Serving.{OpensAfter, Serves, ServesFrom, end_of}
 use Rattle.document_server.specs.declared.line.Line.{Line}
 use Rattle.document_server.specs.declared.session.End.{End}
 use Rattle.document_server.specs.declared.session.End.TheVariants.{DiskFault, DoorFault, Load, NoMemory as OutOfMemory}
@@ -94,7 +94,7 @@ leaves-served s m t head operations least opened history lines unbroken failed s
     );
   };
   now = λ i j may may'.
-      subst (λ (h : HeadValue). OpensBehind h history (length opened.history) lines i j) same
+      subst (λ (h : HeadValue). OpensAfter h history (length opened.history) lines i j) same
       (second.now i j may may');
   whole = λ works. subst (λ (h : HeadValue). Settled t h history (length history)) same (second.whole works);
 }

@@ -53,7 +53,7 @@ pub record OpensAt (start c : ℕ) (head : HeadValue) (history : List Op) (least
   pub not_early : All (λ (line : Line). c ≤ start + line.calls → past.version ≤ line.version) unbroken
 
 -- a crash after the session: all operations that were acknowledged are there
-pub record OpensBehind (head : HeadValue) (history : List Op) (least : ℕ) (lines : List Line)
+pub record OpensAfter (head : HeadValue) (history : List Op) (least : ℕ) (lines : List Line)
     (journal sealed : List ℕ) : Type 0 where
   pub past : OpensPast head history least journal sealed
   pub acknowledged : All (λ (line : Line). line.version ≤ past.version) lines
@@ -62,7 +62,7 @@ pub record OpensBehind (head : HeadValue) (history : List Op) (least : ℕ) (lin
 pub record LeavesServing (start : ℕ) (before after : DiskState) (head : HeadValue) (least : ℕ) (history : List Op)
     (lines unbroken : List Line) (failed : Type 0) : Type 0 where
   pub each : LeavesOnlyBoth before after Journal Sealed (λ c. OpensAt start c head history least lines unbroken)
-  pub now : NowBoth after (OpensBehind head history least lines)
+  pub now : NowBoth after (OpensAfter head history least lines)
   pub whole : ¬ failed → Settled after head history (length history)
 
 -- A store was loaded, and connections were served on it. Until the load's last device call a crash leaves what it could
@@ -77,7 +77,7 @@ pub record LeavesServed (before after : DiskState) (head : HeadValue) (operation
       (c ≤ loaded → OpensPast head operations least journal sealed)
       × (loaded < c
       → OpensAt before.clock c head history (length opened.history) lines unbroken journal sealed))
-  pub now : NowBoth after (OpensBehind head history (length opened.history) lines)
+  pub now : NowBoth after (OpensAfter head history (length opened.history) lines)
   pub whole : ¬ failed → Settled after head history (length history)
 
 -- The session

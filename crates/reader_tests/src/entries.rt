@@ -230,7 +230,7 @@ text/html\nlink http://example.org/audio/ph34r_my_podcast.mp3 enclosure type=aud
         "title text a\nupdated 2003-12-13T17:30:02.250Z\n",
     ),
     (
-        "<entry xmlns=\"http://www.w3.org/2005/Atom\"><title>a</title><updated>2003-12-13<!---->T18:30:0\
+        "<entry xmlns=\"http://www.w3.org/2005/Atom\"><title>a</title><updated>2003-12-1<!---->3T18:30:0\
 <![CDATA[2]]>&#90;</updated></entry>",
         "title text a\nupdated 2003-12-13T18:30:02Z\n",
     ),
