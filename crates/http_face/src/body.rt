@@ -39,7 +39,7 @@ pub(crate) fn read_body<C: Conn>(
 {
     let mut body = vec![in alloc; 0; size]?;
     read_into(conn, before, ahead, &mut body)?;
-    Ok(Bytes::of(alloc, &body)?)
+    Ok(Bytes::from_vec(body))
 }
 
 /// Reads a body of the length of `body` into it.
