@@ -86,10 +86,14 @@ fn bad_lines_are_named(rt: HostRuntime) {
 
 #[test]
 fn a_fault_has_its_sentence(rt: HostRuntime) {
-    let fault = CertificateFault::BadCertificate { line: 7 };
-    let text = format!(in rt.alloc(); "{fault}").expect(&rt, "memory");
-    assert_eq!(rt;
-        text.as_str(),
-        "not a certificate: line 7 can't stand there"
-    );
+    for (fault, wanted) in [
+        (
+            CertificateFault::BadCertificate { line: 7 },
+            "not a certificate: line 7 can't stand there",
+        ),
+        (CertificateFault::NoMemory, "out of memory"),
+    ] {
+        let text = format!(in rt.alloc(); "{fault}").expect(&rt, "memory");
+        assert_eq!(rt; text.as_str(), wanted);
+    }
 }

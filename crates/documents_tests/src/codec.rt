@@ -258,3 +258,18 @@ fn writes_an_operation_that_was_made(rt: HostRuntime) {
     let written = op_bytes(rt.alloc(), &operation).expect(&rt, "memory");
     assert!(rt; written.as_slice() == CHANGE);
 }
+
+#[test]
+fn a_fault_has_a_sentence(rt: HostRuntime) {
+    let cases = [
+        (
+            CodecFault::BadField { at: 21 },
+            "no field can stand at byte 21",
+        ),
+        (CodecFault::NoMemory, "out of memory"),
+    ];
+    for (fault, sentence) in cases {
+        let text = format!(in rt.alloc(); "{fault}").expect(&rt, "memory");
+        assert!(rt; text.as_str() == sentence);
+    }
+}

@@ -4,6 +4,7 @@ use crate::feeds::base;
 use atom_values::Bytes;
 use chain_links::Address;
 use deleted_entries::FeedId;
+use doc_source::GetFault;
 use mirror_walk::{MirrorFault, Offered, WalkFault};
 
 #[test]
@@ -99,6 +100,17 @@ fn a_fault_of_a_walk_is_one_sentence(rt: HostRuntime) {
         ),
         (WalkFault::DiskFault, "disk fault"),
         (WalkFault::NoMemory, "out of memory"),
+    ] {
+        let text = format!(in rt.alloc(); "{fault}").expect(&rt, "memory");
+        assert!(rt; text.as_str() == sentence);
+    }
+}
+
+#[test]
+fn a_fault_of_a_fetch_is_one_sentence(rt: HostRuntime) {
+    for (fault, sentence) in [
+        (GetFault::Failed, "fetch fault"),
+        (GetFault::NoMemory, "out of memory"),
     ] {
         let text = format!(in rt.alloc(); "{fault}").expect(&rt, "memory");
         assert!(rt; text.as_str() == sentence);

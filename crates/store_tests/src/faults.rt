@@ -1,21 +1,123 @@
 //! The sentences of the errors.
 
+use atom_values::Stamp;
+use feed_disk::Area;
 use feed_journal::{DiskFault, LogFault};
+use feed_recovery::{ArchiveFault, InitFault, LoadFault, MemberFault, PrepareFault};
+use member_rules::RuleFault;
+use std::alloc::Global;
+use std::fmt::Display;
+use std::process::Abort;
+
+/// Compares the sentence of an error.
+fn compare<E: Display>(rt: &impl Abort, alloc: Global, fault: &E, want: &str) {
+    let sentence = format!(in alloc; "{fault}").expect(rt, "memory");
+    assert!(rt; sentence.as_str() == want, "{sentence}");
+}
+
+static LOG: [(LogFault, &str); 3] = [
+    (LogFault::DiskFault, "disk fault"),
+    (LogFault::Changed { index: 7 }, "changed 7"),
+    (LogFault::NoMemory, "no memory"),
+];
 
 #[test]
-fn an_error_is_one_sentence(rt: HostRuntime) {
-    let alloc = rt.alloc();
-    for (fault, sentence) in [
-        (LogFault::DiskFault, "disk fault"),
-        (LogFault::Changed { index: 7 }, "changed 7"),
-        (LogFault::NoMemory, "no memory"),
-    ] {
-        assert!(rt; format!(in alloc; "{fault}").expect(&rt, "memory").as_str() == sentence);
+fn a_fault_of_a_log_is_one_sentence(rt: HostRuntime) {
+    compare(&rt, rt.alloc(), &DiskFault, "disk fault");
+    for (fault, want) in &LOG {
+        compare(&rt, rt.alloc(), fault, want);
     }
-    assert!(rt;
-        format!(in alloc; "{}", DiskFault)
-            .expect(&rt, "memory")
-            .as_str()
-            == "disk fault"
-    );
+}
+
+static INIT: [(InitFault, &str); 3] = [
+    (InitFault::AlreadyInit, "the disk has a store already"),
+    (InitFault::DiskFault, "disk fault"),
+    (InitFault::NoMemory, "no memory"),
+];
+
+static LOAD: [(LoadFault, &str); 6] = [
+    (LoadFault::NotInit, "the disk has no store"),
+    (
+        LoadFault::BadRecord {
+            area: Area::Journal,
+            index: 3,
+            at: 21,
+        },
+        "record 3 of the journal is bad at byte 21",
+    ),
+    (
+        LoadFault::SealCount {
+            records: 9,
+            seals: 4,
+        },
+        "4 seals after 9 operations",
+    ),
+    (LoadFault::BadSeal { index: 2 }, "seal 2 is bad"),
+    (LoadFault::DiskFault, "disk fault"),
+    (LoadFault::NoMemory, "no memory"),
+];
+
+#[test]
+fn a_fault_of_an_opening_is_one_sentence(rt: HostRuntime) {
+    for (fault, want) in &INIT {
+        compare(&rt, rt.alloc(), fault, want);
+    }
+    for (fault, want) in &LOAD {
+        compare(&rt, rt.alloc(), fault, want);
+    }
+}
+
+#[test]
+fn a_refused_request_is_one_sentence(rt: HostRuntime) {
+    for (fault, want) in [
+        (
+            PrepareFault::Rule(RuleFault::NotFound { number: 3 }),
+            "the rules refuse it: NotFound { number: 3 }",
+        ),
+        (
+            PrepareFault::Full {
+                area: Area::Sealed,
+                size: 2_544,
+                needed: 1_649,
+                capacity: 4_096,
+            },
+            "2544 bytes have no room for 1649 within 4096",
+        ),
+        (PrepareFault::NoMemory, "no memory"),
+    ] {
+        compare(&rt, rt.alloc(), &fault, want);
+    }
+}
+
+static ARCHIVE: [(ArchiveFault, &str); 4] = [
+    (
+        ArchiveFault::NotSealed {
+            number: 5,
+            sealed: 4,
+        },
+        "archive 5 is none of the 4 sealed ones",
+    ),
+    (ArchiveFault::DiskFault, "disk fault"),
+    (ArchiveFault::Changed { index: 2 }, "seal 2 has changed"),
+    (ArchiveFault::NoMemory, "no memory"),
+];
+
+#[test]
+fn a_fault_of_a_document_is_one_sentence(rt: HostRuntime) {
+    let when = Stamp::new(0).expect(&rt, "a timestamp");
+    for (fault, want) in &ARCHIVE {
+        compare(&rt, rt.alloc(), fault, want);
+    }
+    for (fault, want) in [
+        (MemberFault::NotFound { number: 7 }, "there is no member 7"),
+        (
+            MemberFault::Deleted { number: 7, when },
+            "member 7 was deleted",
+        ),
+        (MemberFault::DiskFault, "disk fault"),
+        (MemberFault::Changed { index: 2 }, "record 2 has changed"),
+        (MemberFault::NoMemory, "no memory"),
+    ] {
+        compare(&rt, rt.alloc(), &fault, want);
+    }
 }

@@ -1,6 +1,6 @@
 //! The sentences of the errors.
 
-use http_face::{CutOff, RequestFault};
+use http_face::{CutOff, RequestFault, ResponseFault};
 use std::test::Fail;
 
 static SENTENCES: [(RequestFault, &str); 8] = [
@@ -31,4 +31,18 @@ fn says_what_failed(rt: HostRuntime) -> Result<(), Fail> {
     let sentence = format!(in alloc; "{cut}")?;
     assert!(rt; sentence.as_str() == "cut off after 106 bytes");
     Ok(())
+}
+
+static RESPONSES: [(ResponseFault, &str); 3] = [
+    (ResponseFault::ConnFault, "connection fault"),
+    (ResponseFault::BadResponse, "bad response"),
+    (ResponseFault::NoMemory, "no memory"),
+];
+
+#[test]
+fn says_why_a_response_is_not_read(rt: HostRuntime) {
+    for (fault, want) in RESPONSES {
+        let sentence = format!(in rt.alloc(); "{fault}").expect(&rt, "memory");
+        assert!(rt; sentence.as_str() == want);
+    }
 }
