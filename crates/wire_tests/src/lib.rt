@@ -8,6 +8,8 @@ mod answer_faults;
 #[cfg(test)]
 mod answers;
 #[cfg(test)]
+mod changes;
+#[cfg(test)]
 mod conns;
 #[cfg(test)]
 mod replies;

@@ -116,8 +116,17 @@ fn follow<D: Disk>(
     }
 }
 
+/// A request with 65 fields.
+const FIELDS: &[u8] = b"GET /feed HTTP/1.1\r\n\
+a:\r\na:\r\na:\r\na:\r\na:\r\na:\r\na:\r\na:\r\na:\r\na:\r\na:\r\na:\r\na:\r\n\
+a:\r\na:\r\na:\r\na:\r\na:\r\na:\r\na:\r\na:\r\na:\r\na:\r\na:\r\na:\r\na:\r\n\
+a:\r\na:\r\na:\r\na:\r\na:\r\na:\r\na:\r\na:\r\na:\r\na:\r\na:\r\na:\r\na:\r\n\
+a:\r\na:\r\na:\r\na:\r\na:\r\na:\r\na:\r\na:\r\na:\r\na:\r\na:\r\na:\r\na:\r\n\
+a:\r\na:\r\na:\r\na:\r\na:\r\na:\r\na:\r\na:\r\na:\r\na:\r\na:\r\na:\r\na:\r\n\
+\r\n";
+
 /// Connections to a store without operations.
-static ROWS: [Row; 15] = [
+static ROWS: [Row; 16] = [
     (
         (
             b"POST /feed HTTP/1.1\r\nContent-Length: 67\r\n\r\n<entry xmlns=\"http://www.w3.org/2005/Atom\"><title>a</title></entry>",
@@ -157,6 +166,12 @@ static ROWS: [Row; 15] = [
         (400, 2, true),
         b"HTTP/1.1 400 Bad Request\r\n",
         b"\r\n\r\nbad head\n",
+    ),
+    (
+        (FIELDS, 0),
+        (431, 2, true),
+        b"HTTP/1.1 431 Request Header Fields Too Large\r\n",
+        b"\r\n\r\nhead too large\n",
     ),
     (
         (b"GET /feed HTTP/1.1\r\n", 0),

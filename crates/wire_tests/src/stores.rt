@@ -2,7 +2,8 @@
 //!
 //! A function that owns a store or a disk has few exits, since the proof drops each of its values at each exit.
 
-ghost use Rattle.std.specs.Prelude.{◌≤◌};
+ghost use Rattle.std.specs.Prelude.{◌≡◌, ◌≤◌, false};
+ghost use Rattle.feed_recovery.specs.Store.{StandsFor, is_spent};
 
 use crate::conns::{conn_of, disk_of};
 use atom_values::{AtomText, Stamp};
@@ -66,6 +67,26 @@ pub fn store_disk(
     disk
 }
 
+/// Answers a request on a store at a moment of the clock. Returns the bytes that the connection is sent.
+pub fn reply_to<D: Disk>(
+    rt: &impl Abort,
+    alloc: Global,
+    store: &mut Store,
+    disk: &mut D,
+    now: u64,
+    bytes: &[u8],
+) -> Vec<u8>
+    requires unspent { is_spent store.old ≡ false }
+    requires stands { D.told → StandsFor (D.state disk.old) store.old }
+{
+    let mut conn = conn_of(rt, alloc, bytes, 0);
+    let request = read_request(alloc, &mut conn).expect(rt, "a request");
+    let reply = answer(alloc, store, disk, &request, now);
+    conn.begin(disk);
+    write_reply(&mut conn, &reply).expect(rt, "a whole reply");
+    Vec::from_slice(alloc, conn.sent()).expect(rt, "memory")
+}
+
 /// Loads the store and answers a request at a moment of the clock. Returns the bytes that the connection is sent.
 pub fn exchange<D: Disk>(
     rt: &impl Abort,
@@ -75,12 +96,7 @@ pub fn exchange<D: Disk>(
     bytes: &[u8],
 ) -> Vec<u8> {
     let mut store = Store::load(alloc, disk).expect(rt, "a store");
-    let mut conn = conn_of(rt, alloc, bytes, 0);
-    let request = read_request(alloc, &mut conn).expect(rt, "a request");
-    let reply = answer(alloc, &mut store, disk, &request, now);
-    conn.begin(disk);
-    write_reply(&mut conn, &reply).expect(rt, "a whole reply");
-    Vec::from_slice(alloc, conn.sent()).expect(rt, "memory")
+    reply_to(rt, alloc, &mut store, disk, now, bytes)
 }
 
 /// Returns a POST of an entry with a title of this many letters and a comment of this many.
