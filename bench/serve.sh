@@ -1,7 +1,7 @@
 #!/bin/sh
 # Measures `feed_tool serve` over the loopback, with one connection for each request:
-# - POST of an entry of 300 bytes by one client, on a disk and on a folder in memory, beside the loop of bench/store.sh
-#   that makes only the writes and the syncs of each change;
+# - POST of an entry of 300 bytes by 1 and by 8 clients on a disk, and by one on a folder in memory, beside the loop of
+#   bench/store.sh that makes only the writes and the syncs of each change;
 # - GET of a sealed archive of about 100 KB and of the feed by 1 and by 8 clients, beside nginx with one worker and the
 #   same bytes in files, where nginx is installed;
 # - GET of the feed while one more client is connected and silent;
@@ -43,7 +43,7 @@ trap 'exit 1' HUP INT TERM
 cat >"$memory/client.py" <<'PYTHON'
 """usage: client.py NAME PORT SERVER CLIENTS LIMIT PATH [BODY]
 
-LIMIT is a number of seconds, or with BODY, a file that is posted, a number of requests.
+LIMIT is a number of seconds, or with BODY, a file that is posted, the number of requests of each client.
 """
 import os
 import signal
@@ -159,15 +159,16 @@ export RATES="$memory/rates"
 : >"$RATES"
 
 # prints how many times as fast the first of two measurements was in each round, and the median
-# usage: ratio FIRST SECOND CLIENTS
+# usage: ratio FIRST SECOND CLIENTS [CLIENTS_OF_SECOND]
 ratio() {
     python3 - "$@" <<'PYTHON'
 import os, statistics, sys
-first, second, clients = sys.argv[1:]
+first, second, clients = sys.argv[1:4]
+wanted = {first: clients, second: sys.argv[4] if len(sys.argv) > 4 else clients}
 rates = {first: [], second: []}
 with open(os.environ["RATES"]) as lines:
     for name, number, rate in (line.rstrip("\n").split("\t") for line in lines):
-        if name in rates and number == clients:
+        if name in rates and number == wanted[name]:
             rates[name].append(float(rate))
 ratios = [one / other for one, other in zip(rates[first], rates[second])]
 if ratios:
@@ -224,7 +225,9 @@ make "$memory/posts"
 for _ in $(seq "$rounds"); do
     loop 'writes and syncs alone, on the disk' "$disk" "$posts"
     serve "$disk/posts"
-    measure 'POST, on the disk' 1 "$posts" /feed "$memory/entry"
+    for number in $clients; do
+        measure 'POST, on the disk' "$number" $((posts / number)) /feed "$memory/entry"
+    done
     finish
 done
 loop 'writes and syncs alone, in memory' "$memory" $((posts * 50))
@@ -332,8 +335,8 @@ finish
 server=${large#*:}
 finish
 
-ratio 'POST, on the disk' 'writes and syncs alone, on the disk' 1
 for number in $clients; do
+    ratio 'POST, on the disk' 'writes and syncs alone, on the disk' "$number" 1
     for path in archive/1 feed; do
         ratio "feed_tool, GET of $path" "nginx, GET of $path" "$number"
     done
