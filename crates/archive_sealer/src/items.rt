@@ -4,6 +4,7 @@ ghost use Rattle.member_rules.specs.Items.{items_of};
 ghost use Rattle.member_rules.specs.Operation as operations;
 
 use atom_values::{Copies, Many, NoMemory};
+use atom_writer::MAX_ITEMS;
 use deleted_entries::Item;
 use member_rules::Op;
 use std::alloc::Global;
@@ -11,7 +12,7 @@ use std::collections::BTreeSet;
 
 /// The items of the operations: for each member that they name, the item of the member's last operation, newest
 /// operation first. It reads each operation once.
-pub(crate) fn items(alloc: Global, span: &[Op]) -> Result<Many<Item, 100>, NoMemory>
+pub(crate) fn items(alloc: Global, span: &[Op]) -> Result<Many<Item, MAX_ITEMS>, NoMemory>
     requires { length span.now ≤ window_limit }
     ensures { IfOk result (λ items. items.items ≡ items_of span.now) }
 {

@@ -5,7 +5,7 @@ ghost use Rattle.atom_grammar.specs.Parts.{Reads, ReadsAs};
 
 use crate::part_fault::PartFault;
 use crate::reader::Reader;
-use atom_values::{Category, Many};
+use atom_values::{Category, MAX_CATEGORIES, Many};
 use std::alloc::Global;
 
 impl Reader<'_> {
@@ -26,7 +26,10 @@ impl Reader<'_> {
     }
 
     /// Reads the categories that are next. More than the list holds are a mismatch.
-    pub(crate) fn categories(&mut self, alloc: Global) -> Result<Many<Category, 64>, PartFault>
+    pub(crate) fn categories(
+        &mut self,
+        alloc: Global,
+    ) -> Result<Many<Category, MAX_CATEGORIES>, PartFault>
         ensures { ReadsAs (λ (m : Listed Category). m.items) categories
             self.old.rest.now result self.new.rest.now }
     {

@@ -8,7 +8,7 @@ ghost use Rattle.atom_grammar.specs.Parts.{Reads, ReadsAs};
 use crate::entry_parts::{Back, Dates, Details, Front, Texts};
 use crate::part_fault::PartFault;
 use crate::reader::Reader;
-use atom_values::{Entry, Link, Many, Person};
+use atom_values::{Entry, MAX_PERSONS, Many, Person, names_edit, shows_alternate};
 use atom_writer::FeedName;
 use chain_links::Address;
 use std::alloc::Global;
@@ -125,7 +125,7 @@ impl Reader<'_> {
 }
 
 /// The entry of these parts.
-fn put_together(front: Front, authors: Many<Person, 16>, back: Back) -> Entry
+fn put_together(front: Front, authors: Many<Person, MAX_PERSONS>, back: Back) -> Entry
     requires { IsWhole front.number back.details.links.items back.details.texts.content }
     ensures { result ≡ entry_of (front_value front, (authors.items, back_value back)) }
 {
@@ -181,18 +181,4 @@ fn agrees(back: &Back, number: u32) -> bool
     back.edit == number
         && !names_edit(links)
         && (back.details.texts.content.is_some() || shows_alternate(links))
-}
-
-/// Whether a link has the relation `edit`.
-fn names_edit(links: &[Link]) -> bool
-    ensures { result ≡ has_edit links.now }
-{
-    links.iter().any(|link| link.has_relation(b"edit"))
-}
-
-/// Whether a link has the relation `alternate`.
-fn shows_alternate(links: &[Link]) -> bool
-    ensures { result ≡ has_alternate links.now }
-{
-    links.iter().any(|link| link.has_relation(b"alternate"))
 }

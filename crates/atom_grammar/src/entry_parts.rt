@@ -1,4 +1,6 @@
-use atom_values::{Category, Link, Many, Person, Stamp, Text};
+use atom_values::{
+    Category, Link, MAX_CATEGORIES, MAX_LINKS, MAX_PERSONS, Many, Person, Stamp, Text,
+};
 
 /// The dates of an entry.
 #[derive(Drop)]
@@ -27,15 +29,15 @@ pub(crate) struct Texts {
 /// The parts of an entry after its link for editing.
 #[derive(Drop)]
 pub(crate) struct Details {
-    pub(crate) links: Many<Link, 32>,
-    pub(crate) categories: Many<Category, 64>,
+    pub(crate) links: Many<Link, MAX_LINKS>,
+    pub(crate) categories: Many<Category, MAX_CATEGORIES>,
     pub(crate) texts: Texts,
 }
 
 /// The parts of an entry after its authors. `edit` is the number of the member that the link for editing names.
 #[derive(Drop)]
 pub(crate) struct Back {
-    pub(crate) contributors: Many<Person, 16>,
+    pub(crate) contributors: Many<Person, MAX_PERSONS>,
     pub(crate) edit: u32,
     pub(crate) details: Details,
 }

@@ -6,7 +6,7 @@ ghost use Rattle.atom_grammar.specs.Parts.{Reads, ReadsAs};
 
 use crate::part_fault::PartFault;
 use crate::reader::Reader;
-use atom_values::{AtomText, Link, Many, NoMemory};
+use atom_values::{AtomText, Link, MAX_LINKS, Many, NoMemory};
 use std::alloc::Global;
 
 /// The relation of a link that states none (RFC 4287 section 4.2.7.2).
@@ -49,7 +49,7 @@ impl Reader<'_> {
     }
 
     /// Reads the links that are next. More than the list holds are a mismatch.
-    pub(crate) fn links(&mut self, alloc: Global) -> Result<Many<Link, 32>, PartFault>
+    pub(crate) fn links(&mut self, alloc: Global) -> Result<Many<Link, MAX_LINKS>, PartFault>
         ensures { ReadsAs (λ (m : Listed Link). m.items) links self.old.rest.now result self.new.rest.now }
     {
         let mut links = Many::new(alloc);

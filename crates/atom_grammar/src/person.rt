@@ -6,7 +6,7 @@ ghost use Rattle.atom_grammar.specs.Parts.{Reads, ReadsAs, starts};
 
 use crate::part_fault::PartFault;
 use crate::reader::Reader;
-use atom_values::{Many, Person};
+use atom_values::{MAX_PERSONS, Many, Person};
 use std::alloc::Global;
 
 impl Reader<'_> {
@@ -29,7 +29,7 @@ impl Reader<'_> {
         alloc: Global,
         start: &[u8],
         end: &[u8],
-    ) -> Result<Many<Person, 16>, PartFault>
+    ) -> Result<Many<Person, MAX_PERSONS>, PartFault>
         requires start { IsTrue (starts (codes "<") start.now) }
         requires end { IsTrue (starts (codes "</") end.now) }
         ensures { ReadsAs (λ (m : Listed Person). m.items) (persons start.now end.now)

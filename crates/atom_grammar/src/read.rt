@@ -39,7 +39,10 @@ impl fmt::Display for ReadFault {
     fn fmt<W: fmt::Write>(&self, f: &mut fmt::Formatter<W>) -> fmt::Result {
         match self {
             ReadFault::NotADocument { at } => {
-                write!(f, "not a feed document: no piece can stand at byte {at}")
+                write!(
+                    f,
+                    "not a feed document: no piece of one begins at byte {at}"
+                )
             }
             ReadFault::NoMemory => write!(f, "out of memory"),
         }
@@ -176,7 +179,7 @@ fn items(
     pieces: &mut Pieces,
     name: &FeedName,
     span: Span,
-) -> Result<Many<Item, 100>, PartFault>
+) -> Result<Many<Item, MAX_ITEMS>, PartFault>
     requires { span_len span ≤ MAX_ITEMS }
     ensures { ReadsItems name.now span pieces.old.rest.now result pieces.new.rest.now }
 {

@@ -16,6 +16,8 @@ pub mod EscapeLemmas
 pub mod PrintLemmas
 -- printed_is_read
 pub mod PrintedLemmas
+-- trimmed
+pub mod SpaceLemmas
 -- unescape
 pub mod UnescapeLemmas
 -- AtomText::of, unescape

@@ -10,5 +10,6 @@ pub mod Link
 pub mod Listed
 pub mod ListedCalls
 pub mod Person
+pub mod Space
 pub mod Stamp
 pub mod XmlText

@@ -1,10 +1,10 @@
 ghost use Rattle.std.specs.Prelude.{◌≡◌};
 ghost use Rattle.atom_values.specs.Entry.{shown_content};
-ghost use Rattle.atom_values.specs.Link.{has_alternate, without_edit};
+ghost use Rattle.atom_values.specs.Link.{without_edit};
 
 use crate::category::Category;
 use crate::copies::{Copies, copy_both, copy_four, copy_three};
-use crate::link::Link;
+use crate::link::{Link, shows_alternate};
 use crate::many::Many;
 use crate::memory::NoMemory;
 use crate::person::Person;
@@ -107,13 +107,6 @@ fn drop_edit(links: &mut Many<Link, MAX_LINKS>)
     ensures { links.new.items ≡ without_edit links.old.items }
 {
     links.retain(|link| !link.has_relation(b"edit"));
-}
-
-/// Whether a link has the relation `alternate`.
-fn shows_alternate(links: &[Link]) -> bool
-    ensures { result ≡ has_alternate links.now }
-{
-    links.iter().any(|link| link.has_relation(b"alternate"))
 }
 
 /// The content, or the empty text if there is neither content nor a link with the relation `alternate`.

@@ -26,6 +26,7 @@ mod listed_calls;
 mod many;
 mod memory;
 mod person;
+mod space;
 mod stamp;
 mod text;
 
@@ -33,10 +34,13 @@ pub use bytes::Bytes;
 pub use category::Category;
 pub use copies::Copies;
 pub use entry::{Draft, Entry, MAX_CATEGORIES, MAX_LINKS, MAX_PERSONS};
-pub use link::Link;
-pub use listed_calls::ListedCalls;
+pub use link::{Link, names_edit, shows_alternate};
+pub use listed_calls::{ListedCalls, MAX_FAILING};
 pub use many::{ListFault, Many};
 pub use memory::{Failed, NoMemory};
 pub use person::Person;
+pub use space::{is_space, trimmed};
 pub use stamp::{Stamp, printed_is_read};
-pub use text::{AtomText, MAX_TEXT, Text, TextFault, TextKind, escape_into, escaped_len, unescape};
+pub use text::{
+    AtomText, MAX_TEXT, Text, TextFault, TextKind, escape_into, escaped_len, is_xml_char, unescape,
+};

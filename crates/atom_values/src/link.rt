@@ -1,5 +1,5 @@
 ghost use Rattle.std.specs.Prelude.{◌≡◌};
-ghost use Rattle.atom_values.specs.Link.{has_relation};
+ghost use Rattle.atom_values.specs.Link.{has_alternate, has_edit, has_relation};
 
 use crate::copies::{Copies, copy_three};
 use crate::memory::NoMemory;
@@ -25,6 +25,21 @@ impl Link {
     {
         self.rel.bytes() == relation
     }
+}
+
+/// Whether one of the links has the relation `edit`, which the server sets itself (RFC 5023 section 11.1).
+pub fn names_edit(links: &[Link]) -> bool
+    ensures { result ≡ has_edit links.now }
+{
+    links.iter().any(|link| link.has_relation(b"edit"))
+}
+
+/// Whether one of the links has the relation `alternate`, so that an entry may do without content (RFC 4287 section
+/// 4.1.2).
+pub fn shows_alternate(links: &[Link]) -> bool
+    ensures { result ≡ has_alternate links.now }
+{
+    links.iter().any(|link| link.has_relation(b"alternate"))
 }
 
 impl Copies for Link {

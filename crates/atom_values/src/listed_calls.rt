@@ -5,13 +5,16 @@ ghost use Rattle.atom_values.specs.ListedCalls.{next_call_fails, after_call};
 use crate::many::Many;
 use std::marker::Model;
 
+/// The greatest number of calls in a list of those that fail.
+pub const MAX_FAILING: u32 = 64;
+
 /// Decides which calls of an object in memory fail, for tests of the code that calls it.
 ///
 /// Keeps the numbers of the calls that fail, counted from 1, and counts the calls and the failures. A counter stays at
 /// the greatest u64.
 #[derive(Debug, Drop)]
 pub struct ListedCalls {
-    failing: Many<u64, 64>,
+    failing: Many<u64, MAX_FAILING>,
     made: u64,
     faults: u64,
 }
@@ -26,7 +29,7 @@ impl Model for ListedCalls {
 
 impl ListedCalls {
     /// The state before the first call. The calls with the numbers in `failing`, counted from 1, will fail.
-    pub fn new(failing: Many<u64, 64>) -> ListedCalls
+    pub fn new(failing: Many<u64, MAX_FAILING>) -> ListedCalls
         ensures { result ≡ record { failing = failing.items; made = 0; faults = 0 } }
     {
         ListedCalls {

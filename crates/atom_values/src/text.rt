@@ -74,7 +74,7 @@ impl From<AllocError> for TextFault {
 }
 
 /// Whether XML text may contain the character (XML 1.0, production 2).
-fn is_xml_char(c: char) -> bool
+pub fn is_xml_char(c: char) -> bool
     ensures { result ≡ is_xml_char c }
 {
     matches!(

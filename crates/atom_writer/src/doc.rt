@@ -65,7 +65,7 @@ pub struct Doc {
     /// The timestamp of the last change.
     pub updated: Stamp,
     /// The members that the operations name, newest operation first, with distinct numbers.
-    pub items: Many<Item, 100>,
+    pub items: Many<Item, MAX_ITEMS>,
 }
 
 impl Model for Doc {
@@ -127,7 +127,7 @@ impl Doc {
         span: Span,
         prev: u32,
         updated: Stamp,
-        items: Many<Item, 100>,
+        items: Many<Item, MAX_ITEMS>,
     ) -> Option<Doc>
         ensures rules { IsSome result ↔ KeepsRules record {
           name = name;

@@ -5,6 +5,9 @@ use deleted_entries::FeedId;
 use std::alloc::Global;
 use std::marker::Model;
 
+/// The greatest number of documents that a certificate lists, which is that of addresses: the feed and its archives.
+pub const MAX_COVER_LINES: u32 = u32::MAX;
+
 /// The documents that a complete mirror of a feed holds, and the live entries that they show.
 ///
 /// There is a first line. Its address is the feed's, and the addresses of the other lines are archives'.
@@ -17,7 +20,7 @@ pub struct Certificate {
     /// The number of operations that the first document ends with.
     pub version: u32,
     /// The documents, newest first.
-    pub lines: Many<CoverLine, 4_294_967_295>,
+    pub lines: Many<CoverLine, MAX_COVER_LINES>,
     /// The number of live entries.
     pub live_count: u32,
     /// The SHA-256 digest of the live entries' member documents, joined in order of number.

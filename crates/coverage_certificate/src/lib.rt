@@ -44,7 +44,7 @@ mod of;
 mod print;
 mod read;
 
-pub use certificate::Certificate;
+pub use certificate::{Certificate, MAX_COVER_LINES};
 pub use certificate_fault::CertificateFault;
 pub use cover_line::CoverLine;
 pub use laws::certificates_have_one_text;

@@ -20,7 +20,7 @@ ghost use Rattle.coverage_certificate.specs.Held.{certificate_of, line_at, lines
 ghost use Rattle.coverage_certificate.specs.Live.{live_digest_of};
 ghost use Rattle.coverage_certificate.specs.Served.{served_certificate};
 
-use crate::certificate::Certificate;
+use crate::certificate::{Certificate, MAX_COVER_LINES};
 use crate::cover_line::CoverLine;
 use crate::live::Live;
 use atom_values::{Copies, Many, NoMemory};
@@ -112,7 +112,7 @@ fn held_lines(
     alloc: Global,
     mirror: &Mirror,
     prev: u32,
-) -> Result<Many<CoverLine, 4_294_967_295>, NoMemory>
+) -> Result<Many<CoverLine, MAX_COVER_LINES>, NoMemory>
     requires unspent { is_spent mirror.now ≡ false }
     requires best { IsSome (best_of mirror.now.kept) }
     ensures lines { IfOk result (λ lines. lines.items ≡ lines_of mirror.now.kept prev) }
@@ -128,7 +128,7 @@ fn held_lines(
 
 /// Adds the line of the document held at this address, if there is one.
 fn push_held(
-    lines: &mut Many<CoverLine, 4_294_967_295>,
+    lines: &mut Many<CoverLine, MAX_COVER_LINES>,
     mirror: &Mirror,
     address: Address,
 ) -> Result<(), NoMemory>

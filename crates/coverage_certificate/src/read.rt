@@ -13,7 +13,7 @@ ghost use Rattle.coverage_certificate.specs.Text.{IsFirstBadLine, certificate_li
 ghost use Rattle.coverage_certificate.specs.Text.{feed_line, head_line};
 ghost use Rattle.coverage_certificate.specs.Text.{live_line, text_of_lines, version_line};
 
-use crate::certificate::Certificate;
+use crate::certificate::{Certificate, MAX_COVER_LINES};
 use crate::certificate_fault::CertificateFault;
 use crate::cover_line::CoverLine;
 use crate::field::{after, feed_id, next_line, number, spaced_digest};
@@ -179,7 +179,7 @@ fn read_documents<'a>(
     alloc: Global,
     base: &Base,
     text: &'a [u8],
-) -> Result<(Many<CoverLine, 4_294_967_295>, &'a [u8]), NoMemory>
+) -> Result<(Many<CoverLine, MAX_COVER_LINES>, &'a [u8]), NoMemory>
     ensures split { IfOk result (λ x. text.now
         ≡ text_of_lines (map (document_line base.now) x.0.items) ++ x.1.now) }
     ensures placed { IfOk result (λ x. AreLinesSoFar x.0.items) }

@@ -46,7 +46,7 @@ pub use fault::PileFault;
 pub use fetch::{Fetch, GetFault};
 pub use http_fetch::HttpFetch;
 pub use laws::piles_have_one_reading;
-pub use memory::{ListSink, ListSource, PileFetch};
+pub use memory::{ListSink, ListSource, MAX_OFFERS, PileFetch};
 pub use offer::Offer;
 pub use outside::{Sink, Source};
 pub use reader::PileReader;

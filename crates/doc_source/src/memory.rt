@@ -11,7 +11,7 @@ ghost use Rattle.doc_source.specs.Pile.{offer_limit};
 use crate::fetch::{Fetch, GetFault};
 use crate::offer::Offer;
 use crate::outside::{Sink, Source};
-use atom_values::{Bytes, Failed, ListedCalls, Many};
+use atom_values::{Bytes, Failed, ListedCalls, MAX_FAILING, Many};
 use std::alloc::{AllocError, Global};
 
 /// A source of given bytes, whose listed calls fail.
@@ -25,7 +25,7 @@ pub struct ListSource {
 
 impl ListSource {
     /// The source before its first call. Calls are numbered from 1.
-    pub fn new(bytes: Bytes, failing: Many<u64, 64>) -> ListSource
+    pub fn new(bytes: Bytes, failing: Many<u64, MAX_FAILING>) -> ListSource
         ensures state { ⟦<ListSource as Source>⟧.state result ≡ record { left = bytes; faults = 0 } }
         ensures calls { result.calls ≡ record { failing = failing.items; made = 0; faults = 0 } }
     {
@@ -78,7 +78,7 @@ pub struct ListSink {
 
 impl ListSink {
     /// The sink before its first call. Calls are numbered from 1.
-    pub fn new(alloc: Global, failing: Many<u64, 64>) -> ListSink
+    pub fn new(alloc: Global, failing: Many<u64, MAX_FAILING>) -> ListSink
         ensures state { ⟦<ListSink as Sink>⟧.state result ≡ record { taken = []; faults = 0 } }
         ensures calls { result.calls ≡ record { failing = failing.items; made = 0; faults = 0 } }
     {
@@ -128,10 +128,13 @@ impl Sink for ListSink {
     }
 }
 
+/// The greatest number of offers of a fetch in memory.
+pub const MAX_OFFERS: u32 = 100_000;
+
 /// A fetch that answers from given offers, and whose listed calls fail.
 #[derive(Debug, Drop)]
 pub struct PileFetch {
-    offers: Many<Offer, 100_000>,
+    offers: Many<Offer, MAX_OFFERS>,
     asked: Vec<Bytes>,
     calls: ListedCalls,
     ghost short: { All (λ offer. length offer.bytes ≤ offer_limit) offers.items },
@@ -140,7 +143,11 @@ pub struct PileFetch {
 impl PileFetch {
     /// The fetch before its first call. Each of the offers has at most 67,108,864 bytes. Calls are numbered
     /// from 1, and those in `failing` fail.
-    pub fn new(alloc: Global, offers: Many<Offer, 100_000>, failing: Many<u64, 64>) -> PileFetch
+    pub fn new(
+        alloc: Global,
+        offers: Many<Offer, MAX_OFFERS>,
+        failing: Many<u64, MAX_FAILING>,
+    ) -> PileFetch
         requires { All (λ offer. length offer.bytes ≤ offer_limit) offers.items }
         ensures state { ⟦<PileFetch as Fetch>⟧.state result
             ≡ record { asked = []; answers = answer_of offers.items; faults = 0 } }

@@ -1,5 +1,3 @@
--- `is_entry_media`: white space
-pub mod MediaLemmas
 -- `answer`: `leaves` and `settled`
 pub mod LeaveLemmas
 -- `answer` and its parts: the rows of the table of replies

@@ -1,11 +1,10 @@
 -- The reply to a request on a store, and the operation that the store gains, row by row (RFC 5023, RFC 9110).
 use Rattle.std.specs.Prelude.{◌≡◌, ◌≢◌, ◌⊎◌, ℕ, List, ◌++◌, Option, Some, None, Ok, Err, Bool, true, false, not, ◌||◌}
 use Rattle.std.specs.Prelude.{◌==◌}
-use Rattle.std.specs.Prelude.{codes, decimal, drop, reverse, take_while}
-use Rattle.std.specs.List.{prefix_len}
+use Rattle.std.specs.Prelude.{codes, decimal, take_while}
 use Rattle.std.specs.Str.{str_eq_ignore_ascii_case}
-use Rattle.atom_values.specs.Ascii.{tab, lf, cr, space}
 use Rattle.atom_values.specs.Entry.{DraftValue, EntryValue, IsDraft}
+use Rattle.atom_values.specs.Space.{trimmed}
 use Rattle.chain_links.specs.Address.{IsAddress, IsTarget, printed}
 use Rattle.chain_links.specs.declared.address.Address.{Address}
 use Rattle.chain_links.specs.declared.address.Address.TheVariants.{Feed, Archive, Member}
@@ -178,18 +177,6 @@ IsAsked store ask now given =
 -- the byte before the first parameter of a media type
 abbrev pub semicolon : ℕ
 semicolon = 59
-
--- the white space that may be around a media type
-abbrev pub is_space : ℕ → Bool
-is_space b = (b == tab) || (b == lf) || (b == cr) || (b == space)
-
--- the text without white space at its beginning
-abbrev pub without_leading : List ℕ → List ℕ
-without_leading text = drop (prefix_len is_space text) text
-
--- the text without white space at both ends
-abbrev pub trimmed : List ℕ → List ℕ
-trimmed text = reverse (without_leading (reverse (without_leading text)))
 
 -- A media type without its parameters is that of Atom. Case and white space around it don't count (RFC 9110 section
 -- 8.3.1).

@@ -23,6 +23,10 @@ use Rattle.member_rules.specs.Head.{HeadValue}
 use Rattle.member_rules.specs.Served.{Served}
 use Rattle.member_rules.specs.declared.operation.Op.{Op}
 
+-- the greatest number of connections of a session
+abbrev pub connection_limit : ℕ
+connection_limit = 1_000_000
+
 -- The reply to bytes that are no request (RFC 9110 section 15.5, RFC 6585 section 5). A failed connection gets none.
 abbrev pub fault_reply : RequestFault → Option Reply
 fault_reply fault.ConnFault = None

@@ -35,4 +35,4 @@ pub use door::Door;
 pub use laws::{requests_have_one_outcome, shown_are_served};
 pub use line::Line;
 pub use script_door::{ScriptDoor, SetClock};
-pub use session::{End, ServeEnd, serve};
+pub use session::{End, MAX_CONNECTIONS, ServeEnd, serve};

@@ -1,7 +1,7 @@
-ghost use Rattle.std.specs.Prelude.{◌≡◌, ◌==◌, not, position, reverse, take_while};
-ghost use Rattle.document_server.specs.Reply.{is_entry_media, is_space, semicolon, without_leading};
+ghost use Rattle.std.specs.Prelude.{◌≡◌, ◌==◌, not, position, take_while};
+ghost use Rattle.document_server.specs.Reply.{is_entry_media, semicolon};
 
-use atom_values::Bytes;
+use atom_values::{Bytes, trimmed};
 
 /// The media type of an entry document (RFC 4287 section 7).
 const ATOM: &[u8] = b"application/atom+xml";
@@ -14,8 +14,7 @@ pub(crate) fn is_entry_media(media: &Option<Bytes>) -> bool
     let Some(media) = media else {
         return true;
     };
-    let kind = without_leading(without_parameters(media.slice()));
-    without_trailing(kind).eq_ignore_ascii_case(ATOM)
+    trimmed(without_parameters(media.slice())).eq_ignore_ascii_case(ATOM)
 }
 
 /// Returns the media type up to its first semicolon.
@@ -33,39 +32,4 @@ fn first_semicolon(media: &[u8]) -> Option<usize>
     ensures { result ≡ position (λ b. b == semicolon) media.now }
 {
     media.iter().position(|byte| *byte == b';')
-}
-
-/// Returns whether the byte is white space that may be around a media type.
-fn is_space(byte: u8) -> bool
-    ensures { result ≡ is_space byte }
-{
-    matches!(byte, b'\t' | b'\n' | b'\r' | b' ')
-}
-
-/// Returns the text without white space at its beginning.
-fn without_leading(text: &[u8]) -> &[u8]
-    ensures { result.now ≡ without_leading text.now }
-{
-    let mut rest = text;
-    while let Some((byte, tail)) = rest.split_first() {
-        if !is_space(*byte) {
-            return rest;
-        }
-        rest = tail;
-    }
-    rest
-}
-
-/// Returns the text without white space at its end.
-fn without_trailing(text: &[u8]) -> &[u8]
-    ensures { result.now ≡ reverse (without_leading (reverse text.now)) }
-{
-    let mut rest = text;
-    while let Some((byte, front)) = rest.split_last() {
-        if !is_space(*byte) {
-            return rest;
-        }
-        rest = front;
-    }
-    rest
 }

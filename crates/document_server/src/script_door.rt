@@ -8,21 +8,22 @@ ghost use Rattle.document_server.specs.Door.{SameLinks, Gives};
 
 use crate::clock::Clock;
 use crate::door::Door;
-use atom_values::{Failed, ListedCalls, Many, NoMemory};
+use crate::session::MAX_CONNECTIONS;
+use atom_values::{Failed, ListedCalls, MAX_FAILING, Many, NoMemory};
 use http_face::{Conn, ScriptConn};
 use std::alloc::Global;
 
 /// A clock that returns the given moments, and then the last one again and again.
 #[derive(Debug, Drop)]
 pub struct SetClock {
-    moments: Many<u64, 1_000_000>,
+    moments: Many<u64, MAX_CONNECTIONS>,
     given: usize,
     ghost in_range: { given < length moments.items },
 }
 
 impl SetClock {
     /// A clock of at least one moment.
-    pub fn new(moments: Many<u64, 1_000_000>) -> SetClock
+    pub fn new(moments: Many<u64, MAX_CONNECTIONS>) -> SetClock
         requires { 0 < length moments.items }
         ensures { ⟦<SetClock as Clock>⟧.coming result
             ≡ λ k. slice_index moments.items (min (0 + k) (length moments.items - 1)) }
@@ -64,8 +65,8 @@ impl ScriptDoor {
     /// all that will be given back.
     pub fn new(
         alloc: Global,
-        links: Many<ScriptConn, 1_000_000>,
-        failing: Many<u64, 64>,
+        links: Many<ScriptConn, MAX_CONNECTIONS>,
+        failing: Many<u64, MAX_FAILING>,
     ) -> Result<ScriptDoor, NoMemory>
         requires { All (λ link. (⟦<ScriptConn as Conn>⟧.state link).begun ≡ None) links.items }
         ensures { IfOk result (λ door. ⟦<ScriptDoor as Door>⟧.state door ≡ record {

@@ -3,7 +3,7 @@ ghost use Rattle.std.specs.Prelude.{Ok, Err, IfErr, IfSome, IsSome, OnOk};
 ghost use Rattle.atom_values.specs.Counts.{Rose, counter_limit};
 ghost use Rattle.document_server.specs.Answer.{Grows, Steps};
 ghost use Rattle.document_server.specs.Serving.{CountsFrom, RepliesOne, Serves, ServesFrom, ServesOne, end_of};
-ghost use Rattle.document_server.specs.Session.{fault_reply};
+ghost use Rattle.document_server.specs.Session.{connection_limit, fault_reply};
 ghost use Rattle.feed_disk.specs.Moments.{LeavesAlone};
 ghost use Rattle.feed_disk.specs.declared.area.Area.TheVariants.{Journal, Sealed, Mirror};
 ghost use Rattle.feed_journal.specs.Log.{MakesSome};
@@ -30,6 +30,9 @@ use http_face::{Conn, Line7, Reply, RequestFault, read_request, write_reply};
 use member_rules::{prefixes_are_lawful, served_stays_served};
 use std::alloc::Global;
 
+/// The greatest number of connections of a session.
+pub const MAX_CONNECTIONS: u32 = 1_000_000;
+
 /// Why a session ended.
 #[derive(Clone, Copy, Debug, PartialEq, Eq)]
 pub enum End {
@@ -48,7 +51,7 @@ pub enum End {
 /// The connections of a session, in order, and why it ended.
 #[derive(Debug, Drop)]
 pub struct ServeEnd {
-    pub lines: Many<Line, 1_000_000>,
+    pub lines: Many<Line, MAX_CONNECTIONS>,
     pub end: End,
 }
 
@@ -67,7 +70,7 @@ pub fn serve<D: Disk, C: Clock, L: Door>(
     requests: u32,
 ) -> ServeEnd
     requires some { 1 ≤ requests }
-    requires few { requests ≤ 1_000_000 }
+    requires few { requests ≤ connection_limit }
     // The session over the connections that the door gave, and what a crash leaves.
     ensures serves { D.told → ((fault : Fault) → result.end ≢ End.Load fault)
         → Serves (D.state disk.old) (D.state disk.new) (C.coming clock.old) (L.state door.old)
@@ -117,11 +120,11 @@ fn serve_into<D: Disk, C: Clock, L: Door>(
     door: &mut L,
     listen: &[u8],
     requests: u32,
-    lines: &mut Many<Line, 1_000_000>,
+    lines: &mut Many<Line, MAX_CONNECTIONS>,
 ) -> Result<(), End>
     requires empty { lines.old.items ≡ [] }
     requires some { 1 ≤ requests }
-    requires few { requests ≤ 1_000_000 }
+    requires few { requests ≤ connection_limit }
     ensures serves { D.told → ((fault : Fault) → result ≢ Err (End.Load fault))
         → Serves (D.state disk.old) (D.state disk.new) (C.coming clock.old) (L.state door.old)
         (L.state door.new)
@@ -170,14 +173,14 @@ fn serve_links<D: Disk, C: Clock, L: Door>(
     clock: &mut C,
     door: &mut L,
     requests: u32,
-    lines: &mut Many<Line, 1_000_000>,
+    lines: &mut Many<Line, MAX_CONNECTIONS>,
 ) -> Result<(), End>
     requires unspent { is_spent store.old ≡ false }
     requires stands { D.told → StandsFor (D.state disk.old) store.old }
     requires settled { D.told → IsAtRest (D.state disk.old)
         → Settled (D.state disk.old) store.old.head store.old.history (length store.old.history) }
     requires empty { lines.old.items ≡ [] }
-    requires few { requests ≤ 1_000_000 }
+    requires few { requests ≤ connection_limit }
     requires room { requests ≤ lines.old.spare }
     ensures serves { D.told → (start : ℕ)
         → CountsFrom start (D.state disk.old) (D.state disk.new) store.old

@@ -1,4 +1,5 @@
 //! Tests of the bytes of operations and heads. The bytes are written by hand, field by field.
+use crate::rules::expect_sentence;
 use atom_values::{AtomText, Draft, Stamp};
 use member_rules::{CodecFault, Op, head_bytes, op_bytes, read_head, read_op};
 use std::alloc::{AllocError, Global};
@@ -264,12 +265,11 @@ fn a_fault_has_a_sentence(rt: HostRuntime) {
     let cases = [
         (
             CodecFault::BadField { at: 21 },
-            "no field can stand at byte 21",
+            "the field at byte 21 is bad",
         ),
         (CodecFault::NoMemory, "out of memory"),
     ];
-    for (fault, sentence) in cases {
-        let text = format!(in rt.alloc(); "{fault}").expect(&rt, "memory");
-        assert!(rt; text.as_str() == sentence);
+    for (fault, want) in &cases {
+        expect_sentence(&rt, rt.alloc(), fault, want);
     }
 }

@@ -1,3 +1,4 @@
+use crate::rules::expect_sentence;
 use atom_grammar::{MAX_DOCUMENT, ReadFault, read_doc};
 use atom_values::{AtomText, Entry, Stamp, TextKind};
 use atom_writer::write_doc;
@@ -522,12 +523,11 @@ fn a_refusal_has_a_sentence(rt: HostRuntime) {
     let cases = [
         (
             ReadFault::NotADocument { at: 7 },
-            "not a feed document: no piece can stand at byte 7",
+            "not a feed document: no piece of one begins at byte 7",
         ),
         (ReadFault::NoMemory, "out of memory"),
     ];
-    for (fault, sentence) in cases {
-        let text = format!(in rt.alloc(); "{fault}").expect(&rt, "memory");
-        assert!(rt; text.as_str() == sentence);
+    for (fault, want) in &cases {
+        expect_sentence(&rt, rt.alloc(), fault, want);
     }
 }

@@ -12,7 +12,7 @@ use member_rules::{
     plain_live_count, plain_state,
 };
 use std::alloc::Global;
-use std::fmt::Debug;
+use std::fmt::{Debug, Display};
 use std::process::Abort;
 
 /// The greatest moment: 9999-12-31T23:59:59.999Z.
@@ -425,6 +425,39 @@ pub(crate) fn some_ask(rt: &impl Abort, alloc: Global, seed: u64, number: u32) -
         _ => Create,
     };
     case_ask(rt, alloc, &drafts, verb, number)
+}
+
+/// Compares the sentence of an error.
+pub(crate) fn expect_sentence<E: Display>(rt: &impl Abort, alloc: Global, fault: &E, want: &str) {
+    let sentence = format!(in alloc; "{fault}").expect(rt, "memory");
+    assert!(rt; sentence.as_str() == want, "{sentence}");
+}
+
+#[test]
+fn a_refusal_has_a_sentence(rt: HostRuntime) {
+    let (when, last) = (moment(&rt, 0), moment(&rt, 0));
+    for (fault, want) in &[
+        (RuleFault::NotFound { number: 3 }, "there is no member 3"),
+        (
+            RuleFault::Deleted { number: 3, when },
+            "member 3 was deleted",
+        ),
+        (
+            RuleFault::ClockSpent { last, now: 7 },
+            "no later timestamp is left",
+        ),
+        (
+            RuleFault::TooLarge { length: 394_241 },
+            "the entry takes 394241 bytes, and at most 394240 are allowed",
+        ),
+        (RuleFault::NoMemory, "out of memory"),
+    ] {
+        expect_sentence(&rt, rt.alloc(), fault, want);
+    }
+    let given = AtomText::of(rt.alloc(), b"tag:a").expect(&rt, "a text");
+    let other = RuleFault::OtherId { number: 3, given };
+    let want = "the entry has another identifier than member 3";
+    expect_sentence(&rt, rt.alloc(), &other, want);
 }
 
 /// Compares the table with the plain functions, which read the whole history.

@@ -10,8 +10,9 @@ use Rattle.std.proofs.lemmas.List.Elements.{All-head, All-tail}
 use Rattle.std.proofs.lemmas.List.Folds.{list_all-append}
 use Rattle.atom_values.specs.Ascii.{colon}
 use Rattle.atom_values.specs.XmlText.{IsXmlText}
+use Rattle.atom_values.specs.Space.{is_space}
 use Rattle.entry_reader.specs.declared.cursor.Lapse.TheVariants.{Cut}
-use Rattle.entry_reader.specs.Characters.{QName, IsQName, IsName, AreSpaces, begins_name, continues_name, is_space}
+use Rattle.entry_reader.specs.Characters.{QName, IsQName, IsName, AreSpaces, begins_name, continues_name}
 use Rattle.entry_reader.specs.Characters.{name_text, written_name}
 use Rattle.entry_reader.specs.Tokens.{IsQuote, IsValue, Piece, piece_text, IsPiece}
 use Rattle.entry_reader.specs.Tokens.Piece.{byte, reference}

@@ -7,7 +7,8 @@ use Rattle.entry_reader.specs.declared.cursor.Lapse.TheVariants.{Cut}
 use Rattle.std.specs.List.{list_all}
 use Rattle.std.proofs.lemmas.Bool.{and_parts, both_ways, or_cases, or_left}
 use Rattle.atom_values.specs.Ascii.{colon}
-use Rattle.entry_reader.specs.Characters.{AreSpaces, continues_name, is_space}
+use Rattle.atom_values.specs.Space.{is_space}
+use Rattle.entry_reader.specs.Characters.{AreSpaces, continues_name}
 use Rattle.entry_reader.specs.Tokens.{IsQuote}
 use Rattle.entry_reader.specs.Reading.{quoted_behind, sign_behind, attribute_parts, Reads}
 use Rattle.entry_reader.specs.Reading.{seq, whole_qname, equals_sign, one_quote, first_is_no}

@@ -15,7 +15,7 @@ use Rattle.entry_reader.specs.declared.tag.TagEnd.{TagEnd}
 use Rattle.entry_reader.specs.declared.tag.TagEnd.TheVariants.{Open as Whole, Empty, Cut as CutTag, CutAtSlash}
 use Rattle.entry_reader.specs.declared.tag.Attribute.{Attribute as Raw}
 use Rattle.entry_reader.specs.Characters.{QName, IsQName, IsName, IsGap, AreSpaces, begins_name, continues_name}
-use Rattle.entry_reader.specs.Characters.{is_space, name_text}
+use Rattle.entry_reader.specs.Characters.{name_text}
 use Rattle.entry_reader.specs.Tokens.{IsQuote, Piece, piece_text, IsPiece}
 use Rattle.entry_reader.specs.Tokens.Piece.{byte, reference}
 use Rattle.entry_reader.specs.Reading.{IsFound, Starts, Continues, whole_qname, value_behind}
@@ -32,6 +32,7 @@ use Rattle.entry_reader.proofs.PlainLemmas.{Plain}
 use Rattle.entry_reader.proofs.PlainReadLemmas.{plain_behind, plain_rest, to_value, from_value, quote_is}
 use Rattle.entry_reader.proofs.ValueLemmas.{reference_first}
 use Rattle.atom_values.specs.XmlText.{IsXmlText}
+use Rattle.atom_values.specs.Space.{is_space}
 use Rattle.entry_reader.proofs.XmlLemmas.{xml_nil}
 
 -- no quote begins a value

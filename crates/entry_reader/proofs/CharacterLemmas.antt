@@ -14,7 +14,8 @@ use Rattle.std.proofs.lemmas.Str.{encode_ascii, encode_same, encodes-chars, scal
 use Rattle.std.proofs.lemmas.Str.{IsUtf8-from_is_utf8}
 use Rattle.std.proofs.lemmas.Str.{is_utf8-from_IsUtf8, length-encode, len_utf8_bounds}
 use Rattle.atom_values.specs.XmlText.{IsXmlText, is_xml_char}
-use Rattle.entry_reader.specs.Characters.{begins, lines, IsCharacter, AreSpaces, is_space}
+use Rattle.atom_values.specs.Space.{is_space}
+use Rattle.entry_reader.specs.Characters.{begins, lines, IsCharacter, AreSpaces}
 use Rattle.entry_reader.specs.Tokens.{IsLineEnd}
 use Rattle.entry_reader.specs.Tokens.Token.{character}
 use Rattle.entry_reader.specs.Stages.{Lexeme, lexemes_text}

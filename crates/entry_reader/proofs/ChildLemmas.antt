@@ -7,12 +7,13 @@ use Rattle.std.specs.List.{list_all}
 use Rattle.std.proofs.lemmas.Bool.{and_parts, both_ways, cond-false, cond-true, not-true, or_cases}
 use Rattle.std.proofs.lemmas.List.Elements.{All-append, All-cons, All-nil}
 use Rattle.atom_values.specs.DateText.{States}
+use Rattle.atom_values.specs.Space.{trimmed}
 use Rattle.entry_reader.specs.declared.fault.Why.{Why}
 use Rattle.entry_reader.specs.declared.fault.Why.TheVariants.{NotUtf8, Doctype, NotWellFormed, TooDeep, NotAnEntry}
 use Rattle.entry_reader.specs.declared.fault.Why.TheVariants.{Xhtml, OutOfLine, Draft, Missing, Twice, BadDate, TooMany}
 use Rattle.entry_reader.specs.Tree.{Name, Element, Content, Event, contents}
 use Rattle.entry_reader.specs.Tree.Content.{element}
-use Rattle.entry_reader.specs.Entry.{app, atom, attribute, same_name, text_of, trimmed}
+use Rattle.entry_reader.specs.Entry.{app, atom, attribute, same_name, text_of}
 use Rattle.entry_reader.specs.Faults.{HasFault, HasOtherType, Is, IsFaultless, IsFirstFault, IsPastLimit, LacksPart}
 use Rattle.entry_reader.specs.Faults.{SaysDraft, Seen, all_seen}
 use Rattle.entry_reader.specs.Faults.{constructs, count_before, dates, inline_texts, inside_of, is_one_of, persons}

@@ -5,8 +5,9 @@ use Rattle.std.specs.List.{list_any}
 use Rattle.std.proofs.lemmas.Bool.{both_ways, cases_Bool, not-true, not_from_false}
 use Rattle.std.proofs.lemmas.List.Folds.{Any-from_list_any, list_any-append, list_any-from_Any}
 use Rattle.std.proofs.lemmas.Slice.Eq.{bytes_eq-Decides}
+use Rattle.atom_values.specs.Space.{trimmed}
 use Rattle.entry_reader.specs.Tree.{Name, Element, Content}
-use Rattle.entry_reader.specs.Entry.{Child, app, child_text, named, same_name, text_of, trimmed}
+use Rattle.entry_reader.specs.Entry.{Child, app, child_text, named, same_name, text_of}
 use Rattle.entry_reader.specs.Faults.{SaysDraft}
 use Rattle.entry_reader.specs.Parts.{has_draft, joined, with_child}
 use Rattle.entry_reader.proofs.ChildLemmas.{a_child}

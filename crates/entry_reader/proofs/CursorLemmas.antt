@@ -8,7 +8,8 @@ use Rattle.std.proofs.lemmas.Bool.{and_parts, and_from, both_ways, not-true, cas
 use Rattle.std.proofs.lemmas.List.{append-nil, take_at}
 use Rattle.std.specs.Char.{is_ascii_digit}
 use Rattle.atom_values.specs.Ascii.{minus, point, colon}
-use Rattle.entry_reader.specs.Characters.{IsName, begins, begins_name, continues_name, is_space, written_name}
+use Rattle.atom_values.specs.Space.{is_space}
+use Rattle.entry_reader.specs.Characters.{IsName, begins, begins_name, continues_name, written_name}
 use Rattle.entry_reader.specs.Reading.{Continues, IsFound, IsSpaceRead, exactly, first_is_no, whole_name, one_quote}
 use Rattle.entry_reader.specs.Reading.{equals_sign, whole_qname}
 use Rattle.entry_reader.proofs.PartLemmas.{IsPart, Joins, Leads, same_front, same_part, seq_part}

@@ -3,8 +3,9 @@ use Rattle.std.proofs.Common.{◌≡◌, ℕ, List, [], ◌∷◌, ◌++◌, IsT
 use Rattle.std.proofs.Common.{true, false, drop, arith}
 use Rattle.std.specs.Prelude.{Result}
 use Rattle.std.proofs.lemmas.Bool.{both_ways}
+use Rattle.atom_values.specs.Space.{is_space}
 use Rattle.entry_reader.specs.declared.cursor.Lapse.{Lapse}
-use Rattle.entry_reader.specs.Characters.{is_space, begins}
+use Rattle.entry_reader.specs.Characters.{begins}
 use Rattle.entry_reader.specs.Tokens.{IsQuote}
 use Rattle.entry_reader.specs.Reading.{seq, exactly, equals_sign, one_quote, first_is_no, yes_or_no, a_standalone}
 use Rattle.entry_reader.specs.Reading.{spaced_end, declaration_end, all_spaces, Reads, Continues}

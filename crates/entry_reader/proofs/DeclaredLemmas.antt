@@ -3,11 +3,12 @@ use Rattle.std.proofs.Common.{◌≡◌, ℕ, Bool, true, false, List, [], ◌�
 use Rattle.std.proofs.Common.{refl, sym, ap, subst, ◌∙◌, inl, inr, ⊎_elim, codes, arith, append_assoc, nat_lt, ltb-true}
 use Rattle.std.specs.Prelude.{Result, Ok, Err}
 use Rattle.std.proofs.lemmas.Bool.{both_ways, lt-ltb, not_from_false}
+use Rattle.atom_values.specs.Space.{is_space}
 use Rattle.entry_reader.specs.declared.cursor.Lapse.{Lapse}
 use Rattle.entry_reader.specs.declared.cursor.Lapse.TheVariants.{Broken, Cut, NoMemory}
 use Rattle.entry_reader.specs.declared.declaration.Encoding.{Encoding}
 use Rattle.entry_reader.specs.declared.declaration.Encoding.TheVariants.{Utf8, Foreign}
-use Rattle.entry_reader.specs.Characters.{IsGap, AreSpaces, is_space}
+use Rattle.entry_reader.specs.Characters.{IsGap, AreSpaces}
 use Rattle.entry_reader.specs.Tokens.{IsQuote, IsSetting, IsOptionalSetting, IsOptionalEncoding, IsStandalone}
 use Rattle.entry_reader.specs.Tokens.{IsDeclaration}
 use Rattle.entry_reader.specs.Tokens.{is_utf8_name}

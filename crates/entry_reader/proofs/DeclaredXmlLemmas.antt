@@ -9,7 +9,8 @@ use Rattle.std.proofs.lemmas.Bool.{and_from, and_parts, or_cases, both_ways, le-
 use Rattle.std.proofs.lemmas.List.Folds.{list_all-append}
 use Rattle.atom_values.specs.Ascii.{tab, lf, cr}
 use Rattle.atom_values.specs.XmlText.{IsXmlText, is_xml_char}
-use Rattle.entry_reader.specs.Characters.{AreSpaces, is_space}
+use Rattle.atom_values.specs.Space.{is_space}
+use Rattle.entry_reader.specs.Characters.{AreSpaces}
 use Rattle.entry_reader.specs.Tokens.{IsDeclaration, IsOptionalEncoding, IsOptionalSetting, IsQuote, IsSetting}
 use Rattle.entry_reader.specs.Tokens.{IsStandalone, is_encoding_name}
 use Rattle.entry_reader.proofs.SuffixLemmas.{ascii_char, xml_ascii}

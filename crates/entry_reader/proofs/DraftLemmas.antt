@@ -6,6 +6,7 @@ use Rattle.std.specs.Str.{is_utf8}
 use Rattle.std.proofs.lemmas.List.Elements.{All-head, All-tail}
 use Rattle.atom_values.specs.DateText.{States}
 use Rattle.atom_values.specs.Entry.{DraftValue}
+use Rattle.atom_values.specs.Space.{trimmed}
 use Rattle.atom_values.proofs.DateTextReadLemmas.{value_of-states}
 use Rattle.entry_reader.specs.declared.elements.Elements.{Elements}
 use Rattle.entry_reader.specs.declared.fault.EntryFault.{EntryFault}
@@ -14,7 +15,7 @@ use Rattle.entry_reader.specs.declared.fault.Why.{Why}
 use Rattle.entry_reader.specs.Tree.{Element, Content, IsDocument, contents}
 use Rattle.entry_reader.specs.Tree.Content.{nothing}
 use Rattle.entry_reader.specs.Tree.Event.{begin}
-use Rattle.entry_reader.specs.Entry.{Child, IsMoment, IsReadAs, child, child_text, construct, trimmed}
+use Rattle.entry_reader.specs.Entry.{Child, IsMoment, IsReadAs, child, child_text, construct}
 use Rattle.entry_reader.specs.Faults.{IsFaultless, IsFirstFault, Seen, all_seen}
 use Rattle.entry_reader.specs.Faults.Within.{in_entry}
 use Rattle.entry_reader.specs.Spells.{Spells, depth_limit}

@@ -9,11 +9,12 @@ use Rattle.std.specs.Char.{is_ascii_alphabetic, is_ascii_alphanumeric}
 use Rattle.std.proofs.lemmas.Bool.{and_parts, and_from, both_ways, not-true, not_from_false, cases_Bool, lt-ltb, eq-eqb}
 use Rattle.std.proofs.lemmas.List.{append-nil}
 use Rattle.atom_values.specs.Ascii.{minus, point, underscore}
+use Rattle.atom_values.specs.Space.{is_space}
 use Rattle.entry_reader.specs.declared.cursor.Lapse.{Lapse}
 use Rattle.entry_reader.specs.declared.cursor.Lapse.TheVariants.{Broken, Cut, NoMemory}
 use Rattle.entry_reader.specs.declared.declaration.Encoding.{Encoding}
 use Rattle.entry_reader.specs.declared.declaration.Encoding.TheVariants.{Utf8, Foreign}
-use Rattle.entry_reader.specs.Characters.{IsGap, is_space, begins}
+use Rattle.entry_reader.specs.Characters.{IsGap, begins}
 use Rattle.entry_reader.specs.Tokens.{IsQuote, is_encoding_name, is_utf8_name}
 use Rattle.entry_reader.specs.Reading.{seq, exactly, equals_sign, one_quote, first_is_no, a_gap, any_spaces}
 use Rattle.entry_reader.specs.Reading.{IsSpaceRead}

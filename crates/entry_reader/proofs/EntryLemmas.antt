@@ -5,6 +5,7 @@ use Rattle.std.specs.Prelude.{Ok, Err}
 use Rattle.std.proofs.lemmas.Bool.{both_ways}
 use Rattle.std.proofs.lemmas.List.{append-nil}
 use Rattle.atom_values.specs.Entry.{DraftValue}
+use Rattle.atom_values.specs.Space.{trimmed}
 use Rattle.entry_reader.specs.declared.elements.Elements.{Elements}
 use Rattle.entry_reader.specs.declared.entry.Parts.{Parts}
 use Rattle.entry_reader.specs.declared.fault.EntryFault.{EntryFault}
@@ -16,7 +17,7 @@ use Rattle.entry_reader.specs.Tree.{Name, Element, Event, Content, contents, wit
 use Rattle.entry_reader.specs.Tree.Content.{element}
 use Rattle.entry_reader.specs.Tree.Event.{begin}
 use Rattle.entry_reader.specs.Entry.{Child, IsMoment, IsReadAs, atom, category, child, child_text, construct, first_of}
-use Rattle.entry_reader.specs.Entry.{link, named, person, same_name, trimmed}
+use Rattle.entry_reader.specs.Entry.{link, named, person, same_name}
 use Rattle.entry_reader.specs.Faults.{IsFaultless, IsFirstFault, all_seen}
 use Rattle.entry_reader.specs.Faults.Within.{in_entry}
 use Rattle.entry_reader.specs.Progress.{IsDrainedFrom, IsFaultFrom, IsLed, Point, pending}

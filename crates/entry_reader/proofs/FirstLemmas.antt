@@ -1,12 +1,12 @@
 -- The beginning of a document, and the texts of its elements.
 use Rattle.std.proofs.Common.{◌≡◌, ◌≤◌, ◌<◌, ℕ, suc, ◌+◌, List, [], ◌∷◌, ◌++◌, length, reverse, take, drop, true, false}
 use Rattle.std.proofs.Common.{refl, sym, ap, subst, ◌∙◌}
-use Rattle.std.proofs.Common.{append_assoc, arith, inl, ⊎_elim, Some, None, ◌&&◌, bytes_eq, one-add}
+use Rattle.std.proofs.Common.{append_assoc, arith, inl, ⊎_elim, Some, None, ◌&&◌, bytes_eq}
 use Rattle.std.specs.Prelude.{chars}
 use Rattle.std.specs.List.{AllZip, list_all}
 use Rattle.std.specs.Str.{IsUtf8}
 use Rattle.std.proofs.lemmas.Bool.{and_parts, cases_Bool, cond-true, cond-false, false_from_ne_true}
-use Rattle.std.proofs.lemmas.List.{length-append, length-take, take-append-drop, reverse-append, append_cancel_left}
+use Rattle.std.proofs.lemmas.List.{length-append, length-take, take-append-drop, append_cancel_left}
 use Rattle.std.proofs.lemmas.List.{nil_from_length}
 use Rattle.std.proofs.lemmas.List.Folds.{list_all-append}
 use Rattle.std.proofs.lemmas.Str.{IsUtf8-drop, IsUtf8-from_is_utf8, is_utf8-from_IsUtf8, IsCharBoundary-from_take}
@@ -15,10 +15,10 @@ use Rattle.std.proofs.lemmas.Slice.Eq.{bytes_eq-Decides}
 use Rattle.atom_values.specs.XmlText.{IsXmlText, IsLongestXmlPrefix, is_xml_char}
 use Rattle.atom_values.proofs.XmlTextLemmas.{IsXmlText-refused}
 use Rattle.entry_reader.specs.declared.tag.Attribute.{Attribute as Raw}
-use Rattle.entry_reader.specs.Characters.{QName, IsQName, IsName, begins, is_space, name_text}
+use Rattle.entry_reader.specs.Characters.{QName, IsQName, IsName, begins, name_text}
 use Rattle.entry_reader.specs.Tokens.{Attribute}
 use Rattle.entry_reader.specs.Tree.{mark, mark_of}
-use Rattle.entry_reader.specs.Entry.{attribute_in, without_leading}
+use Rattle.entry_reader.specs.Entry.{attribute_in}
 use Rattle.entry_reader.specs.Scopes.{IsLawfulOf}
 use Rattle.std.proofs.Common.{get_or, add-one}
 use Rattle.std.proofs.Math.Seq.{drop-cons, take-suc}
@@ -33,18 +33,6 @@ use Rattle.entry_reader.proofs.BeginLemmas.{begins_from, begins_split}
 use Rattle.entry_reader.proofs.EventLemmas.{same_name}
 use Rattle.entry_reader.proofs.PartLemmas.{splits, same_front}
 use Rattle.entry_reader.proofs.SuffixLemmas.{begins_more, text_from, text_parts, xml_joined, xml_suffix}
-
--- white space at the beginning
-pub leading_space : (x : ℕ) (xs : List ℕ) → is_space x ≡ true → without_leading (x ∷ xs) ≡ without_leading xs
-leading_space x xs is =
-    ap (λ n. drop n (x ∷ xs)) (cond-true (is_space x) _ 0 is ∙ one-add _)
-
--- white space at the end
-pub trailing_space : (front : List ℕ) (x : ℕ) → is_space x ≡ true →
-    reverse (without_leading (reverse (front ++ x ∷ []))) ≡ reverse (without_leading (reverse front))
-trailing_space front x is =
-    ap (λ t. reverse (without_leading t)) (reverse-append front (x ∷ []))
-    ∙ ap reverse (leading_space x (reverse front) is)
 
 -- the name of an attribute, as it is written, is a name without a prefix
 pub name_matches : (a : QName) (name : List ℕ) → IsQName a → IsName name →

@@ -4,11 +4,12 @@ use Rattle.std.proofs.Common.{refl, sym, ap, subst, ◌∙◌, inl, inr, ⊎_eli
 use Rattle.std.specs.Prelude.{Result, Ok, Err}
 use Rattle.std.proofs.lemmas.Bool.{both_ways, and_parts, and_from, not-false, not-true}
 use Rattle.std.specs.List.{list_all}
-use Rattle.entry_reader.specs.Characters.{IsGap, begins, is_space}
+use Rattle.entry_reader.specs.Characters.{IsGap, begins}
 use Rattle.entry_reader.proofs.BeginLemmas.{begins_from, begins_split}
 use Rattle.std.proofs.lemmas.List.{append-nil}
 use Rattle.std.proofs.lemmas.List.Elements.{All-cons}
 use Rattle.atom_values.specs.XmlText.{IsXmlText}
+use Rattle.atom_values.specs.Space.{is_space}
 use Rattle.entry_reader.specs.declared.declaration.Encoding.{Encoding}
 use Rattle.entry_reader.specs.declared.declaration.Encoding.TheVariants.{Utf8, Foreign}
 use Rattle.entry_reader.specs.declared.token.Context.{Context}

@@ -7,7 +7,8 @@ use Rattle.std.proofs.lemmas.Bool.{and_parts, and_from}
 use Rattle.std.proofs.lemmas.List.{append-nil}
 use Rattle.std.proofs.lemmas.List.Folds.{list_all-append}
 use Rattle.atom_values.specs.XmlText.{IsXmlText}
-use Rattle.entry_reader.specs.Characters.{IsName, IsGap, begins, begins_name, continues_name, is_space, lacks}
+use Rattle.atom_values.specs.Space.{is_space}
+use Rattle.entry_reader.specs.Characters.{IsName, IsGap, begins, begins_name, continues_name, lacks}
 use Rattle.entry_reader.specs.Tokens.{IsInstruction}
 use Rattle.entry_reader.specs.Reading.{Continues, an_instruction}
 use Rattle.entry_reader.proofs.BeginLemmas.{begins_split}

@@ -5,9 +5,10 @@ use Rattle.std.specs.Prelude.{Result, Err}
 use Rattle.std.specs.List.{list_all}
 use Rattle.std.proofs.lemmas.Bool.{and_parts, and_from, both_ways, not_from_false, false_from_ne_true}
 use Rattle.std.proofs.lemmas.List.Folds.{list_all-append}
+use Rattle.atom_values.specs.Space.{is_space}
 use Rattle.entry_reader.specs.declared.cursor.Lapse.{Lapse}
 use Rattle.entry_reader.specs.declared.cursor.Lapse.TheVariants.{Broken, Cut, NoMemory}
-use Rattle.entry_reader.specs.Characters.{AreSpaces, IsGap, begins, is_space, lacks}
+use Rattle.entry_reader.specs.Characters.{AreSpaces, IsGap, begins, lacks}
 use Rattle.entry_reader.specs.Reading.{IsFound, Starts, Continues, Reads, exactly, first_is_no, instruction_end}
 use Rattle.entry_reader.specs.Reading.{up_to_end}
 use Rattle.entry_reader.proofs.BeginLemmas.{begins_split}

@@ -6,7 +6,8 @@ use Rattle.std.specs.List.{list_all}
 use Rattle.std.proofs.lemmas.Bool.{both_ways, not_from_false}
 use Rattle.std.proofs.lemmas.List.{append_cancel_left}
 use Rattle.std.proofs.Common.{eq-eqb}
-use Rattle.entry_reader.specs.Characters.{AreSpaces, is_space}
+use Rattle.atom_values.specs.Space.{is_space}
+use Rattle.entry_reader.specs.Characters.{AreSpaces}
 use Rattle.entry_reader.specs.Tokens.{IsDeclaration, IsOptionalEncoding, IsOptionalSetting, IsQuote, IsSetting}
 use Rattle.entry_reader.specs.Tokens.{is_utf8_name}
 use Rattle.entry_reader.specs.Reading.{seq, any_spaces, declaration_end}

@@ -12,6 +12,7 @@ use Rattle.entry_reader.proofs.FindLemmas.{not_before}
 use Rattle.std.proofs.lemmas.List.{append-nil, length-append}
 use Rattle.std.proofs.lemmas.List.Elements.{All-cons}
 use Rattle.atom_values.specs.XmlText.{IsXmlText}
+use Rattle.atom_values.specs.Space.{is_space}
 use Rattle.entry_reader.specs.declared.cursor.Lapse.{Lapse}
 use Rattle.entry_reader.specs.declared.cursor.Lapse.TheVariants.{Broken, Cut, NoMemory}
 use Rattle.entry_reader.specs.declared.token.Context.{Context}
@@ -38,7 +39,7 @@ use Rattle.entry_reader.proofs.TagLemmas.{from_tag}
 use Rattle.entry_reader.specs.declared.tag.Tag.{Tag as RawTag}
 use Rattle.entry_reader.specs.declared.tag.TagEnd.{TagEnd}
 use Rattle.entry_reader.specs.declared.tag.TagEnd.TheVariants.{Open as Whole, Empty, Cut as CutTag, CutAtSlash}
-use Rattle.entry_reader.specs.Characters.{IsGap, is_space}
+use Rattle.entry_reader.specs.Characters.{IsGap}
 use Rattle.entry_reader.specs.Tokens.{IsTag}
 use Rattle.entry_reader.specs.Reading.{a_tag, own_tag, behind_name, tag_end, IsTagOf, IsTagRead, IsTagTo, ReadsTag}
 use Rattle.entry_reader.specs.Reading.{ReadsTagTo, ReadsTagToken, is_cut}

@@ -11,8 +11,9 @@ use Rattle.std.proofs.lemmas.List.Folds.{list_any-append, list_all-append}
 use Rattle.std.proofs.lemmas.List.{length-append}
 use Rattle.std.proofs.lemmas.Slice.Eq.{bytes_eq-Decides}
 use Rattle.atom_values.specs.XmlText.{IsXmlText}
+use Rattle.atom_values.specs.Space.{is_space}
 use Rattle.entry_reader.specs.declared.cursor.Lapse.TheVariants.{Cut}
-use Rattle.entry_reader.specs.Characters.{QName, IsQName, IsName, IsGap, AreSpaces, is_space, name_text}
+use Rattle.entry_reader.specs.Characters.{QName, IsQName, IsName, IsGap, AreSpaces, name_text}
 use Rattle.entry_reader.specs.Tokens.{Attribute, AreAttributes, Tag}
 use Rattle.entry_reader.specs.Stages.{Binding, Scope, declared, namespace_of, outer_scope}
 use Rattle.entry_reader.specs.Reading.{IsFound, Starts, Reads, whole_qname, attribute_parts, are_attributes}

@@ -7,6 +7,7 @@ use Rattle.std.proofs.lemmas.Bool.{both_ways, false_from_ne_true}
 use Rattle.std.specs.List.{list_all}
 use Rattle.std.proofs.lemmas.List.{length-map, map-append}
 use Rattle.std.proofs.lemmas.List.Elements.{All-append, All-head}
+use Rattle.atom_values.specs.Space.{trimmed}
 use Rattle.entry_reader.specs.declared.elements.Elements.{Elements}
 use Rattle.entry_reader.specs.declared.entry.Parts.{Parts}
 use Rattle.entry_reader.specs.declared.fault.EarlyEnd.{EarlyEnd}
@@ -14,7 +15,7 @@ use Rattle.entry_reader.specs.declared.fault.Why.TheVariants.{Twice}
 use Rattle.entry_reader.specs.Tree.{Name, Element, Content, Event}
 use Rattle.entry_reader.specs.Tree.Content.{nothing, element}
 use Rattle.entry_reader.specs.Entry.{Child, IsMoment, app, atom, category, child, child_text, children, construct}
-use Rattle.entry_reader.specs.Entry.{first_of, link, named, person, same_name, text_of, trimmed}
+use Rattle.entry_reader.specs.Entry.{first_of, link, named, person, same_name, text_of}
 use Rattle.entry_reader.specs.Faults.{Within, IsFaultless, all_seen, constructs, inside_of, is_one_of, persons}
 use Rattle.entry_reader.specs.Faults.{single_parts}
 use Rattle.entry_reader.specs.Faults.Within.{in_entry}

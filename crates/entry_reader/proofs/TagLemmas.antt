@@ -11,10 +11,11 @@ use Rattle.entry_reader.specs.declared.tag.Attribute.{Attribute as Raw}
 use Rattle.entry_reader.specs.declared.tag.Tag.{Tag as RawTag}
 use Rattle.entry_reader.specs.declared.tag.TagEnd.{TagEnd}
 use Rattle.entry_reader.specs.declared.tag.TagEnd.TheVariants.{Open as Whole, Empty, Cut as CutTag, CutAtSlash}
-use Rattle.entry_reader.specs.Characters.{QName, IsQName, IsGap, AreSpaces, is_space, continues_name, name_text}
+use Rattle.entry_reader.specs.Characters.{QName, IsQName, IsGap, AreSpaces, continues_name, name_text}
 use Rattle.entry_reader.specs.Tokens.{Attribute, IsAttribute, AreAttributes, IsValue, Tag, IsTag}
 use Rattle.std.proofs.Common.{nat_eq}
 use Rattle.atom_values.specs.Ascii.{colon}
+use Rattle.atom_values.specs.Space.{is_space}
 use Rattle.entry_reader.specs.Reading.{IsFound, Starts, Continues, whole_qname, first_is_no, attribute_parts}
 use Rattle.entry_reader.specs.Reading.{are_attributes, behind_name, tag_end, names, pairs, IsAttributeOf, IsTagOf}
 use Rattle.entry_reader.specs.Reading.{a_tag, HasFirst, ReadsBehindName}

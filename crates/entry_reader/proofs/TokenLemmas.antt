@@ -1,7 +1,7 @@
 -- Comments, CDATA sections and end tags, part by part.
 use Rattle.std.proofs.Common.{◌≡◌, ℕ, List, [], ◌++◌, IsTrue, refl, sym, ap, subst, ◌∙◌, append_assoc, codes}
 use Rattle.std.proofs.Common.{arith}
-use Rattle.entry_reader.specs.Characters.{is_space}
+use Rattle.atom_values.specs.Space.{is_space}
 use Rattle.entry_reader.specs.Reading.{seq, exactly, up_to_end, all_spaces, first_is_no, a_comment, written_section}
 use Rattle.entry_reader.specs.Reading.{written_end_tag}
 use Rattle.entry_reader.proofs.PartLemmas.{Joins}

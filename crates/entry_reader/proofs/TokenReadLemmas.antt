@@ -10,6 +10,7 @@ use Rattle.std.proofs.lemmas.List.{append-nil}
 use Rattle.std.proofs.lemmas.List.Elements.{All-cons}
 use Rattle.std.proofs.lemmas.List.Folds.{list_all-append}
 use Rattle.atom_values.specs.XmlText.{IsXmlText}
+use Rattle.atom_values.specs.Space.{is_space}
 use Rattle.entry_reader.specs.declared.cursor.Lapse.{Lapse}
 use Rattle.entry_reader.specs.declared.cursor.Lapse.TheVariants.{Broken, Cut, NoMemory}
 use Rattle.entry_reader.specs.declared.token.Context.{Context}
@@ -17,7 +18,7 @@ use Rattle.entry_reader.specs.declared.token.Token.{Token as RawToken}
 use Rattle.entry_reader.specs.declared.token.Token.TheVariants.{Declaration, Silent, Characters as Run, Reference}
 use Rattle.entry_reader.specs.declared.token.Token.TheVariants.{Section, Tag as TagToken, EndTag}
 use Rattle.entry_reader.specs.declared.declaration.Encoding.TheVariants.{Utf8, Foreign}
-use Rattle.entry_reader.specs.Characters.{AreSpaces, begins, is_space, lines, lines_after}
+use Rattle.entry_reader.specs.Characters.{AreSpaces, begins, lines, lines_after}
 use Rattle.entry_reader.specs.Tokens.{Token, IsSpelled}
 use Rattle.entry_reader.specs.Tokens.Token.{declaration, character, referred, section, comment, instruction, opening}
 use Rattle.entry_reader.specs.Tokens.Token.{closing}

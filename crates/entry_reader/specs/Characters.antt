@@ -6,9 +6,10 @@ use Rattle.std.specs.Prelude.{if◌then◌else◌, nat_lt, nat_eq}
 use Rattle.std.specs.List.{list_all, starts_with}
 use Rattle.std.specs.Char.{is_ascii_digit, is_ascii_alphabetic}
 use Rattle.std.specs.Str.Parse.{IsNumeral, digits_value}
-use Rattle.atom_values.specs.Ascii.{tab, lf, cr, space, quote, ampersand, minus, point, colon, less_than, greater_than}
+use Rattle.atom_values.specs.Ascii.{lf, cr, quote, ampersand, minus, point, colon, less_than, greater_than}
 use Rattle.atom_values.specs.Ascii.{underscore}
 use Rattle.atom_values.specs.XmlText.{IsXmlText, is_xml_char}
+use Rattle.atom_values.specs.Space.{is_space}
 
 -- '
 abbrev pub apostrophe : ℕ
@@ -23,10 +24,7 @@ abbrev pub lacks : List ℕ → List ℕ → Bool
 lacks bytes [] = true
 lacks bytes (b ∷ bs) = not (begins bytes (b ∷ bs)) && lacks bytes bs
 
--- white space (XML 1.0, production 3)
-abbrev pub is_space : ℕ → Bool
-is_space b = (b == tab) || (b == lf) || (b == cr) || (b == space)
-
+-- white space
 abbrev pub AreSpaces : List ℕ → Type 0
 AreSpaces text = IsTrue (list_all is_space text)
 

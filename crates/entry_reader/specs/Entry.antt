@@ -1,8 +1,6 @@
 -- How the elements of an entry document are read (RFC 4287, RFC 5023).
-use Rattle.std.specs.Prelude.{◌≡◌, ℕ, List, [], ◌∷◌, ◌++◌, map, reverse, Bool, ◌&&◌, if◌then◌else◌, ℤ}
+use Rattle.std.specs.Prelude.{◌≡◌, ℕ, List, [], ◌∷◌, ◌++◌, map, Bool, ◌&&◌, if◌then◌else◌, ℤ}
 use Rattle.std.specs.Prelude.{Option, Some, None, option_map, unwrap_or, codes, bytes_eq}
-use Rattle.std.specs.List.{prefix_len}
-use Rattle.std.specs.Prelude.{drop}
 use Rattle.atom_values.specs.declared.category.Category.{Category}
 use Rattle.atom_values.specs.declared.link.Link.{Link}
 use Rattle.atom_values.specs.declared.person.Person.{Person}
@@ -10,7 +8,7 @@ use Rattle.atom_values.specs.declared.text.Text.{Text}
 use Rattle.atom_values.specs.declared.text.TextKind.TheVariants.{Plain, Html}
 use Rattle.atom_values.specs.DateText.{States}
 use Rattle.atom_values.specs.Entry.{DraftValue}
-use Rattle.entry_reader.specs.Characters.{is_space}
+use Rattle.atom_values.specs.Space.{trimmed}
 use Rattle.entry_reader.specs.Tokens.{Attribute}
 use Rattle.entry_reader.specs.Tree.{Name, Element, Content}
 use Rattle.entry_reader.specs.Tree.Content.{nothing, said, element}
@@ -70,14 +68,6 @@ child name content = first_of (named (atom name) content)
 
 abbrev pub child_text : Child → List ℕ
 child_text c = text_of c.content
-
--- the text without white space at its beginning
-abbrev pub without_leading : List ℕ → List ℕ
-without_leading text = drop (prefix_len is_space text) text
-
--- the text without white space at both ends
-abbrev pub trimmed : List ℕ → List ℕ
-trimmed text = reverse (without_leading (reverse (without_leading text)))
 
 -- a text construct (RFC 4287 section 3.1)
 abbrev pub construct : Child → Text

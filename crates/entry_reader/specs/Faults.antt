@@ -5,12 +5,13 @@ use Rattle.std.specs.Prelude.{if◌then◌else◌, Option, Some, None, is_some, 
 use Rattle.std.specs.List.{list_any}
 use Rattle.atom_values.specs.DateText.{States}
 use Rattle.atom_values.specs.Entry.{person_limit, link_limit, category_limit}
+use Rattle.atom_values.specs.Space.{trimmed}
 use Rattle.entry_reader.specs.declared.fault.Why.{Why}
 use Rattle.entry_reader.specs.declared.fault.Why.TheVariants.{NotUtf8, Doctype, NotWellFormed, TooDeep, NotAnEntry}
 use Rattle.entry_reader.specs.declared.fault.Why.TheVariants.{Xhtml, OutOfLine, Draft, Missing, Twice, BadDate, TooMany}
 use Rattle.entry_reader.specs.Tree.{Name, Content}
 use Rattle.entry_reader.specs.Tree.Content.{nothing, said, element}
-use Rattle.entry_reader.specs.Entry.{Child, atom, app, same_name, attribute, child, child_text, named, trimmed}
+use Rattle.entry_reader.specs.Entry.{Child, atom, app, same_name, attribute, child, child_text, named}
 
 -- where an element is: in the entry, a person, a text, or an element that is skipped
 pub data Within : Type 0 where

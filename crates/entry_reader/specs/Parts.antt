@@ -13,6 +13,7 @@ use Rattle.atom_values.specs.declared.text.TextKind.{TextKind}
 use Rattle.atom_values.specs.declared.text.TextKind.TheVariants.{Plain, Html}
 use Rattle.atom_values.specs.DateText.{States}
 use Rattle.atom_values.specs.Entry.{DraftValue}
+use Rattle.atom_values.specs.Space.{trimmed}
 use Rattle.entry_reader.specs.declared.elements.Elements.{Elements}
 use Rattle.entry_reader.specs.declared.entry.Parts.{Parts}
 use Rattle.entry_reader.specs.declared.fault.EntryFault.{EntryFault}
@@ -27,7 +28,7 @@ use Rattle.entry_reader.specs.Tokens.{Attribute}
 use Rattle.entry_reader.specs.Tree.{Name, Element, Content, Event, contents}
 use Rattle.entry_reader.specs.Tree.Content.{nothing, said, element}
 use Rattle.entry_reader.specs.Entry.{Child, IsMoment, IsReadAs, app, atom, attribute_in, category, child, child_text}
-use Rattle.entry_reader.specs.Entry.{children, construct, link, named, person, same_name, text_of, trimmed}
+use Rattle.entry_reader.specs.Entry.{children, construct, link, named, person, same_name, text_of}
 use Rattle.entry_reader.specs.Faults.{Within, IsFaultless, IsFirstFault, Seen, all_seen, is_one_of, person_parts}
 use Rattle.entry_reader.specs.Faults.Within.{in_entry, in_person}
 use Rattle.entry_reader.specs.Refusal.{IsNoEntryAt}

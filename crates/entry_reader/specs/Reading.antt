@@ -8,6 +8,7 @@ use Rattle.std.specs.List.{list_all, AllZip}
 use Rattle.std.specs.Str.Parse.{IsNumeral, digits_value}
 use Rattle.atom_values.specs.Ascii.{ampersand, colon, less_than}
 use Rattle.atom_values.specs.XmlText.{is_xml_char, IsXmlText}
+use Rattle.atom_values.specs.Space.{is_space}
 use Rattle.entry_reader.specs.declared.cursor.Lapse.{Lapse}
 use Rattle.entry_reader.specs.declared.cursor.Lapse.TheVariants.{Broken, Cut, NoMemory}
 use Rattle.entry_reader.specs.declared.declaration.Encoding.{Encoding}
@@ -24,7 +25,7 @@ use Rattle.entry_reader.specs.declared.token.Token.{Token as RawToken}
 use Rattle.entry_reader.specs.declared.token.Token.TheVariants.{Declaration, Silent, Characters as Run, Reference}
 use Rattle.entry_reader.specs.declared.token.Token.TheVariants.{Section, Tag as TagToken, EndTag}
 use Rattle.entry_reader.specs.Characters.{QName, IsQName, IsName, IsNamed, IsReference, begins, name_text, AreSpaces}
-use Rattle.entry_reader.specs.Characters.{IsGap, is_space}
+use Rattle.entry_reader.specs.Characters.{IsGap}
 use Rattle.entry_reader.specs.Characters.{continues_name, lacks, lines}
 use Rattle.entry_reader.specs.Tokens.{Attribute, Tag, IsComment, IsDeclaration, IsInstruction, IsQuote, IsTag, IsValue}
 use Rattle.entry_reader.specs.Tokens.{is_utf8_name, is_encoding_name}

@@ -1,9 +1,12 @@
 ghost use Rattle.std.specs.Prelude.{◌≡◌, ℕ, ◌≤◌, ◌++◌, ◌==◌, ◌||◌, not, position, length, min, IsTrue, MatchOption};
 ghost use Rattle.std.specs.Prelude.{MatchResult, Ok, Err};
-ghost use Rattle.entry_reader.specs.Characters.{begins, lacks, is_space, begins_name, continues_name};
+ghost use Rattle.atom_values.specs.Space.{is_space};
+ghost use Rattle.entry_reader.specs.Characters.{begins, lacks, begins_name, continues_name};
 ghost use Rattle.entry_reader.specs.Reading.{Reads, exactly, IsSpaceRead, whole_name, whole_qname, up_to_end};
 ghost use Rattle.entry_reader.specs.Reading.{one_quote};
 ghost use Rattle.entry_reader.specs.Reading.{equals_sign, IsCutBefore, IsFirstPlace, a_gap, is_plain, IsPlainRun};
+
+use atom_values::is_space;
 
 /// Why no token is read.
 #[derive(Clone, Copy, Debug, PartialEq, Eq)]
@@ -14,13 +17,6 @@ pub(crate) enum Lapse {
     Cut,
     /// Out of memory.
     NoMemory,
-}
-
-/// Whether the byte is white space (XML 1.0, production 3).
-pub(crate) fn is_space(byte: u8) -> bool
-    ensures { result ≡ is_space byte }
-{
-    matches!(byte, b' ' | b'\t' | b'\n' | b'\r')
 }
 
 /// Whether a name may begin with the byte. From U+80 on each character may stand in a name.

@@ -1,8 +1,9 @@
-ghost use Rattle.std.specs.Prelude.{◌≡◌, ◌≢◌, ◌⊎◌, ℕ, ◌+◌, ◌<◌, ◌≤◌, List, [], ◌∷◌, ◌++◌, length, reverse, take, drop, false, Ok, Some, None};
+ghost use Rattle.std.specs.Prelude.{◌≡◌, ◌≢◌, ◌⊎◌, ℕ, ◌+◌, ◌<◌, ◌≤◌, List, [], ◌∷◌, ◌++◌, length, take, drop, false, Ok, Some, None};
 ghost use Rattle.std.specs.Prelude.{IfOk, OnOk, IsSome, IsTrue, option_map};
 ghost use Rattle.atom_values.specs.XmlText.{IsXmlText};
+ghost use Rattle.atom_values.specs.Space.{trimmed};
 ghost use Rattle.entry_reader.specs.Characters.{IsName};
-ghost use Rattle.entry_reader.specs.Entry.{app, atom, same_name, trimmed, without_leading};
+ghost use Rattle.entry_reader.specs.Entry.{app, atom, same_name};
 ghost use Rattle.entry_reader.specs.Tree.{Element as TreeElement, mark_of};
 ghost use Rattle.entry_reader.specs.Spells.{depth_limit};
 ghost use Rattle.entry_reader.specs.Reading.{IsTagOnly, IsTagTo, IsTokenRead};
@@ -15,14 +16,14 @@ ghost use Rattle.entry_reader.specs.declared.fault.EntryFault.{EntryFault};
 ghost use Rattle.entry_reader.specs.declared.fault.Why.{Why};
 ghost use Rattle.entry_reader.specs.declared.elements.Event.{Event};
 
-use crate::cursor::{Cursor, Lapse, is_space};
+use crate::cursor::{Cursor, Lapse};
 use crate::declaration::Encoding;
 use crate::fault::{EntryFault, Why};
 use crate::scopes::{Namespace, Scopes, split_name};
 use crate::tag::{Attribute, Tag, TagEnd};
 use crate::token::{Context, Token};
 use crate::value::{push_character, push_lines, value};
-use atom_values::NoMemory;
+use atom_values::{NoMemory, trimmed};
 use std::alloc::Global;
 
 /// The byte order mark that may stand before the text (Unicode section 23.8).
@@ -108,7 +109,7 @@ impl Content {
     pub(crate) fn trimmed(&self) -> &[u8]
         ensures { result.now ≡ trimmed self.now.text.items }
     {
-        without_trailing(without_leading(self.text.as_slice()))
+        trimmed(self.text.as_slice())
     }
 
     /// Adds an event inside the element. `depth` is the number of the elements that are open in it.
@@ -125,34 +126,6 @@ impl Content {
             Event::Said(_) | Event::End => Ok(()),
         }
     }
-}
-
-/// The text without white space at its beginning.
-fn without_leading(text: &[u8]) -> &[u8]
-    ensures { result.now ≡ without_leading text.now }
-{
-    let mut rest = text;
-    while let Some((byte, tail)) = rest.split_first() {
-        if !is_space(*byte) {
-            return rest;
-        }
-        rest = tail;
-    }
-    rest
-}
-
-/// The text without white space at its end.
-fn without_trailing(text: &[u8]) -> &[u8]
-    ensures { result.now ≡ reverse (without_leading (reverse text.now)) }
-{
-    let mut rest = text;
-    while let Some((byte, front)) = rest.split_last() {
-        if !is_space(*byte) {
-            return rest;
-        }
-        rest = front;
-    }
-    rest
 }
 
 /// The text without the byte order mark.

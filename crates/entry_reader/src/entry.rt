@@ -3,9 +3,10 @@ ghost use Rattle.atom_values.specs.Entry.{DraftValue, IsDraft};
 ghost use Rattle.entry_reader.specs.Spells.{Spells, entry_limit};
 ghost use Rattle.entry_reader.specs.Refusal.{IsRefusedAt};
 ghost use Rattle.atom_values.specs.Entry.{person_limit, link_limit, category_limit};
+ghost use Rattle.atom_values.specs.Space.{trimmed};
 ghost use Rattle.entry_reader.specs.Tree.{Name, Element as TreeElement, Content as Inner};
 ghost use Rattle.entry_reader.specs.Tree.Content.{nothing};
-ghost use Rattle.entry_reader.specs.Entry.{IsReadAs, app, atom, attribute_in, category, child, link, person, text_of, trimmed};
+ghost use Rattle.entry_reader.specs.Entry.{IsReadAs, app, atom, attribute_in, category, child, link, person, text_of};
 ghost use Rattle.entry_reader.specs.Faults.{constructs, dates, is_one_of, persons as person_names};
 ghost use Rattle.entry_reader.specs.Faults.Within.{in_entry};
 ghost use Rattle.entry_reader.specs.Progress.{IsXmlLength, IsNotUtf8Fault, Point, IsAt, IsElementOf, IsOver, IsReading};
@@ -19,12 +20,11 @@ ghost use Rattle.entry_reader.specs.declared.fault.Why.{Why};
 use crate::elements::{Element, Elements, Event, broken};
 use crate::fault::{EarlyEnd, EntryFault, Why};
 use crate::person::person;
-use crate::reference::is_xml_char;
 use crate::rules::Ruled;
 use crate::text::{attribute_text, copied_text, inner_fault, kind, text};
 use atom_values::{
     AtomText, Category, Draft, Link, ListFault, MAX_CATEGORIES, MAX_LINKS, MAX_PERSONS, Many,
-    NoMemory, Person, Stamp, Text, TextKind,
+    NoMemory, Person, Stamp, Text, TextKind, is_xml_char,
 };
 use std::alloc::Global;
 

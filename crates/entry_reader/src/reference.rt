@@ -5,19 +5,10 @@ ghost use Rattle.entry_reader.specs.Characters.{IsReference};
 ghost use Rattle.entry_reader.specs.Reading.{Reads, named_behind, numbered_behind};
 
 use crate::cursor::{Cursor, Lapse};
+use atom_values::is_xml_char;
 
 /// The greatest code point.
 const LAST_CHAR: u32 = 0x10_FFFF;
-
-/// Whether the character may stand in XML text (XML 1.0, production 2).
-pub(crate) fn is_xml_char(c: char) -> bool
-    ensures { result ≡ is_xml_char c }
-{
-    matches!(
-        c,
-        '\t' | '\n' | '\r' | '\u{20}'..='\u{D7FF}' | '\u{E000}'..='\u{FFFD}' | '\u{10000}'..
-    )
-}
 
 /// The value of a digit in base `base`. `None` if the byte isn't a digit of it.
 fn digit(byte: u8, base: u32) -> Option<u32>

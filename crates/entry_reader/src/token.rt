@@ -5,9 +5,10 @@ ghost use Rattle.entry_reader.specs.declared.token.Context.TheVariants.{Start};
 ghost use Rattle.entry_reader.specs.Reading.{Reads, a_comment, written_section, written_end_tag};
 ghost use Rattle.entry_reader.specs.Reading.{IsForeignRead, an_instruction, begins_declaration, instruction_end, ReadsTagToken, ReadsBlank, ReadsSaid, IsFitPlace, IsInContent, ReadsToken, Starts, foreign_declaration};
 
-use crate::cursor::{Cursor, Lapse, is_space};
+use crate::cursor::{Cursor, Lapse};
 use crate::declaration::Encoding;
 use crate::tag::Tag;
+use atom_values::is_space;
 use std::alloc::Global;
 
 /// A token of a document.

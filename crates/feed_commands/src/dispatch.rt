@@ -42,7 +42,7 @@ use crate::fault::Fault;
 use crate::status::Status;
 use atom_values::{Failed, Many};
 use doc_source::{Fetch, Sink, Source, write_all};
-use document_server::{Clock, Door, Line};
+use document_server::{Clock, Door, Line, MAX_CONNECTIONS};
 use feed_disk::Disk;
 use feed_life::Life;
 use std::alloc::Global;
@@ -54,7 +54,7 @@ pub struct Ended {
     /// The exit status: the code of a `Status`.
     pub status: u8,
     /// The connections that `serve` served, in order. Empty for each other command.
-    pub lines: Many<Line, 1_000_000>,
+    pub lines: Many<Line, MAX_CONNECTIONS>,
     /// The life that a `drill` ran, if its summary was printed. `None` for each other command.
     pub life: Option<Life>,
 }

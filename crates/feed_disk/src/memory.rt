@@ -9,7 +9,7 @@ use crate::area_record::AreaRecord;
 use crate::areas::Areas;
 use crate::choice::Choice;
 use crate::disk::Disk;
-use atom_values::{Bytes, Failed, ListedCalls, Many, NoMemory};
+use atom_values::{Bytes, Failed, ListedCalls, MAX_FAILING, Many, NoMemory};
 use std::alloc::Global;
 use std::marker::Model;
 
@@ -47,7 +47,7 @@ impl MemoryDisk {
         journal: Bytes,
         sealed: Bytes,
         mirror: Bytes,
-        failing: Many<u64, 64>,
+        failing: Many<u64, MAX_FAILING>,
     ) -> MemoryDisk
         ensures { result ≡ fresh_disk journal sealed mirror failing.items }
     {

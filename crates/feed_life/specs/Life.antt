@@ -29,6 +29,10 @@ pub record LifeValue : Type 0 where
   pub mirror_stops : ℕ
   pub lost : Bool
 
+-- the greatest number of mirrors of a life
+abbrev pub mirror_limit : ℕ
+mirror_limit = 100
+
 -- a disk without content, none of whose calls is listed to fail
 abbrev pub empty_disk : MemoryValue
 empty_disk = fresh_disk [] [] [] []

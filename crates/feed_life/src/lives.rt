@@ -1,7 +1,7 @@
 ghost use Rattle.std.specs.Prelude.{◌≡◌, ◌≤◌, List, [], false, true, length, map, All, IfOk, OnErr, OnOk};
 ghost use Rattle.std.specs.Prelude.{◌++◌};
 ghost use Rattle.atom_values.specs.Counts.{counted};
-ghost use Rattle.feed_life.specs.Life.{IsStoreOf, Lives, empty_disk};
+ghost use Rattle.feed_life.specs.Life.{IsStoreOf, Lives, empty_disk, mirror_limit};
 ghost use Rattle.feed_life.specs.Asks.{IsAsked, IsHalted, docs_of};
 ghost use Rattle.member_rules.specs.Head.{IsHead};
 ghost use Rattle.member_rules.specs.declared.operation.Op.{Op as Operation};
@@ -73,7 +73,7 @@ impl Model for Life {
 impl Life {
     /// Returns a life whose store has this head and no operation, and whose mirrors hold nothing.
     pub fn new(alloc: Global, head: &Head, mirrors: u32) -> Result<Life, NoMemory>
-        requires { mirrors ≤ 100 }
+        requires { mirrors ≤ mirror_limit }
         ensures head { IfOk result (λ life. life.head ≡ head.now) }
         ensures mirrors { IfOk result (λ life. length life.mirrors ≡ mirrors) }
         ensures lives { IfOk result (λ life. Lives life [] (map (λ _. []) life.mirrors)) }

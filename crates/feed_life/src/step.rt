@@ -2,7 +2,7 @@ ghost use Rattle.std.specs.Prelude.{◌≡◌, ◌≤◌, ◌<◌, false, true, 
 ghost use Rattle.std.specs.Prelude.{◌++◌, OnOk, None, Some};
 ghost use Rattle.feed_life.specs.Events.{IsLifeOf, IsStep, with_stop};
 ghost use Rattle.feed_life.specs.Headline.{KeepsAll};
-ghost use Rattle.feed_life.specs.Life.{IsMirrorOf, IsSentBy, IsStoreOf, Lives};
+ghost use Rattle.feed_life.specs.Life.{IsMirrorOf, IsSentBy, IsStoreOf, Lives, mirror_limit};
 ghost use Rattle.feed_life.specs.Mirrors.{IsCertified, IsShown, LeavesGiven, LeavesWalked};
 ghost use Rattle.feed_life.specs.declared.event.Event.{Event as EventValue};
 ghost use Rattle.member_rules.specs.declared.operation.Op.{Op as Operation};
@@ -32,7 +32,7 @@ use std::alloc::Global;
 ///
 /// `NoMemory` if memory runs out. Costs as much as [`Life::step`] for each event.
 pub fn life(alloc: Global, head: &Head, mirrors: u32, events: &[Event]) -> Result<Life, NoMemory>
-    requires { mirrors ≤ 100 }
+    requires { mirrors ≤ mirror_limit }
     ensures lived { IfOk result (IsLifeOf head.now mirrors events.now) }
     ensures headline { IfOk result (λ life. (first rest : List EventValue) → events.now ≡ first ++ rest
         → KeepsAll head.now mirrors first life) }

@@ -117,15 +117,15 @@ impl Error for LoadFault {}
 impl fmt::Display for PrepareFault {
     fn fmt<W: fmt::Write>(&self, f: &mut fmt::Formatter<W>) -> fmt::Result {
         match self {
-            PrepareFault::Rule(fault) => write!(f, "the rules refuse it: {fault:?}"),
+            PrepareFault::Rule(fault) => write!(f, "{fault}"),
             PrepareFault::Full {
+                area,
                 size,
                 needed,
                 capacity,
-                ..
             } => write!(
                 f,
-                "{size} bytes have no room for {needed} within {capacity}"
+                "the {area} area has {size} bytes, and no room for {needed} more within {capacity}"
             ),
             PrepareFault::NoMemory => write!(f, "no memory"),
         }
@@ -141,7 +141,9 @@ impl fmt::Display for ArchiveFault {
                 write!(f, "archive {number} is none of the {sealed} sealed ones")
             }
             ArchiveFault::DiskFault => write!(f, "disk fault"),
-            ArchiveFault::Changed { index } => write!(f, "seal {index} has changed"),
+            ArchiveFault::Changed { index } => {
+                write!(f, "payload {index} of the sealed area has changed")
+            },
             ArchiveFault::NoMemory => write!(f, "no memory"),
         }
     }

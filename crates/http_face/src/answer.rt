@@ -9,7 +9,7 @@ use crate::fault::ResponseFault;
 use std::alloc::{AllocError, Global};
 
 /// The most bytes that are read at a time.
-const PIECE: usize = 65_536;
+const CHUNK: usize = 65_536;
 
 /// Reads at most `most` bytes, and fewer only if the connection ends before. They begin with the bytes that
 /// were read ahead. Memory is taken as the bytes come, and each byte is copied a fixed number of times on
@@ -33,25 +33,25 @@ pub(crate) fn read_up_to<C: Conn>(
 {
     let start = ahead.len().min(most);
     let body = Vec::from_slice(alloc, &ahead[..start])?;
-    let mut piece = piece_of(alloc)?;
-    read_on(conn, body, &mut piece, most)
+    let mut chunk = chunk_of(alloc)?;
+    read_on(conn, body, &mut chunk, most)
 }
 
 /// The room for the bytes of one read.
-fn piece_of(alloc: Global) -> Result<Vec<u8>, AllocError>
-    ensures { IfOk result (λ piece. 0 < vec_len piece) }
+fn chunk_of(alloc: Global) -> Result<Vec<u8>, AllocError>
+    ensures { IfOk result (λ chunk. 0 < vec_len chunk) }
 {
-    vec![in alloc; 0; PIECE]
+    vec![in alloc; 0; CHUNK]
 }
 
 /// Reads after the bytes of the body until it has `most` bytes or the connection ends.
 fn read_on<C: Conn>(
     conn: &mut C,
     mut body: Vec<u8>,
-    piece: &mut [u8],
+    chunk: &mut [u8],
     most: usize,
 ) -> Result<Vec<u8>, ResponseFault>
-    requires room { 0 < length piece.old }
+    requires room { 0 < length chunk.old }
     requires short { vec_len body ≤ most }
     ensures bytes { IfOk result (λ whole. C.told
         → whole.items ≡ take most (body.items ++ (C.state conn.old).left)) }
@@ -65,8 +65,8 @@ fn read_on<C: Conn>(
         → (C.state conn.new).faults ≡ (C.state conn.old).faults }
 {
     while body.len() < most {
-        let room = piece.len().min(most - body.len());
-        let count = append(conn, &mut body, &mut piece[..room])?;
+        let room = chunk.len().min(most - body.len());
+        let count = append(conn, &mut body, &mut chunk[..room])?;
         if count == 0 {
             return Ok(body);
         }
@@ -78,16 +78,16 @@ fn read_on<C: Conn>(
 fn append<C: Conn>(
     conn: &mut C,
     body: &mut Vec<u8>,
-    piece: &mut [u8],
+    chunk: &mut [u8],
 ) -> Result<usize, ResponseFault>
-    ensures within { IfOk result (λ count. count ≤ length piece.old) }
+    ensures within { IfOk result (λ count. count ≤ length chunk.old) }
     ensures len { IfOk result (λ count. vec_len body.new ≡ vec_len body.old + count) }
     ensures bytes { IfOk result (λ count. C.told → body.old.items ++ (C.state conn.old).left
         ≡ body.new.items ++ (C.state conn.new).left) }
-    ensures end { IfOk result (λ count. C.told → count ≡ 0 → 0 < length piece.old
+    ensures end { IfOk result (λ count. C.told → count ≡ 0 → 0 < length chunk.old
         → (C.state conn.old).left ≡ []) }
     ensures own { result ≢ Err ResponseFault.BadResponse }
-    ensures most { C.told → TakesAtMost (length piece.old) (C.state conn.old) (C.state conn.new) }
+    ensures most { C.told → TakesAtMost (length chunk.old) (C.state conn.old) (C.state conn.new) }
     ensures read { IfOk result (λ count. C.told → TakesAtMost count (C.state conn.old) (C.state conn.new)) }
     ensures reads { Reads (C.state conn.old) (C.state conn.new) }
     ensures failed { result ≡ Err ResponseFault.ConnFault
@@ -95,7 +95,7 @@ fn append<C: Conn>(
     ensures unfailed { result ≢ Err ResponseFault.ConnFault
         → (C.state conn.new).faults ≡ (C.state conn.old).faults }
 {
-    let count = conn.read(piece)?;
-    body.extend_from_slice(&piece[..count])?;
+    let count = conn.read(chunk)?;
+    body.extend_from_slice(&chunk[..count])?;
     Ok(count)
 }

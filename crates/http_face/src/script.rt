@@ -6,7 +6,7 @@ ghost use Rattle.atom_values.specs.ListedCalls.{after_call, next_call_fails};
 ghost use Rattle.http_face.specs.Conn.{ConnState, Reads, Writes};
 
 use crate::conn::Conn;
-use atom_values::{Bytes, Failed, ListedCalls, Many};
+use atom_values::{Bytes, Failed, ListedCalls, MAX_FAILING, Many};
 use feed_disk::Disk;
 use std::alloc::Global;
 
@@ -25,7 +25,7 @@ pub struct ScriptConn {
 impl ScriptConn {
     /// The connection before its first call, whose client sends `bytes`. Reads and writes are numbered together from 1,
     /// and those in `failing` fail.
-    pub fn new(alloc: Global, bytes: Bytes, failing: Many<u64, 64>) -> ScriptConn
+    pub fn new(alloc: Global, bytes: Bytes, failing: Many<u64, MAX_FAILING>) -> ScriptConn
         ensures { ⟦<ScriptConn as Conn>⟧.state result
             ≡ record { left = bytes; sent = []; faults = 0; begun = None } }
     {

@@ -28,7 +28,7 @@ pub fn write_reply<C: Conn>(conn: &mut C, reply: &Reply) -> Result<(), CutOff>
     ensures counts { HasCause (C.state conn.old).faults (C.state conn.new).faults result }
 {
     let mut waiting = Waiting {
-        buffer: [0; 2_048],
+        buffer: [0; ROOM],
         filled: 0,
         sent: 0,
     };
@@ -148,7 +148,7 @@ fn make_room<C: Conn>(conn: &mut C, waiting: &mut Waiting, size: usize) -> Resul
         (put_state (C.state conn.new).sent waiting.new) result }
     ensures writes { Writes (C.state conn.old) (C.state conn.new) }
     ensures counts { HasCause (C.state conn.old).faults (C.state conn.new).faults result }
-    ensures fits { OnOk result (2_048 < size + waiting.new.filled → waiting.new.filled ≡ 0) }
+    ensures fits { OnOk result (ROOM < size + waiting.new.filled → waiting.new.filled ≡ 0) }
 {
     if size > ROOM - waiting.filled {
         flush(conn, waiting)

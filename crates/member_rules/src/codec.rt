@@ -41,7 +41,7 @@ pub enum CodecFault {
 impl fmt::Display for CodecFault {
     fn fmt<W: fmt::Write>(&self, f: &mut fmt::Formatter<W>) -> fmt::Result {
         match self {
-            CodecFault::BadField { at } => write!(f, "no field can stand at byte {at}"),
+            CodecFault::BadField { at } => write!(f, "the field at byte {at} is bad"),
             CodecFault::NoMemory => write!(f, "out of memory"),
         }
     }

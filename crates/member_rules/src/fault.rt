@@ -1,4 +1,7 @@
+use crate::decision::ENTRY_LIMIT;
 use atom_values::{AtomText, Stamp};
+use std::error::Error;
+use std::fmt;
 
 /// Why [`crate::decide`] refuses an ask.
 #[derive(Debug, Drop)]
@@ -17,3 +20,23 @@ pub enum RuleFault {
     /// Memory ran out. `decide` never answers this; it is for calls that pass its refusals on.
     NoMemory,
 }
+
+impl fmt::Display for RuleFault {
+    fn fmt<W: fmt::Write>(&self, f: &mut fmt::Formatter<W>) -> fmt::Result {
+        match self {
+            RuleFault::NotFound { number } => write!(f, "there is no member {number}"),
+            RuleFault::Deleted { number, .. } => write!(f, "member {number} was deleted"),
+            RuleFault::OtherId { number, .. } => {
+                write!(f, "the entry has another identifier than member {number}")
+            }
+            RuleFault::ClockSpent { .. } => write!(f, "no later timestamp is left"),
+            RuleFault::TooLarge { length } => write!(
+                f,
+                "the entry takes {length} bytes, and at most {ENTRY_LIMIT} are allowed"
+            ),
+            RuleFault::NoMemory => write!(f, "out of memory"),
+        }
+    }
+}
+
+impl Error for RuleFault {}

@@ -14,7 +14,7 @@ fn a_refusal_is_one_sentence(rt: HostRuntime) {
     for (refusal, sentence) in [
         (
             Offered::NotADocument { at: 7 },
-            "not a feed document: no piece can stand at byte 7",
+            "not a feed document: no piece of one begins at byte 7",
         ),
         (
             Offered::WrongAddress {

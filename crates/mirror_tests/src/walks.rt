@@ -9,7 +9,7 @@ use crate::feeds::{Feed, Given, OTHER_ID, address, base, bytes, letters, letters
 use crate::mirrors::{load, outcome_text, refusal_text};
 use Given::{Archive, Version};
 use atom_values::{Bytes, Many};
-use doc_source::{Offer, PileFetch};
+use doc_source::{MAX_OFFERS, Offer, PileFetch};
 use feed_disk::{Disk, MemoryDisk};
 use mirror_walk::{Mirror, WalkFault, Walked};
 use std::alloc::Global;
@@ -235,7 +235,7 @@ fn source(rt: &impl Abort, alloc: Global, feeds: &Feeds, all: &[Found], failing:
 }
 
 /// The offers of the documents of a source.
-fn offers(rt: &impl Abort, alloc: Global, feeds: &Feeds, all: &[Found]) -> Many<Offer, 100_000>
+fn offers(rt: &impl Abort, alloc: Global, feeds: &Feeds, all: &[Found]) -> Many<Offer, MAX_OFFERS>
     ensures { All (λ offer. length offer.bytes ≤ offer_limit) result.items }
 {
     let mut offers = Many::new(alloc);

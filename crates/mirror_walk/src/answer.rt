@@ -64,7 +64,10 @@ impl fmt::Display for Offered {
     fn fmt<W: fmt::Write>(&self, f: &mut fmt::Formatter<W>) -> fmt::Result {
         match self {
             Offered::NotADocument { at } => {
-                write!(f, "not a feed document: no piece can stand at byte {at}")
+                write!(
+                    f,
+                    "not a feed document: no piece of one begins at byte {at}"
+                )
             }
             Offered::WrongAddress { .. } => write!(f, "the document has another address"),
             Offered::WrongFeed { .. } => write!(f, "the document is of another feed"),

@@ -4,7 +4,7 @@
 //! words, the clock, the input and the output of a run. The functions that make a disk are few, and all others borrow
 //! it.
 
-use atom_values::{Bytes, Many};
+use atom_values::{Bytes, MAX_FAILING, Many};
 use doc_source::{Fetch, ListSink, ListSource, PileFetch};
 use document_server::{Door, ScriptDoor, SetClock};
 use feed_commands::{Ended, run};
@@ -50,7 +50,7 @@ impl End {
 }
 
 /// A list of one failing call, or of none if `call` is 0.
-pub fn listed(rt: &impl Abort, alloc: Global, call: u64) -> Many<u64, 64> {
+pub fn listed(rt: &impl Abort, alloc: Global, call: u64) -> Many<u64, MAX_FAILING> {
     let mut calls = Many::new(alloc);
     if call != 0 {
         calls.push(call).expect(rt, "memory");

@@ -69,10 +69,17 @@ fn a_fault_of_an_opening_is_one_sentence(rt: HostRuntime) {
 
 #[test]
 fn a_refused_request_is_one_sentence(rt: HostRuntime) {
+    for (area, want) in [
+        (Area::Journal, "journal"),
+        (Area::Sealed, "sealed"),
+        (Area::Mirror, "mirror"),
+    ] {
+        compare(&rt, rt.alloc(), &area, want);
+    }
     for (fault, want) in [
         (
             PrepareFault::Rule(RuleFault::NotFound { number: 3 }),
-            "the rules refuse it: NotFound { number: 3 }",
+            "there is no member 3",
         ),
         (
             PrepareFault::Full {
@@ -81,7 +88,7 @@ fn a_refused_request_is_one_sentence(rt: HostRuntime) {
                 needed: 1_649,
                 capacity: 4_096,
             },
-            "2544 bytes have no room for 1649 within 4096",
+            "the sealed area has 2544 bytes, and no room for 1649 more within 4096",
         ),
         (PrepareFault::NoMemory, "no memory"),
     ] {
@@ -98,7 +105,10 @@ static ARCHIVE: [(ArchiveFault, &str); 4] = [
         "archive 5 is none of the 4 sealed ones",
     ),
     (ArchiveFault::DiskFault, "disk fault"),
-    (ArchiveFault::Changed { index: 2 }, "seal 2 has changed"),
+    (
+        ArchiveFault::Changed { index: 2 },
+        "payload 2 of the sealed area has changed",
+    ),
     (ArchiveFault::NoMemory, "no memory"),
 ];
 

@@ -1,7 +1,7 @@
 //! Entries that are made of drafts.
 
 use crate::samples::{full_draft, full_link, link, same, stamp, text};
-use atom_values::{Draft, Entry, Link, Many, Stamp, Text, TextKind};
+use atom_values::{Draft, Entry, Link, MAX_LINKS, Many, Stamp, Text, TextKind};
 use std::alloc::Global;
 use std::process::Abort;
 
@@ -92,7 +92,7 @@ fn keeps_the_other_fields(rt: HostRuntime) {
     compare_with_samples(&rt, rt.alloc(), &entry);
 }
 
-fn links(rt: &impl Abort, alloc: Global, relations: &[&[u8]]) -> Many<Link, 32> {
+fn links(rt: &impl Abort, alloc: Global, relations: &[&[u8]]) -> Many<Link, MAX_LINKS> {
     let mut links = Many::new(alloc);
     for relation in relations {
         links.push(link(rt, alloc, relation)).expect(rt, "a link");

@@ -1,6 +1,9 @@
 //! The values that several tests use. They end the test where memory runs out, which is cheaper to prove than `?`.
 
-use atom_values::{AtomText, Category, Draft, Link, Many, Person, Stamp, Text, TextKind};
+use atom_values::{
+    AtomText, Category, Draft, Link, MAX_CATEGORIES, MAX_LINKS, MAX_PERSONS, Many, Person, Stamp,
+    Text, TextKind,
+};
 use std::alloc::Global;
 use std::process::Abort;
 
@@ -69,20 +72,20 @@ pub fn category(rt: &impl Abort, alloc: Global) -> Category {
     }
 }
 
-fn persons(rt: &impl Abort, alloc: Global) -> Many<Person, 16> {
+fn persons(rt: &impl Abort, alloc: Global) -> Many<Person, MAX_PERSONS> {
     let mut persons = Many::new(alloc);
     persons.push(person(rt, alloc)).expect(rt, "a person");
     persons
 }
 
-fn links(rt: &impl Abort, alloc: Global) -> Many<Link, 32> {
+fn links(rt: &impl Abort, alloc: Global) -> Many<Link, MAX_LINKS> {
     let mut links = Many::new(alloc);
     links.push(link(rt, alloc, b"edit")).expect(rt, "a link");
     links.push(full_link(rt, alloc)).expect(rt, "a link");
     links
 }
 
-fn categories(rt: &impl Abort, alloc: Global) -> Many<Category, 64> {
+fn categories(rt: &impl Abort, alloc: Global) -> Many<Category, MAX_CATEGORIES> {
     let mut categories = Many::new(alloc);
     categories
         .push(category(rt, alloc))

@@ -1,6 +1,6 @@
 //! Texts, and their escaped forms.
 
-use atom_values::{AtomText, TextFault, escape_into, escaped_len, unescape};
+use atom_values::{AtomText, TextFault, escape_into, escaped_len, trimmed, unescape};
 
 /// Bytes, and the offset of the first that is no XML character.
 static TEXTS: [(&[u8], Option<usize>); 12] = [
@@ -115,5 +115,22 @@ fn reads_back_what_is_escaped(rt: HostRuntime) {
             text.as_ref().map(|text| text.bytes()) == bytes,
             "{written:?}"
         );
+    }
+}
+
+/// Texts, and what is left of them without the white space at their ends.
+static TRIMMED: [(&[u8], &[u8]); 5] = [
+    (b"", b""),
+    (b" \t\r\n", b""),
+    (b"\n a\t b\r ", b"a\t b"),
+    (b"a", b"a"),
+    // A form feed and a no-break space aren't white space of XML.
+    (b" \x0Ca\xC2\xA0 ", b"\x0Ca\xC2\xA0"),
+];
+
+#[test]
+fn trims_white_space_of_xml(rt: HostRuntime) {
+    for (text, want) in &TRIMMED {
+        assert!(rt; trimmed(text) == *want, "{text:?}");
     }
 }

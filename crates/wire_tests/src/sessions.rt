@@ -8,7 +8,7 @@ use crate::answer_faults::DISK;
 use crate::conns::{conn_of, disk_of};
 use crate::stores::{CAPACITY, NOW, init, post_of, store_disk};
 use atom_values::Many;
-use document_server::{Door, End, Line, ScriptDoor, ServeEnd, SetClock, serve};
+use document_server::{Door, End, Line, MAX_CONNECTIONS, ScriptDoor, ServeEnd, SetClock, serve};
 use feed_disk::{Choice, Disk, MemoryDisk};
 use feed_recovery::{LoadFault, Store};
 use http_face::{Conn, ScriptConn};
@@ -25,7 +25,7 @@ type Told = (u16, u32, bool);
 type Row = (Client, Told, &'static [u8], &'static [u8]);
 
 /// Returns the connections of the rows.
-fn conns_of(rt: &impl Abort, alloc: Global, rows: &[Row]) -> Many<ScriptConn, 1_000_000>
+fn conns_of(rt: &impl Abort, alloc: Global, rows: &[Row]) -> Many<ScriptConn, MAX_CONNECTIONS>
     ensures { All (λ conn. (⟦<ScriptConn as Conn>⟧.state conn).begun ≡ None) result.items }
 {
     let mut conns = Many::new(alloc);

@@ -1,6 +1,7 @@
 ghost use Rattle.std.specs.Prelude.{◌≡◌, ◌≢◌, ℕ, ◌≤◌, ◌<◌, ◌+◌, ◌∷◌, [], ◌++◌, List, length, Some, None, Ok, Err, IfOk, IfErr, OnOk};
 ghost use Rattle.atom_values.specs.Counts.{Rose};
 ghost use Rattle.member_rules.specs.declared.operation.Op.{Op};
+ghost use Rattle.member_rules.specs.Head.{window_limit};
 ghost use Rattle.member_rules.specs.History.{IsLawful, MayFollow, history_limit};
 ghost use Rattle.member_rules.specs.Table.{IsTableOf};
 ghost use Rattle.feed_commands.specs.declared.status.Status.TheVariants as status;
@@ -39,7 +40,7 @@ impl From<LinesFault> for Fault {
 
 /// Returns the head that `apply W` uses. It is fixed but for the window.
 pub fn test_head(alloc: Global, window: u32) -> Result<Head, NoMemory>
-    requires { (1 ≤ window) × (window ≤ 100) }
+    requires { (1 ≤ window) × (window ≤ window_limit) }
     ensures { IfOk result (λ head. head ≡ test_head window) }
 {
     let Ok(base) = Base::parse(alloc, b"http://feed.example/") else {
@@ -152,7 +153,7 @@ pub fn apply<C: Clock, I: Source>(
     clock: &mut C,
     input: &mut I,
 ) -> Result<Vec<u8>, Fault>
-    requires { (1 ≤ window) × (window ≤ 100) }
+    requires { (1 ≤ window) × (window ≤ window_limit) }
     ensures answer { IfOk result (λ written. I.told → C.told
         → answer (test_head window) (C.coming clock.old) (I.state input.old).left
         ≡ record { status = status.Done; printed = written.items }) }

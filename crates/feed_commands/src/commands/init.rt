@@ -4,6 +4,7 @@ ghost use Rattle.feed_disk.specs.Moments.{LeavesAlone};
 ghost use Rattle.feed_disk.specs.declared.area.Area.TheVariants.{Mirror};
 ghost use Rattle.feed_commands.specs.declared.status.Status.TheVariants as status;
 ghost use Rattle.feed_recovery.specs.Settled.{LeavesStores};
+ghost use Rattle.member_rules.specs.Head.{capacity_floor, capacity_limit, title_limit, window_limit};
 ghost use Rattle.feed_commands.specs.Crash.{MakesStoreAt};
 ghost use Rattle.feed_commands.specs.Fault.{fault_answer, IsRefusal};
 ghost use Rattle.feed_commands.specs.Stored.{IsInitAnswer};
@@ -30,10 +31,10 @@ pub fn init<D: Disk, C: Clock>(
     disk: &mut D,
     clock: &mut C,
 ) -> Result<Vec<u8>, Fault>
-    requires window { (1 ≤ window) × (window ≤ 100) }
-    requires capacity { (4_096 ≤ capacity) × (capacity ≤ 68_719_476_736) }
-    requires title { length name.title ≤ 1_024 }
-    requires author { length name.author ≤ 1_024 }
+    requires window { (1 ≤ window) × (window ≤ window_limit) }
+    requires capacity { (capacity_floor ≤ capacity) × (capacity ≤ capacity_limit) }
+    requires title { length name.title ≤ title_limit }
+    requires author { length name.author ≤ title_limit }
     ensures answer { IfOk result (λ written. D.told → IsInitAnswer (D.state disk.old).content
         record { status = status.Done; printed = written.items }) }
     ensures refused { IfErr result (λ fault. IsRefusal fault → D.told

@@ -3,6 +3,7 @@ ghost use Rattle.atom_values.specs.Counts.{HasCause, Rose};
 ghost use Rattle.feed_disk.specs.Moments.{LeavesAlone};
 ghost use Rattle.feed_disk.specs.declared.area.Area.TheVariants.{Mirror};
 ghost use Rattle.doc_source.specs.Outside.{TakesPrefix};
+ghost use Rattle.document_server.specs.Session.{connection_limit};
 ghost use Rattle.feed_recovery.specs.Stored.{OpensTo, Stored};
 ghost use Rattle.feed_commands.specs.declared.status.Status.TheVariants as status;
 ghost use Rattle.feed_commands.specs.Serve.{EndsServing, IsServedWhole, end_fault, session_answer};
@@ -74,7 +75,7 @@ pub fn serve<D: Disk, C: Clock, L: Door, O: Sink>(
     output: &mut O,
 ) -> Ended
     requires some { 1 ≤ requests }
-    requires few { requests ≤ 1_000_000 }
+    requires few { requests ≤ connection_limit }
     ensures serves { EndsServing requests (D.state disk.old) (D.state disk.new) (C.coming clock.old)
         (L.state door.old) (L.state door.new) D.told C.told L.told O.told (O.state output.old) (O.state output.new)
         result.lines.items result.status }

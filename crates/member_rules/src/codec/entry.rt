@@ -16,7 +16,7 @@ use crate::codec::entry_fields::{Dates, Front, Lists, Persons, Texts};
 use crate::codec::fault::FieldFault;
 use crate::codec::lists::{push_list, read_list};
 use crate::codec::unread::Unread;
-use atom_values::{Entry, Link, Many, NoMemory, Text};
+use atom_values::{Entry, Link, MAX_LINKS, Many, NoMemory, Text, names_edit, shows_alternate};
 use atom_writer::Out;
 use std::alloc::Global;
 
@@ -55,7 +55,7 @@ pub(crate) fn read_number(unread: &mut Unread) -> Result<u32, FieldFault>
 }
 
 /// Reads the links, none of which has the relation `edit`.
-fn read_links(alloc: Global, unread: &mut Unread) -> Result<Many<Link, 32>, FieldFault>
+fn read_links(alloc: Global, unread: &mut Unread) -> Result<Many<Link, MAX_LINKS>, FieldFault>
     ensures { ReadsAs (λ (m : Listed Link). m.items) linked unread.old.rest.now result unread.new.rest.now }
 {
     let mut left = *unread;
@@ -212,18 +212,4 @@ fn is_shown(content: &Option<Text>, links: &[Link]) -> bool
     ensures { result ≡ (is_some content.now || has_alternate links.now) }
 {
     content.is_some() || shows_alternate(links)
-}
-
-/// Whether a link has the relation `edit`.
-fn names_edit(links: &[Link]) -> bool
-    ensures { result ≡ has_edit links.now }
-{
-    links.iter().any(|link| link.has_relation(b"edit"))
-}
-
-/// Whether a link has the relation `alternate`.
-fn shows_alternate(links: &[Link]) -> bool
-    ensures { result ≡ has_alternate links.now }
-{
-    links.iter().any(|link| link.has_relation(b"alternate"))
 }

@@ -1,4 +1,6 @@
-use atom_values::{Category, Link, Many, Person, Stamp, Text};
+use atom_values::{
+    Category, Link, MAX_CATEGORIES, MAX_LINKS, MAX_PERSONS, Many, Person, Stamp, Text,
+};
 
 /// The first three fields of an entry.
 #[derive(Drop)]
@@ -19,16 +21,16 @@ pub(crate) struct Front {
 /// The lists of persons of an entry.
 #[derive(Drop)]
 pub(crate) struct Persons {
-    pub(crate) authors: Many<Person, 16>,
-    pub(crate) contributors: Many<Person, 16>,
+    pub(crate) authors: Many<Person, MAX_PERSONS>,
+    pub(crate) contributors: Many<Person, MAX_PERSONS>,
 }
 
 /// The lists of an entry.
 #[derive(Drop)]
 pub(crate) struct Lists {
     pub(crate) persons: Persons,
-    pub(crate) links: Many<Link, 32>,
-    pub(crate) categories: Many<Category, 64>,
+    pub(crate) links: Many<Link, MAX_LINKS>,
+    pub(crate) categories: Many<Category, MAX_CATEGORIES>,
 }
 
 /// The fields of an entry after its lists.

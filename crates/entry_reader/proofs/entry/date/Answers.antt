@@ -1,9 +1,10 @@
 use Rattle.std.proofs.Common.{option_map, refl, sym, ap, subst, ◌∙◌}
 use Rattle.std.specs.Prelude.{ℤ}
 use Rattle.atom_values.specs.DateText.{States}
+use Rattle.atom_values.specs.Space.{trimmed}
 use Rattle.entry_reader.specs.declared.fault.EarlyEnd.TheVariants.{Fault}
 use Rattle.entry_reader.specs.declared.fault.Why.TheVariants.{BadDate, Twice}
-use Rattle.entry_reader.specs.Entry.{text_of, trimmed}
+use Rattle.entry_reader.specs.Entry.{text_of}
 use Rattle.entry_reader.specs.Faults.{constructs, dates, is_one_of, single_parts}
 use Rattle.entry_reader.specs.Progress.{pending}
 use Rattle.entry_reader.proofs.ChildLemmas.{all_of, date_bad, no_some, none_of, part_stopped, refused_at, refuses_read}

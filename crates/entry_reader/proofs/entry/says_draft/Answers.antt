@@ -1,5 +1,6 @@
 use Rattle.std.proofs.Common.{◌&&◌, sym, ap, ◌∙◌, codes, not, bytes_eq}
-use Rattle.entry_reader.specs.Entry.{text_of, trimmed}
+use Rattle.atom_values.specs.Space.{trimmed}
+use Rattle.entry_reader.specs.Entry.{text_of}
 use Rattle.entry_reader.specs.Progress.{pending}
 use Rattle.entry_reader.specs.Parts.{IsDraftRead}
 use Rattle.entry_reader.proofs.ProgressLemmas.{err_is}

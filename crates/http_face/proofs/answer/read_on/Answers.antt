@@ -7,7 +7,7 @@ returns-in_err-count-clause-most g c = λ told.
     takes_more _ _ _ _
     (omega (
       arith,
-      length-take c.min-room.result c.loop-body.piece,
+      length-take c.min-room.result c.loop-body.chunk,
       c.loop-body.invariant.within,
       c.loop-body-test.true,
     ))
@@ -17,7 +17,7 @@ pub loop-body-preserved : goal.loop-body-preserved
 loop-body-preserved g c = record {
   within = omega (
     arith,
-    length-take c.min-room.result c.loop-body.piece,
+    length-take c.min-room.result c.loop-body.chunk,
     c.in_ok-count.ensures.within,
     c.in_ok-count.ensures.len,
     c.loop-body.invariant.within,

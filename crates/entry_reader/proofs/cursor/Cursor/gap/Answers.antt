@@ -2,7 +2,7 @@ use Rattle.std.proofs.Common.{◌≡◌, ◌≢◌, eqb, [], ◌∷◌, ◌++◌
 use Rattle.std.proofs.Common.{IsTrue}
 use Rattle.std.proofs.lemmas.Bool.{both_ways}
 use Rattle.std.proofs.lemmas.List.{nil_from_length}
-use Rattle.entry_reader.specs.Characters.{is_space}
+use Rattle.atom_values.specs.Space.{is_space}
 use Rattle.entry_reader.specs.Reading.{a_gap, Continues, first_is_no}
 use Rattle.entry_reader.proofs.PartLemmas.{ended_reads}
 use Rattle.entry_reader.proofs.EncodingLemmas.{no_gap}

@@ -1,7 +1,7 @@
 use Rattle.std.proofs.Common.{◌≡◌, length, ap, sym, subst, ◌∙◌, [], List, ℕ, ◌++◌, IsTrue}
 use Rattle.std.proofs.lemmas.List.{nil_from_length}
-use Rattle.entry_reader.specs.Characters.{is_space}
 use Rattle.std.specs.Prelude.{codes}
+use Rattle.atom_values.specs.Space.{is_space}
 use Rattle.entry_reader.specs.Reading.{first_is_no, instruction_end, Reads, exactly}
 use Rattle.entry_reader.proofs.PartLemmas.{err_reads}
 use Rattle.entry_reader.proofs.InstructionLemmas.{bare_end, spaced_found, spaced_fails}

@@ -1,6 +1,6 @@
 use Rattle.std.proofs.Common.{◌≡◌, length, not, eqb, eq-eqb, eqb-true, refl, sym, ◌∙◌}
 use Rattle.std.proofs.lemmas.Bool.{both_ways, not-true, not-false}
-use Rattle.entry_reader.specs.Characters.{is_space}
+use Rattle.atom_values.specs.Space.{is_space}
 use Rattle.entry_reader.proofs.RunLemmas.{run_cut}
 use Rattle.entry_reader.proofs.cursor.Cursor.spaces.Goals as goal
 

@@ -1,5 +1,6 @@
 use Rattle.std.proofs.Common.{sym, ap, ◌∙◌, codes, refl}
-use Rattle.entry_reader.specs.Entry.{atom, category, child_text, link, person, trimmed}
+use Rattle.atom_values.specs.Space.{trimmed}
+use Rattle.entry_reader.specs.Entry.{atom, category, child_text, link, person}
 use Rattle.entry_reader.specs.Faults.{dates, is_one_of, persons}
 use Rattle.entry_reader.specs.Faults.Within.{in_entry}
 use Rattle.entry_reader.specs.Progress.{pending}

@@ -1,8 +1,8 @@
 use Rattle.std.proofs.Common.{sym, ap, ◌∙◌, Some, option_map}
 use Rattle.std.proofs.lemmas.Bool.{both_ways}
+use Rattle.atom_values.specs.Space.{trimmed}
 use Rattle.entry_reader.specs.declared.fault.EarlyEnd.TheVariants.{Fault}
 use Rattle.entry_reader.specs.declared.fault.Why.TheVariants.{Twice}
-use Rattle.entry_reader.specs.Entry.{trimmed}
 use Rattle.entry_reader.specs.Faults.{constructs, dates, is_one_of, single_parts}
 use Rattle.entry_reader.specs.Progress.{pending}
 use Rattle.entry_reader.proofs.ChildLemmas.{no_some, part_stopped, refused_at, refuses_read, single_faultless}

@@ -1,7 +1,7 @@
 use Rattle.std.proofs.Common.{reverse, sym, ap, ◌∙◌}
-use Rattle.document_server.specs.Reply.{without_leading}
-use Rattle.document_server.proofs.MediaLemmas.{trailing-space}
-use Rattle.document_server.proofs.media.without_trailing.Goals as goal
+use Rattle.atom_values.specs.Space.{without_leading}
+use Rattle.atom_values.proofs.SpaceLemmas.{trailing-space}
+use Rattle.atom_values.proofs.space.without_trailing.Goals as goal
 
 pub loop-byte-preserved : goal.loop-byte-preserved
 loop-byte-preserved c =

@@ -1,6 +1,6 @@
 use Rattle.std.proofs.Common.{◌≡◌, length}
-use Rattle.entry_reader.specs.Entry.{without_leading}
-use Rattle.entry_reader.proofs.elements.without_leading.Given as goal
+use Rattle.atom_values.specs.Space.{without_leading}
+use Rattle.atom_values.proofs.space.without_leading.Given as goal
 
 abbrev pub invariant-loop-byte : goal.invariant-loop-byte
 invariant-loop-byte l = without_leading l.rest ≡ without_leading l.fn.text

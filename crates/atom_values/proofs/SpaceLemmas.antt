@@ -1,8 +1,8 @@
--- The media type of a body.
+-- White space at the ends of a text.
 use Rattle.std.proofs.Common.{◌≡◌, ℕ, List, [], ◌∷◌, ◌++◌, reverse, drop, true, ap, ◌∙◌, one-add}
 use Rattle.std.proofs.lemmas.Bool.{cond-true}
 use Rattle.std.proofs.lemmas.List.{reverse-append}
-use Rattle.document_server.specs.Reply.{is_space, without_leading}
+use Rattle.atom_values.specs.Space.{is_space, without_leading}
 
 -- white space at the beginning
 leading-space : (x : ℕ) (xs : List ℕ) → is_space x ≡ true → without_leading (x ∷ xs) ≡ without_leading xs

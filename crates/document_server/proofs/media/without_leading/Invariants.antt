@@ -1,9 +1,0 @@
-use Rattle.std.proofs.Common.{◌≡◌, length}
-use Rattle.document_server.specs.Reply.{without_leading}
-use Rattle.document_server.proofs.media.without_leading.Given as goal
-
-abbrev pub invariant-loop-byte : goal.invariant-loop-byte
-invariant-loop-byte l = without_leading l.rest ≡ without_leading l.fn.text
-
-abbrev pub decreases-loop-byte : goal.decreases-loop-byte
-decreases-loop-byte l = length l.rest
