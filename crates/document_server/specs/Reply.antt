@@ -1,5 +1,5 @@
 -- The reply to a request on a store, and the operation that the store gains, row by row (RFC 5023, RFC 9110).
-use Rattle.std.specs.Prelude.{◌≡◌, ◌≢◌, ◌⊎◌, ℕ, List, ◌++◌, Option, Some, None, Ok, Err, Bool, true, false, not, ◌||◌}
+use Rattle.std.specs.Prelude.{◌≡◌, ◌≢◌, ◌⊎◌, ℕ, List, ◌++◌, Option, Some, None, Ok, Err, Bool, true, false, not}
 use Rattle.std.specs.Prelude.{◌==◌}
 use Rattle.std.specs.Prelude.{codes, decimal, take_while}
 use Rattle.std.specs.Str.{str_eq_ignore_ascii_case}

@@ -51,8 +51,8 @@ whole_tag CutTag b place before raw after e read = let bad : Some b ≡ None = e
 whole_tag CutAtSlash b place before raw after e read = let bad : Some b ≡ None = e in absurd cc
 
 pub record IsAdmitted (e : Elements) (end : TagEnd) : Type 0 where
-  pub inside_root : is_past_root e.stage e.open.items ≡ false
-  pub shallow : length e.open.items < e.most
+  pub inside_root : is_past_root e.stage e.names.items ≡ false
+  pub shallow : length e.names.items < e.most
   pub in_text : (is_cut end && nat_lt e.end e.length) ≡ false
   pub not_cut : end ≢ CutTag
 
@@ -66,9 +66,9 @@ not_cut_tag total CutAtSlash ok same = cc
 -- what a tag that is admitted finds
 pub admitted : (e : Elements) (at : ℕ) (end : TagEnd) → admission e at end ≡ Ok tt → IsAdmitted e end
 admitted e at end ok =
-    let A = is_past_root e.stage e.open.items in
+    let A = is_past_root e.stage e.names.items in
     let B = is_cut end && nat_lt e.end e.length in
-    let C = nat_lt (length e.open.items) e.most in
+    let C = nat_lt (length e.names.items) e.most in
     let R : Type 0 = Result (Unit {0}) EntryFault in
     let one : R = Err (NotRead at NotWellFormed) in
     let two : R = Err (NotRead at TooDeep) in
@@ -80,7 +80,7 @@ admitted e at end ok =
     ⊎_elim
     (λ low. record {
       inside_root = (or_parts A B here).0;
-      shallow = ltb-true (length e.open.items) e.most low;
+      shallow = ltb-true (length e.names.items) e.most low;
       in_text = (or_parts A B here).1;
       not_cut = not_cut_tag e.length end (sym (cond-false (not C) two three (ap not low)) ∙ next);
     })
@@ -152,7 +152,7 @@ pub begin_led : (from : Point) (old new : Elements) (before : List ℕ) (x : IsA
     Some namespace ≡ option_map kind_of (namespace_of (scope_of opened) prefix.now)) →
     ((q : QName) → IsQName q → name_text q ≡ raw.name.now → (prefix.now ≡ q.prefix) × (local.now ≡ q.local)) →
     (new.most ≡ old.most) × (new.end ≡ old.end) × (new.length ≡ old.length) →
-    new.cursor.rest.now ≡ old.cursor.rest.now → new.open.items ≡ old.open.items ++ raw.name ∷ [] → new.stage ≡ Root →
+    new.cursor.rest.now ≡ old.cursor.rest.now → new.names.items ≡ old.names.items ++ raw.name ∷ [] → new.stage ≡ Root →
     new.empty ≡ b →
     IsEventOf old.length [] from
     (Ok (Some (Begin (record { at = at; namespace = namespace; local = local; attributes = raw.attributes })))) new
@@ -181,21 +181,21 @@ begin_led from old new before x place raw b at namespace prefix local told r xml
     finds (element ∷ x.opened) scopes
     ∙ ap (λ p. option_map kind_of (namespace_of (inner_scope (scope_in from.stage) tag) p)) parts.0 in
     let some = some_of (namespace_of (inner_scope (scope_in from.stage) tag) tag.name.prefix) namespace found in
-    let zipped = AllZip-long IsNameOfOpen x.opened (reverse old.open.items) x.names in
-    let long = length-reverse old.open.items in
+    let zipped = AllZip-long IsNameOfOpen x.opened (reverse old.names.items) x.names in
+    let long = length-reverse old.names.items in
     let open_long = ap length k.0 in
     let most = x.most in
     let shallow = may.shallow in
     let low : length (open_in from.stage) < depth_limit = omega arith in
     let can : CanBegin depth_limit from.stage tag = record {
-      may = may_begin old.stage x.opened old.open.items from.stage kept x.names may.inside_root;
+      may = may_begin old.stage x.opened old.names.items from.stage kept x.names may.inside_root;
       depth = low;
       set = some.0;
     } in
     let name : IsNameOfOpen element raw.name = (r.tag_of.name, q, r.name) in
-    let names : AllZip IsNameOfOpen (element ∷ x.opened) (reverse new.open.items) =
+    let names : AllZip IsNameOfOpen (element ∷ x.opened) (reverse new.names.items) =
     subst (AllZip IsNameOfOpen (element ∷ x.opened))
-    (sym (ap reverse items ∙ reverse-append old.open.items (raw.name ∷ []))) (name, x.names) in
+    (sym (ap reverse items ∙ reverse-append old.names.items (raw.name ∷ []))) (name, x.names) in
     let stage : IsStageOf new.stage new.empty (element ∷ x.opened) (last_stage from.stage (l ∷ [])) =
     subst (λ e. IsStageOf new.stage new.empty (element ∷ x.opened)
     (cond e (left (entered from.stage tag)) (entered from.stage tag))) (sym r.ends)

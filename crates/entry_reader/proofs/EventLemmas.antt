@@ -197,7 +197,7 @@ pub led_by : (from : Point) (old new : Elements) (before : List ℕ) (x : IsAtTe
     events from.stage from.at ls ≡ told ++ pending new → IsXmlText new.cursor.rest.now →
     (new.most ≡ old.most) × (new.end ≡ old.end) × (new.length ≡ old.length) →
     IsStageOf new.stage new.empty opened (last_stage from.stage ls) →
-    AllZip IsNameOfOpen opened (reverse new.open.items) → AreScopesOf opened new.scopes → length opened ≤ depth_limit →
+    AllZip IsNameOfOpen opened (reverse new.names.items) → AreScopesOf opened new.scopes → length opened ≤ depth_limit →
     IsLed old.length [] from told new
 led_by from old new before x ls told opened split stand adds xml same stage names scopes depth = record {
   to = record {
@@ -441,10 +441,10 @@ closing_led from old new before x place ls name told is read alone xml shut =
     subst (IsStageOf old.stage false x.opened) c.2
     (subst (λ b. IsStageOf old.stage b x.opened from.stage) told x.stage) in
     let s = open_stage old.stage x.opened c.0 c.1 h in
-    let names : AllZip IsNameOfOpen (c.0 ∷ c.1) (reverse old.open.items) =
-    subst (λ o. AllZip IsNameOfOpen o (reverse old.open.items)) s.1 x.names in
+    let names : AllZip IsNameOfOpen (c.0 ∷ c.1) (reverse old.names.items) =
+    subst (λ o. AllZip IsNameOfOpen o (reverse old.names.items)) s.1 x.names in
     let scopes : AreScopesOf (c.0 ∷ c.1) old.scopes = subst (λ o. AreScopesOf o old.scopes) s.1 x.scopes in
-    let n = names_closed c.0 c.1 old.open.items new.open.items names shut.names in
+    let n = names_closed c.0 c.1 old.names.items new.names.items names shut.names in
     let deep : suc (length c.1) ≤ depth_limit = subst (λ o. length o ≤ depth_limit) s.1 x.depth in
     let rest : old.cursor.rest.now ≡ new.cursor.rest.now = sym shut.cursor in
     let stays : new.empty ≡ false = shut.empty ∙ told in

@@ -198,7 +198,7 @@ behind_whole bytes front back more some e xml =
 
 -- the reader at the beginning of a document
 pub first_at : (input : List ℕ) (n : ℕ) (e : Elements) → n ≤ length input → IsXmlText (take n input) →
-    IsBehindXml (drop n input) → e.most ≡ depth_limit → e.stage ≡ Start → e.empty ≡ false → e.open.items ≡ [] →
+    IsBehindXml (drop n input) → e.most ≡ depth_limit → e.stage ≡ Start → e.empty ≡ false → e.names.items ≡ [] →
     e.scopes.levels.items ≡ [] → e.end ≡ n → e.length ≡ length input →
     e.cursor.rest.now ≡ drop (length (mark_of (take n input))) (take n input) → IsAt e (first_point input)
 first_at input n e within xml behind most stage empty items levels end total rest =

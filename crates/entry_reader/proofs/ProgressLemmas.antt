@@ -309,10 +309,10 @@ element_ends old new from e shut at =
     let h : IsStageOf old.stage true at.opened from.stage =
     subst (λ b. IsStageOf old.stage b at.opened from.stage) e at.stage in
     let s = closed_stage old.stage at.opened from.stage h in
-    let names : AllZip IsNameOfOpen (s.0 ∷ s.1) (reverse old.open.items) =
-    subst (λ o. AllZip IsNameOfOpen o (reverse old.open.items)) s.2 at.names in
+    let names : AllZip IsNameOfOpen (s.0 ∷ s.1) (reverse old.names.items) =
+    subst (λ o. AllZip IsNameOfOpen o (reverse old.names.items)) s.2 at.names in
     let scopes : AreScopesOf (s.0 ∷ s.1) old.scopes = subst (λ o. AreScopesOf o old.scopes) s.2 at.scopes in
-    let n = names_closed s.0 s.1 old.open.items new.open.items names shut.names in
+    let n = names_closed s.0 s.1 old.names.items new.names.items names shut.names in
     let deep : suc (length s.1) ≤ depth_limit = subst (λ o. length o ≤ depth_limit) s.2 at.depth in
     let rest : old.cursor.rest.now ≡ new.cursor.rest.now = sym shut.cursor in
     let is_at : IsAt new from = record {
@@ -365,7 +365,7 @@ no_names items opened all none =
 
 -- what holds of a reader at the end of a whole document
 pub over_parts : (e : Elements) (from : Point) → e.empty ≡ false → IsAt e from → from.text ≡ [] → from.stage ≡ epilog →
-    (e.stage ≡ Root) × (e.open.items ≡ []) × (e.cursor.rest.now ≡ []) × (e.end ≡ e.length)
+    (e.stage ≡ Root) × (e.names.items ≡ []) × (e.cursor.rest.now ≡ []) × (e.end ≡ e.length)
 over_parts e from told at text stage =
     let h : IsStageOf e.stage false at.opened epilog =
     subst (λ b. IsStageOf e.stage b at.opened epilog) told
@@ -376,13 +376,13 @@ over_parts e from told at text stage =
     let tail : at.tail ≡ [] = nil_back e.cursor.rest.now at.tail none in
     let short = ap length tail in
     let whole = at.whole in
-    (s.0, no_names e.open.items at.opened at.names s.1, nil_front e.cursor.rest.now at.tail none, omega arith)
+    (s.0, no_names e.names.items at.opened at.names s.1, nil_front e.cursor.rest.now at.tail none, omega arith)
 
 -- no more elements are open than may be
 pub depth_within : (e : Elements) (from : Point) → IsAt e from → depth_of e ≤ depth_limit
 depth_within e from at =
-    let same = AllZip-long IsNameOfOpen at.opened (reverse e.open.items) at.names in
-    let long = length-reverse e.open.items in
+    let same = AllZip-long IsNameOfOpen at.opened (reverse e.names.items) at.names in
+    let long = length-reverse e.names.items in
     let deep = at.depth in
     omega arith
 

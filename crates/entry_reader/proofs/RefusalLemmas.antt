@@ -312,19 +312,19 @@ past_stage Root (e ∷ outer) items s is names past =
 
 -- a tag that is allowed, but for its prefix
 can_begin : (from : Point) (old : Elements) (before : List ℕ) (x : IsAtText old before from) → old.empty ≡ false →
-    is_past_root old.stage old.open.items ≡ false → length old.open.items < old.most → (tag : Tag) →
+    is_past_root old.stage old.names.items ≡ false → length old.names.items < old.most → (tag : Tag) →
     IsTrue (is_some (namespace_of (inner_scope (scope_in from.stage) tag) tag.name.prefix)) →
     CanBegin depth_limit from.stage tag
 can_begin from old before x told inside shallow tag set =
     let kept : IsStageOf old.stage false x.opened from.stage =
     subst (λ b. IsStageOf old.stage b x.opened from.stage) told x.stage in
     let k = kept_open old.stage x.opened from.stage kept in
-    let zipped = AllZip-long IsNameOfOpen x.opened (reverse old.open.items) x.names in
-    let long = length-reverse old.open.items in
+    let zipped = AllZip-long IsNameOfOpen x.opened (reverse old.names.items) x.names in
+    let long = length-reverse old.names.items in
     let open_long = ap length k.0 in
     let most = x.most in
     record {
-      may = may_begin old.stage x.opened old.open.items from.stage kept x.names inside;
+      may = may_begin old.stage x.opened old.names.items from.stage kept x.names inside;
       depth = omega arith;
       set = set;
     }
@@ -394,7 +394,7 @@ deep_tag from old before x CutAtSlash place raw after short r deep =
     }
 
 cut_goes : (from : Point) (old : Elements) (before : List ℕ) (x : IsAtText old before from) → old.empty ≡ false →
-    is_past_root old.stage old.open.items ≡ false → length old.open.items < old.most → x.tail ≡ [] →
+    is_past_root old.stage old.names.items ≡ false → length old.names.items < old.most → x.tail ≡ [] →
     Continues own_tag before → CanGoOn depth_limit from.stage from.text
 cut_goes from old before x told inside shallow tail c =
     let found = c.1.2 in
@@ -422,7 +422,7 @@ cut_goes from old before x told inside shallow tail c =
 cut_admission : (from : Point) (old : Elements) (before : List ℕ) (x : IsAtText old before from)
     (only : IsTagOnly before)
     (some : before ≢ []) (end : TagEnd) (place : Context) (raw : RawTag) (after : List ℕ) (fault : EntryFault) →
-    old.empty ≡ false → is_past_root old.stage old.open.items ≡ false → length old.open.items < old.most →
+    old.empty ≡ false → is_past_root old.stage old.names.items ≡ false → length old.names.items < old.most →
     (is_cut end && nat_lt old.end old.length) ≡ false → IsTagTo end place before raw after →
     admission_of_cut old.length end ≡ Err fault → IsFaultFrom old.length from fault
 cut_admission from old before x only some WholeTag place raw after fault told inside shallow short r e =
@@ -444,9 +444,9 @@ pub admit_refused : (from : Point) (old : Elements) (before : List ℕ) (x : IsA
     admission old at raw.end ≡ Err fault → IsFaultFrom old.length from fault
 admit_refused from old before x only some place raw after at fault told r here e =
     let end = raw.end in
-    let A = is_past_root old.stage old.open.items in
+    let A = is_past_root old.stage old.names.items in
     let B = is_cut end && nat_lt old.end old.length in
-    let C = nat_lt (length old.open.items) old.most in
+    let C = nat_lt (length old.names.items) old.most in
     let R : Type 0 = Result (Unit {0}) EntryFault in
     let one : R = Err (NotRead at NotWellFormed) in
     let two : R = Err (NotRead at TooDeep) in
@@ -461,7 +461,7 @@ admit_refused from old before x only some place raw after at fault told r here e
     subst (IsFaultFrom old.length from) is
     (⊎_elim
     (λ past.
-    let stage = past_stage old.stage x.opened old.open.items from.stage kept x.names past in
+    let stage = past_stage old.stage x.opened old.names.items from.stage kept x.names past in
     tag_refused from old before x only some at NotWellFormed here
     (λ tag more front rest e spelled can. subst MayBegin stage can.may)
     (not_deep from old before x only some has (λ deep.
@@ -480,17 +480,17 @@ admit_refused from old before x only some place raw after at fault told r here e
     ⊎_elim
     (λ low.
     cut_admission from old before x only some end place raw after fault told parts.0
-    (ltb-true (length old.open.items) old.most low) parts.1 r
+    (ltb-true (length old.names.items) old.most low) parts.1 r
     (sym (cond-false (not C) two three (ap not low)) ∙ next))
     (λ high.
     let same : two ≡ Err fault = sym (cond-true (not C) two three (ap not high)) ∙ next in
     let is : NotRead at TooDeep ≡ fault = cc in
-    let zipped = AllZip-long IsNameOfOpen x.opened (reverse old.open.items) x.names in
-    let long = length-reverse old.open.items in
+    let zipped = AllZip-long IsNameOfOpen x.opened (reverse old.names.items) x.names in
+    let long = length-reverse old.names.items in
     let open_long = ap length k.0 in
     let most = x.most in
     let within_limit = x.depth in
-    let above = ltb-false (length old.open.items) old.most high in
+    let above = ltb-false (length old.names.items) old.most high in
     let deep : length (open_in from.stage) ≡ depth_limit = omega arith in
     subst (IsFaultFrom old.length from) is
     (tag_refused from old before x only some at TooDeep here
@@ -583,8 +583,8 @@ unset_refused from old before x only some place raw after at scopes prefix local
     let kept : IsStageOf old.stage false x.opened from.stage =
     subst (λ b. IsStageOf old.stage b x.opened from.stage) told x.stage in
     let k = kept_open old.stage x.opened from.stage kept in
-    let zipped = AllZip-long IsNameOfOpen x.opened (reverse old.open.items) x.names in
-    let long = length-reverse old.open.items in
+    let zipped = AllZip-long IsNameOfOpen x.opened (reverse old.names.items) x.names in
+    let long = length-reverse old.names.items in
     let open_long = ap length k.0 in
     let most = x.most in
     let shallow = may.shallow in

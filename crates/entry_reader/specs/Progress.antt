@@ -84,7 +84,7 @@ pub record IsAtText (elements : Elements) (rest : List ℕ) (point : Point) : Ty
   pub tail : List ℕ
   pub most : elements.most ≡ depth_limit
   pub stage : IsStageOf elements.stage elements.empty opened point.stage
-  pub names : AllZip IsNameOfOpen opened (reverse elements.open.items)
+  pub names : AllZip IsNameOfOpen opened (reverse elements.names.items)
   pub scopes : AreScopesOf opened elements.scopes
   pub depth : length opened ≤ depth_limit
   pub text : point.text ≡ rest ++ tail
@@ -169,7 +169,7 @@ IsDepthAfter (Some End) old new = new + 1 ≡ old
 IsDepthAfter (Some (Told said)) old new = new ≡ old
 
 abbrev pub depth_of : Elements → ℕ
-depth_of elements = length elements.open.items
+depth_of elements = length elements.names.items
 
 -- what is left to read; it falls with each event
 abbrev pub left_of : Elements → ℕ
@@ -196,8 +196,8 @@ pub record IsClosed (old new : Elements) : Type 0 where
   pub length : new.length ≡ old.length
   pub stage : new.stage ≡ old.stage
   pub empty : new.empty ≡ old.empty
-  pub names : (names : List (Bor (List ℕ))) (name : Bor (List ℕ)) → old.open.items ≡ names ++ name ∷ []
-      → new.open.items ≡ names
+  pub names : (names : List (Bor (List ℕ))) (name : Bor (List ℕ)) → old.names.items ≡ names ++ name ∷ []
+      → new.names.items ≡ names
   pub scopes : (element : Open) (opened : List Open) → AreScopesOf (element ∷ opened) old.scopes
       → AreScopesOf opened new.scopes
 
@@ -247,9 +247,9 @@ admission_of_cut total _ = Ok tt
 -- whether a tag that ends so is allowed, whatever its prefix is and if its missing attributes set it
 abbrev pub admission : Elements → ℕ → TagEnd → Result (Unit {0}) EntryFault
 admission elements at end =
-    if (is_past_root elements.stage elements.open.items) || (is_cut end && nat_lt elements.end elements.length)
+    if (is_past_root elements.stage elements.names.items) || (is_cut end && nat_lt elements.end elements.length)
     then Err (NotRead at NotWellFormed)
-    else (if not (nat_lt (length elements.open.items) elements.most) then Err (NotRead at TooDeep)
+    else (if not (nat_lt (length elements.names.items) elements.most) then Err (NotRead at TooDeep)
     else admission_of_cut elements.length end)
 
 -- the rest of the document is read

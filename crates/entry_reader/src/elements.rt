@@ -176,7 +176,7 @@ pub(crate) struct Elements<'a> {
     length: usize,
     stage: Stage,
     /// The names of the open elements as they are written, the innermost last.
-    open: Vec<&'a [u8]>,
+    names: Vec<&'a [u8]>,
     scopes: Scopes<'a>,
     /// The last tag was that of an empty element, which is still open.
     empty: bool,
@@ -210,7 +210,7 @@ impl<'a> Elements<'a> {
             end: xml_length,
             length: input.len(),
             stage: Stage::Start,
-            open: Vec::new(alloc),
+            names: Vec::new(alloc),
             scopes: Scopes::new(alloc),
             empty: false,
         }
@@ -298,7 +298,7 @@ impl<'a> Elements<'a> {
         ensures more { result ≡ false → IsUnfinished self.now }
     {
         self.stage == Stage::Root
-            && self.open.is_empty()
+            && self.names.is_empty()
             && self.cursor.rest.is_empty()
             && self.end == self.length
     }
@@ -308,7 +308,7 @@ impl<'a> Elements<'a> {
         requires { self.now.empty ≡ false }
         ensures { (from : Point) → IsAt self.now from → IsPlaceOf result from.stage }
     {
-        match self.open.last() {
+        match self.names.last() {
             Some(name) => Context::Inside(name),
             None if self.stage == Stage::Start => Context::Start,
             None => Context::Outside,
@@ -405,11 +405,11 @@ impl<'a> Elements<'a> {
         ensures { result ≡ admission self.now at tag.now.end }
     {
         let is_cut = matches!(tag.end, TagEnd::Cut | TagEnd::CutAtSlash);
-        let is_past_root = self.stage == Stage::Root && self.open.is_empty();
+        let is_past_root = self.stage == Stage::Root && self.names.is_empty();
         if is_past_root || (is_cut && self.end < self.length) {
             return Err(broken(at));
         }
-        if self.open.len() >= self.most {
+        if self.names.len() >= self.most {
             return Err(EntryFault::NotRead {
                 at,
                 why: Why::TooDeep,
@@ -459,10 +459,10 @@ impl<'a> Elements<'a> {
 
     /// Keeps the name of an open element.
     fn push(&mut self, name: &'a [u8]) -> Result<(), NoMemory>
-        ensures { OnOk result (self.new ≡ record self.old { «open» = self.new.open }
-            × (self.new.open.items ≡ self.old.open.items ++ name.entry ∷ [])) }
+        ensures { OnOk result (self.new ≡ record self.old { names = self.new.names }
+            × (self.new.names.items ≡ self.old.names.items ++ name.entry ∷ [])) }
     {
-        self.open.push(name)?;
+        self.names.push(name)?;
         Ok(())
     }
 
@@ -472,7 +472,7 @@ impl<'a> Elements<'a> {
         ensures closed { IsClosed self.old self.new }
     {
         self.scopes.leave();
-        let _ = self.open.pop();
+        let _ = self.names.pop();
         Event::End
     }
 }

@@ -41,7 +41,7 @@ impl fmt::Display for LogFault {
         match self {
             LogFault::DiskFault => write!(f, "disk fault"),
             LogFault::Changed { index } => write!(f, "changed {index}"),
-            LogFault::NoMemory => write!(f, "no memory"),
+            LogFault::NoMemory => write!(f, "out of memory"),
         }
     }
 }

@@ -88,7 +88,7 @@ impl fmt::Display for InitFault {
         match self {
             InitFault::AlreadyInit => write!(f, "the disk has a store already"),
             InitFault::DiskFault => write!(f, "disk fault"),
-            InitFault::NoMemory => write!(f, "no memory"),
+            InitFault::NoMemory => write!(f, "out of memory"),
         }
     }
 }
@@ -107,7 +107,7 @@ impl fmt::Display for LoadFault {
             }
             LoadFault::BadSeal { index } => write!(f, "seal {index} is bad"),
             LoadFault::DiskFault => write!(f, "disk fault"),
-            LoadFault::NoMemory => write!(f, "no memory"),
+            LoadFault::NoMemory => write!(f, "out of memory"),
         }
     }
 }
@@ -127,7 +127,7 @@ impl fmt::Display for PrepareFault {
                 f,
                 "the {area} area has {size} bytes, and no room for {needed} more within {capacity}"
             ),
-            PrepareFault::NoMemory => write!(f, "no memory"),
+            PrepareFault::NoMemory => write!(f, "out of memory"),
         }
     }
 }
@@ -143,8 +143,8 @@ impl fmt::Display for ArchiveFault {
             ArchiveFault::DiskFault => write!(f, "disk fault"),
             ArchiveFault::Changed { index } => {
                 write!(f, "payload {index} of the sealed area has changed")
-            },
-            ArchiveFault::NoMemory => write!(f, "no memory"),
+            }
+            ArchiveFault::NoMemory => write!(f, "out of memory"),
         }
     }
 }
@@ -158,7 +158,7 @@ impl fmt::Display for MemberFault {
             MemberFault::Deleted { number, .. } => write!(f, "member {number} was deleted"),
             MemberFault::DiskFault => write!(f, "disk fault"),
             MemberFault::Changed { index } => write!(f, "record {index} has changed"),
-            MemberFault::NoMemory => write!(f, "no memory"),
+            MemberFault::NoMemory => write!(f, "out of memory"),
         }
     }
 }

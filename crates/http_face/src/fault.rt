@@ -34,7 +34,7 @@ impl fmt::Display for RequestFault {
             RequestFault::NoLength => write!(f, "no length"),
             RequestFault::TwoLengths => write!(f, "two lengths"),
             RequestFault::BodyTooLarge { length } => write!(f, "body too large: {length} bytes"),
-            RequestFault::NoMemory => write!(f, "no memory"),
+            RequestFault::NoMemory => write!(f, "out of memory"),
         }
     }
 }
@@ -91,7 +91,7 @@ impl fmt::Display for ResponseFault {
         match self {
             ResponseFault::ConnFault => write!(f, "connection fault"),
             ResponseFault::BadResponse => write!(f, "bad response"),
-            ResponseFault::NoMemory => write!(f, "no memory"),
+            ResponseFault::NoMemory => write!(f, "out of memory"),
         }
     }
 }

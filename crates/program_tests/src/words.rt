@@ -578,7 +578,7 @@ fn reads_lines_as_asks(rt: HostRuntime) -> Result<(), Fail> {
 fn a_fault_has_a_sentence(rt: HostRuntime) -> Result<(), Fail> {
     let cases = [
         (WordsFault::Usage, "the words are those of no command"),
-        (WordsFault::NoMemory, "no memory"),
+        (WordsFault::NoMemory, "out of memory"),
     ];
     for (fault, sentence) in cases {
         let text = format!(in rt.alloc(); "{fault}")?;
@@ -594,7 +594,7 @@ fn a_fault_of_a_line_has_a_sentence(rt: HostRuntime) -> Result<(), Fail> {
             LineFault::BadLine,
             "the line has none of the forms of a line",
         ),
-        (LineFault::NoMemory, "no memory"),
+        (LineFault::NoMemory, "out of memory"),
     ];
     for (fault, sentence) in cases {
         let text = format!(in rt.alloc(); "{fault}")?;

@@ -18,7 +18,7 @@ fn compare<E: Display>(rt: &impl Abort, alloc: Global, fault: &E, want: &str) {
 static LOG: [(LogFault, &str); 3] = [
     (LogFault::DiskFault, "disk fault"),
     (LogFault::Changed { index: 7 }, "changed 7"),
-    (LogFault::NoMemory, "no memory"),
+    (LogFault::NoMemory, "out of memory"),
 ];
 
 #[test]
@@ -32,7 +32,7 @@ fn a_fault_of_a_log_is_one_sentence(rt: HostRuntime) {
 static INIT: [(InitFault, &str); 3] = [
     (InitFault::AlreadyInit, "the disk has a store already"),
     (InitFault::DiskFault, "disk fault"),
-    (InitFault::NoMemory, "no memory"),
+    (InitFault::NoMemory, "out of memory"),
 ];
 
 static LOAD: [(LoadFault, &str); 6] = [
@@ -54,7 +54,7 @@ static LOAD: [(LoadFault, &str); 6] = [
     ),
     (LoadFault::BadSeal { index: 2 }, "seal 2 is bad"),
     (LoadFault::DiskFault, "disk fault"),
-    (LoadFault::NoMemory, "no memory"),
+    (LoadFault::NoMemory, "out of memory"),
 ];
 
 #[test]
@@ -90,7 +90,7 @@ fn a_refused_request_is_one_sentence(rt: HostRuntime) {
             },
             "the sealed area has 2544 bytes, and no room for 1649 more within 4096",
         ),
-        (PrepareFault::NoMemory, "no memory"),
+        (PrepareFault::NoMemory, "out of memory"),
     ] {
         compare(&rt, rt.alloc(), &fault, want);
     }
@@ -109,7 +109,7 @@ static ARCHIVE: [(ArchiveFault, &str); 4] = [
         ArchiveFault::Changed { index: 2 },
         "payload 2 of the sealed area has changed",
     ),
-    (ArchiveFault::NoMemory, "no memory"),
+    (ArchiveFault::NoMemory, "out of memory"),
 ];
 
 #[test]
@@ -126,7 +126,7 @@ fn a_fault_of_a_document_is_one_sentence(rt: HostRuntime) {
         ),
         (MemberFault::DiskFault, "disk fault"),
         (MemberFault::Changed { index: 2 }, "record 2 has changed"),
-        (MemberFault::NoMemory, "no memory"),
+        (MemberFault::NoMemory, "out of memory"),
     ] {
         compare(&rt, rt.alloc(), &fault, want);
     }

@@ -16,7 +16,7 @@ impl fmt::Display for WordsFault {
     fn fmt<W: fmt::Write>(&self, f: &mut fmt::Formatter<W>) -> fmt::Result {
         match self {
             WordsFault::Usage => write!(f, "the words are those of no command"),
-            WordsFault::NoMemory => write!(f, "no memory"),
+            WordsFault::NoMemory => write!(f, "out of memory"),
         }
     }
 }
@@ -58,7 +58,7 @@ impl fmt::Display for LineFault {
     fn fmt<W: fmt::Write>(&self, f: &mut fmt::Formatter<W>) -> fmt::Result {
         match self {
             LineFault::BadLine => write!(f, "the line has none of the forms of a line"),
-            LineFault::NoMemory => write!(f, "no memory"),
+            LineFault::NoMemory => write!(f, "out of memory"),
         }
     }
 }

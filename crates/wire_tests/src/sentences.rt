@@ -17,7 +17,7 @@ static SENTENCES: [(RequestFault, &str); 8] = [
         RequestFault::BodyTooLarge { length: 65_537 },
         "body too large: 65537 bytes",
     ),
-    (RequestFault::NoMemory, "no memory"),
+    (RequestFault::NoMemory, "out of memory"),
 ];
 
 #[test]
@@ -36,7 +36,7 @@ fn says_what_failed(rt: HostRuntime) -> Result<(), Fail> {
 static RESPONSES: [(ResponseFault, &str); 3] = [
     (ResponseFault::ConnFault, "connection fault"),
     (ResponseFault::BadResponse, "bad response"),
-    (ResponseFault::NoMemory, "no memory"),
+    (ResponseFault::NoMemory, "out of memory"),
 ];
 
 #[test]

@@ -14,7 +14,7 @@ use doc_source::{Offer, PileReader, Source};
 use std::alloc::Global;
 
 /// How many offers a pile that is audited may have.
-const MAX_OFFERS: usize = 100_000;
+const MAX_AUDITED_OFFERS: usize = 100_000;
 
 /// Returns the offers of the pile that is the rest of the input, of at most `limit` bytes.
 pub(super) fn read_pile<I: Source>(
@@ -37,7 +37,7 @@ pub(super) fn read_pile<I: Source>(
     let mut reader = PileReader::new(alloc, limit)?;
     let mut offers = Vec::new(alloc);
     while let Some(offer) = reader.next(input)? {
-        if offers.len() == MAX_OFFERS {
+        if offers.len() == MAX_AUDITED_OFFERS {
             return Err(Fault::Refused(Refusal::TooManyOffers));
         }
         offers.push(offer)?;

@@ -14,7 +14,7 @@ returns-else-is_empty-2-clause-more c = λ _ from at text stage.
       | else-is_empty w ↦ elim c.if-eq.branch [
         | then-eq v ↦
             both_ways v.is_empty.result (sym v.value-is ∙ w.if-is_empty.false)
-            (v.is_empty.ensures ∙ ap (λ n. n == 0) c.args.self.now.open.ok.0 ∙ ap (λ xs. length xs == 0) p.1)
+            (v.is_empty.ensures ∙ ap (λ n. n == 0) c.args.self.now.names.ok.0 ∙ ap (λ xs. length xs == 0) p.1)
         | else-eq v ↦ both_ways c.eq.result v.if-eq.false (c.eq.ensures ∙ rw p.0)
       ]
     ]

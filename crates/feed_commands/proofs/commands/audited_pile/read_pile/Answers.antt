@@ -45,15 +45,15 @@ returns-in_err-offer-clause-within g c = λ is told.
     c.in_err-offer.ensures.limit c.in_err-offer.ensures.bound (omega (arith, c.in_err-offer.ensures.used))
     (c.in_err-offer.ensures.stays going told)
 
-pub returns-then-len-eq-MAX_OFFERS-clause-refused : goal.returns-then-len-eq-MAX_OFFERS-clause-refused
-returns-then-len-eq-MAX_OFFERS-clause-refused g c = λ refusal told.
+pub returns-then-len-eq-MAX_AUDITED_OFFERS-clause-refused : goal.returns-then-len-eq-MAX_AUDITED_OFFERS-clause-refused
+returns-then-len-eq-MAX_AUDITED_OFFERS-clause-refused g c = λ refusal told.
     let h = c.loop-offers.invariant.reading in
     let reader = c.loop-offers.reader in
     let now = g.I.Source.state c.loop-offers.input in
     let after = c.next.new.self in
     let rest = g.I.Source.state c.next.new.source in
     let full : length c.loop-offers.offers.items ≡ audited_limit =
-    omega (arith, c.if-len-eq-MAX_OFFERS.true, c.len.ensures, c.loop-offers.offers.ok.0) in
+    omega (arith, c.if-len-eq-MAX_AUDITED_OFFERS.true, c.len.ensures, c.loop-offers.offers.ok.0) in
     reading-full g.I.Source.told c.args.limit (g.I.Source.state c.args.input.now) now reader c.loop-offers.offers.items
     h rest after c.in-Some.offer
     (c.in_ok-offer.ensures.used
@@ -72,7 +72,7 @@ loop-offers-preserved g c =
     let after = c.next.new.self in
     let rest = g.I.Source.state c.next.new.source in
     let room : length c.loop-offers.offers.items < audited_limit =
-    omega (arith, c.if-len-eq-MAX_OFFERS.false, c.len.ensures, c.loop-offers.offers.ok.0, h.few) in
+    omega (arith, c.if-len-eq-MAX_AUDITED_OFFERS.false, c.len.ensures, c.loop-offers.offers.ok.0, h.few) in
     record {
       reading = subst (λ (os : List Offer). IsReading g.I.Source.told c.args.limit (g.I.Source.state c.args.input.now)
           rest after os) (sym c.in_ok-push.ensures.items)
