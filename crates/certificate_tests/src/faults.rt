@@ -67,13 +67,9 @@ fn text_of(rt: &impl Abort, alloc: Global, kept: usize, others: &str) -> String 
 
 /// Reads a text, and compares the fault.
 fn expect(rt: &impl Abort, alloc: Global, text: &str, line: u32) {
-    match read(rt, alloc, text) {
-        Ok(_) => assert!(rt; false, "{text}"),
-        Err(fault) => assert!(rt;
-            fault == CertificateFault::BadCertificate { line },
-            "{fault}: {text}"
-        ),
-    }
+    let fault = read(rt, alloc, text).err();
+    let wanted = Some(CertificateFault::BadCertificate { line });
+    assert!(rt; fault == wanted, "{fault:?}: {text}");
 }
 
 #[test]

@@ -52,7 +52,9 @@ fn certificate_of<D: Disk>(rt: &impl Abort, alloc: Global, disk: &mut D) -> Cert
             }
     );
     assert!(rt; mirror.best().is_some());
-    Certificate::of(alloc, &mut mirror, disk).expect(rt, "a certificate")
+    let certificate = Certificate::of(alloc, &mut mirror, disk).expect(rt, "a certificate");
+    drop(mirror);
+    certificate
 }
 
 #[test]
@@ -60,4 +62,6 @@ fn a_mirror_makes_its_certificate(rt: HostRuntime) {
     let mut disk = empty_disk(&rt, rt.alloc());
     let certificate = certificate_of(&rt, rt.alloc(), &mut disk);
     assert!(rt; prints(&rt, rt.alloc(), &certificate, EMPTY));
+    drop(certificate);
+    drop(disk);
 }

@@ -22,6 +22,7 @@ fn expect(rt: &impl Abort, alloc: Global, text: &str) {
     let copied = certificate.copy(alloc).expect(rt, "memory");
     assert!(rt; prints(rt, alloc, &certificate, text));
     assert!(rt; prints(rt, alloc, &copied, text));
+    drop((certificate, copied));
 }
 
 #[test]

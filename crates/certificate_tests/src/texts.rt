@@ -56,5 +56,7 @@ pub fn prints(rt: &impl Abort, alloc: Global, certificate: &Certificate, text: &
     certificate
         .print(&mut sink)
         .expect(rt, "a call of the sink");
-    sink.bytes() == text.as_bytes()
+    let same = sink.bytes() == text.as_bytes();
+    drop(sink);
+    same
 }

@@ -246,6 +246,8 @@ fn expect(rt: &impl Abort, alloc: Global, text: &str, given: &[(&str, &str)], wa
     let certificate = read(rt, alloc, text).expect(rt, "a certificate");
     let pile = pile_of(rt, alloc, given);
     let verdict = audit(alloc, &certificate, &pile).expect(rt, "memory");
+    drop(certificate);
+    drop(pile);
     assert_eq!(rt; verdict, wanted);
 }
 

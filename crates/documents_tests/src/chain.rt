@@ -7,7 +7,7 @@ use crate::sealing::head;
 use archive_sealer::{archive, full_windows, subscription};
 use atom_values::Stamp;
 use atom_writer::Doc;
-use chain_links::follows;
+use chain_links::{Place, follows};
 use deleted_entries::Item;
 use member_rules::{Head, Op, State, plain_count, plain_state};
 use std::alloc::Global;
@@ -21,8 +21,8 @@ enum Newest {
     Gone(Stamp),
 }
 
-/// Notes the items of a document for the members that no newer document has.
-fn note(newest: &mut [Newest], doc: &Doc) {
+/// Notes the items of a document for the members that no newer document has, and returns the document's place.
+fn note(newest: &mut [Newest], doc: Doc) -> Place {
     for item in doc.items.as_slice() {
         if let Some(place) = newest.get_mut(item.number() as usize - 1) {
             if *place == Newest::None {
@@ -33,6 +33,9 @@ fn note(newest: &mut [Newest], doc: &Doc) {
             }
         }
     }
+    let place = doc.place();
+    drop(doc);
+    place
 }
 
 /// Walks the chain of the history, and returns what it says of each member.
@@ -43,17 +46,16 @@ fn walked(rt: &impl Abort, alloc: Global, head: &Head, history: &[Op]) -> Vec<Ne
         rt, "memory",
     );
     let full = full_windows(head, history);
-    let mut newer = subscription(alloc, head, history).expect(rt, "memory");
-    note(&mut newest, &newer);
+    let doc = subscription(alloc, head, history).expect(rt, "memory");
+    let mut newer = note(&mut newest, doc);
     for _ in history {
-        let number = newer.prev;
-        if number == 0 {
+        if newer.prev == 0 {
             break;
         }
-        assert!(rt; number <= full);
-        let older = archive(alloc, head, history, number).expect(rt, "memory");
-        assert!(rt; follows(&older.place(), &newer.place()));
-        note(&mut newest, &older);
+        assert!(rt; newer.prev <= full);
+        let doc = archive(alloc, head, history, newer.prev).expect(rt, "memory");
+        let older = note(&mut newest, doc);
+        assert!(rt; follows(&older, &newer));
         newer = older;
     }
     assert!(rt; newer.span.first == 1);
@@ -86,7 +88,7 @@ fn the_chain_of_every_prefix_shows_the_fold(rt: HostRuntime) {
         seed = next(seed);
         let number = ((seed >> 33) % (u64::from(feed.members.count()) + 1)) as u32;
         let ask = some_ask(&rt, alloc, seed, number);
-        apply(&rt, &mut feed, ask, step);
+        drop(apply(&rt, &mut feed, ask, step));
         let history = feed.history.as_slice();
         assert!(rt; history.len() <= 1_000);
         for window in [1u8, 2, 3, 7, 100] {
@@ -96,6 +98,8 @@ fn the_chain_of_every_prefix_shows_the_fold(rt: HostRuntime) {
                 shown.as_slice() == folded(&rt, alloc, history).as_slice(),
                 "{window}"
             );
+            drop(head);
         }
     }
+    drop(feed);
 }

@@ -156,6 +156,7 @@ fn operation_refusal(rt: &impl Abort, alloc: Global, bytes: &[u8]) -> Option<usi
         Ok(operation) => {
             let written = op_bytes(alloc, &operation).expect(rt, "memory");
             assert!(rt; written.as_slice() == bytes);
+            drop(operation);
             None
         }
         Err(CodecFault::BadField { at }) => Some(at),
@@ -169,6 +170,7 @@ fn head_refusal(rt: &impl Abort, alloc: Global, bytes: &[u8]) -> Option<usize> {
         Ok(head) => {
             let written = head_bytes(alloc, &head).expect(rt, "memory");
             assert!(rt; written.as_slice() == bytes);
+            drop(head);
             None
         }
         Err(CodecFault::BadField { at }) => Some(at),
@@ -258,6 +260,7 @@ fn writes_an_operation_that_was_made(rt: HostRuntime) {
     let operation = Op::Change(draft.normal(1, edited, None));
     let written = op_bytes(rt.alloc(), &operation).expect(&rt, "memory");
     assert!(rt; written.as_slice() == CHANGE);
+    drop(operation);
 }
 
 #[test]

@@ -64,10 +64,10 @@ title=\"a&amp;b&lt;c&gt;d&quot;e&#13;\u{10FFFF}\" length=\"12\"/><link rel=\"via
 /// The offset at which the text is refused, or `None` if it is read.
 fn refusal(rt: &impl Abort, alloc: Global, text: &[u8]) -> Option<usize> {
     assert!(rt; text.len() <= MAX_DOCUMENT);
-    match read_doc(alloc, text) {
-        Ok(_) => None,
-        Err(ReadFault::NotADocument { at }) => Some(at),
-        Err(ReadFault::NoMemory) => panic!(rt; "out of memory"),
+    match read_doc(alloc, text).err() {
+        None => None,
+        Some(ReadFault::NotADocument { at }) => Some(at),
+        Some(ReadFault::NoMemory) => panic!(rt; "out of memory"),
     }
 }
 
@@ -78,6 +78,7 @@ fn reads_what_is_written(rt: HostRuntime) {
         let doc = read_doc(rt.alloc(), text.as_bytes()).expect(&rt, "a document");
         let written = write_doc(rt.alloc(), &doc).expect(&rt, "memory");
         assert!(rt; written.as_slice() == text.as_bytes());
+        drop(doc);
     }
 }
 
@@ -516,6 +517,7 @@ fn reads_each_part_of_an_entry(rt: HostRuntime) {
     assert!(rt; (tombstone.number, entry.number) == (1, 3));
     expect_lists(&rt, entry);
     expect_texts(&rt, entry);
+    drop(doc);
 }
 
 #[test]

@@ -146,10 +146,12 @@ fn case_draft(rt: &impl Abort, alloc: Global, drafts: &Drafts) -> Draft {
 }
 
 fn case_ask(rt: &impl Abort, alloc: Global, drafts: &Drafts, verb: Verb, number: u32) -> Ask {
-    let draft = case_draft(rt, alloc, drafts);
     match verb {
-        Create => Ask::Create(draft),
-        Replace => Ask::Replace { number, draft },
+        Create => Ask::Create(case_draft(rt, alloc, drafts)),
+        Replace => Ask::Replace {
+            number,
+            draft: case_draft(rt, alloc, drafts),
+        },
         Delete => Ask::Delete { number },
     }
 }
@@ -162,11 +164,13 @@ fn last_answer(rt: &impl Abort, alloc: Global, drafts: &Drafts, steps: &[Step]) 
         let ask = case_ask(rt, alloc, drafts, *verb, *number);
         answer = apply(rt, &mut feed, ask, *now);
     }
-    match (&answer, feed.history.last()) {
+    let text = match (&answer, feed.history.last()) {
         (Some(fault), _) => fault_text(rt, alloc, fault),
         (None, Some(operation)) => operation_text(rt, alloc, operation),
         (None, None) => panic!(rt; "no step"),
-    }
+    };
+    drop((feed, answer));
+    text
 }
 
 /// Compares the last answer of each case.
@@ -304,10 +308,13 @@ fn large_draft(rt: &impl Abort, alloc: Global, ampersands: usize, others: usize)
 
 fn large_answer(rt: &impl Abort, alloc: Global, draft: Draft) -> String {
     let feed = empty(rt, alloc);
-    match decide(&feed.members, &feed.name, Ask::Create(draft), 1_000) {
-        Ok(operation) => operation_text(rt, alloc, &operation),
-        Err(fault) => fault_text(rt, alloc, &fault),
-    }
+    let decided = decide(&feed.members, &feed.name, Ask::Create(draft), 1_000);
+    let text = match &decided {
+        Ok(operation) => operation_text(rt, alloc, operation),
+        Err(fault) => fault_text(rt, alloc, fault),
+    };
+    drop((feed, decided));
+    text
 }
 
 #[test]
@@ -361,11 +368,13 @@ fn tells_which_operations_may_follow(rt: HostRuntime) {
     // The history is one member, made at moment 5 with the `updated` 1,000.
     let mut feed = empty(&rt, rt.alloc());
     let ask = case_ask(&rt, rt.alloc(), &DATED, Create, 0);
-    apply(&rt, &mut feed, ask, 5);
+    drop(apply(&rt, &mut feed, ask, 5));
     for &(step, stamp, expected) in &FOLLOWING {
         let operation = operation(&rt, rt.alloc(), step, stamp);
         assert!(rt; feed.members.may_follow(&operation) == expected);
+        drop(operation);
     }
+    drop(feed);
 }
 
 /// Compares all that a copy has with all that its original has.
@@ -374,6 +383,7 @@ fn expect_equal_copy<T: Copies + Debug + Drop>(rt: &impl Abort, alloc: Global, v
     let copied = format!(in alloc; "{copy:?}").expect(rt, "memory");
     let original = format!(in alloc; "{value:?}").expect(rt, "memory");
     assert!(rt; copied.as_str() == original.as_str());
+    drop(copy);
 }
 
 #[test]
@@ -381,6 +391,7 @@ fn copies_of_operations_are_equal(rt: HostRuntime) {
     for verb in [Create, Replace, Delete] {
         let operation = operation(&rt, rt.alloc(), (verb, 3, 5), 7);
         expect_equal_copy(&rt, rt.alloc(), &operation);
+        drop(operation);
     }
 }
 
@@ -389,6 +400,7 @@ fn copies_of_asks_are_equal(rt: HostRuntime) {
     for verb in [Create, Replace, Delete] {
         let ask = case_ask(&rt, rt.alloc(), &OWN, verb, 3);
         expect_equal_copy(&rt, rt.alloc(), &ask);
+        drop(ask);
     }
 }
 
@@ -401,6 +413,7 @@ fn a_copy_of_a_head_is_equal(rt: HostRuntime) {
         created: Stamp::new(0).unwrap(),
     };
     expect_equal_copy(&rt, rt.alloc(), &head);
+    drop(head);
 }
 
 /// The next number of a fixed sequence.
@@ -436,7 +449,7 @@ pub(crate) fn expect_sentence<E: Display>(rt: &impl Abort, alloc: Global, fault:
 #[test]
 fn a_refusal_has_a_sentence(rt: HostRuntime) {
     let (when, last) = (moment(&rt, 0), moment(&rt, 0));
-    for (fault, want) in &[
+    let cases = [
         (RuleFault::NotFound { number: 3 }, "there is no member 3"),
         (
             RuleFault::Deleted { number: 3, when },
@@ -451,13 +464,15 @@ fn a_refusal_has_a_sentence(rt: HostRuntime) {
             "the entry takes 394241 bytes, and at most 394240 are allowed",
         ),
         (RuleFault::NoMemory, "out of memory"),
-    ] {
+    ];
+    for (fault, want) in &cases {
         expect_sentence(&rt, rt.alloc(), fault, want);
     }
     let given = AtomText::of(rt.alloc(), b"tag:a").expect(&rt, "a text");
     let other = RuleFault::OtherId { number: 3, given };
     let want = "the entry has another identifier than member 3";
     expect_sentence(&rt, rt.alloc(), &other, want);
+    drop((cases, other));
 }
 
 /// Compares the table with the plain functions, which read the whole history.
@@ -482,10 +497,11 @@ fn table_is_the_plain_fold(rt: HostRuntime) {
         let number = some_number(seed, feed.members.count());
         let ask = some_ask(&rt, rt.alloc(), seed, number);
         let now = (seed >> 40) % (10 * round + 1);
-        apply(&rt, &mut feed, ask, now);
+        drop(apply(&rt, &mut feed, ask, now));
         compare(&rt, &feed, number);
     }
     // Enough members were deleted for the comparison to mean something.
     assert!(rt; feed.members.live_count() > 100);
     assert!(rt; feed.members.count() > feed.members.live_count().saturating_add(100));
+    drop(feed);
 }

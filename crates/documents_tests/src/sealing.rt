@@ -65,12 +65,15 @@ fn history(rt: &impl Abort, alloc: Global, case: &Case) -> Vec<Op>
 fn document(rt: &impl Abort, alloc: Global, case: &Case) -> Doc {
     let head = head(rt, alloc, case.window);
     let history = history(rt, alloc, case);
-    let history = history.as_slice();
-    if case.archive == 0 {
-        return subscription(alloc, &head, history).expect(rt, "memory");
-    }
-    assert!(rt; case.archive <= full_windows(&head, history));
-    archive(alloc, &head, history, case.archive).expect(rt, "memory")
+    let operations = history.as_slice();
+    let made = if case.archive == 0 {
+        subscription(alloc, &head, operations)
+    } else {
+        assert!(rt; case.archive <= full_windows(&head, operations));
+        archive(alloc, &head, operations, case.archive)
+    };
+    drop((head, history));
+    made.expect(rt, "memory")
 }
 
 /// The document's kind, span, `prev` and `updated`, and its items: the number and the moment of each, with a `-` for a
@@ -152,5 +155,6 @@ fn documents_of_histories(rt: HostRuntime) {
     ] {
         let doc = document(&rt, rt.alloc(), &case);
         assert!(rt; doc_text(&rt, rt.alloc(), &doc).as_str() == case.expected);
+        drop(doc);
     }
 }

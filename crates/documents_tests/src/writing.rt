@@ -67,46 +67,44 @@ fn expect_text(rt: &impl Abort, alloc: Global, doc: &Doc, text: &str) {
     assert!(rt; doc_len(doc) == text.len() as u64);
 }
 
+fn expect_text_of_copy(rt: &impl Abort, alloc: Global, doc: &Doc, text: &str) {
+    let copy = doc.copy(alloc).expect(rt, "memory");
+    expect_text(rt, alloc, &copy, text);
+    drop(copy);
+}
+
 #[test]
 fn writes_documents_and_their_copies(rt: HostRuntime) {
     let doc = made_by_hand(&rt, rt.alloc());
     expect_text(&rt, rt.alloc(), &doc, MADE_BY_HAND);
-    expect_text(
-        &rt,
-        rt.alloc(),
-        &doc.copy(rt.alloc()).expect(&rt, "memory"),
-        MADE_BY_HAND,
-    );
+    expect_text_of_copy(&rt, rt.alloc(), &doc, MADE_BY_HAND);
+    drop(doc);
     for text in [SUBSCRIPTION, ARCHIVE] {
         assert!(rt; text.len() <= MAX_DOCUMENT);
         let doc = read_doc(rt.alloc(), text.as_bytes()).expect(&rt, "a document");
-        expect_text(
-            &rt,
-            rt.alloc(),
-            &doc.copy(rt.alloc()).expect(&rt, "memory"),
-            text,
-        );
+        expect_text_of_copy(&rt, rt.alloc(), &doc, text);
+        drop(doc);
     }
 }
 
 #[test]
 fn a_document_has_a_place(rt: HostRuntime) {
+    let subscription = made_by_hand(&rt, rt.alloc());
     let expected = Place {
         address: Address::Feed,
         span: Span { first: 9, last: 10 },
         prev: 2,
     };
-    assert!(rt; made_by_hand(&rt, rt.alloc()).place() == expected);
+    assert!(rt; subscription.place() == expected);
     assert!(rt; ARCHIVE.len() <= MAX_DOCUMENT);
-    let archive = read_doc(rt.alloc(), ARCHIVE.as_bytes())
-        .expect(&rt, "a document")
-        .place();
+    let archive = read_doc(rt.alloc(), ARCHIVE.as_bytes()).expect(&rt, "a document");
     let expected = Place {
         address: Address::Archive(2),
         span: Span { first: 5, last: 8 },
         prev: 1,
     };
-    assert!(rt; archive == expected);
+    assert!(rt; archive.place() == expected);
+    drop((subscription, archive));
 }
 
 /// The member documents of the last entry of each document.
@@ -154,6 +152,7 @@ fn writes_member_documents(rt: HostRuntime) {
             .find(|line| line.starts_with("<entry>"))
             .expect(&rt, "a piece");
         assert!(rt; entry_len(&doc.name, entry) == piece.len() as u64 + 1);
+        drop(doc);
     }
 }
 
@@ -219,7 +218,9 @@ fn documents_keep_their_rules(rt: HostRuntime) {
             items,
         );
         assert!(rt; doc.is_some() == *kept, "{kind:?}, {span:?} after {prev}");
+        drop(doc);
     }
+    drop(name);
 }
 
 #[test]

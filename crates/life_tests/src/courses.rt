@@ -65,4 +65,5 @@ pub fn follow(rt: &impl Abort, alloc: Global, window: u32, events: &[(Does, Opti
     for &event in events {
         advance(rt, alloc, &mut life, &mut fold, event);
     }
+    drop((life, fold));
 }

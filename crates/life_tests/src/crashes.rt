@@ -47,6 +47,7 @@ fn expect_request(rt: &impl Abort, alloc: Global, call: u64, left: Left) {
         live: 3,
     };
     assert!(rt; shown == whole && life.sealed() == 2, "{call} {left:?}");
+    drop(life);
 }
 
 #[test]
@@ -118,6 +119,7 @@ fn expect_gift(rt: &impl Abort, alloc: Global, call: u64, left: Left) {
         again == taken && life.mirror_stops() == 1,
         "{call} {left:?}"
     );
+    drop(life);
 }
 
 #[test]
@@ -154,6 +156,7 @@ fn expect_walk(rt: &impl Abort, alloc: Global, call: u64, left: Left) {
         again == whole && life.mirror_stops() == 1,
         "{call} {left:?}"
     );
+    drop(life);
 }
 
 #[test]
@@ -191,13 +194,15 @@ fn an_event_may_change_nothing(rt: HostRuntime) {
     }
     let shown = outcome(&rt, &mut life);
     assert!(rt; life.mirrors() == 1);
-    let none = life.certificate(0).expect(&rt, "memory").is_none();
+    let certificate = life.certificate(0).expect(&rt, "memory");
     assert!(rt;
-        none && shown
-            == Outcome::Missing {
-                address: Address::Feed
-            }
+        certificate.is_none()
+            && shown
+                == Outcome::Missing {
+                    address: Address::Feed
+                }
     );
+    drop((certificate, life));
 }
 
 /// The document of seven short entries doesn't fit into a mirror of 4,096 bytes after the first two documents.
@@ -218,4 +223,5 @@ fn a_mirror_may_be_full(rt: HostRuntime) {
         live: 3,
     };
     assert!(rt; life.version() == 7 && shown == full && again == full);
+    drop(life);
 }

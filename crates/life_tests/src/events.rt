@@ -1,6 +1,4 @@
 //! Lives, and their events as data, for the other modules.
-//!
-//! A function that owns a life or an event has few exits, since the proof drops each of its values at each exit.
 
 use atom_values::{AtomText, Bytes, Stamp};
 use atom_writer::FeedName;
@@ -70,7 +68,9 @@ pub fn head(rt: &impl Abort, alloc: Global, window: u32, capacity: u64) -> Head 
 pub fn life(rt: &impl Abort, alloc: Global, window: u32, capacity: u64, mirrors: u32) -> Life {
     assert!(rt; mirrors <= 100);
     let head = head(rt, alloc, window, capacity);
-    Life::new(alloc, &head, mirrors).expect(rt, "memory")
+    let life = Life::new(alloc, &head, mirrors).expect(rt, "memory");
+    drop(head);
+    life
 }
 
 fn bytes(rt: &impl Abort, alloc: Global, from: &[u8]) -> Bytes {

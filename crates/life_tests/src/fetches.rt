@@ -32,12 +32,14 @@ fn post(rt: &impl Abort, alloc: Global, disk: &mut MemoryDisk, title: u32) {
     let post = request(rt, alloc, Verb::Post, Address::Feed, Some(title));
     let reply = answer(alloc, &mut store, disk, &post, NOW);
     assert!(rt; reply.status == 201);
+    drop((reply, post, store));
 }
 
 /// Makes a store of three operations in windows of two.
 fn fill(rt: &impl Abort, alloc: Global, disk: &mut MemoryDisk) {
     let head = head(rt, alloc, 2, 1_000_000);
     Store::init(alloc, disk, &head).expect(rt, "a store");
+    drop(head);
     for title in 1..4 {
         post(rt, alloc, disk, title);
     }
@@ -100,8 +102,9 @@ fn a_store_answers_its_addresses(rt: HostRuntime) {
     for &row in &ADDRESSES {
         expect_found(&rt, alloc, &mut source, &fold, row);
     }
-    let (store, _) = source.back();
+    let (store, disk) = source.back();
     assert!(rt; store.version() == 3 && !store.is_spent());
+    drop((store, disk, fold));
 }
 
 /// Asks for an address, and expects that the call fails.
@@ -118,10 +121,12 @@ fn expect_failed(
 #[test]
 fn a_source_whose_disk_failed_answers_nothing(rt: HostRuntime) {
     let alloc = rt.alloc();
-    let (_, calls) = source(&rt, alloc, 0);
+    let (whole, calls) = source(&rt, alloc, 0);
+    drop(whole);
     let (mut failing, _) = source(&rt, alloc, calls.saturating_add(1));
     expect_failed(&rt, alloc, &mut failing, "http://feed.example/archive/1");
     expect_failed(&rt, alloc, &mut failing, "http://feed.example/feed");
-    let (store, _) = failing.back();
+    let (store, disk) = failing.back();
     assert!(rt; store.is_spent());
+    drop((store, disk));
 }

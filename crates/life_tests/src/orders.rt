@@ -84,6 +84,7 @@ fn a_mirror_shows_its_newest_document(rt: HostRuntime) {
         let mut life = course(&rt, rt.alloc(), steps);
         let found = shown(&rt, &mut life);
         assert!(rt; found == Outcome::Complete { version, live }, "{steps:?}");
+        drop(life);
     }
 }
 
@@ -126,7 +127,9 @@ fn certified(rt: &impl Abort, alloc: Global, life: &mut Life) -> Vec<u8> {
     let certificate = made.expect(rt, "a certificate");
     let mut sink = ListSink::new(alloc, Many::new(alloc));
     certificate.print(&mut sink).expect(rt, "a text");
-    Vec::from_slice(alloc, sink.bytes()).expect(rt, "memory")
+    let text = Vec::from_slice(alloc, sink.bytes()).expect(rt, "memory");
+    drop((certificate, sink));
+    text
 }
 
 #[test]
@@ -139,4 +142,5 @@ fn a_life_has_these_documents(rt: HostRuntime) {
     }
     let certificate = certified(&rt, rt.alloc(), &mut life);
     assert!(rt; certificate.as_slice() == CERTIFICATE.as_bytes());
+    drop(life);
 }

@@ -83,6 +83,7 @@ fn expect<D: Disk>(rt: &impl Abort, alloc: Global, disk: &mut D, feed: &Feed, st
     for step in steps {
         expect_step(rt, alloc, &mut mirror, disk, feed, step);
     }
+    drop(mirror);
 }
 
 #[test]
@@ -91,7 +92,9 @@ fn a_mirror_is_complete_once_no_document_is_missing(rt: HostRuntime) {
     for steps in [MIXED.as_slice(), &EMPTY_FIRST] {
         let mut disk = disk_of(&rt, rt.alloc(), b"", 0);
         expect(&rt, rt.alloc(), &mut disk, &feed, steps);
+        drop(disk);
     }
+    drop(feed);
 }
 
 /// The archives come before any subscription document.
@@ -135,6 +138,8 @@ fn a_mirror_keeps_the_first_of_two_documents(rt: HostRuntime) {
     expect(&rt, rt.alloc(), &mut disk, &feed, &OLDEST_FIRST);
     expect(&rt, rt.alloc(), &mut disk, &changed, &CHANGED);
     expect(&rt, rt.alloc(), &mut disk, &feed, &LATER);
+    drop(disk);
+    drop((feed, changed));
 }
 
 /// The first bytes of the digest of the document at an address.
@@ -191,6 +196,7 @@ fn expect_told<D: Disk>(rt: &impl Abort, alloc: Global, disk: &mut D, feed: &Fee
         let told = told(rt, alloc, &mirror);
         assert!(rt; told.as_str() == *expected, "{told}");
     }
+    drop(mirror);
 }
 
 #[test]
@@ -198,4 +204,6 @@ fn a_mirror_tells_what_it_holds(rt: HostRuntime) {
     let feed = letters(&rt, rt.alloc(), b"abcdefghijklm");
     let mut disk = disk_of(&rt, rt.alloc(), b"", 0);
     expect_told(&rt, rt.alloc(), &mut disk, &feed);
+    drop(disk);
+    drop(feed);
 }

@@ -42,8 +42,16 @@ pub fn run_course<D: Disk>(
     };
     let base = base(rt, alloc, "http://feed.example/");
     course.fault = match Mirror::load(alloc, disk, base, CAPACITY) {
-        Ok(mut mirror) => fill(rt, alloc, &mut mirror, disk, offers, &mut course),
-        Err(fault) => format!(in alloc; "load: {fault}").expect(rt, "memory"),
+        Ok(mut mirror) => {
+            let fault = fill(rt, alloc, &mut mirror, disk, offers, &mut course);
+            drop(mirror);
+            fault
+        }
+        Err(fault) => {
+            let text = format!(in alloc; "load: {fault}").expect(rt, "memory");
+            drop(fault);
+            text
+        }
     };
     course
 }
@@ -62,7 +70,11 @@ fn fill<D: Disk>(
 {
     match offer_all(rt, mirror, disk, offers, course) {
         Ok(()) => fill_titles(rt, alloc, mirror, disk, course),
-        Err(fault) => format!(in alloc; "offer: {fault}").expect(rt, "memory"),
+        Err(fault) => {
+            let text = format!(in alloc; "offer: {fault}").expect(rt, "memory");
+            drop(fault);
+            text
+        }
     }
 }
 
@@ -83,6 +95,7 @@ fn fill_titles<D: Disk>(
         let title = entry.title.value.bytes();
         course.titles.extend_from_slice(title).expect(rt, "memory");
     }
+    drop(entries);
     match read {
         Ok(()) => String::new(alloc),
         Err(fault) => format!(in alloc; "entry: {fault}").expect(rt, "memory"),

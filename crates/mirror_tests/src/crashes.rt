@@ -17,7 +17,9 @@ const TITLES: &[u8] = b"abcdefghijklm";
 fn chain(rt: &impl Abort, alloc: Global) -> Vec<Offer> {
     let feed = letters(rt, alloc, TITLES);
     let all = [Version(13), Archive(3), Archive(1), Archive(2)];
-    offers_of(rt, alloc, &feed, &all)
+    let offers = offers_of(rt, alloc, &feed, &all);
+    drop(feed);
+    offers
 }
 
 /// Returns an area with these documents.
@@ -73,7 +75,9 @@ fn failing(
     offers: &[Offer],
 ) -> (Course, Course) {
     let mut disk = disk_of(rt, alloc, area, call);
-    two_courses(rt, alloc, &mut disk, offers)
+    let courses = two_courses(rt, alloc, &mut disk, offers);
+    drop(disk);
+    courses
 }
 
 /// Returns the course of an empty mirror if this device call fails. The load makes the calls 1 to 4, each
@@ -103,14 +107,18 @@ fn after_a_failed_call_a_new_mirror_goes_on(rt: HostRuntime) {
         let held = held_after(call, 4, 4);
         let wanted = (cut_course(&rt, alloc, call), whole(&rt, alloc, held));
         assert!(rt; courses == wanted, "call {call}: {courses:?}");
+        drop((courses, wanted));
     }
+    drop(offers);
 }
 
 /// Returns the number of device calls of a course over this area.
 fn calls_of(rt: &impl Abort, alloc: Global, area: &[u8], offers: &[Offer]) -> u64 {
     let mut disk = disk_of(rt, alloc, area, 0);
-    run_course(rt, alloc, &mut disk, offers);
-    disk.calls()
+    drop(run_course(rt, alloc, &mut disk, offers));
+    let calls = disk.calls();
+    drop(disk);
+    calls
 }
 
 #[test]
@@ -128,13 +136,15 @@ fn after_a_failed_call_a_whole_mirror_is_loaded_again(rt: HostRuntime) {
         };
         let wanted = (first, whole(&rt, alloc, 4));
         assert!(rt; courses == wanted, "call {call}: {courses:?}");
+        drop((courses, wanted));
     }
+    drop(offers);
 }
 
 /// Returns a disk after the course of an empty mirror.
 fn full_disk(rt: &impl Abort, alloc: Global, offers: &[Offer]) -> MemoryDisk {
     let mut disk = disk_of(rt, alloc, b"", 0);
-    run_course(rt, alloc, &mut disk, offers);
+    drop(run_course(rt, alloc, &mut disk, offers));
     disk
 }
 
@@ -147,7 +157,9 @@ fn after_crash(
     offers: &[Offer],
 ) -> Course {
     let mut left = crashed(rt, disk, call, filling);
-    run_course(rt, alloc, &mut left, offers)
+    let course = run_course(rt, alloc, &mut left, offers);
+    drop(left);
+    course
 }
 
 #[test]
@@ -161,6 +173,9 @@ fn a_crash_leaves_the_documents_before_or_one_more(rt: HostRuntime) {
             let held = held_after(call, filling.landed(), 4);
             let wanted = whole(&rt, alloc, held);
             assert!(rt; course == wanted, "call {call}, {filling:?}: {course:?}");
+            drop((course, wanted));
         }
     }
+    drop(disk);
+    drop(offers);
 }

@@ -1,7 +1,6 @@
 //! Disks in memory, the bytes of a mirror's area, and crashes, for the other modules.
 //!
-//! Calls on a disk are in functions over any `Disk`, since their proofs are shorter than over `MemoryDisk`. A
-//! function that owns a disk has few exits, since the proof drops the disk at each.
+//! Calls on a disk are in functions over any `Disk`, since their proofs are shorter than over `MemoryDisk`.
 
 use atom_grammar::MAX_DOCUMENT;
 use atom_values::{Bytes, Many};
@@ -28,8 +27,12 @@ pub fn disk_of(rt: &impl Abort, alloc: Global, area: &[u8], failing: u64) -> Mem
 
 /// Returns the disk that a crash within a call leaves.
 pub fn crashed(rt: &impl Abort, disk: &MemoryDisk, call: u64, filling: Filling) -> MemoryDisk {
-    disk.image(call.min(disk.calls()), &filling.choice())
-        .expect(rt, "memory")
+    let choice = filling.choice();
+    let left = disk
+        .image(call.min(disk.calls()), &choice)
+        .expect(rt, "memory");
+    drop(choice);
+    left
 }
 
 /// Returns the bytes of the mirror area.

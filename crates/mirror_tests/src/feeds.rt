@@ -111,7 +111,10 @@ fn document(rt: &impl Abort, alloc: Global, feed: &Feed, given: Given) -> Doc {
 
 /// The bytes of a document that the feed serves.
 pub fn bytes(rt: &impl Abort, alloc: Global, feed: &Feed, given: Given) -> Vec<u8> {
-    write_doc(alloc, &document(rt, alloc, feed, given)).expect(rt, "memory")
+    let document = document(rt, alloc, feed, given);
+    let bytes = write_doc(alloc, &document).expect(rt, "memory");
+    drop(document);
+    bytes
 }
 
 /// The address of a document that the feed serves.

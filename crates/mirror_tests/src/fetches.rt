@@ -56,6 +56,7 @@ fn each_get_has_the_first_offer_or_fails(rt: HostRuntime) {
             assert!(rt; answers(&mut fetch, rt.alloc(), address, want));
         }
         assert_eq!(rt; fetch.asked().len(), ASKED.len());
+        drop(fetch);
     }
 }
 
@@ -77,12 +78,14 @@ fn a_get_without_a_server_fails(rt: HostRuntime) {
         assert!(rt; answers(&mut fetch, rt.alloc(), address, Err(GetFault::Failed)));
     }
     assert_eq!(rt; fetch.faults(), REFUSED.len() as u64);
+    drop(fetch);
 }
 
 /// The address of a document on a port that was free a moment ago.
 fn free_address(rt: &(impl Net + Abort), alloc: Global) -> String {
     let listener = TcpListener::bind(rt, "127.0.0.1:0").expect(rt, "a port");
     let port = listener.local_addr().expect(rt, "an address").port();
+    drop(listener);
     format!(in alloc; "http://127.0.0.1:{port}/feed").expect(rt, "memory")
 }
 
@@ -99,4 +102,5 @@ fn a_get_at_a_closed_port_fails(rt: HostRuntime) {
         )
     );
     assert_eq!(rt; fetch.faults(), 1);
+    drop(fetch);
 }

@@ -126,8 +126,10 @@ fn answers<D: Disk>(
     for given in offered {
         let given = offer_of(rt, alloc, feed, *given);
         append_answer(rt, alloc, &mut mirror, disk, &given, &mut answers);
+        drop(given);
     }
     let outcome = outcome(rt, alloc, &mut mirror);
+    drop(mirror);
     answers.push_str(outcome.as_str()).expect(rt, "memory");
     answers
 }
@@ -167,7 +169,9 @@ fn offered_to_empty(
     case: &Case,
 ) -> (String, Vec<u8>, String) {
     let mut disk = disk_of(rt, alloc, b"", 0);
-    offered(rt, alloc, &mut disk, feed, case)
+    let told = offered(rt, alloc, &mut disk, feed, case);
+    drop(disk);
+    told
 }
 
 #[test]
@@ -185,6 +189,7 @@ fn the_area_has_the_documents_that_were_taken(rt: HostRuntime) {
             "{answers}, {again}"
         );
     }
+    drop(feed);
 }
 
 /// A piece of an area.
@@ -350,15 +355,25 @@ fn fault_text(rt: &impl Abort, alloc: Global, fault: &MirrorFault) -> String {
 /// The outcome of the mirror of a disk, or the fault of its load.
 fn loaded<D: Disk>(rt: &impl Abort, alloc: Global, disk: &mut D, base: Base) -> String {
     match Mirror::load(alloc, disk, base, CAPACITY) {
-        Ok(mut mirror) => outcome(rt, alloc, &mut mirror),
-        Err(fault) => fault_text(rt, alloc, &fault),
+        Ok(mut mirror) => {
+            let text = outcome(rt, alloc, &mut mirror);
+            drop(mirror);
+            text
+        }
+        Err(fault) => {
+            let text = fault_text(rt, alloc, &fault);
+            drop(fault);
+            text
+        }
     }
 }
 
 /// The same on a disk with this mirror area.
 fn loaded_from(rt: &impl Abort, alloc: Global, area: &[u8], base_text: &str) -> String {
     let mut disk = disk_of(rt, alloc, area, 0);
-    loaded(rt, alloc, &mut disk, base(rt, alloc, base_text))
+    let text = loaded(rt, alloc, &mut disk, base(rt, alloc, base_text));
+    drop(disk);
+    text
 }
 
 #[test]
@@ -374,4 +389,5 @@ fn an_area_loads_or_has_a_first_bad_record(rt: HostRuntime) {
         let loaded = loaded_from(&rt, alloc, &area, base_text);
         assert!(rt; loaded.as_str() == *wanted, "{pieces:?}: {loaded}");
     }
+    drop((feed, changed));
 }

@@ -98,7 +98,9 @@ pub fn offer<D: Disk>(
     assert!(rt; bytes.len() <= MAX_DOCUMENT);
     let answer = mirror.offer(disk, address, bytes);
     assert!(rt; !is_disk_fault(&answer));
-    answer_text(rt, alloc, &answer)
+    let text = answer_text(rt, alloc, &answer);
+    drop(answer);
+    text
 }
 
 /// The outcome's name and its fields: the version and the number of live entries, or the first missing

@@ -57,23 +57,39 @@ fn told(alloc: Global, answer: &Result<Option<Offer>, PileFault>) -> Option<Stri
     }
 }
 
+/// Reads on, and appends the answer. Returns whether the pile has ended.
+fn append_answer(
+    rt: &impl Abort,
+    alloc: Global,
+    reader: &mut PileReader,
+    source: &mut Trickle,
+    text: &mut String,
+) -> bool {
+    let answer = reader.next(source);
+    let line = told(alloc, &answer).expect(rt, "a text");
+    let ended = !matches!(answer, Ok(Some(_)) | Err(PileFault::SourceFault));
+    drop(answer);
+    text.push_str(line.as_str()).expect(rt, "memory");
+    if ended {
+        text.push_str(";").expect(rt, "memory");
+    }
+    ended
+}
+
 /// All answers, and the one after the last.
 fn answers(rt: &impl Abort, alloc: Global, source: &mut Trickle, limit: u64) -> String {
     let mut reader = PileReader::new(alloc, limit).expect(rt, "memory");
     let mut text = String::new(alloc);
     let mut ended = false;
     for _ in 0..1000 {
-        let answer = reader.next(source);
-        let line = told(alloc, &answer).expect(rt, "a text");
-        text.push_str(line.as_str()).expect(rt, "memory");
-        if !matches!(answer, Ok(Some(_)) | Err(PileFault::SourceFault)) {
-            text.push_str(";").expect(rt, "memory");
+        if append_answer(rt, alloc, &mut reader, source, &mut text) {
             if ended {
                 break;
             }
             ended = true;
         }
     }
+    drop(reader);
     text
 }
 
@@ -83,6 +99,7 @@ fn expect(rt: &impl Abort, alloc: Global, bytes: &[u8], failing: u64, limit: u64
         let mut source = source_of(rt, alloc, bytes, failing, most);
         let text = answers(rt, alloc, &mut source, limit);
         assert_eq!(rt; text.as_str(), wanted);
+        drop(source);
     }
 }
 
@@ -190,9 +207,12 @@ fn an_offer_is_copied_and_written(rt: HostRuntime) {
     };
     let copied = offer.copy(rt.alloc()).expect(&rt, "memory");
     assert!(rt; copied == offer);
+    drop(offer);
     let mut sink = ListSink::new(rt.alloc(), Many::new(rt.alloc()));
     assert_eq!(rt; write(&mut sink, &copied), Ok(()));
     assert_eq!(rt; sink.bytes(), b"pile 1\na 3\nx\nz\n".as_slice());
+    drop(copied);
+    drop(sink);
 }
 
 #[test]

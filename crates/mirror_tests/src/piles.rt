@@ -138,7 +138,10 @@ fn shown<D: Disk>(rt: &impl Abort, alloc: Global, disk: &mut D, name: &FeedName)
     let mut entries = Vec::new(alloc);
     let mut mirror = load(rt, alloc, disk, CAPACITY);
     read_entries(rt, &mut mirror, disk, &mut entries).expect(rt, "a device call");
-    written(rt, alloc, &entries, name)
+    drop(mirror);
+    let shown = written(rt, alloc, &entries, name);
+    drop(entries);
+    shown
 }
 
 /// The member documents of these entries.
@@ -211,10 +214,9 @@ fn offer_drawn<D: Disk>(
     ensures stands { D.told → StandsFor (D.state disk.new) mirror.new }
 {
     let bytes = bytes(rt, alloc, feed, given);
-    assert!(rt; bytes.len() <= MAX_DOCUMENT);
     let address = address(rt, alloc, given);
-    let answer = mirror.offer(disk, address.as_bytes(), &bytes);
-    assert!(rt; answer == Ok(drawn.note(given)), "{given:?}");
+    let answer = accepted(rt, mirror, disk, address.as_bytes(), &bytes);
+    assert!(rt; answer == drawn.note(given), "{given:?}");
     assert!(rt;
         mirror.outcome() == Ok(drawn.outcome(rt, feed)),
         "{given:?}"
@@ -245,6 +247,7 @@ fn offer_all<D: Disk>(
         let given = draw(seed, sealed);
         offer_drawn(rt, alloc, &mut mirror, disk, feed, given, &mut drawn);
     }
+    drop(mirror);
     drawn
 }
 
@@ -271,7 +274,9 @@ fn expect_fold<D: Disk>(
 fn expect(rt: &impl Abort, alloc: Global, feed: &Feed, sealed: u32, round: u64) -> bool {
     let mut disk = disk_of(rt, alloc, b"", 0);
     let drawn = offer_all(rt, alloc, &mut disk, (feed, sealed), round);
-    expect_fold(rt, alloc, &mut disk, feed, &drawn)
+    let complete = expect_fold(rt, alloc, &mut disk, feed, &drawn);
+    drop(disk);
+    complete
 }
 
 /// Offers this many piles to new mirrors. Returns how many of them were complete at the end.
@@ -284,6 +289,7 @@ fn complete(rt: &impl Abort, alloc: Global, window: u32, piles: u64) -> u64 {
             complete = complete.saturating_add(1);
         }
     }
+    drop(feed);
     complete
 }
 

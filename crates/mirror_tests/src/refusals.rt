@@ -231,7 +231,9 @@ fn expect_step<D: Disk>(
     ensures stands { D.told → StandsFor (D.state disk.new) mirror.new }
 {
     let (address, made, answer, shown) = step;
-    let bytes = write_doc(alloc, &document(rt, alloc, made)).expect(rt, "memory");
+    let document = document(rt, alloc, made);
+    let bytes = write_doc(alloc, &document).expect(rt, "memory");
+    drop(document);
     let answered = offer(rt, alloc, mirror, disk, address.as_bytes(), &bytes);
     let outcome = outcome(rt, alloc, mirror);
     assert!(rt;
@@ -246,12 +248,14 @@ fn follow<D: Disk>(rt: &impl Abort, alloc: Global, disk: &mut D, steps: &[Step])
     for step in steps {
         expect_step(rt, alloc, &mut mirror, disk, step);
     }
+    drop(mirror);
 }
 
 /// Does so on an empty disk.
 fn expect(rt: &impl Abort, alloc: Global, steps: &[Step]) {
     let mut disk = disk_of(rt, alloc, b"", 0);
     follow(rt, alloc, &mut disk, steps);
+    drop(disk);
 }
 
 #[test]
@@ -267,7 +271,9 @@ fn a_mirror_refuses_documents_that_contradict_its_own(rt: HostRuntime) {
 /// The answer to these bytes.
 fn answer<D: Disk>(rt: &impl Abort, alloc: Global, disk: &mut D, bytes: &[u8]) -> String {
     let mut mirror = load(rt, alloc, disk, CAPACITY);
-    offer(rt, alloc, &mut mirror, disk, FEED.as_bytes(), bytes)
+    let answer = offer(rt, alloc, &mut mirror, disk, FEED.as_bytes(), bytes);
+    drop(mirror);
+    answer
 }
 
 #[test]
@@ -275,4 +281,5 @@ fn a_mirror_refuses_other_bytes(rt: HostRuntime) {
     let mut disk = disk_of(&rt, rt.alloc(), b"", 0);
     let answered = answer(&rt, rt.alloc(), &mut disk, b"<?xml");
     assert!(rt; answered.as_str() == "NotADocument 0");
+    drop(disk);
 }

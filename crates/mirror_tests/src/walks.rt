@@ -313,9 +313,16 @@ fn walk<D: Disk>(
     match Mirror::load(alloc, disk, base, capacity) {
         Ok(mut mirror) => {
             let outcome = mirror.walk(disk, fetch);
-            walk_text(rt, alloc, fetch, &outcome)
+            drop(mirror);
+            let text = walk_text(rt, alloc, fetch, &outcome);
+            drop(outcome);
+            text
         }
-        Err(fault) => format!(in alloc; "load: {fault}").expect(rt, "memory"),
+        Err(fault) => {
+            let text = format!(in alloc; "load: {fault}").expect(rt, "memory");
+            drop(fault);
+            text
+        }
     }
 }
 
@@ -329,8 +336,11 @@ fn walk_case<D: Disk>(
 ) -> (String, String) {
     let mut fetch = source(rt, alloc, feeds, case.found, case.failing);
     let first = walk(rt, alloc, disk, case.capacity, &mut fetch);
+    drop(fetch);
     let mut fetch = source(rt, alloc, feeds, case.found, 0);
-    (first, walk(rt, alloc, disk, case.capacity, &mut fetch))
+    let second = walk(rt, alloc, disk, case.capacity, &mut fetch);
+    drop(fetch);
+    (first, second)
 }
 
 /// Returns the two walks of a case, on a disk that holds its documents. The device call `failing` fails. 0
@@ -344,7 +354,9 @@ fn walks(
 ) -> (String, String) {
     let area = area(rt, alloc, feeds, case.held);
     let mut disk = disk_of(rt, alloc, &area, failing);
-    walk_case(rt, alloc, &mut disk, feeds, case)
+    let walks = walk_case(rt, alloc, &mut disk, feeds, case);
+    drop(disk);
+    walks
 }
 
 /// Whether a device call of the walk failed.
@@ -369,7 +381,9 @@ fn walk_on<D: Disk>(
 {
     let outcome = mirror.walk(disk, fetch);
     assert!(rt; !is_disk_fault(&outcome));
-    walk_text(rt, alloc, fetch, &outcome)
+    let text = walk_text(rt, alloc, fetch, &outcome);
+    drop(outcome);
+    text
 }
 
 /// Walks with a mirror over the documents of a case. The get `failing` fails. 0 lists no get.
@@ -388,7 +402,9 @@ fn walk_over<D: Disk>(
     ensures stands { D.told → StandsFor (D.state disk.new) mirror.new }
 {
     let mut fetch = source(rt, alloc, feeds, found, failing);
-    walk_on(rt, alloc, mirror, disk, &mut fetch)
+    let text = walk_on(rt, alloc, mirror, disk, &mut fetch);
+    drop(fetch);
+    text
 }
 
 /// Walks twice over the source of a case with one mirror.
@@ -411,6 +427,7 @@ fn walk_on_case<D: Disk>(
         case.failing,
     );
     let second = walk_over(rt, alloc, &mut mirror, disk, feeds, case.found, 0);
+    drop(mirror);
     (first, second)
 }
 
@@ -418,7 +435,9 @@ fn walk_on_case<D: Disk>(
 fn walks_on(rt: &impl Abort, alloc: Global, feeds: &Feeds, case: &Case) -> (String, String) {
     let area = area(rt, alloc, feeds, case.held);
     let mut disk = disk_of(rt, alloc, &area, 0);
-    walk_on_case(rt, alloc, &mut disk, feeds, case)
+    let walks = walk_on_case(rt, alloc, &mut disk, feeds, case);
+    drop(disk);
+    walks
 }
 
 /// Compares the walks of the cases, of a mirror that is loaded again and of one that isn't.
@@ -435,7 +454,9 @@ fn expect(rt: &impl Abort, alloc: Global, cases: &[Case]) {
                 "{first}; {second}"
             );
         }
+        drop(all);
     }
+    drop(feeds);
 }
 
 #[test]
@@ -490,6 +511,7 @@ fn after_a_failed_device_call_a_second_walk_goes_on(rt: HostRuntime) {
             "call {call}: {first}; {second}"
         );
     }
+    drop(feeds);
 }
 
 /// Returns a disk after the walk of an empty mirror.
@@ -497,6 +519,7 @@ fn walked_disk(rt: &impl Abort, alloc: Global, feeds: &Feeds) -> MemoryDisk {
     let mut fetch = source(rt, alloc, feeds, ALL, 0);
     let mut disk = disk_of(rt, alloc, b"", 0);
     walk(rt, alloc, &mut disk, CAPACITY, &mut fetch);
+    drop(fetch);
     disk
 }
 
@@ -510,7 +533,10 @@ fn after_crash(
 ) -> String {
     let mut fetch = source(rt, alloc, feeds, ALL, 0);
     let mut left = crashed(rt, disk, call, filling);
-    walk(rt, alloc, &mut left, CAPACITY, &mut fetch)
+    let text = walk(rt, alloc, &mut left, CAPACITY, &mut fetch);
+    drop(fetch);
+    drop(left);
+    text
 }
 
 #[test]
@@ -525,4 +551,6 @@ fn after_a_crash_a_second_walk_goes_on(rt: HostRuntime) {
             assert!(rt; walk.as_str() == wanted, "call {call}, {filling:?}: {walk}");
         }
     }
+    drop(disk);
+    drop(feeds);
 }

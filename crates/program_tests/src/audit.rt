@@ -33,7 +33,9 @@ fn joined(rt: &impl Abort, alloc: Global, certificate: &str, pile: &[u8]) -> Vec
 pub fn audited(rt: &impl Abort, alloc: Global, certificate: &str, pile: &[u8]) -> End {
     let mut unused = empty_disk(rt, alloc, 0);
     let input = joined(rt, alloc, certificate, pile);
-    ran(rt, alloc, &mut unused, AUDIT, input.as_slice())
+    let end = ran(rt, alloc, &mut unused, AUDIT, input.as_slice());
+    drop(unused);
+    end
 }
 
 /// A text of the certificate, and the text that replaces it.
@@ -154,6 +156,7 @@ fn each_verdict_comes(rt: HostRuntime) {
     for &row in &VERDICTS {
         expect_verdict(&rt, alloc, &mut disk, row);
     }
+    drop(disk);
 }
 
 /// The first twelve operations of the store.
@@ -167,7 +170,9 @@ const OLDER: &[u8] =
 /// The subscription document of the first twelve operations.
 fn older_document(rt: &impl Abort, alloc: Global) -> Vec<u8> {
     let mut disk = made(rt, alloc, &["--window", "4"], 0);
-    ran(rt, alloc, &mut disk, &["apply"], TWELVE).printed
+    let document = ran(rt, alloc, &mut disk, &["apply"], TWELVE).printed;
+    drop(disk);
+    document
 }
 
 #[test]
@@ -185,6 +190,7 @@ fn an_older_document_is_refused(rt: HostRuntime) {
     );
     let end = audited(&rt, alloc, THIRTEEN, pile.as_slice());
     assert!(rt; end.is(3, OLDER));
+    drop(disk);
 }
 
 /// An edit of the certificate, the input after it, and the refusal.
@@ -336,6 +342,7 @@ fn each_call_of_the_input_may_fail(rt: HostRuntime) {
     }
     // The input has more bytes than three buffers.
     assert!(rt; failed > 3 && failed < 999, "{failed}");
+    drop(disk);
 }
 
 /// Certificates, and how their audit with an empty pile ends if the first call of the output fails.

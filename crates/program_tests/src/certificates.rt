@@ -29,6 +29,7 @@ fn an_empty_store_has_one(rt: HostRuntime) {
     let pile = ran(&rt, alloc, &mut disk, &["show", "pile"], b"").printed;
     let certified = ran(&rt, alloc, &mut disk, MIRROR, pile.as_slice());
     assert!(rt; certified.is(0, EMPTY.as_bytes()));
+    drop(disk);
 }
 
 const NO_ARCHIVE: &str = "missing http://feed.example/archive/2\n";
@@ -70,6 +71,7 @@ fn a_complete_mirror_prints_its_own(rt: HostRuntime) {
     for &row in &OFFERED {
         expect_printed(&rt, alloc, &mut store, row);
     }
+    drop(store);
 }
 
 /// The runs of mirrors on one disk, one after the other: the documents that are offered, the status and what is
@@ -90,6 +92,7 @@ fn a_mirror_certifies_what_it_kept(rt: HostRuntime) {
         let end = ran(&rt, alloc, &mut mirror, MIRROR, pile.as_slice());
         assert!(rt; end.is(status, printed.as_bytes()), "{documents:?}");
     }
+    drop((mirror, store));
 }
 
 /// The words of a mirror that fetches the store's feed.
@@ -124,6 +127,7 @@ fn expect_fetched<D: Disk>(
         end.is(status, printed.as_bytes()),
         "{documents:?} {failing}"
     );
+    drop((source, mirror));
 }
 
 #[test]
@@ -133,6 +137,7 @@ fn a_walk_that_is_complete_prints_one(rt: HostRuntime) {
     for &row in &FETCHED {
         expect_fetched(&rt, alloc, &mut store, row);
     }
+    drop(store);
 }
 
 /// Mirrors a pile where this call of the output fails, and returns whether the run ends by it. Expects that it prints
@@ -170,6 +175,7 @@ fn each_call_of_the_output_may_fail(rt: HostRuntime) {
     }
     // Four documents, what is before them, and what is after them.
     assert!(rt; failed == 6, "{failed}");
+    drop(store);
 }
 
 #[test]

@@ -201,6 +201,7 @@ fn expect_order(rt: &impl Abort, alloc: Global, audit: &Audited, order: (usize, 
     let pile = ordered(rt, alloc, audit.documents, order);
     let mut mirror = empty_disk(rt, alloc, 0);
     let printed = ran(rt, alloc, &mut mirror, MIRROR, pile.as_slice());
+    drop(mirror);
     assert!(rt; printed.is(0, audit.certificate.as_bytes()), "{order:?}");
     let end = audited(rt, alloc, audit.certificate, pile.as_slice());
     assert!(rt; end.is(0, audit.accepted.as_bytes()), "{order:?}");
@@ -343,4 +344,5 @@ fn its_certificate_is_audited(rt: HostRuntime) {
         accepted: accepted.as_str(),
     };
     expect_verdicts(&rt, alloc, &audit);
+    drop((history, store, documents));
 }

@@ -61,6 +61,7 @@ fn expect_unprinted<D: Disk>(rt: &impl Abort, alloc: Global, disk: &mut D) {
 fn a_drill_whose_output_fails_ends_with_8(rt: HostRuntime) {
     let mut disk = empty_disk(&rt, rt.alloc(), 1);
     expect_unprinted(&rt, rt.alloc(), &mut disk);
+    drop(disk);
 }
 
 /// Runs a command on an empty disk whose output fails in this call. Returns all that `run` returns.
@@ -74,6 +75,7 @@ fn whole(rt: &impl Abort, alloc: Global, words: &[&str], failing_write: u64) -> 
         ..APPLY
     };
     let (ended, _) = whole_end(rt, alloc, &mut disk, &mut door, &mut fetch, &given);
+    drop((disk, door, fetch));
     ended
 }
 
@@ -97,6 +99,7 @@ fn a_drill_returns_its_life(rt: HostRuntime) {
     let life = ended.life.as_ref().expect(&rt, "a life");
     assert!(rt; (life.version(), life.sealed()) == (60, 3) && is_sent(life, 12));
     assert!(rt; (life.stops(), life.mirror_stops()) == (8, 4));
+    drop(ended);
 }
 
 /// Commands that return no life: the words, the call of the output that fails, and the status.
@@ -111,5 +114,6 @@ fn no_other_end_returns_a_life(rt: HostRuntime) {
     for &(words, failing, status) in &LIFELESS {
         let ended = whole(&rt, rt.alloc(), words, failing);
         assert!(rt; ended.status == status && ended.life.is_none(), "{words:?}");
+        drop(ended);
     }
 }

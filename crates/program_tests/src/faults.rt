@@ -74,4 +74,5 @@ fn a_lack_of_memory_is_reported(rt: HostRuntime) {
     let mut output = ListSink::new(rt.alloc(), Many::new(rt.alloc()));
     let ended = end_with(rt.alloc(), &mut output, Fault::NoMemory);
     assert!(rt; (ended.status, output.bytes()) == (5, b"no memory\n".as_slice()));
+    drop((output, ended));
 }

@@ -246,6 +246,7 @@ fn expect_walks<D: Disk>(
         second.status == 0 && second.printed.ends_with(lines.as_bytes()),
         "{again}"
     );
+    drop((mirror, source, whole));
 }
 
 #[test]
@@ -256,4 +257,5 @@ fn a_walk_asks_for_what_is_missing(rt: HostRuntime) {
         let first = (documents, failing, status, printed);
         expect_walks(&rt, alloc, &mut store, first, (asked, again));
     }
+    drop(store);
 }

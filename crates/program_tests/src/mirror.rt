@@ -1,7 +1,7 @@
 //! `mirror` of the pile of a store on a disk in memory, and of other inputs.
 
 use crate::pile::{filled, pile_of};
-use crate::runs::{APPLY, End, Run, empty_disk, expect_end, mirror_disk, ran};
+use crate::runs::{APPLY, Run, empty_disk, expect_end, expect_ran, mirror_disk, ran};
 use crate::store::made;
 use feed_disk::Disk;
 use std::alloc::Global;
@@ -61,6 +61,7 @@ fn reports_what_was_offered(rt: HostRuntime) {
     for &(documents, status, report) in &OFFERED {
         expect_report(&rt, alloc, &mut disk, documents, status, report);
     }
+    drop(disk);
 }
 
 /// The report of a mirror of an empty store.
@@ -72,18 +73,21 @@ const OTHER: &[&str] = &["mirror", "--report", "--base=http://other.example/"];
 const REFUSED: &[u8] =
     b"refused http://feed.example/feed WrongAddress\noffers 0 0 0 1\nmissing http://other.example/feed\n";
 
+const OTHER_BASE: &[u8] = b"other base http://feed.example/\n";
+
 #[test]
 fn of_an_empty_store_is_complete(rt: HostRuntime) {
     let alloc = rt.alloc();
     let mut disk = made(&rt, alloc, &[], 0);
     expect_report(&rt, alloc, &mut disk, &[0], 0, EMPTY);
     let pile = pile_of(&rt, alloc, &mut disk, &[0]);
-    let refused = ran(&rt, alloc, &mut disk, OTHER, pile.as_slice());
-    assert!(rt; refused.is(3, REFUSED));
-    let taken = ran(&rt, alloc, &mut disk, MIRROR, pile.as_slice());
-    assert!(rt; taken.is(0, EMPTY.as_bytes()));
-    let other = ran(&rt, alloc, &mut disk, OTHER, b"pile 1\n");
-    assert!(rt; other.is(12, b"other base http://feed.example/\n"));
+    let refused = (OTHER, pile.as_slice());
+    expect_ran(&rt, alloc, &mut disk, refused, (3, REFUSED));
+    let taken = (MIRROR, pile.as_slice());
+    expect_ran(&rt, alloc, &mut disk, taken, (0, EMPTY.as_bytes()));
+    let other = (OTHER, b"pile 1\n".as_slice());
+    expect_ran(&rt, alloc, &mut disk, other, (12, OTHER_BASE));
+    drop(disk);
 }
 
 /// A mirror whose area may have 4,096 bytes.
@@ -152,6 +156,7 @@ fn keeps_what_it_took(rt: HostRuntime) {
     for &run_of in &RUNS {
         expect_run(&rt, alloc, &mut mirror, &mut store, run_of);
     }
+    drop((mirror, store));
 }
 
 /// Returns which of two runs of a mirror of this pile ends by the failing device call, if the third run is complete.
@@ -160,6 +165,7 @@ fn letter_of(rt: &impl Abort, alloc: Global, failing: u64, pile: &[u8]) -> u8 {
     let first = ran(rt, alloc, &mut disk, MIRROR, pile);
     let second = ran(rt, alloc, &mut disk, MIRROR, pile);
     let third = ran(rt, alloc, &mut disk, MIRROR, pile);
+    drop(disk);
     match (first.status, second.status, third.status) {
         (4, 0, 0) if first.is(4, b"disk fault\n") => b'1',
         (0, 4, 0) if second.is(4, b"disk fault\n") => b'2',
@@ -172,6 +178,7 @@ fn each_device_call_may_fail(rt: HostRuntime) {
     let alloc = rt.alloc();
     let mut store = filled(&rt, alloc, 0);
     let pile = pile_of(&rt, alloc, &mut store, &[0, 1, 2, 3]);
+    drop(store);
     let mut letters = Vec::new(alloc);
     for call in 1..=38 {
         let letter = letter_of(&rt, alloc, call, pile.as_slice());
@@ -190,15 +197,16 @@ fn push_frame(rt: &impl Abort, area: &mut Vec<u8>, payload: &[u8]) {
     area.extend_from_slice(payload).expect(rt, "memory");
 }
 
-/// Runs a mirror on an area of these payloads, with an empty pile.
-fn ran_on(rt: &impl Abort, alloc: Global, payloads: &[&[u8]]) -> End {
+/// Runs a mirror on an area of these payloads, with an empty pile, and compares the line that refuses the area.
+fn expect_bad(rt: &impl Abort, alloc: Global, payloads: &[&[u8]], line: &[u8]) {
     let mut area = Vec::new(alloc);
     for payload in payloads {
         push_frame(rt, &mut area, payload);
     }
     area.push(0).expect(rt, "memory");
     let mut disk = mirror_disk(rt, alloc, area.as_slice());
-    ran(rt, alloc, &mut disk, MIRROR, b"pile 1\n")
+    expect_ran(rt, alloc, &mut disk, (MIRROR, b"pile 1\n"), (6, line));
+    drop(disk);
 }
 
 #[test]
@@ -206,12 +214,13 @@ fn names_the_bad_payload(rt: HostRuntime) {
     let alloc = rt.alloc();
     let mut store = filled(&rt, alloc, 0);
     let feed = ran(&rt, alloc, &mut store, &["show", "feed"], b"").printed;
-    assert!(rt; ran_on(&rt, alloc, &[b"x"]).is(6, b"bad store mirror 0 0\n"));
+    drop(store);
+    expect_bad(&rt, alloc, &[b"x"], b"bad store mirror 0 0\n");
     // A document that is held already isn't taken again. The offset is its length.
     let twice: [&[u8]; 2] = [feed.as_slice(), feed.as_slice()];
-    assert!(rt; ran_on(&rt, alloc, &twice).is(6, b"bad store mirror 1 821\n"));
+    expect_bad(&rt, alloc, &twice, b"bad store mirror 1 821\n");
     let once: [&[u8]; 2] = [feed.as_slice(), b""];
-    assert!(rt; ran_on(&rt, alloc, &once).is(6, b"bad store mirror 1 0\n"));
+    expect_bad(&rt, alloc, &once, b"bad store mirror 1 0\n");
 }
 
 /// The last lines of a mirror that took nothing.

@@ -1,6 +1,6 @@
 //! `show pile` of a store on a disk in memory.
 
-use crate::runs::{APPLY, Run, empty_disk, ended, ran};
+use crate::runs::{APPLY, Run, empty_disk, ended, expect_ran, ran};
 use crate::store::{init, made};
 use atom_values::{Bytes, Many};
 use doc_source::{ListSource, PileReader};
@@ -69,8 +69,11 @@ fn expect_offers<D: Disk>(rt: &impl Abort, alloc: Global, disk: &mut D, pile: &[
                 && offer.bytes.slice() == document.as_slice(),
             "{address}"
         );
+        drop(offer);
     }
-    assert!(rt; reader.next(&mut source).expect(rt, "a pile").is_none());
+    let more = reader.next(&mut source).expect(rt, "a pile");
+    assert!(rt; more.is_none());
+    drop((more, source, reader));
 }
 
 /// Prints the pile of a store, and compares it with that of these documents.
@@ -92,15 +95,17 @@ fn has_the_documents_of_the_store(rt: HostRuntime) {
     let mut disk = filled(&rt, alloc, 0);
     let pile = expect_pile(&rt, alloc, &mut disk, &[0, 1, 2, 3]);
     expect_offers(&rt, alloc, &mut disk, pile.as_slice());
+    drop(disk);
 }
 
 #[test]
 fn of_an_empty_store_has_one_document(rt: HostRuntime) {
     let alloc = rt.alloc();
     let mut disk = empty_disk(&rt, alloc, 0);
-    assert!(rt; ran(&rt, alloc, &mut disk, PILE, b"").is(6, b"not init\n"));
+    expect_ran(&rt, alloc, &mut disk, (PILE, b""), (6, b"not init\n"));
     init(&rt, alloc, &mut disk, &[]);
     expect_pile(&rt, alloc, &mut disk, &[0]);
+    drop(disk);
 }
 
 #[test]
@@ -114,13 +119,16 @@ fn ends_where_the_output_fails(rt: HostRuntime) {
     };
     let end = ended(&rt, alloc, &mut disk, &given);
     assert!(rt; end.is(8, b"pile 1\nhttp://feed.example/feed"));
+    drop(disk);
 }
 
 /// Returns how many device calls it takes to make the store and to print its pile.
 fn calls_of(rt: &impl Abort, alloc: Global) -> u64 {
     let mut disk = filled(rt, alloc, 0);
     ran(rt, alloc, &mut disk, PILE, b"");
-    disk.calls()
+    let calls = disk.calls();
+    drop(disk);
+    calls
 }
 
 #[test]
@@ -131,6 +139,7 @@ fn ends_where_the_disk_fails(rt: HostRuntime) {
     let mut disk = filled(&rt, alloc, call);
     let end = ran(&rt, alloc, &mut disk, PILE, b"");
     let mut expected = pile_of(&rt, alloc, &mut disk, &[0, 1]);
+    drop(disk);
     expected
         .extend_from_slice(b"disk fault\n")
         .expect(&rt, "memory");

@@ -1,8 +1,7 @@
 //! Runs of the program with objects in memory.
 //!
-//! A proof drops each part of a large value at each exit of the function that owns it. So `whole_end` alone owns the
-//! words, the clock, the input and the output of a run. The functions that make a disk are few, and all others borrow
-//! it.
+//! `whole_end` alone owns the words, the clock, the input and the output of a run. The functions that make a disk are
+//! few, and all others borrow it.
 
 use atom_values::{Bytes, MAX_FAILING, Many};
 use doc_source::{Fetch, ListSink, ListSource, PileFetch};
@@ -124,10 +123,9 @@ pub fn whole_end<D: Disk, L: Door, F: Fetch>(
         &mut input,
         &mut output,
     );
-    (
-        ended,
-        Vec::from_slice(alloc, output.bytes()).expect(rt, "memory"),
-    )
+    let printed = Vec::from_slice(alloc, output.bytes()).expect(rt, "memory");
+    drop((words, clock, input, output));
+    (ended, printed)
 }
 
 /// Runs the program at a door, with a source of documents.
@@ -140,10 +138,9 @@ pub fn ended_at<D: Disk, L: Door, F: Fetch>(
     given: &Run,
 ) -> End {
     let (ended, printed) = whole_end(rt, alloc, disk, door, fetch, given);
-    End {
-        status: ended.status,
-        printed,
-    }
+    let status = ended.status;
+    drop(ended);
+    End { status, printed }
 }
 
 /// Runs the program at a door at which nobody comes in, with a source of documents.
@@ -155,7 +152,9 @@ pub fn fetched<D: Disk, F: Fetch>(
     given: &Run,
 ) -> End {
     let mut door = ScriptDoor::new(alloc, Many::new(alloc), Many::new(alloc)).expect(rt, "memory");
-    ended_at(rt, alloc, disk, &mut door, fetch, given)
+    let end = ended_at(rt, alloc, disk, &mut door, fetch, given);
+    drop(door);
+    end
 }
 
 /// A source without documents.
@@ -166,7 +165,9 @@ pub fn no_documents(alloc: Global) -> PileFetch {
 /// Runs the program at a door at which nobody comes in, with a source without documents.
 pub fn ended<D: Disk>(rt: &impl Abort, alloc: Global, disk: &mut D, given: &Run) -> End {
     let mut fetch = no_documents(alloc);
-    fetched(rt, alloc, disk, &mut fetch, given)
+    let end = fetched(rt, alloc, disk, &mut fetch, given);
+    drop(fetch);
+    end
 }
 
 /// Runs a command with the clock at `NOW`.
@@ -185,9 +186,22 @@ pub fn ran<D: Disk>(
     ended(rt, alloc, disk, &given)
 }
 
+/// Runs a command with the clock at `NOW`, and compares how it ends.
+pub fn expect_ran<D: Disk>(
+    rt: &impl Abort,
+    alloc: Global,
+    disk: &mut D,
+    (words, input): (&[&str], &[u8]),
+    (status, printed): (u8, &[u8]),
+) {
+    let end = ran(rt, alloc, disk, words, input);
+    assert!(rt; end.is(status, printed), "{words:?}");
+}
+
 /// Runs the program on an empty disk, and compares how it ends.
 pub fn expect_end(rt: &impl Abort, alloc: Global, given: &Run, status: u8, printed: &[u8]) {
     let mut disk = empty_disk(rt, alloc, 0);
     let end = ended(rt, alloc, &mut disk, given);
     assert!(rt; end.is(status, printed), "{:?}", given.words);
+    drop(disk);
 }

@@ -4,6 +4,7 @@ use crate::runs::{APPLY, Run, listed, no_documents, whole_end};
 use crate::store::made;
 use atom_values::{Bytes, Many};
 use document_server::{Line, ScriptDoor};
+use feed_commands::Ended;
 use http_face::ScriptConn;
 use std::alloc::Global;
 use std::process::Abort;
@@ -65,26 +66,37 @@ fn door_of(rt: &impl Abort, alloc: Global, failing: u64) -> ScriptDoor {
 /// The words of `serve`, one request for each client.
 const SERVE: &[&str] = &["serve", "--listen", "here", "--requests", "6"];
 
+/// Runs `serve` with these calls that fail. Returns what `run` returns, and all that is printed.
+fn served(
+    rt: &impl Abort,
+    alloc: Global,
+    (device, door, output): (u64, u64, u64),
+) -> (Ended, Vec<u8>) {
+    let mut disk = made(rt, alloc, &[], device);
+    let mut door = door_of(rt, alloc, door);
+    let mut fetch = no_documents(alloc);
+    let given = Run {
+        words: SERVE,
+        failing_write: output,
+        ..APPLY
+    };
+    let end = whole_end(rt, alloc, &mut disk, &mut door, &mut fetch, &given);
+    drop((disk, door, fetch));
+    end
+}
+
 #[test]
 fn prints_a_line_for_each_connection(rt: HostRuntime) {
-    let alloc = rt.alloc();
-    for &((device, door, output), status, printed, lines) in &RUNS {
-        let mut disk = made(&rt, alloc, &[], device);
-        let mut door = door_of(&rt, alloc, door);
-        let mut fetch = no_documents(alloc);
-        let given = Run {
-            words: SERVE,
-            failing_write: output,
-            ..APPLY
-        };
-        let (ended, text) = whole_end(&rt, alloc, &mut disk, &mut door, &mut fetch, &given);
+    for &(failing, status, printed, lines) in &RUNS {
+        let (ended, text) = served(&rt, rt.alloc(), failing);
         assert!(rt;
             ended.status == status && text.as_slice() == printed.as_bytes(),
-            "{device} {output} {status}"
+            "{failing:?} {status}"
         );
         assert!(rt;
             ended.life.is_none() && are_lines(ended.lines.as_slice(), lines),
-            "{device} {output} {status}"
+            "{failing:?} {status}"
         );
+        drop(ended);
     }
 }

@@ -56,7 +56,9 @@ type Step<'a> = (&'a [&'a str], &'a [u8], u8, Printed);
 /// Runs `show` on a document.
 fn summary_of(rt: &impl Abort, alloc: Global, document: &[u8]) -> End {
     let mut unused = empty_disk(rt, alloc, 0);
-    ran(rt, alloc, &mut unused, &["show"], document)
+    let end = ran(rt, alloc, &mut unused, &["show"], document);
+    drop(unused);
+    end
 }
 
 fn is_printed(rt: &impl Abort, alloc: Global, printed: &[u8], expected: Printed) -> bool {
@@ -80,6 +82,7 @@ fn expect_steps<D: Disk>(rt: &impl Abort, alloc: Global, disk: &mut D, steps: &[
 fn follow(rt: &impl Abort, alloc: Global, options: &[&'static str], steps: &[Step]) {
     let mut disk = made(rt, alloc, options, 0);
     expect_steps(rt, alloc, &mut disk, steps);
+    drop(disk);
 }
 
 /// Makes a store and runs commands on it, and compares how each ends. Returns the version.
@@ -91,7 +94,9 @@ fn version_after(
 ) -> Option<u8> {
     let mut disk = made(rt, alloc, options, 0);
     expect_steps(rt, alloc, &mut disk, steps);
-    version(rt, alloc, &mut disk)
+    let version = version(rt, alloc, &mut disk);
+    drop(disk);
+    version
 }
 
 /// The words of `apply`.
@@ -303,6 +308,7 @@ fn a_bad_store_is_refused(rt: HostRuntime) {
     // The head's frame has 84 bytes and that of the first operation 45. Then come a gate and a length.
     spoil(&rt, &mut disk, (Area::Journal, 84 + 45 + 5, 9));
     expect_steps(&rt, alloc, &mut disk, &SPOILT);
+    drop(disk);
 }
 
 /// A byte of a store with two operations and one seal, and the line that refuses the store. Byte 0 of an area is the
@@ -321,6 +327,7 @@ fn expect_spoilt(rt: &impl Abort, alloc: Global, spoilt: (Area, u64, u8), line: 
     spoil(rt, &mut disk, spoilt);
     let steps: [Step; 1] = [(SHOW_FEED, b"", 6, Text(line))];
     expect_steps(rt, alloc, &mut disk, &steps);
+    drop(disk);
 }
 
 #[test]
@@ -330,16 +337,9 @@ fn a_spoilt_byte_is_named(rt: HostRuntime) {
     }
 }
 
-/// Returns the number of the last operation that the subscription document has, if it is one of these.
-fn version<D: Disk>(rt: &impl Abort, alloc: Global, disk: &mut D) -> Option<u8> {
-    let feed = ran(rt, alloc, disk, SHOW_FEED, b"");
-    let summary = summary_of(rt, alloc, feed.printed.as_slice());
-    let span = summary
-        .printed
-        .as_slice()
-        .split(|byte| *byte == b'\n')
-        .nth(2)?;
-    match span {
+/// Returns the last operation of a span, whose line is given, if it is one of these.
+fn last_of(span: Option<&[u8]>) -> Option<u8> {
+    match span? {
         b"span 1 0" => Some(0),
         b"span 1 1" => Some(1),
         b"span 2 2" => Some(2),
@@ -348,6 +348,14 @@ fn version<D: Disk>(rt: &impl Abort, alloc: Global, disk: &mut D) -> Option<u8> 
         b"span 5 5" => Some(5),
         _ => None,
     }
+}
+
+/// Returns the number of the last operation that the subscription document has, if `last_of` knows its span.
+fn version<D: Disk>(rt: &impl Abort, alloc: Global, disk: &mut D) -> Option<u8> {
+    let feed = ran(rt, alloc, disk, SHOW_FEED, b"");
+    let summary = summary_of(rt, alloc, feed.printed.as_slice());
+    let mut lines = summary.printed.as_slice().split(|byte| *byte == b'\n');
+    last_of(lines.nth(2))
 }
 
 /// How an `init` and an `apply` of one line end on a disk with a call that fails.
@@ -381,10 +389,11 @@ fn outcome_of<D: Disk>(rt: &impl Abort, alloc: Global, disk: &mut D) -> Outcome 
         return outcome_again(rt, alloc, disk);
     }
     let applied = ran(rt, alloc, disk, APPLY, b"add Hello\n");
-    if applied.status == 0 {
+    let (status, is_fault) = (applied.status, applied.is(4, b"disk fault\n"));
+    drop(applied);
+    if status == 0 {
         return Outcome::Applied;
     }
-    let is_fault = applied.is(4, b"disk fault\n");
     match version(rt, alloc, disk) {
         Some(0) if is_fault => Outcome::Unchanged,
         Some(1) if is_fault => Outcome::Changed,
@@ -395,7 +404,9 @@ fn outcome_of<D: Disk>(rt: &impl Abort, alloc: Global, disk: &mut D) -> Outcome 
 /// Returns a letter for how the commands end if this call of the disk fails.
 fn letter_of(rt: &impl Abort, alloc: Global, failing: u64) -> u8 {
     let mut disk = empty_disk(rt, alloc, failing);
-    match outcome_of(rt, alloc, &mut disk) {
+    let outcome = outcome_of(rt, alloc, &mut disk);
+    drop(disk);
+    match outcome {
         Outcome::InitFailed => b'i',
         Outcome::Unchanged => b'u',
         Outcome::Changed => b'c',
@@ -437,7 +448,9 @@ fn goes_on<D: Disk>(rt: &impl Abort, alloc: Global, disk: &mut D) -> Option<u8> 
 fn digit_left(rt: &impl Abort, alloc: Global, disk: &MemoryDisk, call: u64, choice: &Choice) -> u8 {
     let call = call.min(disk.calls());
     let mut image = disk.image(call, choice).expect(rt, "memory");
-    match goes_on(rt, alloc, &mut image) {
+    let found = goes_on(rt, alloc, &mut image);
+    drop(image);
+    match found {
         Some(1) => b'1',
         Some(2) => b'2',
         _ => b'!',
@@ -456,27 +469,26 @@ fn digits_left(rt: &impl Abort, alloc: Global, choice: &Choice) -> Vec<u8> {
         let digit = digit_left(rt, alloc, &disk, call.saturating_add(1), choice);
         digits.push(digit).expect(rt, "memory");
     }
+    drop(disk);
     digits
 }
 
-/// How a crash fills unsynced bytes, and the versions that are left by a crash within the last two calls: a write of
-/// the gate and its sync. A crash within any call before leaves the version before.
-const CRASHES: [(Choice, &str); 3] = [
-    (Choice::Old, "11"),
-    (Choice::New, "22"),
-    (Choice::Fill(165), "11"),
-];
+/// Compares the versions that are left by a crash within the last two calls: a write of the gate and its sync. A crash
+/// within any call before leaves the version before.
+fn expect_left(rt: &impl Abort, alloc: Global, choice: Choice, expected: &[u8]) {
+    let digits = digits_left(rt, alloc, &choice);
+    let (before, last) = digits.split_at(digits.len().saturating_sub(2));
+    assert!(rt;
+        before.len() > 8 && before.iter().all(|digit| *digit == b'1') && last == expected,
+        "{choice:?}"
+    );
+    drop(choice);
+}
 
 #[test]
 fn a_crash_leaves_a_store_that_goes_on(rt: HostRuntime) {
-    for (choice, expected) in &CRASHES {
-        let digits = digits_left(&rt, rt.alloc(), choice);
-        let (before, last) = digits.split_at(digits.len().saturating_sub(2));
-        assert!(rt;
-            before.len() > 8
-                && before.iter().all(|digit| *digit == b'1')
-                && last == expected.as_bytes(),
-            "{choice:?}"
-        );
-    }
+    let alloc = rt.alloc();
+    expect_left(&rt, alloc, Choice::Old, b"11");
+    expect_left(&rt, alloc, Choice::New, b"22");
+    expect_left(&rt, alloc, Choice::Fill(165), b"11");
 }

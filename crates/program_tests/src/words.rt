@@ -1,9 +1,10 @@
 //! Words, the commands that they are read as, and the lines of `apply`.
 use atom_writer::FeedName;
-use std::alloc::Global;
+use chain_links::Base;
+use std::alloc::{AllocError, Global};
+use std::fmt::Display;
 use std::process::Abort;
 use std::str;
-use std::test::Fail;
 use tool_words::{Command, LineAsk, LineFault, Show, WordsFault, read_line, read_words};
 
 /// The options that `init` needs, each with a value.
@@ -397,208 +398,252 @@ static LINES: [(&str, &str); 42] = [
 ];
 
 /// Returns the words of a row.
-fn spelled(alloc: Global, row: &str) -> Result<Vec<String>, Fail> {
+fn spelled(rt: &impl Abort, alloc: Global, row: &str) -> Vec<String> {
     let mut words = Vec::new(alloc);
     if row.is_empty() {
-        return Ok(words);
+        return words;
     }
     for word in row.split(' ') {
         match word.strip_prefix('*') {
-            None => words.push(word.replace(alloc, '_', " ")?)?,
-            Some(wanted) => push_needed(alloc, &mut words, wanted)?,
+            None => push(rt, &mut words, word.replace(alloc, '_', " ")),
+            Some(wanted) => push_needed(rt, alloc, &mut words, wanted),
         }
     }
-    Ok(words)
+    words
+}
+
+/// Appends a word that was made.
+fn push(rt: &impl Abort, words: &mut Vec<String>, word: Result<String, AllocError>) {
+    words.push(word.expect(rt, "memory")).expect(rt, "memory");
 }
 
 /// Appends the option of this name among those that `init` needs, or all of them where the name is empty.
-fn push_needed(alloc: Global, words: &mut Vec<String>, wanted: &str) -> Result<(), Fail> {
+fn push_needed(rt: &impl Abort, alloc: Global, words: &mut Vec<String>, wanted: &str) {
     for (name, value) in NEEDED.iter() {
         if wanted.is_empty() || wanted == *name {
-            words.push(format!(in alloc; "--{name}")?)?;
-            words.push(String::from_str(alloc, value)?)?;
+            let option = format!(in alloc; "--{name}").expect(rt, "memory");
+            words.push(option).expect(rt, "memory");
+            push(rt, words, String::from_str(alloc, value));
         }
     }
-    Ok(())
 }
 
-/// Returns what the words are read as.
-fn reading(rt: &impl Abort, alloc: Global, words: &[String]) -> Result<String, Fail> {
-    let command = match read_words(alloc, words) {
-        Ok(command) => command,
-        Err(WordsFault::Usage) => return Ok(String::from_str(alloc, "usage")?),
-        Err(WordsFault::NoMemory) => return Err(WordsFault::NoMemory.into()),
-    };
-    Ok(match command {
-        Command::Apply { window: None } => String::from_str(alloc, "apply")?,
+/// Returns bytes as text.
+fn utf8<'a>(rt: &impl Abort, bytes: &'a [u8]) -> &'a str {
+    str::from_utf8(bytes).expect(rt, "a text")
+}
+
+fn text(rt: &impl Abort, alloc: Global, text: &str) -> String {
+    String::from_str(alloc, text).expect(rt, "memory")
+}
+
+/// Returns words and a number after them.
+fn numbered(rt: &impl Abort, alloc: Global, words: &str, number: u64) -> String {
+    format!(in alloc; "{words} {number}").expect(rt, "memory")
+}
+
+/// Returns words and a text after them.
+fn titled(rt: &impl Abort, alloc: Global, words: &str, title: &[u8]) -> String {
+    let title = utf8(rt, title);
+    format!(in alloc; "{words} {title}").expect(rt, "memory")
+}
+
+/// Returns what words of `show` are read as.
+fn shown(rt: &impl Abort, alloc: Global, show: Show) -> String {
+    match show {
+        Show::Document => text(rt, alloc, "show"),
+        Show::Feed => text(rt, alloc, "show feed"),
+        Show::Archive(number) => numbered(rt, alloc, "show archive", u64::from(number)),
+        Show::Member(number) => numbered(rt, alloc, "show member", u64::from(number)),
+        Show::Pile => text(rt, alloc, "show pile"),
+    }
+}
+
+/// Returns what words of a command are read as.
+fn printed(rt: &impl Abort, alloc: Global, command: &Command) -> String {
+    match command {
+        Command::Apply { window: None } => text(rt, alloc, "apply"),
         Command::Apply {
             window: Some(window),
-        } => format!(in alloc; "apply {window}")?,
-        Command::Show(Show::Document) => String::from_str(alloc, "show")?,
-        Command::Show(Show::Feed) => String::from_str(alloc, "show feed")?,
-        Command::Show(Show::Archive(number)) => format!(in alloc; "show archive {number}")?,
-        Command::Show(Show::Member(number)) => format!(in alloc; "show member {number}")?,
-        Command::Show(Show::Pile) => String::from_str(alloc, "show pile")?,
+        } => numbered(rt, alloc, "apply", u64::from(*window)),
+        Command::Show(show) => shown(rt, alloc, *show),
         Command::Serve { listen, requests } => {
-            let listen = str::from_utf8(listen.slice())?;
-            format!(in alloc; "serve {listen} {requests}")?
+            let words = titled(rt, alloc, "serve", listen.slice());
+            numbered(rt, alloc, words.as_str(), u64::from(*requests))
         }
         Command::Mirror {
             base,
             fetch,
             report,
             capacity,
-        } => {
-            let base = base_of(base.text())?;
-            let fetch = if fetch { "fetch " } else { "" };
-            let report = if report { "report " } else { "" };
-            format!(in alloc; "mirror {base} {fetch}{report}{capacity}")?
+        } => mirrored(rt, alloc, base, (*fetch, *report), *capacity),
+        Command::Audit => text(rt, alloc, "audit"),
+        Command::Drill { seed, count } => {
+            let words = numbered(rt, alloc, "drill", *seed);
+            numbered(rt, alloc, words.as_str(), u64::from(*count))
         }
-        Command::Audit => String::from_str(alloc, "audit")?,
-        Command::Drill { seed, count } => format!(in alloc; "drill {seed} {count}")?,
         Command::Init {
             name,
             window,
             capacity,
-        } => {
-            let name = named(rt, alloc, &name)?;
-            format!(in alloc; "init {name} {window} {capacity}")?
-        }
-    })
+        } => named(rt, alloc, name, *window, *capacity),
+    }
+}
+
+/// Returns what words of `mirror` are read as: the base address without `http://feed.example`, the flags that are set,
+/// and the capacity.
+fn mirrored(
+    rt: &impl Abort,
+    alloc: Global,
+    base: &Base,
+    (fetch, report): (bool, bool),
+    capacity: u64,
+) -> String {
+    let base = base_of(rt, base.text());
+    let fetch = if fetch { "fetch " } else { "" };
+    let report = if report { "report " } else { "" };
+    format!(in alloc; "mirror {base} {fetch}{report}{capacity}").expect(rt, "memory")
 }
 
 /// Returns a base address without `http://feed.example`.
-fn base_of(text: &[u8]) -> Result<&str, Fail> {
-    let base = str::from_utf8(text)?;
-    Ok(
-        base.strip_prefix("http://feed.example")
-            .ok_or("another base address")?,
-    )
+fn base_of<'a>(rt: &impl Abort, text: &'a [u8]) -> &'a str {
+    utf8(rt, text)
+        .strip_prefix("http://feed.example")
+        .expect(rt, "a base address")
 }
 
-/// Returns the base address of the name without `http://feed.example`, its title and its author.
-fn named(rt: &impl Abort, alloc: Global, name: &FeedName) -> Result<String, Fail> {
+/// Returns what words of `init` are read as: the base address without `http://feed.example`, the title, the author, and
+/// the values of the options.
+fn named(rt: &impl Abort, alloc: Global, name: &FeedName, window: u32, capacity: u64) -> String {
     assert_eq!(rt; name.id.print().as_slice(), NEEDED[1].1.as_bytes());
-    let base = base_of(name.base.text())?;
-    let title = str::from_utf8(name.title.bytes())?;
-    let author = str::from_utf8(name.author.bytes())?;
-    Ok(format!(in alloc; "{base} {title} {author}")?)
+    let base = base_of(rt, name.base.text());
+    let title = utf8(rt, name.title.bytes());
+    let author = utf8(rt, name.author.bytes());
+    format!(in alloc; "init {base} {title} {author} {window} {capacity}").expect(rt, "memory")
+}
+
+/// Returns what the words are read as.
+fn reading(rt: &impl Abort, alloc: Global, words: &[String]) -> String {
+    match read_words(alloc, words) {
+        Ok(command) => {
+            let line = printed(rt, alloc, &command);
+            drop(command);
+            line
+        }
+        Err(fault) => {
+            assert!(rt; fault == WordsFault::Usage, "{fault}");
+            text(rt, alloc, "usage")
+        }
+    }
 }
 
 /// Whether the words of the row are read, with this many times `letter` in place of each `%`.
-fn is_read(
-    rt: &impl Abort,
-    alloc: Global,
-    row: &str,
-    letter: &str,
-    times: usize,
-) -> Result<bool, Fail> {
-    let mut text = String::new(alloc);
+fn is_read(rt: &impl Abort, alloc: Global, row: &str, letter: &str, times: usize) -> bool {
+    let mut value = String::new(alloc);
     for _ in 0..times {
-        text.push_str(letter)?;
+        value.push_str(letter).expect(rt, "memory");
     }
-    let row = row.replace(alloc, '%', text.as_str())?;
-    let words = spelled(alloc, row.as_str())?;
-    Ok(reading(rt, alloc, words.as_slice())?.as_str() != "usage")
+    let row = row.replace(alloc, '%', value.as_str()).expect(rt, "memory");
+    let words = spelled(rt, alloc, row.as_str());
+    reading(rt, alloc, words.as_slice()).as_str() != "usage"
 }
 
 #[test]
-fn values_have_limits(rt: HostRuntime) -> Result<(), Fail> {
+fn values_have_limits(rt: HostRuntime) {
     for (row, letter, times, wanted) in LENGTHS.iter() {
-        let read = is_read(&rt, rt.alloc(), row, letter, *times)?;
+        let read = is_read(&rt, rt.alloc(), row, letter, *times);
         assert!(rt; read == *wanted, "{row} {letter} {times}");
     }
-    Ok(())
 }
 
 /// Reads the words of each row as its command.
-fn reads_rows(rt: &impl Abort, alloc: Global, rows: &[(&str, &str)]) -> Result<(), Fail> {
+fn reads_rows(rt: &impl Abort, alloc: Global, rows: &[(&str, &str)]) {
     for (row, wanted) in rows {
-        let words = spelled(alloc, row)?;
-        let read = reading(rt, alloc, words.as_slice())?;
+        let words = spelled(rt, alloc, row);
+        let read = reading(rt, alloc, words.as_slice());
         assert_eq!(rt; read.as_str(), *wanted, "{row}");
     }
-    Ok(())
 }
 
 #[test]
-fn reads_words_without_options(rt: HostRuntime) -> Result<(), Fail> {
-    reads_rows(&rt, rt.alloc(), &LONE)
+fn reads_words_without_options(rt: HostRuntime) {
+    reads_rows(&rt, rt.alloc(), &LONE);
 }
 
 #[test]
-fn reads_words_of_init(rt: HostRuntime) -> Result<(), Fail> {
-    reads_rows(&rt, rt.alloc(), &INIT)
+fn reads_words_of_init(rt: HostRuntime) {
+    reads_rows(&rt, rt.alloc(), &INIT);
 }
 
 #[test]
-fn reads_words_of_serve(rt: HostRuntime) -> Result<(), Fail> {
-    reads_rows(&rt, rt.alloc(), &SERVE)
+fn reads_words_of_serve(rt: HostRuntime) {
+    reads_rows(&rt, rt.alloc(), &SERVE);
 }
 
 #[test]
-fn reads_words_of_mirror(rt: HostRuntime) -> Result<(), Fail> {
-    reads_rows(&rt, rt.alloc(), &MIRROR)
+fn reads_words_of_mirror(rt: HostRuntime) {
+    reads_rows(&rt, rt.alloc(), &MIRROR);
 }
 
-/// Returns what the line is read as.
-fn line_reading(alloc: Global, line: &str) -> Result<String, Fail> {
-    let ask = match read_line(alloc, line.as_bytes()) {
-        Ok(ask) => ask,
-        Err(LineFault::BadLine) => return Ok(String::from_str(alloc, "bad")?),
-        Err(LineFault::NoMemory) => return Err(LineFault::NoMemory.into()),
-    };
-    Ok(match ask {
-        LineAsk::Add(title) => {
-            let title = str::from_utf8(title.bytes())?;
-            format!(in alloc; "add {title}")?
-        }
+/// Returns what a line is read as.
+fn asked(rt: &impl Abort, alloc: Global, ask: &LineAsk) -> String {
+    match ask {
+        LineAsk::Add(title) => titled(rt, alloc, "add", title.bytes()),
         LineAsk::Change { number, title } => {
-            let title = str::from_utf8(title.bytes())?;
-            format!(in alloc; "change {number} {title}")?
+            let words = numbered(rt, alloc, "change", u64::from(*number));
+            titled(rt, alloc, words.as_str(), title.bytes())
         }
-        LineAsk::Remove { number } => format!(in alloc; "remove {number}")?,
-    })
+        LineAsk::Remove { number } => numbered(rt, alloc, "remove", u64::from(*number)),
+    }
+}
+
+/// Returns what the line is read as, or `bad`.
+fn line_reading(rt: &impl Abort, alloc: Global, line: &str) -> String {
+    match read_line(alloc, line.as_bytes()) {
+        Ok(ask) => {
+            let line = asked(rt, alloc, &ask);
+            drop(ask);
+            line
+        }
+        Err(fault) => {
+            assert!(rt; fault == LineFault::BadLine, "{fault}");
+            text(rt, alloc, "bad")
+        }
+    }
+}
+
+/// Reads a line, in which `longest` is in place of each `%`, and compares what it is read as.
+fn expect_line(rt: &impl Abort, alloc: Global, (row, wanted): (&str, &str), longest: &str) {
+    let line = row.replace(alloc, '%', longest).expect(rt, "memory");
+    let wanted = wanted.replace(alloc, '%', longest).expect(rt, "memory");
+    let read = line_reading(rt, alloc, line.as_str());
+    assert_eq!(rt; read.as_str(), wanted.as_str(), "{row}");
 }
 
 #[test]
-fn reads_lines_as_asks(rt: HostRuntime) -> Result<(), Fail> {
+fn reads_lines_as_asks(rt: HostRuntime) {
     let alloc = rt.alloc();
-    let longest = "x".repeat(alloc, 1_024)?;
-    for (row, wanted) in LINES.iter() {
-        let line = row.replace(alloc, '%', longest.as_str())?;
-        let wanted = wanted.replace(alloc, '%', longest.as_str())?;
-        let read = line_reading(alloc, line.as_str())?;
-        assert_eq!(rt; read.as_str(), wanted.as_str(), "{row}");
+    let longest = "x".repeat(alloc, 1_024).expect(&rt, "memory");
+    for &row in &LINES {
+        expect_line(&rt, alloc, row, longest.as_str());
     }
-    Ok(())
+}
+
+fn expect_sentence(rt: &impl Abort, alloc: Global, fault: &impl Display, sentence: &str) {
+    let text = format!(in alloc; "{fault}").expect(rt, "memory");
+    assert!(rt; text.as_str() == sentence);
 }
 
 #[test]
-fn a_fault_has_a_sentence(rt: HostRuntime) -> Result<(), Fail> {
-    let cases = [
-        (WordsFault::Usage, "the words are those of no command"),
-        (WordsFault::NoMemory, "out of memory"),
-    ];
-    for (fault, sentence) in cases {
-        let text = format!(in rt.alloc(); "{fault}")?;
-        assert!(rt; text.as_str() == sentence);
-    }
-    Ok(())
+fn a_fault_has_a_sentence(rt: HostRuntime) {
+    let usage = "the words are those of no command";
+    expect_sentence(&rt, rt.alloc(), &WordsFault::Usage, usage);
+    expect_sentence(&rt, rt.alloc(), &WordsFault::NoMemory, "out of memory");
 }
 
 #[test]
-fn a_fault_of_a_line_has_a_sentence(rt: HostRuntime) -> Result<(), Fail> {
-    let cases = [
-        (
-            LineFault::BadLine,
-            "the line has none of the forms of a line",
-        ),
-        (LineFault::NoMemory, "out of memory"),
-    ];
-    for (fault, sentence) in cases {
-        let text = format!(in rt.alloc(); "{fault}")?;
-        assert!(rt; text.as_str() == sentence);
-    }
-    Ok(())
+fn a_fault_of_a_line_has_a_sentence(rt: HostRuntime) {
+    let bad = "the line has none of the forms of a line";
+    expect_sentence(&rt, rt.alloc(), &LineFault::BadLine, bad);
+    expect_sentence(&rt, rt.alloc(), &LineFault::NoMemory, "out of memory");
 }

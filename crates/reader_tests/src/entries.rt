@@ -288,10 +288,11 @@ ef=\"v\"/></entry>",
 /// Compares the draft that a document spells with `want`.
 fn compare(rt: &impl Abort, alloc: Global, document: &str, want: &str) {
     assert!(rt; document.len() <= MAX_ENTRY);
-    match &read_entry(alloc, document.as_bytes()) {
+    match read_entry(alloc, document.as_bytes()) {
         Ok(draft) => {
-            let found = shown(rt, alloc, draft);
+            let found = shown(rt, alloc, &draft);
             assert!(rt; found.as_slice() == want.as_bytes(), "{document}");
+            drop(draft);
         }
         Err(fault) => panic!(rt; "{fault}: {document}"),
     }

@@ -7,10 +7,7 @@ use std::process::Abort;
 /// The refusal of the bytes. `None` if they are read as a draft.
 fn refusal(rt: &impl Abort, alloc: Global, bytes: &[u8]) -> Option<EntryFault> {
     assert!(rt; bytes.len() <= MAX_ENTRY);
-    match read_entry(alloc, bytes) {
-        Ok(_) => None,
-        Err(fault) => Some(fault),
-    }
+    read_entry(alloc, bytes).err()
 }
 
 /// Compares the refusal of the bytes with an offset and a reason.

@@ -30,6 +30,7 @@ fn commit<D: Disk>(rt: &impl Abort, alloc: Global, disk: &mut D) -> u64 {
     let mut store = Store::load(alloc, disk).expect(rt, "a store");
     let before = disk.calls();
     add(rt, alloc, &mut store, disk, b"Hello");
+    drop((head, store));
     before
 }
 
@@ -54,7 +55,9 @@ fn versions<D: Disk>(rt: &impl Abort, alloc: Global, disk: &mut D) -> [u32; 3] {
     let found = store.version();
     let (_, _, made) = add(rt, alloc, &mut store, disk, b"Hello");
     let again = Store::load(alloc, disk).expect(rt, "a store");
-    [found, made, again.version()]
+    let reloaded = again.version();
+    drop((store, again));
+    [found, made, reloaded]
 }
 
 /// Returns the journal that a crash leaves, and the versions.
@@ -67,7 +70,9 @@ fn left(
 ) -> (Vec<u8>, [u32; 3]) {
     let mut image = crashed(rt, alloc, disk, call, filling);
     let journal = journal_of(rt, alloc, &mut image);
-    (journal, versions(rt, alloc, &mut image))
+    let versions = versions(rt, alloc, &mut image);
+    drop(image);
+    (journal, versions)
 }
 
 /// A crash: the call of the commit, from 1, and the unsynced bytes. Then the journal after the head, and the version.
@@ -113,6 +118,7 @@ fn a_crash_within_a_commit_leaves_these_bytes(rt: HostRuntime) {
         );
         assert!(rt; versions == [version, next, next], "{call} {filling:?}");
     }
+    drop(disk);
 }
 
 #[test]
@@ -120,4 +126,5 @@ fn a_commit_has_these_bytes(rt: HostRuntime) {
     let (mut disk, _) = committed(&rt, rt.alloc());
     let journal = journal_of(&rt, rt.alloc(), &mut disk);
     assert!(rt; journal.as_slice().strip_prefix(HEAD) == Some(COMMITTED));
+    drop(disk);
 }

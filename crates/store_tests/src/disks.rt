@@ -58,6 +58,9 @@ pub fn crashed(
             bytes: Bytes::of(alloc, &b"123456"[..count.min(6)]).expect(rt, "memory"),
         },
     };
-    disk.image(call.min(disk.calls()), &choice)
-        .expect(rt, "memory")
+    let left = disk
+        .image(call.min(disk.calls()), &choice)
+        .expect(rt, "memory");
+    drop(choice);
+    left
 }

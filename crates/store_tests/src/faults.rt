@@ -67,6 +67,12 @@ fn a_fault_of_an_opening_is_one_sentence(rt: HostRuntime) {
     }
 }
 
+/// Compares the sentence of the refusal of a request.
+fn compare_refusal(rt: &impl Abort, alloc: Global, fault: PrepareFault, want: &str) {
+    compare(rt, alloc, &fault, want);
+    drop(fault);
+}
+
 #[test]
 fn a_refused_request_is_one_sentence(rt: HostRuntime) {
     for (area, want) in [
@@ -76,24 +82,21 @@ fn a_refused_request_is_one_sentence(rt: HostRuntime) {
     ] {
         compare(&rt, rt.alloc(), &area, want);
     }
-    for (fault, want) in [
-        (
-            PrepareFault::Rule(RuleFault::NotFound { number: 3 }),
-            "there is no member 3",
-        ),
-        (
-            PrepareFault::Full {
-                area: Area::Sealed,
-                size: 2_544,
-                needed: 1_649,
-                capacity: 4_096,
-            },
-            "the sealed area has 2544 bytes, and no room for 1649 more within 4096",
-        ),
-        (PrepareFault::NoMemory, "out of memory"),
-    ] {
-        compare(&rt, rt.alloc(), &fault, want);
-    }
+    let missing = PrepareFault::Rule(RuleFault::NotFound { number: 3 });
+    compare_refusal(&rt, rt.alloc(), missing, "there is no member 3");
+    let full = PrepareFault::Full {
+        area: Area::Sealed,
+        size: 2_544,
+        needed: 1_649,
+        capacity: 4_096,
+    };
+    compare_refusal(
+        &rt,
+        rt.alloc(),
+        full,
+        "the sealed area has 2544 bytes, and no room for 1649 more within 4096",
+    );
+    compare_refusal(&rt, rt.alloc(), PrepareFault::NoMemory, "out of memory");
 }
 
 static ARCHIVE: [(ArchiveFault, &str); 4] = [

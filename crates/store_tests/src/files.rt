@@ -76,7 +76,9 @@ fn written_reads<R: System>(rt: &R, folder: &str) -> Vec<u8> {
     write_abcd(rt, &mut disk);
     drop(disk);
     let mut disk = FileDisk::new(rt.alloc(), rt, folder).expect(rt, "memory");
-    reads(rt, rt.alloc(), &mut disk)
+    let found = reads(rt, rt.alloc(), &mut disk);
+    drop(disk);
+    found
 }
 
 #[test]
@@ -107,7 +109,9 @@ fn second_sizes<R: System>(rt: &R, folder: &str) -> (Sizes, Sizes) {
     write_abcd(rt, &mut first);
     let during = sizes(&mut second);
     drop(first);
-    (during, sizes(&mut second))
+    let after = sizes(&mut second);
+    drop(second);
+    (during, after)
 }
 
 #[test]
@@ -131,6 +135,7 @@ fn irregular_sizes<R: System>(rt: &R, folder: &str) -> (Sizes, bool) {
     fs::create_dir(rt, path_in(rt, alloc, folder, "sealed").as_str()).expect(rt, "a system call");
     let mut disk = FileDisk::new(alloc, rt, folder).expect(rt, "memory");
     let found = sizes(&mut disk);
+    drop(disk);
     let target = path_in(rt, alloc, folder, "target");
     (
         found,
@@ -152,6 +157,7 @@ fn made_files<R: System>(rt: &R, folder: &str) -> [bool; 3] {
     let alloc = rt.alloc();
     let mut disk = FileDisk::new(alloc, rt, folder).expect(rt, "memory");
     disk.size(Area::Mirror).expect(rt, "a device call");
+    drop(disk);
     [
         fs::exists(rt, path_in(rt, alloc, folder, "journal").as_str()).expect(rt, "a system call"),
         fs::exists(rt, path_in(rt, alloc, folder, "sealed").as_str()).expect(rt, "a system call"),
@@ -173,19 +179,22 @@ fn append_two<R: System>(rt: &R, folder: &str) {
     let mut disk = FileDisk::new(rt.alloc(), rt, folder).expect(rt, "memory");
     append(rt, rt.alloc(), &mut disk, b"ab");
     append(rt, rt.alloc(), &mut disk, b"c");
+    drop(disk);
 }
 
 /// Cuts the journal to a size, and returns the payloads that a load finds then.
 fn payloads_after_cut<R: System>(rt: &R, folder: &str, size: u64) -> Vec<u8> {
     let journal = path_in(rt, rt.alloc(), folder, "journal");
-    OpenOptions::new()
+    let file = OpenOptions::new()
         .write(true)
         .open(rt, journal.as_str())
-        .expect(rt, "a system call")
-        .set_len(size)
         .expect(rt, "a system call");
+    file.set_len(size).expect(rt, "a system call");
+    drop(file);
     let mut disk = FileDisk::new(rt.alloc(), rt, folder).expect(rt, "memory");
-    show_log(rt.alloc(), &mut disk).expect(rt, "a log").payloads
+    let payloads = show_log(rt.alloc(), &mut disk).expect(rt, "a log").payloads;
+    drop(disk);
+    payloads
 }
 
 /// Returns the payloads after some cuts, each list followed by a space.

@@ -41,7 +41,8 @@ fn append_image(
     filling: Filling,
 ) {
     let mut left = crashed(rt, alloc, disk, call, filling);
-    append_areas(rt, all, &mut left)
+    append_areas(rt, all, &mut left);
+    drop(left);
 }
 
 /// Returns the areas of the disks that a crash within a call leaves by six choices.
@@ -59,7 +60,9 @@ fn images_of(rt: &impl Abort, alloc: Global, disk: &MemoryDisk, call: u64) -> Ve
 /// Returns the same for `written_disk`.
 fn images_after(rt: &impl Abort, alloc: Global, call: u64) -> Vec<u8> {
     let disk = written_disk(rt, alloc);
-    images_of(rt, alloc, &disk, call)
+    let images = images_of(rt, alloc, &disk, call);
+    drop(disk);
+    images
 }
 
 /// The images that a crash within each call leaves, from call 0 on: one for each choice.
@@ -100,7 +103,10 @@ fn changes<D: Disk>(disk: &mut D) -> [bool; 2] {
 /// Returns whether each of these four device calls works.
 fn outcomes(rt: &impl Abort, alloc: Global, failing: [u64; 2]) -> ([bool; 2], [bool; 2]) {
     let mut disk = disk_of(rt, alloc, b"abcd", failing);
-    (looks(&mut disk), changes(&mut disk))
+    let looked = looks(&mut disk);
+    let changed = changes(&mut disk);
+    drop(disk);
+    (looked, changed)
 }
 
 /// Two calls that are listed to fail, and whether each of four calls works.
@@ -138,7 +144,8 @@ fn append_journal(
     filling: Filling,
 ) {
     let mut left = crashed(rt, alloc, disk, call, filling);
-    append_area(rt, all, &mut left, Area::Journal)
+    append_area(rt, all, &mut left, Area::Journal);
+    drop(left);
 }
 
 /// Appends the journals of the disks that a crash within a call leaves by the old and the new bytes, and the
@@ -161,6 +168,7 @@ fn journals_after(rt: &impl Abort, alloc: Global, failing: u64, call: u64) -> Ve
     let mut disk = disk_of(rt, alloc, b"abcd", [failing, 0]);
     write_sync_size(&mut disk);
     append_journals(rt, alloc, &mut all, &mut disk, call);
+    drop(disk);
     all
 }
 
@@ -199,4 +207,5 @@ fn a_write_is_read_back(rt: HostRuntime) {
     let mut disk = written_disk(&rt, rt.alloc());
     assert!(rt; front(&rt, &mut disk) == (5, *b"abX"));
     assert!(rt; disk.calls() == 6);
+    drop(disk);
 }

@@ -26,18 +26,20 @@ pub enum Reached {
 pub fn append<D: Disk>(rt: &impl Abort, alloc: Global, disk: &mut D, payload: &[u8]) -> Reached
     requires { length payload.now ≤ 100 }
 {
-    let framed = Framed::of(alloc, payload).expect(rt, "memory");
     let Ok(mut log) = Log::load(alloc, disk, Area::Journal) else {
         return Reached::Nothing;
     };
     log.reserve().expect(rt, "memory");
-    if log.len() > 100 || !log.fits(&framed, CAPACITY) {
-        return Reached::Nothing;
-    }
-    if log.append(disk, &framed).is_err() {
-        return Reached::Loaded;
-    }
-    Reached::Appended
+    let framed = Framed::of(alloc, payload).expect(rt, "memory");
+    let reached = if log.len() > 100 || !log.fits(&framed, CAPACITY) {
+        Reached::Nothing
+    } else if log.append(disk, &framed).is_err() {
+        Reached::Loaded
+    } else {
+        Reached::Appended
+    };
+    drop((log, framed));
+    reached
 }
 
 /// A log as its calls show it.
@@ -69,7 +71,9 @@ pub fn show_log<D: Disk>(alloc: Global, disk: &mut D) -> Result<Shown, LogFault>
 /// Returns the payloads of an area, each followed by `/`.
 fn payloads_of(rt: &impl Abort, alloc: Global, area: &[u8]) -> Vec<u8> {
     let mut disk = disk_of(rt, alloc, area, [0, 0]);
-    show_log(alloc, &mut disk).expect(rt, "a log").payloads
+    let payloads = show_log(alloc, &mut disk).expect(rt, "a log").payloads;
+    drop(disk);
+    payloads
 }
 
 #[test]
@@ -105,6 +109,7 @@ fn a_log_counts_its_bytes_and_its_calls(rt: HostRuntime) {
     let mut disk = disk_of(&rt, rt.alloc(), &TWO, [0, 0]);
     let log = show_log(rt.alloc(), &mut disk).expect(&rt, "a log");
     assert!(rt; (log.size, log.calls) == (14, 6));
+    drop((log, disk));
 }
 
 /// Returns the journal after appends of `ab` and `c`, and `/`.
@@ -121,6 +126,7 @@ fn an_append_has_these_bytes(rt: HostRuntime) {
     let mut disk = disk_of(&rt, rt.alloc(), b"", [0, 0]);
     let bytes = appended(&rt, rt.alloc(), &mut disk);
     assert!(rt; bytes.as_slice() == b"\x01\x00\x00\x00\x02ab\x01\x00\x00\x00\x01c\x00/".as_slice());
+    drop(disk);
 }
 
 #[test]
@@ -128,6 +134,7 @@ fn a_payload_has_this_form(rt: HostRuntime) {
     let framed = Framed::of(rt.alloc(), b"de").expect(&rt, "memory");
     assert!(rt; (framed.needed(), framed.length()) == (7, 2));
     assert!(rt; framed.tail() == b"\x00\x00\x00\x02de\x00".as_slice());
+    drop(framed);
 }
 
 /// Appends the payloads that a load finds, `+`, and those that a load finds after a further append of `c`.
@@ -150,7 +157,8 @@ fn recover_image(
     filling: Filling,
 ) {
     let mut left = crashed(rt, alloc, disk, call, filling);
-    recover(rt, alloc, all, &mut left)
+    recover(rt, alloc, all, &mut left);
+    drop(left);
 }
 
 /// Does so for three choices.
@@ -172,6 +180,7 @@ fn recovered(rt: &impl Abort, alloc: Global, call: u64) -> Vec<u8> {
     let mut all = Vec::new(alloc);
     let mut disk = disk_of(rt, alloc, b"", [0, 0]);
     recover_images(rt, alloc, &mut all, &mut disk, call);
+    drop(disk);
     all
 }
 
@@ -196,7 +205,9 @@ fn a_crash_leaves_the_list_before_or_after(rt: HostRuntime) {
 /// finds.
 fn append_failing(rt: &impl Abort, alloc: Global, call: u64) -> (Reached, Vec<u8>) {
     let mut disk = disk_of(rt, alloc, b"", [call, 0]);
-    append_and_show(rt, alloc, &mut disk)
+    let shown = append_and_show(rt, alloc, &mut disk);
+    drop(disk);
+    shown
 }
 
 fn append_and_show<D: Disk>(rt: &impl Abort, alloc: Global, disk: &mut D) -> (Reached, Vec<u8>) {
@@ -224,9 +235,8 @@ fn a_failed_call_of_a_load_or_a_read_is_a_disk_fault(rt: HostRuntime) {
     // The load makes the device calls 1 to 4, and the reads 5 and 6.
     for call in 1u64..7 {
         let mut disk = disk_of(&rt, alloc, &TWO, [call, 0]);
-        assert!(rt;
-            show_log(alloc, &mut disk).err() == Some(LogFault::DiskFault),
-            "call {call}"
-        );
+        let fault = show_log(alloc, &mut disk).err();
+        assert!(rt; fault == Some(LogFault::DiskFault), "call {call}");
+        drop(disk);
     }
 }

@@ -110,6 +110,7 @@ fn steps<D: Disk>(
     let one = show(&store, loaded);
     let second = add(rt, alloc, &mut store, disk, b"b");
     let two = show(&store, loaded);
+    drop((head, store));
     ([empty, one, two], [first, second])
 }
 
@@ -147,6 +148,7 @@ fn tells_its_counts(rt: HostRuntime) {
     let (shown, made) = steps(&rt, rt.alloc(), &mut disk);
     assert!(rt; shown == SHOWN);
     assert!(rt; made == [(1, 1, 1), (2, 2, 2)]);
+    drop(disk);
 }
 
 /// Makes a store with windows of one operation, two members, and deletes the first.
@@ -157,12 +159,15 @@ fn fill<D: Disk>(rt: &impl Abort, alloc: Global, disk: &mut D) {
     add(rt, alloc, &mut store, disk, b"a");
     add(rt, alloc, &mut store, disk, b"b");
     change(rt, &mut store, disk, Ask::Delete { number: 1 });
+    drop((head, store));
 }
 
 /// Loads the store, and returns its subscription document.
 fn subscription<D: Disk>(rt: &impl Abort, alloc: Global, disk: &mut D) -> Vec<u8> {
     let mut store = Store::load(alloc, disk).expect(rt, "a store");
-    store.subscription().expect(rt, "memory")
+    let document = store.subscription().expect(rt, "memory");
+    drop(store);
+    document
 }
 
 /// Loads the store, and returns an archive.
@@ -173,7 +178,9 @@ fn archive<D: Disk>(
     number: u32,
 ) -> Result<Vec<u8>, ArchiveFault> {
     let mut store = Store::load(alloc, disk).expect(rt, "a store");
-    store.archive(disk, number)
+    let document = store.archive(disk, number);
+    drop(store);
+    document
 }
 
 /// Loads the store, and returns the document of a member.
@@ -184,7 +191,9 @@ fn member<D: Disk>(
     number: u32,
 ) -> Result<Vec<u8>, MemberFault> {
     let mut store = Store::load(alloc, disk).expect(rt, "a store");
-    store.member(disk, number)
+    let document = store.member(disk, number);
+    drop(store);
+    document
 }
 
 const SUBSCRIPTION: &str =
@@ -220,4 +229,5 @@ fn expect_documents<D: Disk>(rt: &impl Abort, alloc: Global, disk: &mut D) {
 fn tells_its_documents(rt: HostRuntime) {
     let mut disk = disk_of(&rt, rt.alloc(), b"", [0, 0]);
     expect_documents(&rt, rt.alloc(), &mut disk);
+    drop(disk);
 }

@@ -50,6 +50,7 @@ fn takes_the_grammar_alone(rt: HostRuntime) {
                 == want,
             "{text:?}"
         );
+        drop(base);
     }
 }
 
@@ -64,6 +65,7 @@ fn takes_at_most_200_bytes(rt: HostRuntime) {
     text.push(b'/').expect(&rt, "memory");
     let fault = Base::parse(rt.alloc(), &text).err();
     assert!(rt; fault == Some(BaseFault::BadBase));
+    drop((text, longest));
 }
 
 /// A base address and its parts.
@@ -103,6 +105,7 @@ fn tells_the_parts(rt: HostRuntime) {
         let base = Base::parse(rt.alloc(), parts.text).expect(&rt, "a base");
         assert!(rt; (base.text(), base.host()) == (parts.text, parts.host));
         assert!(rt; (base.port(), base.path()) == (parts.port, parts.path));
+        drop(base);
     }
 }
 
@@ -124,6 +127,7 @@ fn asks_the_url_parser(rt: HostRuntime) {
     for (text, answer) in URL_TEXTS {
         let base = Base::parse(rt.alloc(), text).expect(&rt, "a base");
         assert!(rt; base.checked(rt.alloc()) == Ok(answer), "{text:?}");
+        drop(base);
     }
 }
 
@@ -175,6 +179,7 @@ fn reads_and_prints_addresses(rt: HostRuntime) {
     for &(text, address) in &READ {
         compare_address(&rt, rt.alloc(), &base, text, address);
     }
+    drop(base);
 }
 
 /// Targets of requests, and the addresses that they name below `http://feed.example:8080/a/`.
@@ -203,6 +208,7 @@ fn reads_the_targets_of_requests(rt: HostRuntime) {
     for &(target, address) in &TARGETS {
         assert!(rt; base.read_target(target) == address, "{target:?}");
     }
+    drop(base);
 }
 
 /// Texts, and the whole numbers that they are.

@@ -26,4 +26,5 @@ fn fails_by_the_list(rt: HostRuntime) {
     }
     calls.count_failure();
     assert!(rt; (calls.made(), calls.faults()) == (5, 3));
+    drop(calls);
 }

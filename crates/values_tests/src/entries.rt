@@ -27,6 +27,7 @@ fn makes_a_draft_of_a_title(rt: HostRuntime) {
         value: text(&rt, rt.alloc(), b"A"),
     };
     compare_titled(&rt, &draft, &title);
+    drop((draft, title));
 }
 
 /// The draft's `updated`, the stored one, and that of the new entry, which is made at 1,000.
@@ -63,6 +64,7 @@ fn updates_not_before_the_stored_entry(rt: HostRuntime) {
     for &(asked, stored, updated) in &UPDATES {
         let entry = updated_entry(&rt, rt.alloc(), asked, stored, moment);
         compare_moments(&rt, &entry, moment, updated);
+        drop(entry);
     }
 }
 
@@ -81,15 +83,13 @@ fn compare_link(rt: &impl Abort, entry: &Entry, want: &Link) {
     assert!(rt; (entry.links.len(), entry.links.get(0)) == (1, Some(want)));
 }
 
-fn compare_with_samples(rt: &impl Abort, alloc: Global, entry: &Entry) {
-    compare_kept(rt, entry, &full_draft(rt, alloc));
-    compare_link(rt, entry, &full_link(rt, alloc));
-}
-
 #[test]
 fn keeps_the_other_fields(rt: HostRuntime) {
+    let (draft, link) = (full_draft(&rt, rt.alloc()), full_link(&rt, rt.alloc()));
     let entry = full_draft(&rt, rt.alloc()).normal(7, stamp(&rt, 0), None);
-    compare_with_samples(&rt, rt.alloc(), &entry);
+    compare_kept(&rt, &entry, &draft);
+    compare_link(&rt, &entry, &link);
+    drop((draft, link, entry));
 }
 
 fn links(rt: &impl Abort, alloc: Global, relations: &[&[u8]]) -> Many<Link, MAX_LINKS> {
@@ -120,9 +120,10 @@ fn compare_links(
     left: &[&[u8]],
     content: Option<&[u8]>,
 ) {
-    let entry = linked_entry(rt, alloc, given);
+    let (entry, left) = (linked_entry(rt, alloc, given), links(rt, alloc, left));
     compare_content(rt, &entry, content);
-    same(rt, "links", &entry.links, &links(rt, alloc, left));
+    same(rt, "links", &entry.links, &left);
+    drop((entry, left));
 }
 
 #[test]

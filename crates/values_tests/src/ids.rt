@@ -77,14 +77,15 @@ fn reads_member_identifiers_of_the_feed_alone(rt: HostRuntime) {
     }
 }
 
-fn compare_number(rt: &impl Abort, item: &Item, number: u32) {
+fn compare_number(rt: &impl Abort, item: Item, number: u32) {
     assert!(rt; item.number() == number);
+    drop(item);
 }
 
 #[test]
 fn numbers_items(rt: HostRuntime) {
     let when = stamp(&rt, 0);
-    compare_number(&rt, &Item::Gone(Tombstone { number: 7, when }), 7);
+    compare_number(&rt, Item::Gone(Tombstone { number: 7, when }), 7);
     let entry = full_draft(&rt, rt.alloc()).normal(8, when, None);
-    compare_number(&rt, &Item::Kept(entry), 8);
+    compare_number(&rt, Item::Kept(entry), 8);
 }

@@ -24,6 +24,7 @@ fn holds_at_most_its_limit(rt: HostRuntime) {
     for (at, number) in [(0, Some(&7)), (1, Some(&8)), (2, None)] {
         assert!(rt; numbers.get(at) == number);
     }
+    drop(numbers);
 }
 
 #[test]
@@ -34,6 +35,7 @@ fn bounds_the_persons_of_an_entry(rt: HostRuntime) {
     }
     let refused = persons.push(person(&rt, rt.alloc()));
     assert!(rt; refused == Err(ListFault::TooMany { count: 16 }));
+    drop(persons);
 }
 
 #[test]
@@ -44,6 +46,7 @@ fn bounds_the_links_of_an_entry(rt: HostRuntime) {
     }
     let refused = links.push(link(&rt, rt.alloc(), b"via"));
     assert!(rt; refused == Err(ListFault::TooMany { count: 32 }));
+    drop(links);
 }
 
 #[test]
@@ -54,6 +57,7 @@ fn bounds_the_categories_of_an_entry(rt: HostRuntime) {
     }
     let refused = categories.push(category(&rt, rt.alloc()));
     assert!(rt; refused == Err(ListFault::TooMany { count: 64 }));
+    drop(categories);
 }
 
 #[test]
@@ -61,5 +65,7 @@ fn keeps_bytes(rt: HostRuntime) {
     let bytes = Bytes::of(rt.alloc(), b"a\x00\xff").expect(&rt, "bytes");
     assert!(rt; bytes.slice() == b"a\x00\xff".as_slice());
     let copy = Vec::from_slice(rt.alloc(), bytes.slice()).expect(&rt, "memory");
-    assert!(rt; Bytes::from_vec(copy) == bytes);
+    let copy = Bytes::from_vec(copy);
+    assert!(rt; copy == bytes);
+    drop((bytes, copy));
 }

@@ -33,6 +33,7 @@ fn takes_xml_characters_alone(rt: HostRuntime) {
                 == want,
             "{bytes:?}"
         );
+        drop(text);
     }
 }
 
@@ -45,7 +46,9 @@ fn bounds_the_length(rt: HostRuntime) {
         let long = vec![in rt.alloc(); byte; 65_537].expect(&rt, "memory");
         let fault = AtomText::of(rt.alloc(), long.as_slice()).err();
         assert!(rt; fault == Some(TextFault::TooLong { length: 65_537 }));
+        drop(long);
     }
+    drop((longest, text));
 }
 
 /// A text with bytes that are escaped in content, and a longer character.
@@ -74,6 +77,7 @@ fn escapes(rt: HostRuntime) {
         assert!(rt; escape_into(&mut out, &text, quoted) == Ok(()));
         assert!(rt; out.as_slice().strip_prefix(b"#") == Some(written));
         assert!(rt; escaped_len(&text, quoted) == written.len());
+        drop((text, out));
     }
 }
 
@@ -115,6 +119,7 @@ fn reads_back_what_is_escaped(rt: HostRuntime) {
             text.as_ref().map(|text| text.bytes()) == bytes,
             "{written:?}"
         );
+        drop(text);
     }
 }
 

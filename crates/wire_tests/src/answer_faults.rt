@@ -26,7 +26,7 @@ fn post<D: Disk>(
 /// Answers two POSTs and a DELETE on a store with areas of 4,096 bytes.
 fn fill(rt: &impl Abort, alloc: Global) -> [Vec<u8>; 3] {
     let mut disk = store_disk(rt, alloc, 4, 4_096, 0);
-    [
+    let replies = [
         post(rt, alloc, &mut disk, 3_968, 0),
         post(rt, alloc, &mut disk, 3_967, 0),
         exchange(
@@ -36,7 +36,9 @@ fn fill(rt: &impl Abort, alloc: Global) -> [Vec<u8>; 3] {
             NOW,
             b"DELETE /member/1 HTTP/1.1\r\n\r\n",
         ),
-    ]
+    ];
+    drop(disk);
+    replies
 }
 
 #[test]
@@ -55,6 +57,7 @@ fn accepts_a_body_of_the_limit(rt: HostRuntime) {
     // The rest of the document has 73 bytes.
     let sent = post(&rt, alloc, &mut disk, 4, 65_536 - 4 - 73);
     assert!(rt; is_reply(&sent, b"HTTP/1.1 201 Created\r\n", b"</entry>\n"));
+    drop(disk);
 }
 
 /// The reply where a device call failed.
@@ -65,7 +68,9 @@ pub const DISK: &[u8] =
 fn posted(rt: &impl Abort, alloc: Global, failing: u64) -> (Vec<u8>, u64) {
     let mut disk = store_disk(rt, alloc, 4, CAPACITY, failing);
     let sent = post(rt, alloc, &mut disk, 1, 0);
-    (sent, disk.calls())
+    let calls = disk.calls();
+    drop(disk);
+    (sent, calls)
 }
 
 #[test]
@@ -98,12 +103,14 @@ fn crashed(rt: &impl Abort, alloc: Global) -> (MemoryDisk, MemoryDisk) {
 /// and to the request again.
 fn archives(rt: &impl Abort, alloc: Global) -> [Vec<u8>; 4] {
     let (mut disk, mut left) = crashed(rt, alloc);
-    [
+    let replies = [
         exchange(rt, alloc, &mut disk, NOW, GET_ARCHIVE),
         exchange(rt, alloc, &mut left, NOW, GET_ARCHIVE),
         post(rt, alloc, &mut left, 3, 0),
         exchange(rt, alloc, &mut left, NOW, GET_ARCHIVE),
-    ]
+    ];
+    drop((disk, left));
+    replies
 }
 
 #[test]
@@ -128,7 +135,9 @@ fn sealed(rt: &impl Abort, alloc: Global) -> MemoryDisk {
 fn counts<D: Disk>(rt: &impl Abort, alloc: Global, disk: &mut D) -> (u32, u32) {
     let store = Store::load(alloc, disk).expect(rt, "a store");
     let seals = Log::load(alloc, disk, Area::Sealed).expect(rt, "a log");
-    (store.version(), seals.len())
+    let counts = (store.version(), seals.len());
+    drop((store, seals));
+    counts
 }
 
 /// Returns these numbers, and again after the fifth POST was made again if it was lost.
@@ -151,7 +160,9 @@ fn counts_left(
     let before = disk.calls().saturating_sub(7);
     let call = before.saturating_add(call).min(disk.calls());
     let mut left = disk.image(call, choice).expect(rt, "memory");
-    go_on(rt, alloc, &mut left)
+    let counts = go_on(rt, alloc, &mut left);
+    drop(left);
+    counts
 }
 
 /// How a crash fills unsynced bytes, and the numbers of operations and of seals that it leaves. The first four calls
@@ -201,10 +212,12 @@ const CRASHES: [(Choice, [(u32, u32); 8]); 3] = [
 #[test]
 fn a_crash_leaves_an_operation_behind_its_seal(rt: HostRuntime) {
     let disk = sealed(&rt, rt.alloc());
-    for (choice, numbers) in &CRASHES {
+    let crashes = CRASHES;
+    for (choice, numbers) in &crashes {
         for (call, &found) in numbers.iter().enumerate() {
             let left = counts_left(&rt, rt.alloc(), &disk, call as u64, choice);
             assert!(rt; left == [found, (5, 1)], "call {call}, {choice:?}");
         }
     }
+    drop((crashes, disk));
 }

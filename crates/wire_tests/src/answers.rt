@@ -305,6 +305,7 @@ fn follow(rt: &impl Abort, alloc: Global, window: u32, capacity: u64, rows: &[Ro
         let sent = exchange(rt, alloc, &mut disk, NOW, request);
         assert!(rt; sent.as_slice() == *reply, "row {index}");
     }
+    drop(disk);
 }
 
 #[test]
@@ -325,4 +326,5 @@ fn answers_by_the_clock(rt: HostRuntime) {
         let sent = exchange(&rt, alloc, &mut disk, *now, request);
         assert!(rt; sent.as_slice() == *reply, "at {now}");
     }
+    drop(disk);
 }

@@ -116,7 +116,9 @@ fn reread<D: Disk>(
 ) -> Vec<u8> {
     let mut store = Store::load(alloc, disk).expect(rt, "a store");
     let mut changed = ChangedDisk { bytes, clock: 0 };
-    reply_to(rt, alloc, &mut store, &mut changed, NOW, request)
+    let sent = reply_to(rt, alloc, &mut store, &mut changed, NOW, request);
+    drop(store);
+    sent
 }
 
 /// Returns a disk with a store with windows of 1 operation, after two POSTs.
@@ -174,4 +176,5 @@ fn answers_where_the_disk_has_changed(rt: HostRuntime) {
         let sent = reread(&rt, alloc, &mut disk, bytes.as_slice(), request);
         assert!(rt; sent.starts_with(first) && sent.ends_with(last), "{how:?}");
     }
+    drop(disk);
 }

@@ -1,6 +1,8 @@
 //! Tests of the public calls of `http_face` and `document_server`.
 //!
 //! They are in a crate of their own, so that the crate is proved once, without its tests.
+//! A test drops large values by `drop`: a value that goes out of scope is proved to be dropped field by field, in each
+//! function.
 #![tactic(auto)]
 
 #[cfg(test)]

@@ -1,6 +1,6 @@
 //! The bytes of replies.
 
-ghost use Rattle.std.specs.Prelude.{IfOk, IsSome};
+ghost use Rattle.std.specs.Prelude.{IsSome};
 ghost use Rattle.http_face.specs.Reply.{HasPhrase};
 
 use crate::conns::{conn_of, disk_of};
@@ -8,7 +8,6 @@ use atom_values::{Bytes, Copies};
 use http_face::{Allow, Body, Conn, CutOff, Line7, Media, Reply, ScriptConn, write_reply};
 use std::alloc::Global;
 use std::process::Abort;
-use std::test::Fail;
 
 /// A reply with a fixed line.
 #[derive(Clone, Copy)]
@@ -92,20 +91,20 @@ fn status_of(told: &Told) -> u16
     }
 }
 
-fn reply_of(alloc: Global, told: &Told) -> Result<Reply, Fail>
-    ensures { IfOk result (λ reply. HasPhrase reply.status) }
+fn reply_of(rt: &impl Abort, alloc: Global, told: &Told) -> Reply
+    ensures { HasPhrase result.status }
 {
     let location = match told.location {
-        Some(address) => Some(Bytes::of(alloc, address)?),
+        Some(address) => Some(Bytes::of(alloc, address).expect(rt, "memory")),
         None => None,
     };
-    Ok(Reply {
+    Reply {
         status: status_of(told),
         media: told.media,
         location,
         allow: told.allow,
         body: Body::Fixed(told.line),
-    })
+    }
 }
 
 /// Returns a connection whose reply was begun, of which this call fails.
@@ -115,19 +114,21 @@ fn begun(rt: &impl Abort, alloc: Global, failing: u64) -> ScriptConn
     let mut conn = conn_of(rt, alloc, b"", failing);
     let disk = disk_of(rt, alloc, 0);
     conn.begin(&disk);
+    drop(disk);
     conn
 }
 
 #[test]
-fn writes_a_short_reply_in_one_call(rt: HostRuntime) -> Result<(), Fail> {
+fn writes_a_short_reply_in_one_call(rt: HostRuntime) {
     let alloc = rt.alloc();
     for (told, bytes) in WRITTEN {
         let mut conn = begun(&rt, alloc, 2);
-        let reply = reply_of(alloc, &told)?.copy(alloc)?;
-        let end = write_reply(&mut conn, &reply);
+        let reply = reply_of(&rt, alloc, &told);
+        let copy = reply.copy(alloc).expect(&rt, "memory");
+        let end = write_reply(&mut conn, &copy);
         assert!(rt; (end, conn.sent(), conn.begun()) == (Ok(()), bytes, Some(0)));
+        drop((conn, reply, copy));
     }
-    Ok(())
 }
 
 /// The head of a reply with a body of 5,000 bytes.
@@ -142,10 +143,10 @@ static CUTS: [(u64, Result<(), CutOff>, usize); 3] = [
 ];
 
 #[test]
-fn counts_the_bytes_of_a_reply_that_is_cut_off(rt: HostRuntime) -> Result<(), Fail> {
+fn counts_the_bytes_of_a_reply_that_is_cut_off(rt: HostRuntime) {
     let alloc = rt.alloc();
-    let mut bytes = Vec::from_slice(alloc, HEAD)?;
-    bytes.resize(5_106, b'a')?;
+    let mut bytes = Vec::from_slice(alloc, HEAD).expect(&rt, "memory");
+    bytes.resize(5_106, b'a').expect(&rt, "memory");
     for (failing, end, sent) in CUTS {
         let mut conn = begun(&rt, alloc, failing);
         let reply = Reply {
@@ -153,10 +154,10 @@ fn counts_the_bytes_of_a_reply_that_is_cut_off(rt: HostRuntime) -> Result<(), Fa
             media: Media::Feed,
             location: None,
             allow: None,
-            body: Body::Made(Bytes::of(alloc, &bytes[106..])?),
+            body: Body::Made(Bytes::of(alloc, &bytes[106..]).expect(&rt, "memory")),
         };
         assert!(rt; write_reply(&mut conn, &reply) == end);
         assert!(rt; conn.sent() == &bytes[..sent]);
+        drop((conn, reply));
     }
-    Ok(())
 }

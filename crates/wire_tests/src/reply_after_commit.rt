@@ -256,4 +256,5 @@ fn reply_after_commit(rt: HostRuntime) {
     // The commit syncs after the last byte of the request, and the reply begins after the last sync.
     let (asked, synced) = (events.asked.get(), events.synced.get());
     assert!(rt; 0 < asked && asked < synced && synced < events.replied.get());
+    drop((session, door, disk));
 }

@@ -33,7 +33,9 @@ fn read(
     failing: u64,
 ) -> Result<Request, RequestFault> {
     let mut conn = conn_of(rt, alloc, bytes, failing);
-    read_request(alloc, &mut conn)
+    let request = read_request(alloc, &mut conn);
+    drop(conn);
+    request
 }
 
 /// Bytes, and the fields of the request that they begin with.
@@ -95,13 +97,13 @@ static REQUESTS: [(&[u8], Fields<'static>); 6] = [
 ];
 
 #[test]
-fn reads_requests(rt: HostRuntime) -> Result<(), Fail> {
+fn reads_requests(rt: HostRuntime) {
     for (bytes, want) in REQUESTS {
-        let request = read(&rt, rt.alloc(), bytes, 0)?;
-        let copy = request.copy(rt.alloc())?;
+        let request = read(&rt, rt.alloc(), bytes, 0).expect(&rt, "a request");
+        let copy = request.copy(rt.alloc()).expect(&rt, "memory");
         assert!(rt; fields_of(&copy) == want);
+        drop((request, copy));
     }
-    Ok(())
 }
 
 /// Bytes, and the fault of a connection that ends after them.
@@ -207,9 +209,11 @@ fn limits_the_head(rt: HostRuntime) -> Result<(), Fail> {
 fn reads_a_body_of_the_limit(rt: HostRuntime) -> Result<(), Fail> {
     let alloc = rt.alloc();
     let head = b"PUT / HTTP/1.1\r\nContent-Length: 65536\r\n\r\n";
-    let request = read(&rt, alloc, &repeated(alloc, head, 65_536, b"a", b"b")?, 0)?;
+    let bytes = repeated(alloc, head, 65_536, b"a", b"b")?;
     let body = vec![in alloc; b'a'; 65_536]?;
+    let request = read(&rt, alloc, &bytes, 0).expect(&rt, "a request");
     assert!(rt; request.body.slice() == body.as_slice());
+    drop(request);
     Ok(())
 }
 

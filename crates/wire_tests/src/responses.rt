@@ -13,7 +13,9 @@ const BAD: Answer<'static> = Err(ResponseFault::BadResponse);
 /// Whether the bytes of a connection have this answer. This call of the connection fails; 0 lists no call.
 fn answers(rt: &impl Abort, alloc: Global, bytes: &[u8], failing: u64, want: Answer<'_>) -> bool {
     let mut conn = conn_of(rt, alloc, bytes, failing);
-    match read_response(alloc, &mut conn) {
+    let answer = read_response(alloc, &mut conn);
+    drop(conn);
+    match answer {
         Ok(Some(body)) => want == Ok(Some(body.as_slice())),
         Ok(None) => want == Ok(None),
         Err(fault) => want == Err(fault),

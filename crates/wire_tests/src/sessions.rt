@@ -65,7 +65,9 @@ pub fn served<D: Disk, L: Door>(
     requires few { requests ≤ 1_000_000 }
 {
     let mut clock = clock_of(rt, alloc, first, NOW);
-    serve(alloc, disk, &mut clock, door, b"here", requests)
+    let session = serve(alloc, disk, &mut clock, door, b"here", requests);
+    drop(clock);
+    session
 }
 
 fn told(line: &Line) -> Told {
@@ -114,6 +116,7 @@ fn follow<D: Disk>(
             "row {index}"
         );
     }
+    drop(session);
 }
 
 /// A request with 65 fields.
@@ -237,6 +240,7 @@ fn serves_one_connection_after_the_other(rt: HostRuntime) {
     // The first session leaves the other connections to the second.
     follow(&rt, alloc, &mut disk, &mut door, NOW, 2, &ROWS[..2]);
     follow(&rt, alloc, &mut disk, &mut door, NOW, 100, &ROWS[2..]);
+    drop((disk, door));
 }
 
 /// Connections with the clock at 22:13:25 and then at 22:13:20.
@@ -267,6 +271,7 @@ fn serves_where_the_clock_goes_back(rt: HostRuntime) {
     let mut disk = store_disk(&rt, alloc, 4, CAPACITY, 0);
     let mut door = door_of(&rt, alloc, &BACK, 0);
     follow(&rt, alloc, &mut disk, &mut door, NOW + 5_000, 2, &BACK);
+    drop((disk, door));
 }
 
 /// Serves connections, and returns why the session ended and the number of its lines.
@@ -277,7 +282,9 @@ fn end_of<D: Disk>(
     door: &mut ScriptDoor,
 ) -> (End, usize) {
     let session = served(rt, alloc, disk, door, NOW, 100);
-    (session.end, session.lines.len())
+    let end = (session.end, session.lines.len());
+    drop(session);
+    end
 }
 
 /// Calls of a door with two connections that fail, and the end of the session. Call 1 is `listen`, the others `next`.
@@ -295,11 +302,11 @@ fn ends_where_a_call_of_the_door_fails(rt: HostRuntime) {
     let mut disk = store_disk(&rt, alloc, 4, CAPACITY, 0);
     for (failing, end) in DOOR_FAULTS {
         let mut door = door_of(&rt, alloc, &BACK, failing);
-        assert!(rt;
-            end_of(&rt, alloc, &mut disk, &mut door) == end,
-            "call {failing}"
-        );
+        let ended = end_of(&rt, alloc, &mut disk, &mut door);
+        assert!(rt; ended == end, "call {failing}");
+        drop(door);
     }
+    drop(disk);
 }
 
 /// Serves connections on a disk without a store, and then twice with one. The first call of the door fails.
@@ -308,11 +315,10 @@ fn unopened(rt: &impl Abort, alloc: Global) -> [(End, usize); 3] {
     let mut door = door_of(rt, alloc, &BACK, 1);
     let missing = end_of(rt, alloc, &mut disk, &mut door);
     init(rt, alloc, &mut disk, 4, CAPACITY);
-    [
-        missing,
-        end_of(rt, alloc, &mut disk, &mut door),
-        end_of(rt, alloc, &mut disk, &mut door),
-    ]
+    let refused = end_of(rt, alloc, &mut disk, &mut door);
+    let done = end_of(rt, alloc, &mut disk, &mut door);
+    drop((disk, door));
+    [missing, refused, done]
 }
 
 #[test]
@@ -348,18 +354,23 @@ type Found = [u32; 3];
 
 /// Returns the number of operations that a load finds.
 fn version_of<D: Disk>(rt: &impl Abort, alloc: Global, disk: &mut D) -> u32 {
-    Store::load(alloc, disk).expect(rt, "a store").version()
+    let store = Store::load(alloc, disk).expect(rt, "a store");
+    let version = store.version();
+    drop(store);
+    version
 }
 
 /// Returns how many operations a load finds on the disk, and after a crash within its last call.
 fn found_on(rt: &impl Abort, alloc: Global, disk: &mut MemoryDisk) -> Found {
     let mut old = disk.image(disk.calls(), &Choice::Old).expect(rt, "memory");
     let mut new = disk.image(disk.calls(), &Choice::New).expect(rt, "memory");
-    [
+    let found = [
         version_of(rt, alloc, &mut old),
         version_of(rt, alloc, disk),
         version_of(rt, alloc, &mut new),
-    ]
+    ];
+    drop((old, new));
+    found
 }
 
 /// Returns the bytes that the first connection was sent.
@@ -377,14 +388,16 @@ fn post_failing(rt: &impl Abort, alloc: Global, failing: u64) -> Session {
     let mut door = door_of(rt, alloc, &BACK[..1], 0);
     let made = disk.calls();
     let session = served(rt, alloc, &mut disk, &mut door, NOW, 100);
-    Session {
+    let posted = Session {
         made,
         calls: disk.calls(),
         end: session.end,
         line: session.lines.get(0).map(told),
         sent: sent_of(rt, alloc, &door),
         found: found_on(rt, alloc, &mut disk),
-    }
+    };
+    drop((disk, door, session));
+    posted
 }
 
 /// How many operations a load finds if a call of the commit fails: the write of the operation, its sync, the write of
@@ -408,6 +421,7 @@ fn ends_where_a_device_call_fails(rt: HostRuntime) {
             "call {call}"
         );
         assert!(rt; failed.found == [0, 0, 0], "call {call}");
+        drop(failed);
     }
     for (index, &found) in FOUND.iter().enumerate() {
         let failed = post_failing(&rt, alloc, loaded.saturating_add(1 + index as u64));
@@ -417,5 +431,7 @@ fn ends_where_a_device_call_fails(rt: HostRuntime) {
             "call {index}"
         );
         assert!(rt; failed.sent.as_slice() == DISK, "call {index}");
+        drop(failed);
     }
+    drop(whole);
 }

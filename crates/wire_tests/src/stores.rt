@@ -49,6 +49,7 @@ pub fn init<D: Disk>(rt: &impl Abort, alloc: Global, disk: &mut D, window: u32, 
 {
     let head = head_of(rt, alloc, window, capacity);
     Store::init(alloc, disk, &head).expect(rt, "a store");
+    drop(head);
 }
 
 /// Returns a disk with a store that has no operation, of which this device call fails. 0 lists no call.
@@ -84,7 +85,9 @@ pub fn reply_to<D: Disk>(
     let reply = answer(alloc, store, disk, &request, now);
     conn.begin(disk);
     write_reply(&mut conn, &reply).expect(rt, "a whole reply");
-    Vec::from_slice(alloc, conn.sent()).expect(rt, "memory")
+    let sent = Vec::from_slice(alloc, conn.sent()).expect(rt, "memory");
+    drop((conn, request, reply));
+    sent
 }
 
 /// Loads the store and answers a request at a moment of the clock. Returns the bytes that the connection is sent.
@@ -96,7 +99,9 @@ pub fn exchange<D: Disk>(
     bytes: &[u8],
 ) -> Vec<u8> {
     let mut store = Store::load(alloc, disk).expect(rt, "a store");
-    reply_to(rt, alloc, &mut store, disk, now, bytes)
+    let sent = reply_to(rt, alloc, &mut store, disk, now, bytes);
+    drop(store);
+    sent
 }
 
 /// Returns a POST of an entry with a title of this many letters and a comment of this many.
