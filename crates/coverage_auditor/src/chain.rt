@@ -82,10 +82,12 @@ impl Shelf {
     ) -> Result<usize, Halt>
         requires short { AreShort pile.now }
         requires address { IsAddress line.now.address }
-        requires offers { IsIndexOf certificate.now.base pile.now self.old.offers.firsts self.old.offers.places }
+        requires offers { IsIndexOf certificate.now.base pile.now self.old.offers.firsts
+            self.old.offers.places }
         requires shelf { IsShelf certificate.now pile.now self.old.documents.items self.old.read }
         ensures place { PlacesLine certificate.now pile.now line.now self.new.documents.items result }
-        ensures shelf { OnOk result (IsShelf certificate.now pile.now self.new.documents.items self.new.read) }
+        ensures shelf { OnOk result
+            (IsShelf certificate.now pile.now self.new.documents.items self.new.read) }
         ensures longer { OnOk result (KeepsDocuments self.old.documents.items self.new.documents.items) }
         ensures offers { self.new.offers ≡ self.old.offers }
     {

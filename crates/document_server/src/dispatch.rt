@@ -67,7 +67,8 @@ pub fn answer<D: Disk>(
     ensures rests { result ≢ disk_fault → D.told → IsAtRest (D.state disk.old) → IsAtRest (D.state disk.new) }
     ensures mirror { LeavesAlone (D.state disk.old) (D.state disk.new) Mirror }
 
-    ensures calls { MakesSome (D.state disk.old) (D.state disk.new) (call_count store.old) (call_count store.new) }
+    ensures calls { MakesSome (D.state disk.old) (D.state disk.new)
+        (call_count store.old) (call_count store.new) }
     // The history grows exactly if the reply acknowledges a change.
     ensures grows { request.now.verb ≢ Get → IsDone result
         → Grows (D.state disk.old) (D.state disk.new) store.old store.new }
@@ -97,8 +98,8 @@ fn reply_of<D: Disk>(
     ensures own { IfOk result IsOwn }
     ensures steps { Steps D.told (D.state disk.old) (D.state disk.new) store.old store.new
         (result ≡ Err Failure.Disk) }
-    ensures leaves { ReadsOrCommits D.told (IsOutcome store.old request.now now) (D.state disk.old) (D.state disk.new)
-        store.old store.new (result ≡ Err Failure.Disk) }
+    ensures leaves { ReadsOrCommits D.told (IsOutcome store.old request.now now)
+        (D.state disk.old) (D.state disk.new) store.old store.new (result ≡ Err Failure.Disk) }
     ensures grows { request.now.verb ≢ Get → Acknowledges result
         → Grows (D.state disk.old) (D.state disk.new) store.old store.new }
     ensures same { (request.now.verb ≡ Get) ⊎ (¬ Acknowledges result)

@@ -54,7 +54,8 @@ pub(crate) fn show_member<D: Disk>(
     requires unspent { is_spent store.old ≡ false }
     requires stands { D.told → StandsFor (D.state disk.old) store.old }
     ensures answered { D.told → ComesTo
-        (IsOfState (state_of store.old.history number) (IsMemberShown store.old number)) store.old store.new result }
+        (IsOfState (state_of store.old.history number) (IsMemberShown store.old number))
+        store.old store.new result }
     ensures own { IfOk result IsOwn }
     ensures steps { Steps D.told (D.state disk.old) (D.state disk.new) store.old store.new
         (result ≡ Err Failure.Disk) }

@@ -245,7 +245,8 @@ fn serve_link<D: Disk, C: Clock, K: Conn>(
     ensures stays { is_spent store.new ≡ true → store.new.history ≡ store.old.history }
     ensures version { result.version ≡ length store.new.history }
     ensures calls { result.calls ≡ call_count store.new }
-    ensures makes { MakesSome (D.state disk.old) (D.state disk.new) (call_count store.old) (call_count store.new) }
+    ensures makes { MakesSome (D.state disk.old) (D.state disk.new)
+        (call_count store.old) (call_count store.new) }
     ensures grows { (store.new.history ≡ store.old.history)
         ⊎ Grows (D.state disk.old) (D.state disk.new) store.old store.new }
     // The connection keeps the disk's clock as the mark of the reply, if one was begun.

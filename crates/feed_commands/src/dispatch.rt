@@ -137,7 +137,8 @@ pub fn run<D: Disk, C: Clock, L: Door, F: Fetch, I: Source, O: Sink>(
         → IsDueAnswer command
         (outside_of (C.coming clock.old) (I.state input.old) (D.state disk.old) (F.state fetch.old)) given
         → IsComplete (D.state disk.old) (D.state disk.new) (F.state fetch.old) (F.state fetch.new)
-        (I.state input.old) (I.state input.new) (O.state output.old) (O.state output.new) result.status given.status }
+        (I.state input.old) (I.state input.new) (O.state output.old) (O.state output.new)
+        result.status given.status }
 
     // A crash within the command, or after it: the commands that add no operation leave what a crash could leave of a
     // store before, `init` leaves an unused disk as it is or with the new store, and `apply` leaves the history before,
@@ -163,8 +164,8 @@ pub fn run<D: Disk, C: Clock, L: Door, F: Fetch, I: Source, O: Sink>(
     ensures serves { (listen : List ℕ) (requests : ℕ)
         → IsCommandOf (map string_bytes words.now) (Serve listen requests)
         → EndsServing requests (D.state disk.old) (D.state disk.new) (C.coming clock.old)
-        (L.state door.old) (L.state door.new) D.told C.told L.told O.told (O.state output.old) (O.state output.new)
-        result.lines.items result.status }
+        (L.state door.old) (L.state door.new) D.told C.told L.told O.told
+        (O.state output.old) (O.state output.new) result.lines.items result.status }
     ensures serves_whole { (listen : List ℕ) (requests : ℕ)
         → IsCommandOf (map string_bytes words.now) (Serve listen requests) → D.told
         → (stored : Stored) → OpensTo (D.state disk.old).content stored

@@ -80,7 +80,8 @@ fn put_location<C: Conn>(
 ) -> Result<(), CutOff>
     requires begun { IsSome (C.state conn.old).begun }
     ensures puts { Puts C.told (optional_header (codes "Location") address.now)
-        (put_state (C.state conn.old).sent waiting.old) (put_state (C.state conn.new).sent waiting.new) result }
+        (put_state (C.state conn.old).sent waiting.old)
+        (put_state (C.state conn.new).sent waiting.new) result }
     ensures writes { Writes (C.state conn.old) (C.state conn.new) }
     ensures counts { HasCause (C.state conn.old).faults (C.state conn.new).faults result }
 {
@@ -190,7 +191,8 @@ fn write_all<C: Conn>(conn: &mut C, bytes: &[u8], sent: u64) -> Result<u64, CutO
     ensures sent { IfOk result (λ all. all ≡ counted_by sent (length bytes.now)) }
     ensures whole { OnOk result (C.told → (C.state conn.new).sent ≡ (C.state conn.old).sent ++ bytes.now) }
     ensures cut { IfErr result (λ cut.
-        IsCut C.told bytes.now (nothing_waits (C.state conn.old).sent sent) cut.sent (C.state conn.new).sent) }
+        IsCut C.told bytes.now (nothing_waits (C.state conn.old).sent sent)
+        cut.sent (C.state conn.new).sent) }
     ensures writes { Writes (C.state conn.old) (C.state conn.new) }
     ensures counts { HasCause (C.state conn.old).faults (C.state conn.new).faults result }
 {

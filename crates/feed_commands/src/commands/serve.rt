@@ -77,8 +77,8 @@ pub fn serve<D: Disk, C: Clock, L: Door, O: Sink>(
     requires some { 1 ≤ requests }
     requires few { requests ≤ connection_limit }
     ensures serves { EndsServing requests (D.state disk.old) (D.state disk.new) (C.coming clock.old)
-        (L.state door.old) (L.state door.new) D.told C.told L.told O.told (O.state output.old) (O.state output.new)
-        result.lines.items result.status }
+        (L.state door.old) (L.state door.new) D.told C.told L.told O.told
+        (O.state output.old) (O.state output.new) result.lines.items result.status }
     ensures complete { D.told → (stored : Stored) → OpensTo (D.state disk.old).content stored
         → IsServedWhole (D.state disk.old) (D.state disk.new) (L.state door.old) (L.state door.new)
         (O.state output.old) (O.state output.new) result.status }
