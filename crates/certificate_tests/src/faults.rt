@@ -85,7 +85,7 @@ fn a_fault_has_its_sentence(rt: HostRuntime) {
     for (fault, wanted) in [
         (
             CertificateFault::BadCertificate { line: 7 },
-            "not a certificate: line 7 can't stand there",
+            "not a certificate: bad line 7",
         ),
         (CertificateFault::NoMemory, "out of memory"),
     ] {

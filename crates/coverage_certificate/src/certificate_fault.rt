@@ -15,7 +15,7 @@ impl fmt::Display for CertificateFault {
     fn fmt<W: fmt::Write>(&self, f: &mut fmt::Formatter<W>) -> fmt::Result {
         match self {
             CertificateFault::BadCertificate { line } => {
-                write!(f, "not a certificate: line {line} can't stand there")
+                write!(f, "not a certificate: bad line {line}")
             }
             CertificateFault::NoMemory => write!(f, "out of memory"),
         }

@@ -26,7 +26,7 @@ use Rattle.entry_reader.proofs.PlainLemmas.{Plain, plain_nil, plain_byte, plain_
 use Rattle.entry_reader.proofs.XmlLemmas.{printable, printable_xml, printable_append, printable_rest}
 use Rattle.entry_reader.proofs.XmlLemmas.{printable_reference}
 
--- so many letters
+-- `n` letters
 pub letters : ℕ → List ℕ
 letters zero = []
 letters (suc n) = 97 ∷ letters n

@@ -255,7 +255,7 @@ named_reads text none r end read =
     apart_reads behind_and (codes "#") text none (λ m e. subst C (sym (one_left 35 text m none e)) lives) r end
     (same_reads (apart (codes "#") behind_and) named_behind named_apart apart_named text r end read)
 
--- a byte that stands there is read
+-- the byte is read if the text begins with it
 pub byte_fails : {B : Type 0} (S : B → List ℕ → List ℕ → Type 0) (b : ℕ) (text before : List ℕ) →
     begins (b ∷ []) text ≡ true → (e : Lapse) (end : List ℕ) → Reads (exactly (b ∷ [])) text (Err e) end →
     Reads S before (Err e) end

@@ -68,7 +68,7 @@ all_seen within before (element e content rest) =
 abbrev pub name_of : Seen → Name
 name_of s = s.child.element.name
 
--- it is an element of one of these names of Atom, in such a place
+-- the element is in this kind of place, and has one of these names of Atom
 abbrev pub Is : Within → List (List ℕ) → Seen → Type 0
 Is within locals s = (s.within ≡ within) × IsTrue (is_one_of locals (name_of s))
 

@@ -472,6 +472,7 @@ impl<'a> Elements<'a> {
         ensures closed { IsClosed self.old self.new }
     {
         self.scopes.leave();
+        // Nobody reads the name of a closed element.
         let _ = self.names.pop();
         Event::End
     }

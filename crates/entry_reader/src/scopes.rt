@@ -152,6 +152,7 @@ impl<'a> Scopes<'a> {
         ensures { (element : Open) (opened : List Open) → AreScopesOf (element ∷ opened) self.old
             → AreScopesOf opened self.new }
     {
+        // Nobody reads the declarations of a closed element.
         let _ = self.levels.pop();
     }
 

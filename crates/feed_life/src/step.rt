@@ -42,6 +42,7 @@ pub fn life(alloc: Global, head: &Head, mirrors: u32, events: &[Event]) -> Resul
     served_documents_show_the_fold();
     let mut life = Life::new(alloc, head, mirrors)?;
     for event in events {
+        // The line of a request isn't part of a life.
         let _ = life.step_by(event)?;
     }
     Ok(life)

@@ -86,7 +86,7 @@ stated_size fields =
     if is_some (first_of (values_of (codes "transfer-encoding") fields)) then Err NoLength
     else size_by (values_of (codes "content-length") fields)
 
--- the body of this length, if so many bytes are there; `all` is the number of all bytes
+-- the body of `size` bytes, if `behind` has them; `all` is the number of all bytes
 abbrev pub sized_body : ℕ → ℕ → List ℕ → Result (List ℕ) RequestFault
 sized_body size all behind = if nat_le size (length behind) then Ok (take size behind) else Err (EndedEarly all)
 

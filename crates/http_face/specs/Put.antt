@@ -4,7 +4,7 @@ use Rattle.atom_values.specs.Counts.{counter_limit}
 use Rattle.http_face.specs.declared.fault.CutOff.{CutOff}
 use Rattle.http_face.specs.declared.waiting.Waiting.{Waiting}
 
--- a counter after so many more; it stays at the greatest u64
+-- a counter after `more` are added; it is at most the greatest u64
 abbrev pub counted_by : ℕ → ℕ → ℕ
 counted_by before more = max before (min (before + more) counter_limit)
 

@@ -396,7 +396,7 @@ pub stamp_absent : (input : List ℕ) → IsAbsent size input → IsAbsent stamp
 unfolding size stamp
 stamp_absent input none other left is e = none (since_year_zero other) left (omega (arith, ints, is.0, is.1)) e
 
--- no timestamp is so many milliseconds after the first
+-- no timestamp is `n` milliseconds after the first
 pub stamp_past : (input middle : List ℕ) (n : ℕ) → BeginsWith size.Is size.bytes input n middle
     → ((z : ℤ) → IsStamp z → n ≡ since_year_zero z → ⊥) → IsAbsent stamp input
 unfolding size stamp

@@ -197,8 +197,10 @@ impl<R: Net + rt::Clock> Port<R> {
         }
         let deadline = deadline_in(runtime, REQUEST_SECONDS).ok_or(Failed)?;
         if self.waiting.len() >= MAX_WAITING {
+            // Its socket is closed when it is dropped.
             let _ = self.waiting.pop_front();
         }
+        // Without memory the client is dropped, as documented.
         let _ = self.waiting.push_back(Waiting {
             socket: Socket {
                 stream,
@@ -246,8 +248,10 @@ impl<R: Net + rt::Clock> Port<R> {
             return;
         }
         if self.closing.len() >= MAX_CLOSING {
+            // Its socket is closed when it is dropped.
             let _ = self.closing.pop_front();
         }
+        // Without memory the connection is dropped, which closes it at once.
         let _ = self.closing.push_back(Closing::new(socket, deadline));
     }
 }
