@@ -1,4 +1,4 @@
-ghost use Rattle.std.specs.Prelude.{◌≡◌, ◌<◌, None, option_map, IfOk, IfSome, OnErr};
+ghost use Rattle.std.specs.Prelude.{◌≡◌, ℕ, ◌<◌, List, None, option_map, IfOk, IfSome, OnOk, OnErr};
 ghost use Rattle.atom_values.specs.Counts.{HasCause};
 ghost use Rattle.document_server.specs.Door.{DoorState, SameLinks, Gives, with_back};
 
@@ -18,15 +18,20 @@ pub trait Door {
     /// The connections and the count of faults.
     ghost state: { Self → DoorState };
 
+    /// Whether the door listens at an address.
+    ghost listens: { Self → List ℕ → Type 0 };
+
     /// Listens at an address, which is a host's name or IP address and a port, as `127.0.0.1:8080`. `Failed` if the
     /// call failed.
     fn listen(&mut self, at: &[u8]) -> Result<(), Failed>
+        ensures at { OnOk result (listens self.new at.now) }
         ensures same { told → SameLinks (state self.old) (state self.new) }
         ensures counts { HasCause (state self.old).faults (state self.new).faults result };
 
     /// Returns the next connection, on which no reply was begun. `None` if no connection will come. `Failed` if the
     /// call failed.
     fn next(&mut self) -> Result<Option<Self::Link>, Failed>
+        ensures at { (at : List ℕ) → listens self.old at → listens self.new at }
         ensures given { IfOk result (λ given. told
             → Gives (option_map Self.Link.state given) (state self.old) (state self.new)) }
         ensures unbegun { IfOk result (λ given. IfSome given (λ link. (Self.Link.state link).begun ≡ None)) }
@@ -37,6 +42,7 @@ pub trait Door {
     /// more connections are given back than were given.
     fn back(&mut self, link: Self::Link)
         requires { told → 0 < (state self.old).out }
+        ensures at { (at : List ℕ) → listens self.old at → listens self.new at }
         ensures back { told → state self.new ≡ with_back (state self.old) (Self.Link.state link) }
         ensures faults { (state self.new).faults ≡ (state self.old).faults };
 

@@ -1,7 +1,7 @@
 //! A clock and a door in memory, for tests. Contracts can see their content, and listed calls of the door fail.
 
-ghost use Rattle.std.specs.Prelude.{◌≡◌, ◌↔◌, ◌+◌, ◌-◌, ◌<◌, ◌≤◌, [], None, map, reverse, length, vec_len};
-ghost use Rattle.std.specs.Prelude.{vec_capacity, min, slice_index, All, IfOk, IfSome, OnErr, IsErr, IsTrue, option_map};
+ghost use Rattle.std.specs.Prelude.{◌≡◌, ◌↔◌, ℕ, ◌+◌, ◌-◌, ◌<◌, ◌≤◌, List, [], None, map, reverse, length, vec_len};
+ghost use Rattle.std.specs.Prelude.{vec_capacity, min, slice_index, All, IfOk, IfSome, OnOk, OnErr, IsErr, IsTrue, option_map};
 ghost use Rattle.atom_values.specs.Counts.{HasCause};
 ghost use Rattle.atom_values.specs.ListedCalls.{after_call, next_call_fails};
 ghost use Rattle.document_server.specs.Door.{SameLinks, Gives};
@@ -108,12 +108,15 @@ impl Door for ScriptDoor {
     } };
 
     // In memory all addresses are alike.
+    ghost listens = { λ _ _. Unit {0} };
+
     fn listen(&mut self, _at: &[u8]) -> Result<(), Failed>
         // It fails exactly the listed calls.
         ensures listed { IsErr result ↔ IsTrue (next_call_fails self.old.calls) }
         ensures calls { self.new.calls ≡ after_call self.old.calls }
 
         // The clauses of the trait.
+        ensures at { OnOk result (Unit {0}) }
         ensures same { Unit {0} → SameLinks (⟦<ScriptDoor as Door>⟧.state self.old)
             (⟦<ScriptDoor as Door>⟧.state self.new) }
         ensures counts { HasCause self.old.calls.faults self.new.calls.faults result }
@@ -130,6 +133,7 @@ impl Door for ScriptDoor {
         ensures calls { self.new.calls ≡ after_call self.old.calls }
 
         // The clauses of the trait.
+        ensures at { (at : List ℕ) → Unit {0} → Unit {0} }
         ensures given { IfOk result (λ given. Unit {0}
             → Gives (option_map ⟦<ScriptConn as Conn>⟧.state given) (⟦<ScriptDoor as Door>⟧.state self.old)
             (⟦<ScriptDoor as Door>⟧.state self.new)) }

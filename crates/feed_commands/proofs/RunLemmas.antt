@@ -113,16 +113,17 @@ pub read_only : (words : List (List ℕ)) (result : Result Command WordsFault) (
 read_only words result read command is same only =
     read_all words result read (λ other. command ≡ other) is only (sym same)
 
--- words of `serve` have one number of requests
-pub same_requests : (P : ℕ → Type 0) (words : List (List ℕ)) (result : Result Command WordsFault) (read : Command)
+-- words of `serve` have one address and one number of requests
+pub same_serve : (P : List ℕ → ℕ → Type 0) (words : List (List ℕ)) (result : Result Command WordsFault) (read : Command)
     (listen : List ℕ) (requests : ℕ) → result ≡ Ok read → read ≡ Serve listen requests
     → ((command : Command) → IsCommandOf words command → (result ≡ Ok command) ⊎ (result ≡ Err NoMemory))
-    → P requests → (other : List ℕ) (number : ℕ) → IsCommandOf words (Serve other number) → P number
-same_requests P words result read listen requests is serves only holds other number of_words =
+    → P listen requests → (other : List ℕ) (number : ℕ) → IsCommandOf words (Serve other number) → P other number
+same_serve P words result read listen requests is serves only holds other number of_words =
     let same : Serve listen requests ≡ Serve other number =
     read_only words result read (Serve listen requests) is serves only (Serve other number) of_words in
-    let equal : requests ≡ number = cc in
-    subst P equal holds
+    let address : listen ≡ other = cc in
+    let count : requests ≡ number = cc in
+    subst (P other) count (subst (λ (at : List ℕ). P at requests) address holds)
 
 -- a session's status is one of the program's
 pub serve-status : (n : ℕ) → IsServeCode n → IsStatus n

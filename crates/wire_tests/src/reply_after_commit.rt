@@ -218,6 +218,8 @@ impl<'a> Door for WatchedDoor<'a> {
 
     ghost state = { λ _. record { left = []; back = []; out = 0; faults = 0 } };
 
+    ghost listens = { λ _ _. Unit {0} };
+
     fn listen(&mut self, _at: &[u8]) -> Result<(), Failed> {
         Ok(())
     }

@@ -1,4 +1,4 @@
-ghost use Rattle.std.specs.Prelude.{◌≡◌, ◌≢◌, ◌⊎◌, ◌≤◌, ◌++◌, OnOk, None};
+ghost use Rattle.std.specs.Prelude.{◌≡◌, ◌≢◌, ◌⊎◌, ◌≤◌, ◌++◌, [], OnOk, None};
 ghost use Rattle.atom_values.specs.Counts.{HasCause, Rose};
 ghost use Rattle.feed_disk.specs.Moments.{LeavesAlone};
 ghost use Rattle.feed_disk.specs.declared.area.Area.TheVariants.{Mirror};
@@ -79,6 +79,7 @@ pub fn serve<D: Disk, C: Clock, L: Door, O: Sink>(
     ensures serves { EndsServing requests (D.state disk.old) (D.state disk.new) (C.coming clock.old)
         (L.state door.old) (L.state door.new) D.told C.told L.told O.told
         (O.state output.old) (O.state output.new) result.lines.items result.status }
+    ensures listens { result.lines.items ≢ [] → L.listens door.new listen.now }
     ensures complete { D.told → (stored : Stored) → OpensTo (D.state disk.old).content stored
         → IsServedWhole (D.state disk.old) (D.state disk.new) (L.state door.old) (L.state door.new)
         (O.state output.old) (O.state output.new) result.status }

@@ -1,4 +1,4 @@
-use Rattle.std.proofs.Common.{◌≡◌, ◌∙◌, inl, inr, refl, sym, ap, subst, ◌+◌, ◌<◌, List, [], ◌∷◌, ◌++◌, length, Err}
+use Rattle.std.proofs.Common.{◌≡◌, ◌∙◌, inl, inr, refl, sym, ap, subst, ◌<◌, List, [], ◌∷◌, ◌++◌, length, Err}
 use Rattle.std.proofs.Common.{arith}
 use Rattle.std.proofs.Common.{length-append}
 use Rattle.document_server.specs.Serving.{ServesFrom}
@@ -32,6 +32,7 @@ loop-count-init g c =
           (going-begins start disk moments door (g.C.Clock.told × g.L.Door.told) c.args.store.now
           (g.met.D.Disk.is_disk c.args.disk.now));
       out = λ told. refl;
+      listens = λ at is. is;
       faults = refl;
       disk_faults = refl;
       mirror = alone_begins disk Mirror;
@@ -202,6 +203,7 @@ loop-count-preserved g c =
           stands.opens.is_journal.lawful last (λ see. (see.0, g.met.L.Door.tells see.1)) (λ see. passes see.1) unspent
           stands_new.opens.is_journal.lawful (g.met.D.Disk.is_disk c.serve_link-line.new.disk) (held.rests told));
       out = λ told. (passes told).out ∙ held.out told;
+      listens = λ at is. c.back.ensures.at at (c.next.ensures.at at (held.listens at is));
       faults = c.back.ensures.faults ∙ c.in_ok-link.ensures.counts.worked ∙ held.faults;
       disk_faults = said.unfailed unspent ∙ held.disk_faults;
       mirror = alone_joins before disk left Mirror held.mirror said.mirror;

@@ -1,4 +1,4 @@
-use Rattle.std.proofs.Common.{◌≡◌, ℕ, ◌+◌, ◌≤◌, false, length}
+use Rattle.std.proofs.Common.{◌≡◌, ℕ, ◌+◌, ◌≤◌, List, false, length}
 use Rattle.document_server.proofs.ServingLemmas.{Going}
 use Rattle.feed_disk.specs.Moments.{LeavesAlone}
 use Rattle.feed_disk.specs.declared.area.Area.TheVariants.{Mirror}
@@ -21,6 +21,7 @@ invariant-loop-count g l =
           Going start before disk (g.C.Clock.coming l.fn.clock) (g.C.Clock.coming l.clock) first door
           (g.C.Clock.told × g.L.Door.told) l.fn.store l.store l.lines.items;
       out : g.L.Door.told → door.out ≡ first.out;
+      listens : (at : List ℕ) → g.L.Door.listens l.fn.door at → g.L.Door.listens l.door at;
       faults : door.faults ≡ first.faults;
       disk_faults : disk.faults ≡ before.faults;
       mirror : LeavesAlone before disk Mirror;

@@ -16,7 +16,7 @@ use Rattle.feed_commands.proofs.EndLemmas.{answered-refusal, no_door, no_end, no
 use Rattle.feed_commands.proofs.MirrorEndLemmas.{fault-complete}
 use Rattle.feed_commands.proofs.PileEndLemmas.{cut-at-once, pile-is_status}
 use Rattle.feed_commands.proofs.PrintLemmas.{alone-fault, prints-from}
-use Rattle.feed_commands.proofs.RunLemmas.{ends-done, ends-refused, ends-unsent, no_command, read_all, read_as, same_requests}
+use Rattle.feed_commands.proofs.RunLemmas.{ends-done, ends-refused, ends-unsent, no_command, read_all, read_as, same_serve}
 use Rattle.feed_commands.proofs.RunLemmas.{audit-status, fetched-status, mirror-status, same_mirror, seen-unfetched}
 use Rattle.feed_commands.proofs.RunLemmas.{drill-status, same_drill, serve-status, usage}
 use Rattle.feed_commands.proofs.dispatch.run.Goals as goal
@@ -160,8 +160,13 @@ returns-in-Serve-clause-safe g c = read_all _ c.read_words.result c.in-Ok.comman
 
 pub returns-in-Serve-clause-serves : goal.returns-in-Serve-clause-serves
 returns-in-Serve-clause-serves g c =
-    same_requests _ _ c.read_words.result c.in-Ok.command _ _ c.in-Ok.is c.in-Serve.is c.read_words.ensures.only
+    same_serve _ _ c.read_words.result c.in-Ok.command _ _ c.in-Ok.is c.in-Serve.is c.read_words.ensures.only
     c.serve.ensures.serves
+
+pub returns-in-Serve-clause-listens : goal.returns-in-Serve-clause-listens
+returns-in-Serve-clause-listens g c =
+    same_serve _ _ c.read_words.result c.in-Ok.command _ _ c.in-Ok.is c.in-Serve.is c.read_words.ensures.only
+    (rw c.slice.ensures at c.serve.ensures.listens)
 
 pub returns-in-Serve-clause-no_lines : goal.returns-in-Serve-clause-no_lines
 returns-in-Serve-clause-no_lines g c = λ others.

@@ -49,6 +49,9 @@ impl<'a, R: Net + rt::Clock> Door for TcpDoor<'a, R> {
 
     ghost state = { λ d. record { left = []; back = []; out = 0; faults = d.faults } };
 
+    // Contracts can't see at which address the system listens.
+    ghost listens = { λ _ _. Unit {0} };
+
     fn listen(&mut self, at: &[u8]) -> Result<(), Failed> {
         self.port = Port::bind(self.alloc, self.runtime, at);
         if self.port.is_none() {
