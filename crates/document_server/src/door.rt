@@ -21,17 +21,22 @@ pub trait Door {
     /// Whether the door listens at an address.
     ghost listens: { Self → List ℕ → Type 0 };
 
+    /// Whether all connections that the door has given came in at an address.
+    ghost only_at: { Self → List ℕ → Type 0 };
+
     /// Listens at an address, which is a host's name or IP address and a port, as `127.0.0.1:8080`. `Failed` if the
     /// call failed.
     fn listen(&mut self, at: &[u8]) -> Result<(), Failed>
         ensures at { OnOk result (listens self.new at.now) }
+        ensures only { (at : List ℕ) → only_at self.old at → only_at self.new at }
         ensures same { told → SameLinks (state self.old) (state self.new) }
         ensures counts { HasCause (state self.old).faults (state self.new).faults result };
 
-    /// Returns the next connection, on which no reply was begun. `None` if no connection will come. `Failed` if the
-    /// call failed.
+    /// Returns the next connection, on which no reply was begun. It came in at an address at which the door listens.
+    /// `None` if no connection will come. `Failed` if the call failed.
     fn next(&mut self) -> Result<Option<Self::Link>, Failed>
         ensures at { (at : List ℕ) → listens self.old at → listens self.new at }
+        ensures only { (at : List ℕ) → listens self.old at → only_at self.old at → only_at self.new at }
         ensures given { IfOk result (λ given. told
             → Gives (option_map Self.Link.state given) (state self.old) (state self.new)) }
         ensures unbegun { IfOk result (λ given. IfSome given (λ link. (Self.Link.state link).begun ≡ None)) }
@@ -43,6 +48,7 @@ pub trait Door {
     fn back(&mut self, link: Self::Link)
         requires { told → 0 < (state self.old).out }
         ensures at { (at : List ℕ) → listens self.old at → listens self.new at }
+        ensures only { (at : List ℕ) → only_at self.old at → only_at self.new at }
         ensures back { told → state self.new ≡ with_back (state self.old) (Self.Link.state link) }
         ensures faults { (state self.new).faults ≡ (state self.old).faults };
 

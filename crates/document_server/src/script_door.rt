@@ -110,6 +110,8 @@ impl Door for ScriptDoor {
     // In memory all addresses are alike.
     ghost listens = { λ _ _. Unit {0} };
 
+    ghost only_at = { λ _ _. Unit {0} };
+
     fn listen(&mut self, _at: &[u8]) -> Result<(), Failed>
         // It fails exactly the listed calls.
         ensures listed { IsErr result ↔ IsTrue (next_call_fails self.old.calls) }
@@ -117,6 +119,7 @@ impl Door for ScriptDoor {
 
         // The clauses of the trait.
         ensures at { OnOk result (Unit {0}) }
+        ensures only { (at : List ℕ) → Unit {0} → Unit {0} }
         ensures same { Unit {0} → SameLinks (⟦<ScriptDoor as Door>⟧.state self.old)
             (⟦<ScriptDoor as Door>⟧.state self.new) }
         ensures counts { HasCause self.old.calls.faults self.new.calls.faults result }
@@ -134,6 +137,7 @@ impl Door for ScriptDoor {
 
         // The clauses of the trait.
         ensures at { (at : List ℕ) → Unit {0} → Unit {0} }
+        ensures only { (at : List ℕ) → Unit {0} → Unit {0} → Unit {0} }
         ensures given { IfOk result (λ given. Unit {0}
             → Gives (option_map ⟦<ScriptConn as Conn>⟧.state given) (⟦<ScriptDoor as Door>⟧.state self.old)
             (⟦<ScriptDoor as Door>⟧.state self.new)) }

@@ -81,8 +81,8 @@ pub fn serve<D: Disk, C: Clock, L: Door>(
         → (length result.lines.items ≡ requests) ⊎ (L.told → (L.state door.new).left ≡ []) }
     ensures returned { L.told → (L.state door.new).out ≡ (L.state door.old).out }
 
-    // Connections are served only at the address.
-    ensures listens { result.lines.items ≢ [] → L.listens door.new listen.now }
+    // The door gives all connections of the session while it listens at the address.
+    ensures address { L.only_at door.old listen.now → L.only_at door.new listen.now }
 
     // A store that isn't loaded.
     ensures refused { (fault : Fault) → result.end ≡ End.Load fault → D.told
@@ -136,7 +136,7 @@ fn serve_into<D: Disk, C: Clock, L: Door>(
     ensures done { OnOk result
         ((length lines.new.items ≡ requests) ⊎ (L.told → (L.state door.new).left ≡ [])) }
     ensures returned { L.told → (L.state door.new).out ≡ (L.state door.old).out }
-    ensures listens { lines.new.items ≢ [] → L.listens door.new listen.now }
+    ensures address { L.only_at door.old listen.now → L.only_at door.new listen.now }
 
     ensures refused { (fault : Fault) → result ≡ Err (End.Load fault) → D.told
         → IsLoadFault (records ((D.state disk.old).content Journal))
@@ -194,7 +194,7 @@ fn serve_links<D: Disk, C: Clock, L: Door>(
     ensures done { OnOk result
         ((length lines.new.items ≡ requests) ⊎ (L.told → (L.state door.new).left ≡ [])) }
     ensures returned { L.told → (L.state door.new).out ≡ (L.state door.old).out }
-    ensures listens { (at : List ℕ) → L.listens door.old at → L.listens door.new at }
+    ensures address { (at : List ℕ) → L.listens door.old at → L.only_at door.old at → L.only_at door.new at }
     ensures own { IfErr result (λ end. (end ≡ End.DiskFault) ⊎ (end ≡ End.DoorFault)) }
     ensures mirror { LeavesAlone (D.state disk.old) (D.state disk.new) Mirror }
 

@@ -171,9 +171,9 @@ pub fn run<D: Disk, C: Clock, L: Door, F: Fetch, I: Source, O: Sink>(
         → (stored : Stored) → OpensTo (D.state disk.old).content stored
         → IsServedWhole (D.state disk.old) (D.state disk.new) (L.state door.old) (L.state door.new)
         (O.state output.old) (O.state output.new) result.status }
-    ensures listens { (listen : List ℕ) (requests : ℕ)
-        → IsCommandOf (map string_bytes words.now) (Serve listen requests) → result.lines.items ≢ []
-        → L.listens door.new listen }
+    ensures address { (listen : List ℕ) (requests : ℕ)
+        → IsCommandOf (map string_bytes words.now) (Serve listen requests)
+        → L.only_at door.old listen → L.only_at door.new listen }
     ensures no_lines { ServesNot (map string_bytes words.now) → result.lines.items ≡ [] }
     ensures no_door { ServesNot (map string_bytes words.now) → door.new ≡ door.old }
     ensures door_fault { FetchesNot (map string_bytes words.now) → result.status ≡ code_of status.DoorFault

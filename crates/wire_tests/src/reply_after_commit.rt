@@ -220,6 +220,8 @@ impl<'a> Door for WatchedDoor<'a> {
 
     ghost listens = { λ _ _. Unit {0} };
 
+    ghost only_at = { λ _ _. Unit {0} };
+
     fn listen(&mut self, _at: &[u8]) -> Result<(), Failed> {
         Ok(())
     }

@@ -79,7 +79,7 @@ pub fn serve<D: Disk, C: Clock, L: Door, O: Sink>(
     ensures serves { EndsServing requests (D.state disk.old) (D.state disk.new) (C.coming clock.old)
         (L.state door.old) (L.state door.new) D.told C.told L.told O.told
         (O.state output.old) (O.state output.new) result.lines.items result.status }
-    ensures listens { result.lines.items ≢ [] → L.listens door.new listen.now }
+    ensures address { L.only_at door.old listen.now → L.only_at door.new listen.now }
     ensures complete { D.told → (stored : Stored) → OpensTo (D.state disk.old).content stored
         → IsServedWhole (D.state disk.old) (D.state disk.new) (L.state door.old) (L.state door.new)
         (O.state output.old) (O.state output.new) result.status }

@@ -33,6 +33,7 @@ loop-count-init g c =
           (g.met.D.Disk.is_disk c.args.disk.now));
       out = λ told. refl;
       listens = λ at is. is;
+      only_at = λ at is only. only;
       faults = refl;
       disk_faults = refl;
       mirror = alone_begins disk Mirror;
@@ -204,6 +205,8 @@ loop-count-preserved g c =
           stands_new.opens.is_journal.lawful (g.met.D.Disk.is_disk c.serve_link-line.new.disk) (held.rests told));
       out = λ told. (passes told).out ∙ held.out told;
       listens = λ at is. c.back.ensures.at at (c.next.ensures.at at (held.listens at is));
+      only_at = λ at is only.
+          c.back.ensures.only at (c.next.ensures.only at (held.listens at is) (held.only_at at is only));
       faults = c.back.ensures.faults ∙ c.in_ok-link.ensures.counts.worked ∙ held.faults;
       disk_faults = said.unfailed unspent ∙ held.disk_faults;
       mirror = alone_joins before disk left Mirror held.mirror said.mirror;
@@ -229,6 +232,10 @@ returns-in_err-link-clause-most g c = omega (arith, c.loop-count.invariant.count
 pub returns-in_err-link-clause-returned : goal.returns-in_err-link-clause-returned
 returns-in_err-link-clause-returned g c = λ told. (c.in_err-link.ensures.err told).out ∙ c.loop-count.invariant.out told
 
+pub returns-in_err-link-clause-address : goal.returns-in_err-link-clause-address
+returns-in_err-link-clause-address g c = λ at is only.
+    c.next.ensures.only at (c.loop-count.invariant.listens at is) (c.loop-count.invariant.only_at at is only)
+
 pub returns-in_err-link-clause-mirror : goal.returns-in_err-link-clause-mirror
 returns-in_err-link-clause-mirror g c = c.loop-count.invariant.mirror
 
@@ -245,6 +252,10 @@ returns-in_default-clause-most g c = omega (arith, c.loop-count.invariant.count)
 pub returns-in_default-clause-returned : goal.returns-in_default-clause-returned
 returns-in_default-clause-returned g c = λ told.
     (rw c.in_default.is at (c.in_ok-link.ensures.given told)).1.out ∙ c.loop-count.invariant.out told
+
+pub returns-in_default-clause-address : goal.returns-in_default-clause-address
+returns-in_default-clause-address g c = λ at is only.
+    c.next.ensures.only at (c.loop-count.invariant.listens at is) (c.loop-count.invariant.only_at at is only)
 
 pub returns-in_default-clause-mirror : goal.returns-in_default-clause-mirror
 returns-in_default-clause-mirror g c = c.loop-count.invariant.mirror
@@ -279,6 +290,11 @@ returns-then-is_spent-clause-returned g c = λ told.
     (rw c.in-Some.is at (c.in_ok-link.ensures.given told)) (c.back.ensures.back told) in
     passes.out ∙ c.loop-count.invariant.out told
 
+pub returns-then-is_spent-clause-address : goal.returns-then-is_spent-clause-address
+returns-then-is_spent-clause-address g c = λ at is only.
+    c.back.ensures.only at
+    (c.next.ensures.only at (c.loop-count.invariant.listens at is) (c.loop-count.invariant.only_at at is only))
+
 pub returns-then-is_spent-clause-mirror : goal.returns-then-is_spent-clause-mirror
 returns-then-is_spent-clause-mirror g c =
     alone_joins (g.D.Disk.state c.args.disk.now) (g.D.Disk.state c.loop-count.disk)
@@ -302,6 +318,9 @@ returns-clause-most g c = omega (arith, c.loop-count.invariant.count)
 
 pub returns-clause-returned : goal.returns-clause-returned
 returns-clause-returned g c = c.loop-count.invariant.out
+
+pub returns-clause-address : goal.returns-clause-address
+returns-clause-address g c = λ at is only. c.loop-count.invariant.only_at at is only
 
 pub returns-clause-mirror : goal.returns-clause-mirror
 returns-clause-mirror g c = c.loop-count.invariant.mirror

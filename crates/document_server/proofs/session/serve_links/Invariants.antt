@@ -22,6 +22,8 @@ invariant-loop-count g l =
           (g.C.Clock.told × g.L.Door.told) l.fn.store l.store l.lines.items;
       out : g.L.Door.told → door.out ≡ first.out;
       listens : (at : List ℕ) → g.L.Door.listens l.fn.door at → g.L.Door.listens l.door at;
+      only_at : (at : List ℕ) → g.L.Door.listens l.fn.door at → g.L.Door.only_at l.fn.door at →
+          g.L.Door.only_at l.door at;
       faults : door.faults ≡ first.faults;
       disk_faults : disk.faults ≡ before.faults;
       mirror : LeavesAlone before disk Mirror;

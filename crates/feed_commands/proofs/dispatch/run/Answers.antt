@@ -163,10 +163,10 @@ returns-in-Serve-clause-serves g c =
     same_serve _ _ c.read_words.result c.in-Ok.command _ _ c.in-Ok.is c.in-Serve.is c.read_words.ensures.only
     c.serve.ensures.serves
 
-pub returns-in-Serve-clause-listens : goal.returns-in-Serve-clause-listens
-returns-in-Serve-clause-listens g c =
+pub returns-in-Serve-clause-address : goal.returns-in-Serve-clause-address
+returns-in-Serve-clause-address g c =
     same_serve _ _ c.read_words.result c.in-Ok.command _ _ c.in-Ok.is c.in-Serve.is c.read_words.ensures.only
-    (rw c.slice.ensures at c.serve.ensures.listens)
+    (rw c.slice.ensures at c.serve.ensures.address)
 
 pub returns-in-Serve-clause-no_lines : goal.returns-in-Serve-clause-no_lines
 returns-in-Serve-clause-no_lines g c = λ others.

@@ -52,6 +52,8 @@ impl<'a, R: Net + rt::Clock> Door for TcpDoor<'a, R> {
     // Contracts can't see at which address the system listens.
     ghost listens = { λ _ _. Unit {0} };
 
+    ghost only_at = { λ _ _. Unit {0} };
+
     fn listen(&mut self, at: &[u8]) -> Result<(), Failed> {
         self.port = Port::bind(self.alloc, self.runtime, at);
         if self.port.is_none() {
