@@ -190,7 +190,7 @@ construct_over : (bytes start end : List ℕ) → ((rest : List ℕ) → starts 
 construct_over bytes start end other o rest is h =
     optional_over bytes start (construct start end) (construct_starts start end) other o rest is h
 
--- what begins with neither the bytes nor the part's start still doesn't begin with the bytes after the part
+-- if a text begins with neither the bytes nor the part's start, the part before it doesn't change that
 abbrev Over : {A : Type 0} → List ℕ → Part A → Type 0
 Over {A} bytes part = (v : A) (rest : List ℕ) → part.Is v → starts bytes rest ≡ false
     → starts bytes (part.text v ++ rest) ≡ false

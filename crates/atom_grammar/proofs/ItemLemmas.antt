@@ -29,7 +29,7 @@ item_cases name id base (Gone v) (Kept w) rest left is_v is_w e =
 item_cases name id base (Gone v) (Gone w) rest left is_v is_w e =
     let p = tombstone_alone name id v w rest left is_v is_w tt tt e in (ap (λ x. Gone x) p.0, p.1)
 
--- what is read of an item, by its kind
+-- the only reading of an item, by its kind
 kept_only : (name : FeedName) (input rest : List ℕ) (e : EntryValue) → IsFound (entry name) input e rest
     → (other : Item) (left : List ℕ) → IsItem other → input ≡ item_piece name other ++ left
     → (Kept e ≡ other) × (rest ≡ left)

@@ -26,7 +26,7 @@ head_starts bytes part begins x xs rest is =
     ap (starts bytes) (append_assoc (part.text x) (flat_map part.text xs) rest)
     ∙ begins x (flat_map part.text xs ++ rest) is
 
--- of two lists at the front of one input the one whose end is seen goes on where the other ends
+-- two lists at the front of one input: the one whose end is seen goes on where the other ends
 goes_on : {A : Type 0} (bytes : List ℕ) (part : Part A) → IsClosed part → Starts bytes part → IsReadAlone part
     → (xs ys : List A) (rest left : List ℕ) → All part.Is xs → All part.Is ys → starts bytes left ≡ false
     → flat_map part.text xs ++ rest ≡ flat_map part.text ys ++ left

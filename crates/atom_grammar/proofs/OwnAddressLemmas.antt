@@ -82,7 +82,7 @@ archive_split : (base : List ℕ) (n : ℕ)
     → base ++ suffix_text (own_address (Sealed n)) ≡ (base ++ codes "archive") ++ 47 ∷ decimal n
 archive_split base n = sym (append_assoc base (codes "archive") (47 ∷ decimal n))
 
--- what is found where the text ends with `feed`, and where it ends with the place of an archive
+-- the kind and the base of an address that ends with `feed`, and of one that ends with the place of an archive
 pub feed_is : (text x base : List ℕ) (kind : Kind) → text ≡ x ++ codes "feed" → IsKind kind
     → text ≡ base ++ suffix_text (own_address kind) → (x ≡ base) × (Subscription ≡ kind)
 feed_is text x base kind found is e = parts_same x base Subscription kind tt is (sym found ∙ e)

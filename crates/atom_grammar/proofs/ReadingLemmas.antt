@@ -9,7 +9,7 @@ use Rattle.atom_grammar.specs.declared.part_fault.PartFault.{PartFault}
 use Rattle.atom_grammar.specs.declared.part_fault.PartFault.TheVariants.{Mismatch, NoMemory}
 use Rattle.atom_grammar.specs.Parts.{Part, IsFound, IsAbsent, IsReadAlone, IsPartFault, ReadsAs, starts, literal, both, behind, ended, optional, optional_text, alone}
 
--- what is read, where no two values are read of one text
+-- a reading is the only one, where no two values are read of one text
 pub found : {A : Type 0} (part : Part A) → IsReadAlone part → (input : List ℕ) (value : A) (rest : List ℕ)
     → part.Is value → part.Before rest → input ≡ part.text value ++ rest → IsFound part input value rest
 found part one input value rest is before split = record {
@@ -244,7 +244,7 @@ pub renamed_absent : {A B : Type 0} (from : Part B) (to : Part A) (Keeps : B →
 renamed_absent from to Keeps there back r input none other left is before e =
     none (back other) left (r.was other is) (r.before left before) (e ∙ ap (λ x. x ++ left) (r.same other is))
 
--- what is read breaks a rule
+-- a reading that breaks a rule is none
 pub renamed_refused : {A B : Type 0} (from : Part B) (to : Part A) (Keeps : B → Type 0) (there : B → A) (back : A → B)
     → Renames from to Keeps there back → (input rest : List ℕ) (b : B) → IsFound from input b rest → ¬ Keeps b
     → IsAbsent to input

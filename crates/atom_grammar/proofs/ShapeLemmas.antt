@@ -330,7 +330,7 @@ relation_renames = record {
   before = λ rest h. h;
 }
 
--- what is read of it, by the attribute
+-- the relation, by its attribute
 pub relation_none : (input rest text : List ℕ) (o : Option (List ℕ))
     → IsFound
     (optional_attribute

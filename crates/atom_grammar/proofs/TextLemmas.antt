@@ -26,7 +26,7 @@ starts_split (x ∷ xs) (y ∷ ys) e =
     let same : y ≡ x = sym (eqb-true x y p.0) in
     (more.0, λ i. same i ∷ more.1 i)
 
--- what a test at the front says
+-- a test at the front decides whether the text begins with the bytes
 pub starts_by : (bytes text : List ℕ) (r : Bool) → (r ≡ true → (rest : List ℕ) × (text ≡ bytes ++ rest))
     → ((rest : List ℕ) → text ≡ bytes ++ rest → r ≡ true) → r ≡ starts bytes text
 starts_by bytes text true so other = let p = so refl in sym (ap (starts bytes) p.1 ∙ starts_append bytes p.0)
@@ -143,7 +143,7 @@ quoted_alone v w rest left is_v is_w a b e =
     in
     (escaped_same true v w is_v is_w p.0, p.1)
 
--- what `unescape` gives of the bytes before the delimiter is the part, or none is there
+-- if `unescape` reads the bytes before the delimiter, the content is found, and else there is none
 pub content_found : (input front rest text : List ℕ) → IsCutAt 60 input front rest
     → IsReadBack false front (Some text) → IsFound content input text rest
 unfolding content

@@ -200,7 +200,7 @@ date_of_day_at date day (negsuc n) is e =
           (omega arith) (omega (arith, signed_arith)),
     ))
 
--- what jiff counts of the days from 0000-01-01 on
+-- by jiff, 0000-01-01 is 719,528 days before 1970-01-01
 pub first_is : (first : Date) → IsYmd (pos 0) (pos 1) (pos 1) first → epoch_day first +ℤ pos 719_528 ≡ pos 0
 first_is first h =
     let month : first.month ≡ 1 = omega (arith, signed_arith, h.1) in

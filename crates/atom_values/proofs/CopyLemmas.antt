@@ -10,7 +10,7 @@ pub option_copied : {A : Type 0} (copy from : Option A) → option_map (λ v. v)
     → copy ≡ from
 option_copied copy from same = sym (option_map_id copy) ∙ same ∙ option_map_id from
 
--- what the copy of a list has too, where its items are copied whole
+-- the items of a list, without its spare room
 abbrev pub all_but_spare : {A : Type 0} → List A → Listed A
 all_but_spare items = record { items = map (λ v. v) items; spare = 0 }
 

@@ -42,7 +42,7 @@ shown_by (Some text) shown = refl
 shown_by None true = refl
 shown_by None false = refl
 
--- what an entry keeps, of what is made of a draft
+-- an entry that is made of a draft keeps the rules of entries
 pub IsWhole-normal : (number : ℕ) (before after : List Link) (asked content : Option Text) → 1 ≤ number →
     after ≡ without_edit before → content ≡ shown_content asked after → IsWhole number after content
 IsWhole-normal number before after asked content counted dropped shown =

@@ -68,7 +68,7 @@ abbrev pub IsWritten : Bool → List ℕ → List ℕ → List ℕ → ℕ → �
 IsWritten quoted before out bytes copied at =
     out ++ take (at - copied) (drop copied bytes) ≡ before ++ escaped quoted (take at bytes)
 
--- that has room
+-- `out` with that run is no longer than the old content and the escaped text
 pub length-run : (quoted : Bool) (before out bytes : List ℕ) (copied at : ℕ) →
     IsWritten quoted before out bytes copied at →
     length out + length (take (at - copied) (drop copied bytes)) ≤ length before + length (escaped quoted bytes)

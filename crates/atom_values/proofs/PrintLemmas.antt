@@ -1,4 +1,4 @@
--- What writes at the end of a buffer's new front leave there, and what they make of a stamp.
+-- Writes at the end of a buffer's new front, and the text of a stamp that they make.
 use Rattle.std.proofs.Common.{◌≡◌, ℕ, suc, ◌+◌, ◌/◌, ◌%◌, ◌<◌, List, [], ◌∷◌, ◌++◌, length, drop, set, get_or, refl}
 use Rattle.std.proofs.Common.{sym, ◌∙◌, arith, append_assoc, append-nil, length-append, add-one, ℤ}
 use Rattle.std.proofs.lemmas.Bool.Decides.{nat_tests}

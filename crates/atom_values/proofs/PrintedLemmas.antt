@@ -137,7 +137,7 @@ day_of_date day h =
       back = omega (arith, day_of_is day, day_number-day (year_of day) (month_of day) (day_of day));
     }
 
--- what is written before the fraction
+-- the text before the fraction
 abbrev front : ℕ → ℕ → List ℕ
 front day millis = date_text day ++ upper_t ∷ [] ++ clock_text millis
 

@@ -8,7 +8,7 @@ use Rattle.std.specs.List.{IsAllAdjacentAnswer, IsDistinct}
 use Rattle.std.specs.List.Sorted.{IsStrictlyIncreasing, IsPermutation, IsSorted}
 use Rattle.std.specs.Ordering.{nat_cmp}
 
--- what the test of neighbours says
+-- the test of all neighbours decides whether a list rises
 pub rises_from_answer : (xs : List ℕ) (r : Bool) → IsAllAdjacentAnswer (λ x y b. b ≡ nat_lt x y) xs r
     → IsTrue r ↔ IsStrictlyIncreasing xs
 rises_from_answer xs true h = (λ _ k below. ltb-true _ _ (sym (h k 0 below)), λ _. search rules)

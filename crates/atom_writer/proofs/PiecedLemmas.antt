@@ -1,4 +1,4 @@
--- What holds of all values that are written as pieces, where the pieces of two values can be compared: a text has one
+-- Laws of all values that are written as pieces, where the pieces of two values can be compared: a text has one
 -- reading, no piece is a proper prefix of another, and where a text is refused.
 use Rattle.std.proofs.Common.{◌≡◌, ◌⊎◌, inl, inr, ⊎_elim, ℕ, ◌+◌, ◌-◌, ◌≤◌, List, [], ◌∷◌, ◌++◌, length, length-append, refl, sym, ap, ◌∙◌, subst, arith, append-nil, append_assoc}
 use Rattle.std.proofs.lemmas.List.{append_cancel_left}
@@ -16,7 +16,7 @@ prefix_free v compared read one other rest a b e =
     (compared a.value b.value a.lawful b.lawful).free read one other rest a.later b.later
     (a.begins ∙ append_assoc read (one ∷ []) a.later) (b.begins ∙ append_assoc read (other ∷ []) b.later) e
 
--- of two texts that begin one text, one begins the other
+-- two texts that begin one text: one begins the other
 one_begins : (a b x y : List ℕ) → a ++ x ≡ b ++ y → ((r : List ℕ) × (b ≡ a ++ r)) ⊎ ((r : List ℕ) × (a ≡ b ++ r))
 one_begins [] b x y e = inl (b, refl)
 one_begins (c ∷ a) [] x y e = inr (c ∷ a, refl)

@@ -7,7 +7,7 @@ use Rattle.std.proofs.lemmas.List.{at_drop_more, at_drop_all, drop_more}
 use Rattle.chain_links.specs.Base.{is_label_char, IsWord, AreLabels, host_text}
 use Rattle.chain_links.specs.Front.{BeginsWith, is_host_end, HasHost}
 
--- what follows a host, where fresh says that a label is still to begin
+-- the text after a host; `fresh` says that a label is still to begin
 abbrev pub behind_host : Bool → List ℕ → Option (List ℕ)
 behind_host fresh [] = None
 behind_host fresh (c ∷ cs) =

@@ -110,7 +110,7 @@ above_zero c e =
     let p = and_parts (leb 49 c) (leb c 57) e in
     (leb-true 49 c p.0, leb-true c 57 p.1)
 
--- what the walk takes, where the text begins with a digit other than 0
+-- the walk takes a number if the text begins with a digit other than 0
 pub number_found : (text : List ℕ) (value : ℕ) (rest : List ℕ) → BeginsWith is_first_digit text →
     number_after 0 text ≡ Some (value, rest) → HasNumber text value rest
 number_found [] value rest above e = absurd above

@@ -20,7 +20,7 @@ suffix_text (Member number) = codes "member/" ++ decimal number
 unfoldable pub printed : List ℕ → Address → List ℕ
 printed base address = base ++ suffix_text address
 
--- what a request names a document by: its whole address, or the address from the path on (RFC 9112 section 3.2)
+-- a request names a document by its whole address, or by the address from the path on (RFC 9112 section 3.2)
 abbrev pub IsTarget : List ℕ → Address → List ℕ → Type 0
 IsTarget base address target =
     (target ≡ printed base address)

@@ -24,7 +24,7 @@ some-none : {A : Type 0} (o : Option A) (x : A) → o ≡ Some x → o ≡ None 
 some-none None x e f = cc
 some-none (Some y) x e f = cc
 
--- what passes two tests passes the first
+-- an item that passes two tests passes the first
 find-both : (p q : Offer → Bool) (pile : List Offer) (found : Offer)
     → find (λ offer. p offer && q offer) pile ≡ Some found → find p pile ≡ None → ⊥
 find-both p q [] found e none = some-none None found e refl
@@ -57,7 +57,7 @@ module _ (c : CertificateValue) (pile : List Offer) where
       let rest = same-documents lines one other p.1 q.1 in
       (λ i. first i ∷ rest i)
 
-  -- what a line's first offer is, which excludes the other refusals
+  -- the first offer of a line excludes the other refusals
 
   offered-not_found : (line : CoverValue) (offer : Offer) → offer_of c.base pile line ≡ Some offer
       → IsNotOffered c pile line → ⊥

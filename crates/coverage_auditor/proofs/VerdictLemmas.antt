@@ -217,7 +217,7 @@ from-chain newest others chain = (
   (let split = oldest-split newest others in chain.whole split.0 (oldest_of newest others) split.1),
 )
 
--- what is accepted is covered
+-- a certificate that is accepted is covered
 
 accepted-on : (c : CertificateValue) (pile : List Offer) (newest : DocValue) (others : List DocValue)
     → AreDocuments c pile c.lines (newest ∷ others) → verdict_on c newest others ≡ accepted c → Covers c pile

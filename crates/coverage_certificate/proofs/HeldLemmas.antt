@@ -95,7 +95,7 @@ text-nil : (name : FeedName) → [] ≡ live_text name []
 unfolding live_text
 text-nil name = refl
 
--- of the mirror only the count of calls and the document that was read back last changed, twice
+-- only the mirror's count of calls and the document that was read back last changed, twice
 pub keeps_joins : (a b c : MirrorValue) → KeepsAllBut a b → KeepsAllBut b c → KeepsAllBut a c
 keeps_joins a b c first second =
     second ∙ ap (λ (m : MirrorValue). let left : MirrorValue = record m {

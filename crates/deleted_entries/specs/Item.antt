@@ -10,7 +10,7 @@ abbrev pub item_number : Item → ℕ
 item_number (Kept entry) = entry.number
 item_number (Gone tombstone) = tombstone.number
 
--- what the types of an item keep
+-- the invariants of an item's types
 abbrev pub IsItem : Item → Type 0
 IsItem (Kept entry) = IsEntry entry
 IsItem (Gone tombstone) = IsTombstone tombstone

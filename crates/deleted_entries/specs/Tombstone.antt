@@ -7,7 +7,7 @@ pub record TombstoneValue : Type 0 where
   pub number : ℕ
   pub when : ℤ
 
--- what the type of a tombstone keeps
+-- the invariant of the type `Tombstone`
 pub record IsTombstone (t : TombstoneValue) : Type 0 where
   pub number : (1 ≤ t.number) × (t.number < 2 ^ 32)
   pub when : IsStamp t.when

@@ -1,4 +1,4 @@
--- What a sink took of a text that is written in parts.
+-- The bytes that a sink took of a text that is written in parts.
 use Rattle.std.proofs.Common.{◌≡◌, ℕ, List, [], ◌∷◌, ◌++◌, length, sym, ap, ◌∙◌}
 use Rattle.std.proofs.lemmas.List.{append_assoc}
 use Rattle.atom_values.specs.Ascii.{lf}

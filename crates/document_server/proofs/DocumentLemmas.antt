@@ -74,7 +74,7 @@ module _ (stays : ServedStays) (prefixes : PrefixesAreLawful) (head : HeadValue)
     served = served-later version from to (printed head.name.base shown.address) (body_text reply.body) shown.served;
   }
 
-  -- what an exchange sent is served after more operations
+  -- a document that an exchange sent is served after more operations
   pub sends-later : (exchange : Exchange) → IsOver head history exchange
       → IsOver head (history ++ operations) exchange
   sends-later exchange over = record {

@@ -84,7 +84,7 @@ stays-or-grows verb reply same grown grows stays =
 
 -- The reply to a connection
 
--- what an answered request makes of the store and of the disk
+-- the effect of an answered request on the store and on the disk
 pub steps-answered : (told : Type 0) (s t : DiskState) (old new : StoreValue) (reply : Reply) → new.head ≡ old.head
     → s.faults ≤ t.faults → (reply ≡ disk_fault → Rose s.faults t.faults)
     → (reply ≢ disk_fault → t.faults ≡ s.faults) → (reply ≡ disk_fault → is_spent new ≡ true)

@@ -68,7 +68,7 @@ session-listened start after moments door listened rest opened history unbroken 
   documents = session.documents;
 }
 
--- what a crash leaves from the load on
+-- the images that a crash leaves from the load on
 leaves-served : (s m t : DiskState) (head : HeadValue) (operations : List Op) (least : ℕ) (opened : Stored)
     (history : List Op) (lines unbroken : List Line) (failed : Type 0) → opened.head ≡ head
     → (t.clock < counter_limit → All (λ (line : Line). m.clock ≤ s.clock + line.calls) lines)

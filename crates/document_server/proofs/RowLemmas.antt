@@ -138,7 +138,7 @@ pub sent-read : (store : StoreValue) (request : RequestValue) (asked : DraftValu
 sent-read store request asked now draft given (media, is_draft, spells) is =
     inr (media, inr (draft, is_draft, spells, is))
 
--- what comes of a part of the answer comes of the whole
+-- the outcome of a part of the answer is one of the whole
 
 pub comes-as : (part whole : Outcome → Type 0) → ((given : Outcome) → part given → whole given)
     → (old new : StoreValue) (result : Result Reply Failure) → ComesTo part old new result →

@@ -36,7 +36,7 @@ use Rattle.member_rules.specs.History.{IsLawful}
 use Rattle.member_rules.specs.Laws.{PrefixesAreLawful, ServedStays}
 use Rattle.member_rules.specs.declared.operation.Op.{Op}
 
--- what a connection that was served makes of the store and of its disk
+-- the effect of a connection that was served on the store and on its disk
 pub record Linked (before after : DiskState) (moments coming : ℕ → ℕ) (given back : ConnState) (seen : Type 0)
     (old new : StoreValue) (line : Line) : Type 0 where
   pub serves : ServesOne before after moments coming given back seen old new line
@@ -53,7 +53,7 @@ pub record Linked (before after : DiskState) (moments coming : ℕ → ℕ) (giv
 abbrev pub Counts : ℕ → DiskState → StoreValue → Type 0
 Counts start disk store = start + call_count store ≡ disk.clock
 
--- what a crash at a moment leaves, where the calls are counted from `start`
+-- the image that a crash at a moment leaves, where the calls are counted from `start`
 abbrev pub CrashOpens : ℕ → DiskState → StoreValue → List Op → List Line → List Line → ℕ → List ℕ → List ℕ → Type 0
 CrashOpens start before opened history lines unbroken c i j =
     Counts start before opened
@@ -130,7 +130,7 @@ lines-within start before after opened lines last made counted now lead =
     (λ line within. (omega (arith, within.0, counted), omega (arith, within.1, now))) lines
     (lead-within (length opened.history) (call_count opened) lines last made lead)
 
--- what a crash leaves, where each image of now has the first `has` operations
+-- the images that a crash leaves, where each image of now has the first `has` operations
 leaves-serving : (start : ℕ) (before after : DiskState) (opened : StoreValue) (history : List Op)
     (lines unbroken : List Line) (failed : Type 0) (has : ℕ) → CountsFrom start before after opened
     → length opened.history ≤ has → All (λ (line : Line). line.version ≤ has) lines
@@ -239,7 +239,7 @@ module _ (start : ℕ) (before amid after : DiskState) (moments coming later : �
   }
 
   module _ {told : Type 0} (disk : IsDisk told after) (rests : IsAtRest before → IsAtRest amid) where
-    -- what the connection leaves, of the head that was opened
+    -- the images that the connection leaves open to the head that was opened
     past-opened : (i j : List ℕ)
         → OpensPast store.head (store.history ++ linked.serves.operations) (length store.history) i j
         → OpensPast opened.head (store.history ++ linked.serves.operations) (length store.history) i j

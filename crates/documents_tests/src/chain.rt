@@ -13,7 +13,7 @@ use member_rules::{Head, Op, State, plain_count, plain_state};
 use std::alloc::Global;
 use std::process::Abort;
 
-/// What the newest item of a member says: its entry's `updated`, or when it was deleted.
+/// The content of the newest item of a member: its entry's `updated`, or when it was deleted.
 #[derive(Clone, Copy, Debug, PartialEq, Eq)]
 enum Newest {
     None,
@@ -62,7 +62,7 @@ fn walked(rt: &impl Abort, alloc: Global, head: &Head, history: &[Op]) -> Vec<Ne
     newest
 }
 
-/// What the fold says of each member, by a look at each operation.
+/// The fold's answer for each member, by a look at each operation.
 fn folded(rt: &impl Abort, alloc: Global, history: &[Op]) -> Vec<Newest>
     requires { length history.now ≤ 1_000 }
 {

@@ -63,7 +63,7 @@ not_cut_tag total EmptyTag ok same = cc
 not_cut_tag total CutTag ok same = let bad : Err (NotRead total NotWellFormed) ≡ Ok tt = ok in cc
 not_cut_tag total CutAtSlash ok same = cc
 
--- what a tag that is admitted finds
+-- a tag that `admission` lets through is admitted
 pub admitted : (e : Elements) (at : ℕ) (end : TagEnd) → admission e at end ≡ Ok tt → IsAdmitted e end
 admitted e at end ok =
     let A = is_past_root e.stage e.names.items in

@@ -263,7 +263,7 @@ behind_back (a ∷ read) front x (v ∷ vs) is_empty rest are f =
     }) in
     (r.0, (λ k. sym two.0 k ∷ r.1 k), r.2)
 
--- what may follow white space: the end, or an attribute
+-- the end of a tag or an attribute may follow white space
 pub record BehindSpaces (spaces text : List ℕ) (vs : List (List ℕ × List ℕ)) (is_empty : Bool) (rest : List ℕ)
     : Type 0 where
   pub stands : ((vs ≡ []) × (text ≡ tag_end is_empty ++ rest))
@@ -364,7 +364,7 @@ pub record TagState (text : List ℕ) (raws : List Raw) (rest : List ℕ) : Type
 pub no_state : (text : List ℕ) (raws : List Raw) → raws ≡ [] → TagState text raws text
 no_state text raws none = record { front = []; split = refl; are = none_are raws none }
 
--- what a continuation has after the attributes that were read
+-- a continuation begins with the attributes that were read
 behind_state : {text : List ℕ} {raws : List Raw} {rest : List ℕ} {any : Bool} {spaced : List ℕ} →
     TagState text raws rest →
     (r : IsSpaceRead rest any spaced) (more : List ℕ) (v : List (List ℕ × List ℕ) × Bool) (end : List ℕ) →

@@ -33,7 +33,7 @@ abbrev pub around : Content → List Frame → List Content → List Content
 around b [] stack = with_before b stack
 around b (f ∷ fs) stack = around f.before fs (with_element f.root (with_before b stack))
 
--- what is read, as if all elements ended there
+-- the content that was read, as if all elements ended there
 abbrev pub closed : Content → List Frame → Content
 closed b [] = b
 closed b (f ∷ fs) = closed (joined f.before (element f.root b nothing)) fs
@@ -235,8 +235,8 @@ pub inner_said : (b : Content) (f : Frame) (fs : List Frame) (parts : List (List
     × (places (closed b (f ∷ fs)) ≡ places (closed (joined b (says parts)) (f ∷ fs)))
 inner_said b f fs parts = inner_outline f fs b (joined b (says parts))
 
--- From a point on, the reader is inside an element, in which `depth` elements are open. Of what is read of it, `text`
--- is the own text, and `inner` the offset of the first element.
+-- From a point on, the reader is inside an element, in which `depth` elements are open. `text` is the element's own
+-- text that was read so far, and `inner` the offset of its first element.
 pub record IsInside (total : ℕ) (first : List Event) (from : Point) (new : Elements) (depth : ℕ) (text : List ℕ)
     (inner : Option ℕ) : Type 0 where
   pub told : List Event

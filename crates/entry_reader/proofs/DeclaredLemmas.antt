@@ -285,7 +285,7 @@ end_to any spaces tail rest are is d =
     })
     d
 
--- what is after the version
+-- the rest of a declaration after its version
 record TailOf (utf8 : Bool) (text : List ℕ) : Type 0 where
   encoding : Option (List ℕ)
   encoded : List ℕ

@@ -22,12 +22,12 @@ use Rattle.entry_reader.specs.Spells.{depth_limit}
 use Rattle.entry_reader.specs.Progress.{IsElementOf, IsEventOf, IsLed, IsOver, Leads, Point, pending}
 use Rattle.entry_reader.proofs.ProgressLemmas.{no_pending}
 
--- what follows in these open elements, and nothing after the root
+-- the contents that follow in these open elements; nothing follows the root
 abbrev IsInOpen : List Open → List Content → Type 0
 IsInOpen [] stack = stack ≡ nothing ∷ []
 IsInOpen (o ∷ outer) stack = (c : Content) × (rest : List Content) × (stack ≡ c ∷ rest) × IsInOpen outer rest
 
--- what follows after a stage, to the end of a document
+-- the contents that follow a stage, to the end of a document
 abbrev pub IsBehind : Stage → List Content → Type 0
 IsBehind start stack = (e : Element) × (c : Content) × (stack ≡ element e c nothing ∷ [])
 IsBehind prolog stack = (e : Element) × (c : Content) × (stack ≡ element e c nothing ∷ [])

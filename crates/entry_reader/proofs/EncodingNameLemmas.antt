@@ -134,7 +134,7 @@ one_name q name after more s x v free is e =
     let N : List ℕ → Type 0 = λ xs. IsTrue (is_encoding_name xs) in
     (n.2 ∙ ap (λ xs. is_utf8_name (Some xs)) (sym one), subst N (sym one) n.1)
 
--- what is between the quotes is no name
+-- if the text between the quotes is no encoding name, the whole is none
 pub no_name : (q : ℕ) (text name after : List ℕ) → text ≡ name ++ q ∷ after → IsTrue (list_all (apart q) name) →
     is_encoding_name name ≡ false →
     (ContinuesAs (encoding_name q) true text → ⊥) × (StartsAs (encoding_name q) false text → ⊥)

@@ -89,7 +89,7 @@ fails_encoding {B} {P} {R} j goes before Cut end last cut =
     )
 fails_encoding j goes before NoMemory end last none = tt
 
--- what the text begins with leaves one of the choices
+-- if the text begins as one of the choices alone can, a read of that choice is a read of both
 pub chosen_encoding : (S T : Bool → List ℕ → List ℕ → Type 0) (text : List ℕ) →
     ((v : Bool) (s rest : List ℕ) → T v s rest → S v s rest) →
     ((v : Bool) (more s rest : List ℕ) → text ++ more ≡ s ++ rest → S v s rest → T v s rest) →

@@ -1,4 +1,4 @@
--- What a token adds to the tree, and the reader after it.
+-- The events that a token adds to the tree, and the reader after it.
 use Rattle.std.proofs.Common.{◌≡◌, ◌≢◌, ◌≤◌, ℕ, suc, ◌+◌, List, [], ◌∷◌, ◌++◌, length, map, reverse, false, refl, sym}
 use Rattle.std.proofs.Common.{ap, subst, ◌∙◌}
 use Rattle.std.proofs.Common.{append_assoc, arith, inl, inr, ⊎_elim, All, codes}
@@ -39,7 +39,7 @@ use Rattle.entry_reader.specs.Tree.Event.{finish}
 use Rattle.entry_reader.specs.Reading.{IsNameOf, Starts, foreign_declaration}
 use Rattle.entry_reader.specs.Progress.{IsClosed, IsRefusal, depth_of}
 
--- what follows the XML text leaves a token's spelling as it is
+-- a token's spelling doesn't depend on the bytes after the XML text
 spelled_more : (t : Token) (text rest tail : List ℕ) → IsXmlText text → IsXmlText rest → IsBehindXml tail →
     IsXmlText (codes "]]>") → IsXmlText (lf ∷ []) → IsSpelled t text rest → IsSpelled t text (rest ++ tail)
 spelled_more (declaration encoding) text rest tail xml is behind end line s = s

@@ -59,7 +59,7 @@ module _ (before : List Name) (e : Element) (inner : Content) where
       skipped_child before e inner single person
       (λ why. beside_reason before e inner single why (λ p same. draft p) (λ p same. part p) (λ p same. room p))
 
-  -- what a link has
+  -- a link that lacks a part lacks its `href`
   pub link_part : e.name ≡ atom (codes "link") →
       (attribute (codes "href") (a_child before e inner).child ≡ None → ⊥) → LacksPart (a_child before e inner) → ⊥
   link_part is has h =
@@ -82,7 +82,7 @@ module _ (before : List Name) (e : Element) (inner : Content) where
       q)
       h
 
-  -- what a category has
+  -- a category that lacks a part lacks its `term`
   pub category_part : e.name ≡ atom (codes "category") →
       (attribute (codes "term") (a_child before e inner).child ≡ None → ⊥) → LacksPart (a_child before e inner) → ⊥
   category_part is has h =

@@ -21,7 +21,7 @@ use Rattle.entry_reader.proofs.PartLemmas.{Leads, ended_reads}
 abbrev pub IsBase : ℕ → Type 0
 IsBase base = (base ≡ 10) ⊎ (base ≡ 16)
 
--- what is left of a number after digits with this value, if any
+-- the rest of the number `c` after digits with this value, if there were digits
 abbrev pub left : ℕ → Option ℕ → ℕ → List ℕ → List ℕ → Type 0
 left base value c text rest =
     (digits : List ℕ) × AllDigits base digits × (value ≡ None → digits ≢ [])
@@ -287,7 +287,7 @@ number_ended base value text is small e end =
     (λ c rest p. let total = ap length p.5 in omega (arith, length-append p.0 (codes ";")))
     (number_lives base value is small) text e end
 
--- what `digit` says, after `ok_or`
+-- `digit` fails exactly if the digit isn't below the base
 pub digit_err : (d base : ℕ) (o : Option ℕ) → o ≡ cond (nat_lt d base) (Some d) None → (e : Lapse) →
     Err e ≡ ok_or o Broken → (e ≡ Broken) × (base ≤ d)
 digit_err d base o is e was =

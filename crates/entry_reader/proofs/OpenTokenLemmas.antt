@@ -57,7 +57,7 @@ second_byte k tail text more s x u m is e starts =
     ap (λ xs. xs ++ x) (sym starts) ∙ sym e ∙ ap (λ xs. xs ++ more) is in
     heads_of m k (u ++ x) (tail ++ more) (tails_of 60 60 (m ∷ (u ++ x)) (k ∷ (tail ++ more)) same)
 
--- what can begin with `<` and this byte
+-- the tokens that can begin with `<` and the byte `k`
 pub record OpenCases (P : Token → Type 0) (k : ℕ) (X : Type 0) : Type 0 where
   pub on_declaration : (encoding : Option (List ℕ)) → k ≡ 63 → P (declaration encoding) → X
   pub on_section : (read : List ℕ) → k ≡ 33 → P (section read) → X
@@ -308,7 +308,7 @@ cut_more before more front rest e none =
     ⊎_elim (λ longer. (longer.0, longer.1)) (λ shorter. absurd (none shorter.0 shorter.1))
     (splits before more front rest e)
 
--- what stands between two marks
+-- the marks of a token with a start and an end, as a comment
 pub record Marks : Type 0 where
   pub start : List ℕ
   pub close : List ℕ

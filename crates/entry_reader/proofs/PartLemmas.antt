@@ -13,7 +13,7 @@ use Rattle.entry_reader.specs.declared.cursor.Lapse.TheVariants.{Broken, Cut, No
 use Rattle.entry_reader.specs.Characters.{begins}
 use Rattle.entry_reader.specs.Reading.{mapped, seq, IsFound, Starts, Continues, Reads}
 
--- of two splits of one text, one has the longer front
+-- two splits of one text: one has the longer front
 pub splits : (s x t y : List ℕ) → s ++ x ≡ t ++ y →
     ((m : List ℕ) × (t ≡ s ++ m) × (x ≡ m ++ y)) ⊎ ((m : List ℕ) × (s ≡ t ++ m) × (y ≡ m ++ x))
 splits [] x t y e = inl (t, refl, e)
@@ -102,7 +102,7 @@ whole_found Q text v rest found =
     let F : List ℕ → Type 0 = λ xs. IsFound Q xs v rest in
     subst F (append-nil text) found
 
--- what is read of the rest is read of the whole
+-- if a front leads to a rest, each result on the rest is one on the whole
 pub leads_reads : {A : Type 0} {S Q : A → List ℕ → List ℕ → Type 0} {before after : List ℕ} →
     Leads S before Q after → Continues Q [] → (r : Result A Lapse) (end : List ℕ) → Reads Q after r end →
     Reads S before r end
@@ -411,7 +411,7 @@ pub mapped_reads : {A B : Type 0} (f : B → A) (P : B → List ℕ → List ℕ
     (rest : List ℕ) → IsFound P text b rest → Reads (mapped f P) text (Ok (f b)) rest
 mapped_reads f P text b rest found = mapped_found f P text b rest found
 
--- what the text begins with leaves one of the choices
+-- if the text begins as one of the choices alone can, a read of that choice is a read of both
 pub chosen_reads : {A : Type 0} (S T : A → List ℕ → List ℕ → Type 0) (text : List ℕ) →
     ((v : A) (s rest : List ℕ) → T v s rest → S v s rest) →
     ((v : A) (more s rest : List ℕ) → text ++ more ≡ s ++ rest → S v s rest → T v s rest) →

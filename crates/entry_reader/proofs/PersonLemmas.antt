@@ -28,7 +28,7 @@ use Rattle.entry_reader.specs.Parts.{named_person, person_in, person_of}
 use Rattle.entry_reader.proofs.FieldLemmas.{name_is}
 use Rattle.entry_reader.proofs.SeenLemmas.{fault_behind, fault_before}
 
--- what the name of a person isn't
+-- the name of a person is none of the other names
 pub record IsPersonName (name : Name) : Type 0 where
   pub inside : inside_of in_entry name ≡ in_person
   pub single : is_one_of single_parts name ≡ false

@@ -184,7 +184,7 @@ no_cr q is = (
   (λ (e : 13 ≡ 38). omega arith),
 )
 
--- what begins with `&`
+-- pieces that begin with `&` begin with a reference
 and_piece : (q : ℕ) (rest : List ℕ) (pieces : List Piece) → All (IsPiece q) pieces →
     38 ∷ rest ≡ flat_map piece_text pieces →
     (c : ℕ) × (t : List ℕ) × (more : List Piece) × IsReference c t × All (IsPiece q) more

@@ -131,7 +131,7 @@ pub front_lives : (q : ℕ) (front : List ℕ) → Continues (behind_front q fro
 front_lives q front =
     (q ∷ [], (front ++ [], [], record { front = q ∷ []; split = refl; spelled = ([], refl, (plain_nil q, refl)) }))
 
--- what ends a value: its quote, or `<`
+-- a value ends at its quote, or at `<`
 abbrev pub Ends : ℕ → List ℕ → Type 0
 Ends q rest = (rest ≡ []) ⊎ ((b : ℕ) × (tail : List ℕ) × ((b ≡ q) ⊎ (b ≡ 60)) × (rest ≡ b ∷ tail))
 

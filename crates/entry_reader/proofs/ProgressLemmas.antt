@@ -232,7 +232,7 @@ first_refusal total a b (l ∷ ls) at why split stand stage place found first =
     (λ f. absurd (begun_stage a.stage l ls (sym stage ∙ f.0)))
     found
 
--- what is refused later on is refused from here
+-- a refusal at a later point is a refusal from here
 pub refusal_on : (total : ℕ) (a b : Point) (t : List Event) (at : ℕ) (why : Why) → Leads a t b →
     IsRefusal total b at why → IsRefusal total a at why
 refusal_on total a b t at why x r =
@@ -363,7 +363,7 @@ no_names items opened all none =
       | name ∷ names ↦ λ same zip. absurd zip
     ] in at (reverse items) refl (subst (λ o. AllZip IsNameOfOpen o (reverse items)) none all)
 
--- what holds of a reader at the end of a whole document
+-- a reader at the end of a whole document has no element open and no text left
 pub over_parts : (e : Elements) (from : Point) → e.empty ≡ false → IsAt e from → from.text ≡ [] → from.stage ≡ epilog →
     (e.stage ≡ Root) × (e.names.items ≡ []) × (e.cursor.rest.now ≡ []) × (e.end ≡ e.length)
 over_parts e from told at text stage =

@@ -266,7 +266,7 @@ byte_fails S b text before begun e end none =
       spelled = refl;
     }) e end before end none
 
--- what tells the names apart
+-- the character of a name, told by the letters in which the names differ
 char_of : List ℕ → ℕ
 char_of xs =
     cond (eqb (get_or xs 0 0) 108) 60 (cond (eqb (get_or xs 0 0) 103) 62

@@ -345,7 +345,7 @@ some_behind (b ∷ own) t p some = elim (bytes_eq b.prefix p) as (λ c.
     is_some (cond c (Some b.namespace) (namespace_of (own ++ t) p)) ≡ true)
     [ true ↦ refl | false ↦ some_behind own t p some ]
 
--- what is set outside the root is set in each element
+-- a namespace that is set outside the root is set in each element
 outer_some : (opened : List Open) (levels : List Level) (p : List ℕ) → AreLevelsOf opened levels →
     is_some (namespace_of outer_scope p) ≡ true → is_some (namespace_of (scope_of opened) p) ≡ true
 outer_some [] levels p are some = some
@@ -546,7 +546,7 @@ none_of : (o : Option (List ℕ)) → None ≡ option_map kind_of o → o ≡ No
 none_of None e = refl
 none_of (Some v) e = let bad : None ≡ Some (kind_of v) = e in absurd cc
 
--- what the prefix of a tag stands for, as a reader finds it
+-- the namespace of a tag's prefix, as a reader finds it
 tag_namespace : (from : Point) (old : Elements) (before : List ℕ) (x : IsAtText old before from) (raw : RawTag)
     (one : OneTag before raw) (scopes : Scopes) (prefix local : Bor (List ℕ)) (found : Option Namespace) →
     old.empty ≡ false → OpensScope raw.attributes.items old.scopes scopes →

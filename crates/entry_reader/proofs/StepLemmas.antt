@@ -168,7 +168,7 @@ place_start Outside s is e =
     ∙ e in absurd cc) is
 place_start (Inside name) s is e = let bad : inside is.0 is.1 ≡ start = sym is.2 ∙ e in absurd cc
 
--- what is allowed at a stage is allowed at its place
+-- a token that is allowed at a stage is allowed at its place
 can_may : (place : Context) (s : Stage) (t : Token) → IsPlaceOf place s → CanStand depth_limit s t → MayStand place t
 can_may place s (declaration encoding) is can = (place_start place s is can.0, can.1)
 can_may place s (character read) is can = ⊎_elim (λ h. inl (content_inside place s is h)) (λ spaces. inr spaces) can
@@ -462,7 +462,7 @@ step_end from old x at more here =
     spelled_some (declaration found.spelled.0) found.front foreign.1 (xml, found.spelled.1)
     (nothing tail [] found.front foreign.1 (append-nil from.text ∙ found.split) xml)))
 
--- what follows from two facts of a result
+-- two facts of an `Ok` give a third
 pub ok_both : {A E : Type 0} (P Q S : Type 0) (r : Result A E) → OnOk r P → OnOk r Q → (P → Q → S) → OnOk r S
 ok_both P Q S (Ok v) p q both = both p q
 ok_both P Q S (Err e) p q both = tt

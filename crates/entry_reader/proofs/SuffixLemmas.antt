@@ -36,7 +36,7 @@ xml_joined s t is_s is_t =
     (ap (list_all is_xml_char) (chars-append s t u) ∙ list_all-append is_xml_char (chars s) (chars t)
     ∙ and_from (list_all is_xml_char (chars s)) (list_all is_xml_char (chars t)) a.1 b.1)
 
--- what is after XML text in XML text is XML text
+-- a suffix of XML text after XML text is XML text
 pub xml_suffix : (s t : List ℕ) → IsXmlText s → IsXmlText (s ++ t) → IsXmlText t
 xml_suffix s t is_s is_st =
     let a = text_parts s is_s in

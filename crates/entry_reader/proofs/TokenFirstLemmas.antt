@@ -20,7 +20,7 @@ use Rattle.entry_reader.proofs.BehindNameLemmas.{qname_first}
 use Rattle.entry_reader.proofs.CharacterLemmas.{char_head}
 use Rattle.entry_reader.proofs.XmlLemmas.{printable_xml, xml_append, xml_before, xml_behind, xml_parts, xml_from}
 
--- what follows a text of XML characters in another
+-- a suffix of XML text after XML text is XML text
 pub xml_rest : (s t : List ℕ) → IsXmlText s → IsXmlText (s ++ t) → IsXmlText t
 xml_rest s t is_s is =
     let p = xml_parts (s ++ t) is in

@@ -66,7 +66,7 @@ not_open : {X : Type 0} (b : ℕ) (tail text more s x u : List ℕ) → text ≡
 not_open b tail text more s x u is other e starts =
     absurd (other (sym (first_byte b tail text more s x u 60 is e starts)))
 
--- what can begin with a byte that isn't `<`
+-- a token that doesn't begin with `<` is a character or a reference
 pub said_cases : {X : Type 0} (P : Token → Type 0) (b : ℕ) (tail text more s x : List ℕ) → text ≡ b ∷ tail → b ≢ 60 →
     text ++ more ≡ s ++ x → (a : Token) → IsSpelled a s x → P a → ((read : List ℕ) → P (character read) → X) →
     ((c : ℕ) → P (referred c) → X) → X
@@ -146,7 +146,7 @@ plain_end b e =
 cut_broken : Cut ≡ Broken → ⊥
 cut_broken e = cc
 
--- what begins after a run of plain characters
+-- a run of plain characters and the text after it are each XML text
 run_xml : (run after : List ℕ) → IsTrue (first_is_no is_plain after) → IsXmlText (run ++ after) →
     IsXmlText run × IsXmlText after
 run_xml run [] first is =
@@ -238,7 +238,7 @@ no_section_end place before more begun b =
     let f = token_begins (referred c) b.front b.rest spelled in
     let k = first_byte 93 (codes "]>" ++ tail) before more b.front b.rest f.0 38 is b.split f.1 in omega arith)
 
--- what content says
+-- a read of characters or of a reference is a read of a token
 pub said_reads : (place : Context) → IsInContent place → (before : List ℕ) → IsXmlText before → before ≢ [] →
     begins (codes "<") before ≡ false → (r : Result RawToken Lapse) (after : List ℕ) → ReadsSaid before r after →
     ReadsToken place before r after

@@ -100,7 +100,7 @@ without_cr (b ∷ xs) clean =
 abbrev pub read_byte : ℕ → ℕ
 read_byte b = cond ((b == 9) || (b == 10)) 32 b
 
--- what follows the first piece
+-- the pieces after the first one
 pub record Behind (q : ℕ) (pieces : List Piece) (front rest : List ℕ) : Type 0 where
   pub more : List Piece
   pub each : All (IsPiece q) more

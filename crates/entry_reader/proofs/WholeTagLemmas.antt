@@ -139,7 +139,7 @@ slash_tag text opened name named start f raw is distinct after r =
           (sym b.1 ∙ f.spelled.2 ∙ t.named) (subst A (ap (λ p. p.0) e) b.2) t.of (ap (λ p. p.1) e ∙ sym t.ends);
     }
 
--- what a tag with this end is read as
+-- the result for a tag with this end
 pub tag_reads : (text opened name named : List ℕ) → text ≡ codes "<" ++ opened → IsFound whole_qname opened name named →
     (raw : RawTag) → raw.name.now ≡ name → IsDistinct bytes_eq (names raw.attributes.items) → (end : TagEnd)
     (after : List ℕ) → ReadsBehindName named raw.attributes.items (Ok end) after → ReadsTagTo end text raw after

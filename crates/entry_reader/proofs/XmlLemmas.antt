@@ -138,7 +138,7 @@ printable_reference c t is =
     numbered)
     is.1
 
--- what stands after an ASCII character
+-- the text after an ASCII character is XML text
 pub xml_behind : (b : ℕ) (text : List ℕ) → b < 128 → IsXmlText (b ∷ text) → IsXmlText text
 xml_behind b text low is =
     let p = xml_parts (b ∷ text) is in
@@ -150,7 +150,7 @@ xml_behind b text low is =
     xml_from text (is_utf8-from_IsUtf8 text rest)
     (and_parts (is_xml_char b) (list_all is_xml_char (chars text)) (sym (ap (list_all is_xml_char) split) ∙ p.1)).1
 
--- what stands before an ASCII character
+-- the text before an ASCII character is XML text
 pub xml_before : (b : ℕ) (s t : List ℕ) → b < 128 → IsXmlText (s ++ b ∷ t) → IsXmlText s
 xml_before b s t low is =
     let p = xml_parts (s ++ b ∷ t) is in

@@ -1,4 +1,4 @@
--- What is read of an entry so far, and of an element in it.
+-- The parts that a reader has read of an entry so far, and of an element in it.
 use Rattle.std.specs.Prelude.{◌≡◌, ◌≢◌, ◌⊎◌, ℕ, ◌≤◌, List, [], ◌∷◌, ◌++◌, map, filter, length, All, Bool, true, false}
 use Rattle.std.specs.Prelude.{Option, Some, None}
 use Rattle.std.specs.Prelude.{if◌then◌else◌, option_map, is_some, IsTrue, ◌&&◌, not, bytes_eq, Result, Ok, Err, codes}
@@ -180,7 +180,7 @@ AreFieldsFrom total first from (Ok fields) new =
     × AreFieldsOf inner fields
 AreFieldsFrom total first from (Err fault) new = IsFaultFrom total from fault
 
--- what is read of an entry so far
+-- the parts are those of the entry's content that was read so far
 pub record IsSoFar (b : Content) (parts : Parts) : Type 0 where
   pub id : parts.id ≡ option_map (λ c. trimmed (child_text c)) (child (codes "id") b)
   pub title : parts.title ≡ option_map construct (child (codes "title") b)
@@ -220,17 +220,17 @@ IsEntryFrom total first from root (Err (Refused at why)) new =
     contents (told ++ later) ≡ inner ∷ rest ∷ outer
     → IsNoEntryAt root inner at why)
 
--- what is made of a date
+-- a date element sets its slot
 abbrev pub IsDateMade : List Name → Element → Option ℤ → Content → Unit {0} → Type 0
 IsDateMade before e slot inner _ =
     ((z : ℤ) × (slot ≡ Some z) × States (trimmed (text_of inner)) z) × IsFaultlessIn in_entry before e inner
 
--- what is made of a text construct
+-- a text construct sets its slot
 abbrev pub IsConstructMade : List Name → Element → Option Text → Content → Unit {0} → Type 0
 IsConstructMade before e slot inner _ =
     (slot ≡ Some (construct (record { element = e; content = inner }))) × IsFaultlessIn in_entry before e inner
 
--- what is made of an element of a list
+-- an element of a list is added at the end of its list
 abbrev pub IsItemMade : {A : Type 0} → (Child → A) → List Name → Element → List A → List A → Content → Unit {0} → Type 0
 IsItemMade make before e old new inner _ =
     (new ≡ old ++ make (record { element = e; content = inner }) ∷ []) × IsFaultlessIn in_entry before e inner

@@ -148,7 +148,7 @@ IsToldBy (Some End) told = told ≡ finish ∷ []
 IsToldBy (Some (Told said)) told =
     (parts : List (List ℕ)) × (told ≡ map say parts) × (said_text said ≡ flat_map (λ part. part) parts) × (parts ≢ [])
 
--- what is read next in the tree, where some events are still to be told, or why there is nothing
+-- the next part of the tree is read, where some events are still to be told, or the fault is why there is none
 abbrev pub IsEventOf : ℕ → List Event → Point → Result (Option RawEvent) EntryFault → Elements → Type 0
 IsEventOf total first from (Ok event) new = (told : List Event) × IsToldBy event told × IsLed total first from told new
 IsEventOf total first from (Err fault) new = IsFaultFrom total from fault
@@ -156,7 +156,7 @@ IsEventOf total first from (Err fault) new = IsFaultFrom total from fault
 abbrev pub IsNext : Elements → Result (Option RawEvent) EntryFault → Elements → Type 0
 IsNext old result new = (from : Point) → IsAt old from → IsEventOf old.length (pending old) from result new
 
--- what a tag is in the tree, or why it isn't allowed
+-- a tag is the next part of the tree, or the fault is why it isn't allowed
 abbrev pub IsBegun : ℕ → Point → Result RawEvent EntryFault → Elements → Type 0
 IsBegun total from (Ok event) new = IsEventOf total [] from (Ok (Some event)) new
 IsBegun total from (Err fault) new = IsEventOf total [] from (Err fault) new
@@ -171,7 +171,7 @@ IsDepthAfter (Some (Told said)) old new = new ≡ old
 abbrev pub depth_of : Elements → ℕ
 depth_of elements = length elements.names.items
 
--- what is left to read; it falls with each event
+-- a measure of the text that is left to read; it falls with each event
 abbrev pub left_of : Elements → ℕ
 left_of elements = 2 * length elements.cursor.rest.now + (if elements.empty then 1 else 0)
 

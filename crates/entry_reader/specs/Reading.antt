@@ -1,4 +1,4 @@
--- What it means that a reader reads a part of a token. A production is a relation of a value, its spelling, and the
+-- The results of a reader of one part of a token. A production is a relation of a value, its spelling, and the
 -- text that follows the spelling.
 use Rattle.std.specs.Prelude.{◌≡◌, ◌⊎◌, ℕ, ◌-◌, List, [], ◌∷◌, ◌++◌, take, length, Bool, true, false, not, IsTrue, ◌||◌}
 use Rattle.std.specs.Prelude.{◌&&◌, ◌==◌, drop}

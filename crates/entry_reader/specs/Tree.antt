@@ -25,7 +25,7 @@ pub data Content : Type 0 where
   said : List ℕ → Content → Content
   element : Element → Content → Content → Content
 
--- what a token adds to the tree
+-- an event that a token adds to the tree
 pub data Event : Type 0 where
   begin : Element → Event
   finish : Event
@@ -47,7 +47,7 @@ abbrev pub said_in : Stage → List ℕ → List Event
 said_in (inside innermost outer) read = say read ∷ []
 said_in _ read = []
 
--- what a token at an offset adds at a stage
+-- the events that a token at an offset adds at a stage
 abbrev pub events_of : Stage → ℕ → Token → List Event
 events_of stage at (character read) = said_in stage read
 events_of stage at (referred c) = say (encode_utf8 c) ∷ []
@@ -57,7 +57,7 @@ events_of stage at (opening tag) =
 events_of stage at (closing name) = finish ∷ []
 events_of stage at _ = []
 
--- what lexemes add, the first of which begins at an offset
+-- the events of lexemes, the first of which begins at an offset
 abbrev pub events : Stage → ℕ → List Lexeme → List Event
 events stage at [] = []
 events stage at (l ∷ ls) =
@@ -73,7 +73,7 @@ abbrev pub with_element : Element → List Content → List Content
 with_element e (content ∷ rest ∷ outer) = element e content rest ∷ outer
 with_element e _ = []
 
--- what events leave to follow in each open element, the innermost first
+-- the contents that the events leave to follow in each open element, the innermost first
 abbrev pub contents : List Event → List Content
 contents [] = nothing ∷ []
 contents (begin e ∷ es) = with_element e (contents es)

@@ -100,7 +100,7 @@ module _ (capacity : ℕ) (base : List ℕ) where
   answers-push kept (o ∷ offers) (a ∷ answers) middle offer answer left (r, (after, first, more)) fits next =
       (r, (after, first, answers-push after offers answers middle offer answer left more fits next))
 
-  -- what is held between the first offers and the others
+  -- the documents held between the first offers and the others
   pub record IsBetween (kept : List KeptValue) (offers rest : List Offering) (left : List KeptValue) : Type 0 where
     pub first : List MirrorAnswer
     pub second : List MirrorAnswer

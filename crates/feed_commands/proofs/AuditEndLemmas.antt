@@ -287,7 +287,7 @@ pub answer-is : (base : List ℕ) (v : Verdict) (status : Status) (text : List �
 unfolding verdict_answer
 answer-is base v status text is printed = λ i. record { status = is i; printed = printed i }
 
--- what holds of a fault
+-- a weaker condition on the fault of an `Err`
 pub err-weaker : {T : Type 0} (P Q : Fault → Type 0) (result : Result T Fault) → ((fault : Fault) → P fault → Q fault)
     → IfErr result P → IfErr result Q
 err-weaker P Q (Ok value) weaker is = is

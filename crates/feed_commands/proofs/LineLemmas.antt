@@ -157,7 +157,7 @@ line_ask-prefix line = ⊎_elim
     (λ short. ap line_ask (take_all prefix_limit line short))
     (cases_lt prefix_limit (length line))
 
--- what is asked of a line, by how its words are read
+-- the ask of a line, by how its words are read
 pub line_ask-read : (line : List ℕ) (ask : LineAsk) → words.line_ask line ≡ Some ask → line_ask line ≡ Some (ask_of ask)
 unfolding line_ask
 line_ask-read line ask e = ap (option_map ask_of) e

@@ -11,7 +11,7 @@ use Rattle.feed_commands.specs.Line.{prefix_limit}
 use Rattle.feed_commands.specs.Lines.{FindsLine, HasNoLf, IsSpent, IsTooLong, KnowsEnd, LinesState, ReadsMore}
 use Rattle.feed_commands.specs.Lines.{StopsAmid, TakesAll, TakesEnd, allowance, stream, with_prefix}
 
--- what is ahead after a line that ended
+-- the bytes ahead after a line that ended
 pub ahead-rest : (piece : List ℕ) (start end at : ℕ) → start + (at + 1) ≤ end →
     drop (at + 1) (take (end - start) (drop start piece)) ≡ take (end - (start + (at + 1)))
     (drop (start + (at + 1)) piece)

@@ -284,7 +284,7 @@ input-of_pile (piles.TooLong limit) e = cc
 input-of_pile piles.SourceFault e = refl
 input-of_pile piles.NoMemory e = cc
 
--- what is printed at the end
+-- the report at the end
 pub ends-told : (told : Type 0) (base : List ℕ) (made : Report) (kept : List KeptValue) (given : Answer) → told
     → EndsReport told base made kept given → EndsReport (Unit {0}) base made kept given
 ends-told told base made kept given t ends = record { status = ends.status; printed = λ _. ends.printed t }

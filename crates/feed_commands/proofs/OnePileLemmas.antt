@@ -26,7 +26,7 @@ extends-cons : (o v : Offer) (first whole : List Offer) → o ≡ v → Extends 
     → Extends (o ∷ first) (v ∷ whole)
 extends-cons o v first whole same more = record { rest = more.rest; split = λ i. sym same i ∷ more.split i }
 
--- of two lists of offers with which a text begins, one is the other and more
+-- two lists of offers with which one text begins: one is the other and more
 goes-on : (one other : List Offer) (a b : List ℕ) → All IsOffer one → All IsOffer other
     → flat_map offer_text one ++ a ≡ flat_map offer_text other ++ b → Extends one other ⊎ Extends other one
 goes-on [] other a b p q e = inl (record { rest = other; split = refl })

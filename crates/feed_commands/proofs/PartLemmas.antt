@@ -60,7 +60,7 @@ no-end_lines (b ∷ before) (f ∷ first) line rest p q none e =
     (sym (first-line b before line) ∙ e ∙ first-line f (first ++ end_line ∷ []) rest) in
     no-end_lines before first line rest (All-tail IsOtherLine b before p) (All-tail IsOtherLine f first q) none cut.1
 
--- of two lists of lines that end with `end` and begin a text, each is the other
+-- two lists of lines that end with `end` and begin one text are equal
 same-lines : (one other : List (List ℕ)) (x y : List ℕ) → All IsOtherLine one → All IsOtherLine other
     → text_of_lines (one ++ end_line ∷ []) ++ x ≡ text_of_lines (other ++ end_line ∷ []) ++ y
     → (one ≡ other) × (x ≡ y)
@@ -94,7 +94,7 @@ parted-once one other x y p q e =
     (ap (λ (t : List ℕ). t ++ x) (sym p.is) ∙ e ∙ ap (λ (t : List ℕ). t ++ y) q.is) in
     (p.is ∙ ap (λ (ls : List (List ℕ)). text_of_lines (ls ++ end_line ∷ [])) same.0 ∙ sym q.is, same.1)
 
--- what begins a text without a line `end` has none
+-- the beginning of a text without a line `end` has none
 pub no-end_before : (text rest : List ℕ) → HasNoEnd (text ++ rest) → HasNoEnd text
 no-end_before text rest none first more ends e =
     none first (more ++ rest) ends

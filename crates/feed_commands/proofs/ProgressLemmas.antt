@@ -166,7 +166,7 @@ module _ {F : Type 0} (step : Step F) where
       ∙ ap (λ (x : List ℕ). g.ended ++ lines x) none ∙ append-nil g.ended) ∙ g.made
   Progress-end start whole reader input before feed (inr s) none = applied-within start whole s.within ∙ s.made
 
-  -- what comes of the lines that are left decides what comes of the input
+  -- the lines that are left decide the result of the whole input
   goes-on : (start : F) (whole : List ℕ) (reader : LinesState) (input : SourceState) (before : ℕ) (feed : F)
       (g : Going step start whole reader input before feed) → length whole ≤ input_limit →
       applied step start whole ≡ apply_lines step feed before (lines (stream reader input))

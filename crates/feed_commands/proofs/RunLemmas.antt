@@ -33,7 +33,7 @@ seen-unfetched command disk_told clock_told input_told fetch_told seen = record 
   fetch = λ _. tt;
 }
 
--- what holds of the command that was read holds of each command of the words
+-- a property of the command that was read is one of each command of the words
 pub read_all : (words : List (List ℕ)) (result : Result Command WordsFault) (read : Command)
     (P : Command → Type 0) → result ≡ Ok read →
     ((command : Command) → IsCommandOf words command → (result ≡ Ok command) ⊎ (result ≡ Err NoMemory)) →

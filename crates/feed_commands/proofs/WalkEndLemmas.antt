@@ -138,7 +138,7 @@ pub walk-refused : (report : Bool) (capacity : ℕ) (base : List ℕ) (kept now 
     (report_answer (walk_fault fault))
 walk-refused = walk-fault-of
 
--- what is printed of a walk
+-- the report of a walk
 pub walked-is : (report : Bool) (capacity : ℕ) (base : List ℕ) (kept now : List KeptValue)
     (answers : List ℕ → Option (List ℕ)) (asked later : List (List ℕ)) (walked : Walked) (made : Report)
     (given : Answer)

@@ -73,7 +73,7 @@ AppliesSafely before after moments input told failed =
     → AlwaysLeavesBoth before after (OpensPast head operations least)
     ⊎ LeavesApplied before after moments input told head operations least failed
 
--- what the content opens to after `apply` that came to an answer
+-- the history to which the content opens after an `apply` that came to an answer
 abbrev pub OpensToApplied : DiskState → DiskState → (ℕ → ℕ) → List ℕ → Type 0
 OpensToApplied before after moments input =
     (stored : Stored) → OpensTo before.content stored → OpensTo after.content (applied_store moments stored input).feed

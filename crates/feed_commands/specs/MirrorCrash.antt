@@ -54,7 +54,7 @@ pub record LeavesFetched (capacity : ℕ) (base : List ℕ) (answers : List ℕ 
   pub kept : List KeptValue
   pub loaded : IsHeldIn base before.content kept
   pub images : LeavesSteps before after (IsWalkStep (walk_setting capacity base answers) kept)
-  -- what it holds at the end of its walk
+  -- the documents that it holds at the end of its walk
   pub asked : List Address
   pub accepted : List Accepted
   pub left : List KeptValue

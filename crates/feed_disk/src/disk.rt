@@ -17,7 +17,7 @@ use atom_values::Failed;
 /// sync that worked, the only image is what a read gives. The areas are independent of one another.
 ///
 /// Clauses on content hold where contracts see the disk's content, which `told` says. Clauses on the clock,
-/// the faults and the bytes read hold for each disk. Of a real disk contracts see no content, and it returns
+/// the faults and the bytes read hold for each disk. Contracts see no content of a real disk, and it returns
 /// fewer bytes than were asked for only at the area's end.
 pub trait Disk {
     /// Whether contracts see the disk's content.

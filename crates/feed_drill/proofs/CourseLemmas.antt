@@ -1,4 +1,4 @@
--- What a drill keeps beside its life.
+-- The values that a drill keeps beside its life.
 use Rattle.std.proofs.Common.{◌≡◌, ◌≢◌, ℕ, suc, ◌+◌, List, [], ◌∷◌, ◌++◌, Bool, true, false, not, ◌==◌, ◌%◌, Option}
 use Rattle.std.proofs.Common.{Some, None, Ok}
 use Rattle.std.proofs.Common.{length, length-append, refl, sym, ap, subst, ◌∙◌, arith}

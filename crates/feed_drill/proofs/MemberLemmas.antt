@@ -1,4 +1,4 @@
--- What an operation that was accepted makes of the live members.
+-- The live members after an operation that was accepted.
 use Rattle.std.proofs.Common.{◌≡◌, ℕ, zero, suc, ◌+◌, ◌<◌, ◌≤◌, List, [], ◌∷◌, ◌++◌, Bool, true, false, cond, ◌==◌}
 use Rattle.std.proofs.Common.{nat_lt, not, ◌&&◌}
 use Rattle.std.proofs.Common.{Option, Some, None, Result, Ok, Err, inl, inr, length, refl, sym, ap, ◌∙◌, arith}

@@ -1,4 +1,4 @@
--- What the steps of a turn make of a life.
+-- The life after the steps of a turn.
 use Rattle.std.proofs.Common.{◌≡◌, ◌≢◌, ◌⊎◌, inl, inr, ℕ, suc, ◌+◌, List, [], ◌∷◌, ◌++◌, Option, Some, None, Result}
 use Rattle.std.proofs.Common.{Ok, Err, OnOk, Bool, true, false, ◌==◌}
 use Rattle.std.proofs.Common.{length, length-append, refl, sym, ap, subst, ◌∙◌, arith}
@@ -32,7 +32,7 @@ use Rattle.member_rules.specs.declared.ask.Ask.{Ask}
 use Rattle.member_rules.specs.declared.operation.Op.{Op}
 use Rattle.mirror_walk.specs.Holding.{KeptValue}
 
--- what holds on `Ok` gives another fact on `Ok`
+-- a weaker condition on the value of an `Ok`
 pub on-ok : {T E : Type 0} (result : Result T E) {P Q : Type 0} → (P → Q) → OnOk result P → OnOk result Q
 on-ok (Ok value) gives holds = gives holds
 on-ok (Err fault) gives holds = holds

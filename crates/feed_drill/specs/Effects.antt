@@ -1,4 +1,4 @@
--- What the parts of a turn make of a life, and of what a drill keeps beside it.
+-- The effects of the parts of a turn on a life, and on the values that a drill keeps beside it.
 use Rattle.std.specs.Prelude.{◌≡◌, ◌⊎◌, ℕ, suc, ◌≤◌, ◌<◌, ◌^◌, ◌==◌, not, List, [], ◌∷◌, ◌++◌, None, Ok}
 use Rattle.std.specs.Prelude.{Bool, Option, Some, false, filter, if◌then◌else◌, length}
 use Rattle.atom_values.specs.Counts.{counted}

@@ -34,12 +34,12 @@ member_at live second = get_or live (second % length live) 0
 abbrev pub change_of : ℕ → ℕ → ℕ → Ask
 change_of turn first member = if first % 4 == 2 then Replace member (titled (title_of turn)) else Delete member
 
--- what a turn asks, and the state after its draws
+-- the ask of a turn, and the state after its draws
 pub record Asked : Type 0 where
   pub ask : Ask
   pub state : ℕ
 
--- what a turn asks, by the live members and the state before it
+-- the ask of a turn, by the live members and the state before it
 unfoldable pub asked : List ℕ → ℕ → ℕ → Asked
 asked live turn state =
     let first = drawn state in
@@ -69,7 +69,7 @@ has_offer turn = turn % 5 == 0
 
 -- Turns
 
--- what a turn asks, the clock, and the crash within its request
+-- the ask of a turn, the clock, and the crash within its request
 pub record Turn : Type 0 where
   pub ask : Ask
   pub now : ℕ

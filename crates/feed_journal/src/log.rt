@@ -85,7 +85,7 @@ impl Log {
             (StandsFor ((D.state disk.old).image_now area)) }
         ensures others { (a : AreaValue) → a ≢ area → LeavesAlone (D.state disk.old) (D.state disk.new) a }
 
-        // Of any disk, reads gave the whole header of each payload in the list.
+        // With any disk, reads gave the whole header of each payload in the list.
         ensures read { IfOk result (λ log. raised (D.state disk.old).bytes_read
             (header_length * length log.extents) ≤ (D.state disk.new).bytes_read) }
 
@@ -242,7 +242,7 @@ impl Log {
         ensures payload { IfOk result (λ payload. D.told
             → slice_get (records ((D.state disk.old).content self.old.area)) index ≡ Some payload.items) }
 
-        // Of any disk, the payload has the length that the log has for it, and a read gave all its bytes.
+        // With any disk, the payload has the length that the log has for it, and a read gave all its bytes.
         ensures length { IfOk result (λ payload.
             slice_get (payload_lengths self.old.extents) index ≡ Some (length payload.items)) }
         ensures read { IfOk result (λ payload. (D.state disk.new).bytes_read

@@ -34,7 +34,7 @@ module _ (base address : List ℕ) where
   at-same : (number : ℕ) → printed base (Archive number) ≡ address → is_at number ≡ true
   at-same number e = (bytes_eq-Decides (printed base (Archive number)) address).1 e
 
-  -- what the number found is of
+  -- the number that was found is that of the archive at the address
   record IsFound (high number : ℕ) : Type 0 where
     from_one : 1 ≤ number
     within : number ≤ high

@@ -67,7 +67,7 @@ served-named head history given target bytes named served = elim served.served [
   }
 ]
 
--- what a reply shows is served by the feed with this head and history
+-- the feed with this head and history serves the document of a reply
 record IsShown (head : HeadValue) (history : List Op) (request : RequestValue) (body : List ℕ) : Type 0 where
   address : Address
   named : IsTarget head.name.base address request.target

@@ -50,7 +50,7 @@ module _ (head : HeadValue) (history : List Op) (doc : SentDoc) (kept : List Kep
   there : Served head history doc.address doc.bytes
   there = sent-served head history doc sent
 
-  -- what is held after a document was taken
+  -- the documents held after a document was taken
   given-after : (answer : Answer) (left : List KeptValue)
       → IsAnswerWithin head.capacity head.name.base kept doc.address doc.bytes answer left
       → AreServed head history (map own_offer left)

@@ -1,4 +1,4 @@
--- What a mirror holds after an answer, and that the feed served it.
+-- The documents that a mirror holds after an answer. The feed served them.
 use Rattle.std.proofs.Common.{◌≡◌, ◌⊎◌, inl, inr, ℕ, ◌+◌, ◌≤◌, List, [], ◌∷◌, ◌++◌, Ok, Err, length, map, sym, ap}
 use Rattle.std.proofs.Common.{subst, arith, length-append}
 use Rattle.std.proofs.lemmas.List.{map-append}
@@ -25,7 +25,7 @@ pub record HoldsMore (base : List ℕ) (kept : List KeptValue) (address bytes : 
   pub taken : accept base kept address given ≡ Ok Taken
   pub is : left ≡ kept ++ given ∷ []
 
--- what is held after an answer: what was held before, or one more document
+-- the documents held after an answer: those held before, or one more
 pub held-after : (capacity : ℕ) (base : List ℕ) (kept : List KeptValue) (address bytes : List ℕ) (answer : Answer)
     (left : List KeptValue) → IsAnswerWithin capacity base kept address bytes answer left
     → (left ≡ kept) ⊎ HoldsMore base kept address bytes left

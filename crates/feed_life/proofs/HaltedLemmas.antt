@@ -15,7 +15,7 @@ use Rattle.member_rules.specs.History.{IsLawful}
 use Rattle.member_rules.specs.declared.operation.Op.{Op}
 use Rattle.mirror_walk.specs.Holding.{KeptValue}
 
--- what was sent, and what the mirrors hold, with the history that a stop leaves
+-- the documents sent and those held fit the history that a stop leaves
 record Stays (head : HeadValue) (later : List Op) (docs : List SentDoc) (disks : List MemoryValue)
     (held : List (List KeptValue)) : Type 0 where
   sent : All (IsSentBy head later) docs

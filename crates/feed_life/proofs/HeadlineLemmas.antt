@@ -1,4 +1,4 @@
--- What a life keeps of each life on the way to it.
+-- The facts of a life that each later life keeps.
 use Rattle.std.proofs.Common.{◌≡◌, ◌⊎◌, inl, inr, ℕ, ◌≤◌, List, [], ◌∷◌, ◌++◌, Option, None, Some, length, map}
 use Rattle.std.proofs.Common.{slice_get, append_assoc, append-nil, ap, arith, length-append, refl, subst, sym, take, ◌∙◌}
 use Rattle.std.proofs.Math.Seq.{take-append_seam}

@@ -56,7 +56,7 @@ left-loads images left P crash is image may = subst P (sym (crash.synced MirrorA
 
 module _ (head : HeadValue) (kept : List KeptValue) (disk : MemoryValue) (mirror : MirrorValue)
     (opened : IsOpenedMirror head kept disk mirror) where
-  -- what is true of the mirror's parts, at the head and at what is held
+  -- a property of the mirror's parts is one of the head's and of the documents held
   pub at-head : (P : ℕ → List ℕ → List KeptValue → Type 0) → P mirror.capacity mirror.base mirror.kept
       → P head.capacity head.name.base kept
   at-head P is =

@@ -1,4 +1,4 @@
--- What a mirror shows, and its certificate.
+-- The entries that a mirror shows, and its certificate.
 use Rattle.std.proofs.Common.{◌≡◌, ℕ, List, Option, Some, None, IsSome, map, option_map, take, refl, sym, ap, subst}
 use Rattle.std.proofs.Common.{◌∙◌}
 use Rattle.std.proofs.lemmas.Option.{same_Some}
@@ -65,7 +65,7 @@ missing-some kept address is none =
     sym (outcome-complete kept best found none) ∙ is in
     cc
 
--- what the documents of a feed show
+-- the documents of a feed show its history
 pub served-shows : (head : HeadValue) (history : List Op) (offers : List Offering) (kept : List KeptValue)
     → ShowsServed head history offers kept (best_of kept) → ShowsHistory head history kept (outcome_of kept)
 served-shows head history offers kept shows version live is =

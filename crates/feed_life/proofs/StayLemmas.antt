@@ -1,4 +1,4 @@
--- What a feed served stays served when its history gains operations.
+-- Documents that a feed served stay served when its history gains operations.
 use Rattle.std.proofs.Common.{◌≡◌, ℕ, ◌≤◌, List, [], ◌∷◌, ◌++◌, All, length, map, take, sym}
 use Rattle.std.proofs.Common.{subst, ◌∙◌, arith, length-append}
 use Rattle.std.specs.List.{AllZip}
@@ -21,7 +21,7 @@ module _ (head : HeadValue) (history operations : List Op) (lawful : IsLawful he
   longer : length history ≤ length (history ++ operations)
   longer = omega (arith, length-append history operations)
 
-  -- what the history served, it serves with more operations
+  -- a document that the history served is served with more operations
   pub served-later : (address bytes : List ℕ) → Served head history address bytes
       → Served head (history ++ operations) address bytes
   served-later address bytes served =

@@ -172,7 +172,7 @@ module _ (head : HeadValue) (request : RequestValue) (now : ℕ) (stop : Stop) (
     (disk loaded ran left : MemoryValue) (same : HasPayloadsOf disk loaded)
     (runs : Runs head request now history disk loaded ran) (some : 0 < stop.call)
     (image : IsImageBy stop (clock_of loaded) ran left) where
-  -- what the request leaves without the stop, on an image of now
+  -- the request without the stop leaves its reply and store, on an image of now
   replied-left : BegunAreWhole → IsCrash (state_of ran).image_now left
       → IsReplied head request now history runs.whole disk left runs.reply
   replied-left law crash =

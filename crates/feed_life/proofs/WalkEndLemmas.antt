@@ -48,7 +48,7 @@ use Rattle.mirror_walk.proofs.OutcomeLemmas.{outcome-complete}
 use Rattle.mirror_walk.proofs.TakenLemmas.{loaded-offered}
 use Rattle.mirror_walk.proofs.WalkServedLemmas.{accepted-served, some-bytes, walk-taken, walks-loaded}
 
--- what is held after a walk
+-- the documents held after a walk
 
 -- each document held of those that were served is served at its own address
 own-served : (head : HeadValue) (history : List Op) (offers : List Offering) (kept : List KeptValue)
@@ -279,7 +279,7 @@ module _ (head : HeadValue) (history : List Op) (is_head : IsHead head) (lawful 
         walk-taken (setting_by head history) (map own_offer kept) asked accepted kept left (Some Feed) ending
         (loaded-offered head.name.base (payloads_of kept) kept loaded) walks
 
-    -- what is held afterwards loads, and was served
+    -- the documents held afterwards load, and were served
     pub walk-loaded : (asked : List Address) (accepted : List Accepted) (left : List KeptValue) (ending : WalkEnding)
         → WalksFromFeed (setting_by head history) kept asked accepted left ending
         → IsLoadedOf head.name.base (payloads_of left) left

@@ -166,7 +166,7 @@ mirror-ready head history kept before disk mirror documents has is_mirror opened
       served = is_mirror.served;
     }
 
--- what holds anyhow, after a result that isn't an error
+-- a fact that holds for any result holds for an `Ok`
 pub on-ok-of : {A E : Type 0} (result : Result A E) (P : Type 0) → P → OnOk result P
 on-ok-of (Ok value) P holds = holds
 on-ok-of (Err fault) P holds = tt

@@ -97,7 +97,7 @@ pub record StepsHalt (old new : LifeValue) (request : RequestValue) (now : ℕ) 
 
 -- Events
 
--- What an event makes of a life: of its history and of the documents that its mirrors hold.
+-- The effect of an event on a life: on its history and on the documents that its mirrors hold.
 abbrev pub StepsBy : LifeValue → LifeValue → Event → List Op → List Op → List (List KeptValue) → List (List KeptValue)
     → Option Line → Type 0
 StepsBy old new (Ask request now None) history later held left line =

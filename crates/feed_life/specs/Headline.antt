@@ -1,4 +1,4 @@
--- What a life keeps of each life on the way to it.
+-- The facts of a life that each later life keeps.
 use Rattle.std.specs.Prelude.{◌≡◌, ℕ, ◌≤◌, List, ◌++◌, Some, slice_get}
 use Rattle.feed_life.specs.Events.{IsLifeOf}
 use Rattle.feed_life.specs.Life.{LifeValue, Lives}

@@ -6,7 +6,7 @@ use Rattle.member_rules.specs.History.{IsLawful}
 use Rattle.member_rules.specs.declared.operation.Op.{Op}
 use Rattle.mirror_walk.specs.Walk.{IsServedBy}
 
--- what the documents of a store answer is served by its feed
+-- the feed of a store serves the documents that the store answers with
 abbrev pub StoresAnswerWhatIsServed : Type 0
 StoresAnswerWhatIsServed =
     (head : HeadValue) (history : List Op) → IsHead head → IsLawful head history

@@ -1,4 +1,4 @@
--- What gifts and walks make of the documents that a mirror holds, and what a crash within them leaves.
+-- The effect of gifts and walks on the documents that a mirror holds, and the images that a crash within them leaves.
 use Rattle.std.specs.Prelude.{◌≡◌, ◌⊎◌, ℕ, ◌+◌, ◌*◌, ◌-◌, ◌<◌, ◌≤◌, List, IfErr, Option, None, Some, length, map}
 use Rattle.std.specs.Prelude.{take}
 use Rattle.chain_links.specs.declared.address.Address.{Address}
@@ -69,13 +69,13 @@ pub record IsHalfGiven (head : HeadValue) (history : List Op) (doc : SentDoc) (s
   pub cut : stop.call ≡ 0 → IsCutBefore stop disk left
   pub within : 0 < stop.call → IsGivenInto head history doc stop kept disk left
 
--- what a gift, with or without a stop, makes of a mirror's disk and of what is held
+-- the effect of a gift, with or without a stop, on a mirror's disk and on the documents held
 abbrev pub IsGift : HeadValue → List Op → SentDoc → Option Stop → MemoryValue → MemoryValue → List KeptValue
     → List KeptValue → Type 0
 IsGift head history doc None disk left kept after = IsGiven head doc kept after
 IsGift head history doc (Some stop) disk left kept after = IsHalfGiven head history doc stop disk left kept after
 
--- what a crash within a gift leaves: the documents held before, or those after the gift, which the feed served
+-- a crash within a gift leaves the documents held before, or those after the gift, which the feed served
 pub record LoadsGiven (head : HeadValue) (history : List Op) (doc : SentDoc) (kept : List KeptValue) (image : List ℕ)
     : Type 0 where
   pub after : List KeptValue
@@ -147,7 +147,7 @@ pub record IsWalkedInto (head : HeadValue) (history : List Op) (stop : Stop) (di
   pub cut : stop.call ≡ 0 → IsCutBefore stop disk left
   pub past : 0 < stop.call → IsPastWalk head history stop disk left kept after
 
--- what a walk, with or without a stop, makes of a mirror's disk and of what is held
+-- the effect of a walk, with or without a stop, on a mirror's disk and on the documents held
 abbrev pub IsWalk : HeadValue → List Op → Option Stop → MemoryValue → MemoryValue → List KeptValue → List KeptValue
     → Type 0
 IsWalk head history None disk left kept after = IsWalkedOver head history kept after
@@ -160,7 +160,7 @@ pub record LeavesWalked (head : HeadValue) (history : List Op) (stop : Option St
   pub walk : IsWalk head history stop disk left kept after
   pub mirror : IsMirrorOf head history left after
 
--- What a mirror shows
+-- The entries that a mirror shows
 
 -- the live entries of a complete mirror are those of the fold at its version
 abbrev pub ShowsHistory : HeadValue → List Op → List KeptValue → Outcome → Type 0

@@ -1,4 +1,4 @@
--- What the documents of a store answer to which address, and how a fetch of them is left.
+-- The answers of a store's documents to an address, and the state of a fetch of them afterwards.
 use Rattle.std.specs.Prelude.{◌≡◌, ◌≢◌, ◌⊎◌, ◌≤◌, ℕ, true, false, List, Option, Some, Result, Err}
 use Rattle.std.specs.Prelude.{if◌then◌else◌, bytes_eq, find, option_map}
 use Rattle.atom_values.specs.Counts.{Rose, counted}

@@ -7,11 +7,11 @@ pub struct Stop {
     /// The device call of the event that the crash falls within, counted from 1 after the load of the store or the
     /// mirror. 0 is a crash before the first call. A number past the last call is a crash after it.
     pub call: u64,
-    /// What unsynced bytes and sizes become.
+    /// The content that unsynced bytes and sizes have after a crash.
     pub choice: Choice,
 }
 
-/// What happens to a life in one step.
+/// An event in a life, which one step runs.
 #[derive(Debug, Drop)]
 pub enum Event {
     /// A request to the store, with the clock at `now`.

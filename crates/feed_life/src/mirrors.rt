@@ -117,7 +117,7 @@ pub(crate) fn give_into(
     Ok(left)
 }
 
-/// What the mirror of a disk shows.
+/// The entries that the mirror of a disk shows.
 pub(crate) fn show(alloc: Global, head: &Head, disk: &mut MemoryDisk) -> Result<Outcome, NoMemory>
     ensures { IfOk result (λ outcome. (history : List Operation) (kept : List KeptValue)
         → IsMirrorOf head.now history disk.old kept

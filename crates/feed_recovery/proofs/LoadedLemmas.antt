@@ -1,4 +1,4 @@
--- What a crash leaves of a store that is loaded.
+-- The images that a crash leaves of a store that is loaded.
 use Rattle.std.proofs.Common.{◌≡◌, ◌≢◌, ℕ, ◌+◌, min, List, length, take, refl, sym, ◌∙◌, ap, subst, arith}
 use Rattle.atom_values.specs.Counts.{counter_limit}
 use Rattle.feed_disk.specs.Disk.{DiskState, IsDisk}

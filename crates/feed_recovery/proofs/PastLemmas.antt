@@ -1,4 +1,4 @@
--- What a run of device calls leaves of a store to which operations are added.
+-- The images that a run of device calls leaves of a store to which operations are added.
 use Rattle.std.proofs.Common.{◌≡◌, inl, inr, refl, ℕ, ◌-◌, ◌^◌, ◌<◌, ◌≤◌, List, [], ◌∷◌, ◌++◌, length, take, sym, subst, arith}
 use Rattle.std.proofs.Common.{length-append}
 use Rattle.std.proofs.lemmas.List.{take-append-le}

@@ -1,4 +1,4 @@
--- What a crash leaves of a store at rest, and while a commit appends a seal and an operation.
+-- The images that a crash leaves of a store at rest, and while a commit appends a seal and an operation.
 use Rattle.std.proofs.Common.{◌≡◌, inl, inr, ℕ, ◌≤◌, List, [], ◌∷◌, ◌++◌, length, refl, sym, ◌∙◌, subst}
 use Rattle.std.proofs.Common.{arith, length-append}
 use Rattle.std.proofs.Math.Seq.{take-append_seam, take-length}

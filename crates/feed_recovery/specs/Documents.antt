@@ -1,4 +1,4 @@
--- What a store returns of its archives and members.
+-- The archives and members that a store returns.
 use Rattle.std.specs.Prelude.{◌≡◌, ◌⊎◌, ℕ, ◌≤◌, List, ℤ, Some}
 use Rattle.atom_values.specs.Entry.{EntryValue, IsEntry}
 use Rattle.atom_writer.specs.Members.{member_text}

@@ -1,4 +1,4 @@
--- What the journal and the sealed area of a store mean together.
+-- The store that the journal and the sealed area mean together.
 use Rattle.std.specs.Prelude.{◌≡◌, ◌⊎◌, ℕ, ◌-◌, ◌≤◌, List, ◌∷◌, map, length, Some, slice_get}
 use Rattle.atom_writer.specs.Pieced.{text_of}
 use Rattle.atom_writer.specs.Pieces.{text}

@@ -18,7 +18,7 @@ use Rattle.member_rules.specs.declared.ask.Ask.{Ask}
 use Rattle.member_rules.specs.declared.fault.RuleFault.{RuleFault}
 use Rattle.member_rules.specs.declared.operation.Op.{Op}
 
--- what the rules of the feed make of the ask
+-- the decision of the ask by the rules of the feed
 abbrev pub decision_of : StoreValue → Ask → ℕ → Result Op RuleFault
 decision_of store ask now = decide store.head.name store.head.created store.history ask now
 

@@ -1,4 +1,4 @@
--- What a crash may leave of a store.
+-- The images that a crash may leave of a store.
 use Rattle.std.specs.Prelude.{◌≡◌, ◌≢◌, ◌⊎◌, ℕ, ◌≤◌, List, [], length, take}
 use Rattle.feed_disk.specs.Disk.{DiskState}
 use Rattle.feed_disk.specs.Moments.{LeavesOnlyBoth, NowOnly}

@@ -1,4 +1,4 @@
--- What the areas of a store open to, apart from how the store keeps it.
+-- The value that the areas of a store open to, apart from how the store keeps it.
 use Rattle.std.specs.Prelude.{◌≡◌, ℕ, zero, suc, List, [], ◌∷◌, ◌++◌}
 use Rattle.feed_disk.specs.declared.area.Area.{Area}
 use Rattle.feed_disk.specs.declared.area.Area.TheVariants.{Journal, Sealed}
@@ -18,7 +18,7 @@ pub record Stored : Type 0 where
 abbrev pub OpensTo : (Area → List ℕ) → Stored → Type 0
 OpensTo content stored = Opens (content Journal) (content Sealed) stored.head stored.history stored.seals
 
--- what the areas of a loaded store open to
+-- the value that the areas of a loaded store open to
 abbrev pub stored_of : StoreValue → Stored
 stored_of store = record { head = store.head; history = store.history; seals = seal_count store }
 

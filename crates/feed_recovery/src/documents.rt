@@ -115,7 +115,7 @@ impl Store {
         requires unspent { is_spent self.old ≡ false }
         requires stands { D.told → StandsFor (D.state disk.old) self.old }
         ensures document { IfOk result (λ written. D.told → IsLiveDocument self.old number written.items) }
-        // Of any disk, it is the document of an entry of this member.
+        // With any disk, it is the document of an entry of this member.
         ensures entry { IfOk result (λ written. IsMemberDocument self.old number written.items) }
         ensures live { OnOk result ((version : ℕ) × IsLiveSince self.old.history number version) }
         ensures refused { IfErr result (IsMemberFault self.old number) }

@@ -1,4 +1,4 @@
--- What a read head and body of a response say of the bytes of a connection.
+-- A read head and body of a response decide the bytes of a connection.
 use Rattle.std.proofs.Common.{◌≡◌, ℕ, ◌≤◌, List, ◌++◌, length, take, drop, map, inl, inr, refl, sym, ap, ◌∙◌, arith}
 use Rattle.std.specs.Prelude.{◌⊎◌, Option, Result, Ok, Err, IfOk, IsOkAnd, Vec, option_map}
 use Rattle.std.specs.declared.alloc.Global.{Global}

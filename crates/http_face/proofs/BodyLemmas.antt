@@ -7,7 +7,7 @@ use Rattle.std.proofs.lemmas.List.{take_all, take-append-le}
 use Rattle.http_face.specs.Heard.{sized_body}
 use Rattle.http_face.specs.declared.fault.RequestFault.TheVariants.{EndedEarly}
 
--- what was read ahead of a body, and what is left
+-- the part of a body that was read ahead, and the part that is left
 ahead_part : (start size : ℕ) (ahead left : List ℕ) → start ≡ min (length ahead) size →
     take size (take start ahead ++ left) ≡ take size (ahead ++ left)
 ahead_part start size ahead left e =

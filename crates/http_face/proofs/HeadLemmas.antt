@@ -34,7 +34,7 @@ no_head-overflows room bytes wide over h behind b =
 pub no_head-never : (bytes more : List ℕ) → NeverHasRequest bytes → HasNoHead (bytes ++ more)
 no_head-never bytes more never h behind b = never more h behind b.reads
 
--- what can't begin a head can't with more bytes
+-- bytes that can't begin a head can't with more bytes
 pub bad_head : (bytes more : List ℕ) → length bytes ≤ head_limit → NeverHasRequest bytes →
     IsHeadFault (bytes ++ more) BadHead
 bad_head bytes more short never =

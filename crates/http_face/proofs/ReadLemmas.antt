@@ -20,7 +20,7 @@ takes_both a b s t u m n = record {
   within = omega (arith, m.within, n.within, length-append m.read n.read);
 }
 
--- what a read wrote after the first `filled` bytes
+-- the bytes that a read wrote after the first `filled` bytes
 pub read_behind : (filled count k : ℕ) (buffer into left after : List ℕ) → filled ≤ length buffer →
     count ≤ length into → left ≡ take count into ++ after →
     take filled buffer ++ left ≡ take (filled + count) (put_mid filled k buffer into) ++ after

@@ -9,7 +9,7 @@ use Rattle.http_face.specs.Heard.{IsHeard, IsMisheard, body_of, fields_of, verb_
 use Rattle.http_face.specs.Request.{RequestValue}
 use Rattle.http_face.specs.declared.request.Verb.{Verb}
 
--- what the bytes after a head say of the body depends on head and bytes alone
+-- the body depends on the head and on the bytes after it alone
 same_body : (all : ℕ) (h k : RequestHead) (p q : List ℕ) → h ≡ k → p ≡ q →
     body_of h.method (fields_of h) all p ≡ body_of k.method (fields_of k) all q
 same_body all h k p q e d =

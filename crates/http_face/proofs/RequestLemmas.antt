@@ -1,4 +1,4 @@
--- What a read head and body say of the bytes of a connection.
+-- A read head and body of a request decide the bytes of a connection.
 use Rattle.std.proofs.Common.{◌≡◌, ◌≢◌, ℕ, ◌≤◌, List, ◌++◌, length, take, drop, map, codes, inl, sym, ap, ◌∙◌, arith}
 use Rattle.std.specs.Prelude.{Result, Ok, Err, IfOk, IfErr}
 use Rattle.httparse.specs.declared.spans.HeaderSpan.{HeaderSpan}

@@ -1,4 +1,4 @@
--- What contracts see of a connection.
+-- The state of a connection, as contracts see it.
 use Rattle.std.specs.Prelude.{◌≡◌, ℕ, ◌≤◌, List, ◌++◌, length, Option}
 
 -- the bytes that are left to read, the bytes that were sent, the count of failed calls, and the disk's clock when the

@@ -1,4 +1,4 @@
--- What a connection's bytes say: a request, or why they are none (RFC 9112 sections 2 to 6).
+-- A connection's bytes are a request, or the cause why they are none (RFC 9112 sections 2 to 6).
 use Rattle.std.specs.Prelude.{◌≡◌, ◌⊎◌, ℕ, ◌<◌, ◌≤◌, List, [], ◌∷◌, length, take, map, filter, Bool, true, false}
 use Rattle.std.specs.Prelude.{◌&&◌, nat_le, nat_lt, if◌then◌else◌, Option, Some, None, Result, Ok, Err, codes, bytes_eq, is_some}
 use Rattle.std.specs.List.{list_all}

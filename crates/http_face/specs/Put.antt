@@ -20,14 +20,14 @@ put_state sent waiting = record { sent = sent; count = waiting.sent; waiting = t
 abbrev pub nothing_waits : List ℕ → ℕ → PutState
 nothing_waits sent count = record { sent = sent; count = count; waiting = [] }
 
--- of what waited and the text the front was sent, and the rest waits
+-- a front of the waiting bytes and the text was sent, and the rest waits
 pub record HasPut (told : Type 0) (text : List ℕ) (s t : PutState) : Type 0 where
   pub front : List ℕ
   pub split : s.waiting ++ text ≡ front ++ t.waiting
   pub counted : t.count ≡ counted_by s.count (length front)
   pub taken : told → t.sent ≡ s.sent ++ front
 
--- of what waited and the text the front was sent, with which `count` bytes were sent; then a call failed
+-- a front of the waiting bytes and the text was sent, with which `count` bytes were sent; then a call failed
 pub record IsCut (told : Type 0) (text : List ℕ) (s : PutState) (count : ℕ) (sent : List ℕ) : Type 0 where
   pub front : List ℕ
   pub back : List ℕ

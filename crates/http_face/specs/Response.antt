@@ -1,4 +1,4 @@
--- What a connection's bytes say: a response, or that they are none (RFC 9112 sections 2 to 6).
+-- A connection's bytes are a response, or they are none (RFC 9112 sections 2 to 6).
 use Rattle.std.specs.Prelude.{◌≡◌, ◌⊎◌, ℕ, ◌≤◌, List, [], ◌∷◌, length, take, map}
 use Rattle.std.specs.Prelude.{◌==◌, ◌||◌, nat_le, nat_lt, if◌then◌else◌, Option, Some, None, Result, Ok, Err, codes, is_some}
 use Rattle.std.specs.Str.Parse.{digits_value}

@@ -1,4 +1,4 @@
-//! What the fields of a head say.
+//! The fields of a head.
 
 ghost use Rattle.std.specs.Prelude.{◌≡◌, ◌≤◌, ◌↔◌, IsTrue, ◌∷◌, [], map, length, All, IfOk, IfSome, MatchOption, Some, None, if◌then◌else◌};
 ghost use Rattle.std.specs.Char.{to_ascii_lowercase};

@@ -13,7 +13,7 @@ const ALL: [Left; 4] = [Left::Old, Left::New, Left::Filled, Left::Given];
 
 const CAPACITY: u64 = 1_000_000;
 
-/// What mirror 0 shows.
+/// The entries that mirror 0 shows.
 fn outcome(rt: &impl Abort, life: &mut Life) -> Outcome {
     assert!(rt; life.mirrors() > 0);
     life.outcome(0).expect(rt, "memory")

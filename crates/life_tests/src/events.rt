@@ -15,7 +15,7 @@ use std::process::Abort;
 /// The moment of the clock: 2023-11-14T22:13:20Z.
 pub const NOW: u64 = 1_700_000_000_000;
 
-/// What unsynced bytes become in a crash.
+/// The content that unsynced bytes have after a crash.
 #[derive(Clone, Copy, Debug, PartialEq, Eq)]
 pub enum Left {
     Old,

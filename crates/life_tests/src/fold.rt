@@ -156,8 +156,7 @@ impl Fold {
         }
     }
 
-    /// Adds an operation. Of its seal, if one is due and missing, and of itself at most this many payloads are
-    /// appended.
+    /// Adds an operation. Appends at most `payloads` payloads: its seal, if one is due and missing, and the operation.
     fn add(&mut self, rt: &impl Abort, change: Change, payloads: u64) {
         let due = self.prev(self.version().saturating_add(1));
         let seals = if due > self.seals { 1 } else { 0 };
@@ -232,7 +231,7 @@ impl Fold {
         Some(status)
     }
 
-    /// What a mirror shows.
+    /// The entries that a mirror shows.
     pub fn outcome(&self, mirror: u32) -> Outcome {
         let held: &[Doc] = match self.held.get(mirror as usize) {
             Some(held) => held.as_slice(),

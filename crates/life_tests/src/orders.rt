@@ -72,7 +72,7 @@ fn course(rt: &impl Abort, alloc: Global, steps: &[Does]) -> Life {
     life
 }
 
-/// What mirror 0 shows.
+/// The entries that mirror 0 shows.
 fn shown(rt: &impl Abort, life: &mut Life) -> Outcome {
     assert!(rt; life.mirrors() > 0);
     life.outcome(0).expect(rt, "memory")

@@ -1,4 +1,4 @@
--- What the documents of a cut of a history show: its live entries.
+-- The documents of a cut of a history show its live entries.
 use Rattle.std.proofs.Common.{◌≡◌, ◌↔◌, ℕ, zero, suc, ◌+◌, ◌-◌, ◌<◌, ◌≤◌, ℤ, nat_eq, List, length, take, drop, reverse}
 use Rattle.std.proofs.Common.{map, Option, Some, None, refl, ap, sym, ◌∙◌, arith}
 use Rattle.std.specs.Prelude.{is_some}

@@ -1,4 +1,4 @@
--- What an ask becomes, part by part.
+-- The decision of an ask, part by part.
 use Rattle.std.proofs.Common.{◌≡◌, inl, inr, ℕ, zero, suc, ◌+◌, ◌≤◌, ℤ, int_lt, nat_lt, nat_le, Bool, true, false, ◌&&◌}
 use Rattle.std.proofs.Common.{cond, if◌then◌else◌, Option, Some, None, Result, Ok, Err, IsOkAnd, List, length, refl}
 use Rattle.std.proofs.Common.{sym, ap, ap₂, ◌∙◌, arith, le-leb, Less, Equal, Greater}
@@ -139,7 +139,7 @@ pub keeps_entry : (r : Result (Unit {0}) RuleFault) (operation : Op) → KeepsEn
 keeps_entry (Ok u) operation keeps = keeps
 keeps_entry (Err e) operation keeps = tt
 
--- what decides a draft that makes a member
+-- the decision of a draft that makes a member, by its tests
 pub decide-create : (name : FeedName) (created : ℤ) (history : List Op) (draft : DraftValue) (now : ℕ)
     (moment : Result ℤ RuleFault) → moment ≡ next_moment created history now
     → decide name created history (Create draft) now

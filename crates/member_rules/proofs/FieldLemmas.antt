@@ -572,7 +572,7 @@ module _ {A : Type 0} (field : Field A) where
     split = g.split ∙ ap (λ n. n ∷ (flat_map field.bytes items ++ rest)) (sym size);
   }
 
--- what is ensured of an item that was added
+-- a condition on `Ok` holds if an item was added
 pub pushed_items : (r : Result (Unit {0}) ListFault) (b : Bool) → b ≡ is_err r → b ≡ false → {P : Type 0} → OnOk r P → P
 pushed_items (Ok x) b is not p = p
 pushed_items (Err x) b is not p = absurd (false≢true (sym not ∙ is))

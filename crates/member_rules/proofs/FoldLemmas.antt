@@ -1,4 +1,4 @@
--- What one more operation at the end of a list does to what is made of the list.
+-- The effect of one more operation on the values that are made of a list of operations.
 use Rattle.std.proofs.Common.{◌≡◌, inl, inr, ℕ, zero, suc, ◌+◌, ◌-◌, ◌<◌, ◌≤◌, ℤ, Bool, true, false, cond}
 use Rattle.std.proofs.Common.{if◌then◌else◌, ◌==◌, Some, List, [], ◌∷◌, ◌++◌, length, take, take-take, slice_get, refl}
 use Rattle.std.proofs.Common.{sym, ap, subst₂, ◌∙◌, arith, length-append, zero-add}

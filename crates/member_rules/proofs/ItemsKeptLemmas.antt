@@ -1,4 +1,4 @@
--- What the items of a list of operations keep: there are no more of them than operations, their members are distinct,
+-- Laws of the items of a list of operations: there are no more of them than operations, their members are distinct,
 -- and each keeps what the operations' types do.
 use Rattle.std.proofs.Common.{◌≡◌, inl, inr, ℕ, suc, ◌+◌, ◌-◌, ◌≤◌, Bool, true, false, not, nat_eq, List, [], ◌∷◌}
 use Rattle.std.proofs.Common.{length, reverse, map, Option, Some, None, ℤ, sym, subst, arith}
@@ -101,7 +101,7 @@ newest-distinct (operation ∷ older) = in_place-distinct (item_of operation) (n
 pub items-distinct : (operations : List Op) → IsDistinct nat_eq (map item_number (items_of operations))
 items-distinct operations = rw (items_of-newest operations) (newest-distinct (reverse operations))
 
--- what the types keep
+-- the invariants of the types
 
 item_of-keeps : (operation : Op) → IsOperation operation → IfSome (item_of operation) IsItem
 item_of-keeps (Add entry) h = h
@@ -128,7 +128,7 @@ All-reverse P (x ∷ xs) h =
     rw (reverse-append (x ∷ []) xs) (All-append P (reverse xs) (x ∷ []) (All-reverse P xs (All-tail P x xs h))
     (All-cons P x [] (All-head P x xs h) (All-nil P)))
 
--- what each operation's item keeps, each of the items does
+-- each of the items has a property that each operation's item has
 pub items-each : (P : Op → Type 0) (Q : Item → Type 0)
     → ((operation : Op) → P operation → IfSome (item_of operation) Q) → (operations : List Op) → All P operations
     → All Q (items_of operations)

@@ -1,4 +1,4 @@
--- What is decided may follow its history, and keeps it lawful.
+-- A decided operation may follow its history, and keeps it lawful.
 use Rattle.std.proofs.Common.{◌≡◌, ℕ, suc, ◌+◌, ◌<◌, ◌≤◌, ℤ, ◌≤ℤ◌, ◌<ℤ◌, int_lt, nat_lt, nat_le, Bool, true, false}
 use Rattle.std.proofs.Common.{◌&&◌, ◌==◌, if◌then◌else◌, Option, Some, None, IfSome, Result, Ok, Err, IfOk, IsSomeAnd}
 use Rattle.std.proofs.Common.{List, [], ◌∷◌, ◌++◌, fold, length, All, length-append, refl, sym, ap, subst, ◌∙◌, arith}
@@ -26,7 +26,7 @@ use Rattle.member_rules.specs.Decide.{next_moment, unless_large, decide}
 use Rattle.member_rules.proofs.FoldLemmas.{AreFollowing-push, made-le-length}
 use Rattle.member_rules.proofs.StateLemmas.{AreMembers-of, live_within}
 
--- of two steps that both go through
+-- two steps that give `Ok` each give `Ok`
 split_ok : {A : Type 0} (r : Result A RuleFault) (f : A → Result Op RuleFault) (operation : Op)
     → (r >>= f) ≡ Ok operation → (x : A) × (r ≡ Ok x) × (f x ≡ Ok operation)
 split_ok (Ok x) f operation e = (x, refl, e)
@@ -87,7 +87,7 @@ unless_large-ok name make entry operation e =
 later_stamp : (a b : ℤ) → IsStamp a → IsStamp b → IsStamp (later_of a b)
 later_stamp a b x y = (grind (arith, ints), grind (arith, ints))
 
--- what is decided for each ask
+-- the decision of each ask
 record CreateGives (name : FeedName) (created : ℤ) (history : List Op) (draft : DraftValue) (operation : Op) : Type 0
   where
     moment : ℤ
@@ -296,7 +296,7 @@ decide-lawful head history ask now operation e few lawful entry =
       operations = All-push IsOperation history operation lawful.operations keeps.0;
     }
 
--- of a result that is what the ask becomes
+-- an operation that is decided may follow the history
 pub decided-follows : (r : Result Op RuleFault) (name : FeedName) (ask : Ask) (now : ℕ) (table : Table)
     → ((created : ℤ) (history : List Op) → IsTableOf table created history → r ≡ decide name created history ask now)
     → IfOk r (λ operation. (created : ℤ) (history : List Op) → IsTableOf table created history

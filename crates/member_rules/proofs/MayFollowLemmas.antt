@@ -15,7 +15,7 @@ use Rattle.member_rules.specs.Removal.{RemovalValue}
 use Rattle.member_rules.proofs.DecisionLemmas.{ord_max-later}
 use Rattle.member_rules.proofs.StateLemmas.{AreMembers, AreMembers-of, live_within}
 
--- what a state says of the member's entry
+-- the member's entry fits its state
 abbrev LiveBy : State → Option EntryValue → Type 0
 LiveBy Never live = live ≡ None
 LiveBy (Live updated version) live = (stored : EntryValue) × (live ≡ Some stored) × (stored.updated ≡ updated)
@@ -116,7 +116,7 @@ remove-live created history operation removal number version updated when moment
     ∙ ap (int_eq removal.tombstone.when) (ord_max-later moment updated
     ∙ ap (λ (m : ℤ). later_of m updated) accepted))))
 
--- of a member that isn't live
+-- a member that isn't live has no live entry
 abbrev IsNotLive : State → Type 0
 IsNotLive state = (state ≡ Never) ⊎ ((when : ℤ) × (state ≡ Deleted when))
 

@@ -1,4 +1,4 @@
--- What a look at one more operation of a list adds.
+-- The effect of one more operation on a walk over a list of operations.
 use Rattle.std.proofs.Common.{◌≡◌, ◌≢◌, ℕ, ◌+◌, ◌<◌, true, false, if◌then◌else◌, ◌==◌, List, ◌∷◌, ◌++◌, [], length}
 use Rattle.std.proofs.Common.{get_or, take, refl, sym, ap, ◌∙◌, arith, length-take}
 use Rattle.std.proofs.lemmas.Bool.Decides.{nat_tests}

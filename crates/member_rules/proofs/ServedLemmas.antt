@@ -1,4 +1,4 @@
--- What a feed serves: documents that keep the rules, and after more operations the same ones.
+-- Laws of the documents that a feed serves: they keep the rules, and after more operations the feed still serves them.
 use Rattle.std.proofs.Common.{◌≡◌, inl, inr, ℕ, ◌-◌, ◌≤◌, List, length, take, refl, ap, ◌∙◌, length-take, arith}
 use Rattle.std.proofs.lemmas.List.{take-take, length-take-le}
 use Rattle.std.proofs.lemmas.List.Elements.{All-take}

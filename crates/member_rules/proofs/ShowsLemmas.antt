@@ -1,4 +1,4 @@
--- What a list of documents shows of a member: its newest item.
+-- A list of documents shows the newest item of a member.
 use Rattle.std.proofs.Common.{◌≡◌, ◌≢◌, ◌↔◌, inl, inr, ℕ, zero, suc, ◌<◌, ◌≤◌, ◌==◌, false, nat_eq, List, [], ◌∷◌, ◌++◌}
 use Rattle.std.proofs.Common.{length, map, get_or, Option, Some, None, refl, ap, sym, ◌∙◌, subst, arith}
 use Rattle.std.specs.Prelude.{All, Any, Contains, max, fold}
@@ -19,7 +19,7 @@ use Rattle.member_rules.proofs.ItemsLemmas.{item_in, or_else}
 
 -- items and `item_in`
 
--- what an item of the member does to a list of items
+-- an item of the member in a list of items is the one that `item_in` returns
 pub Contains-item_in : (number : ℕ) (items : List Item) (item : Item) → item_in number items ≡ Some item
     → Contains items item × (item_number item ≡ number)
 Contains-item_in number [] item e = absurd (grind arith)

@@ -1,4 +1,4 @@
--- What each member is in a history, after one more operation.
+-- The state of each member in a history, after one more operation.
 use Rattle.std.proofs.Common.{◌≡◌, ◌≢◌, inl, inr, ℕ, zero, suc, ◌+◌, ◌<◌, ◌≤◌, ℤ, Bool, true, false, not, if◌then◌else◌}
 use Rattle.std.proofs.Common.{◌==◌, Option, Some, None, option_map, List, [], ◌∷◌, ◌++◌, length, get_or, take, add-one}
 use Rattle.std.proofs.Common.{IsSomeAnd, true≢false, take_all, refl, sym, ap, ap₂, subst, ◌∙◌, arith}

@@ -25,7 +25,7 @@ use Rattle.member_rules.proofs.StateLemmas.{AreMembers-of, live_within, state_wi
 use Rattle.member_rules.proofs.StateLemmas.{state_of-push-other, unnamed, is_there, differ, set-same, set-other}
 use Rattle.member_rules.proofs.LiveCountLemmas.{count-same, count-more, count-less}
 
--- what a member is tells whether it is live
+-- a live state of a member comes from its live entry
 state_live : (gone : Option ℤ) (live : Option EntryValue) (version version' : ℕ) (updated : ℤ)
     → state_by gone live version ≡ Live updated version'
     → (stored : EntryValue) × (live ≡ Some stored) × (stored.updated ≡ updated) × (gone ≡ None)
@@ -87,7 +87,7 @@ fits_along table created other history past (Remove removal) of also fits =
     same_live table created other history past removal.tombstone.number
     (λ u. removal.tombstone.when ≡ later_of removal.moment u) of also fits
 
--- what may follow one history of a table may follow each
+-- an operation that may follow one history of a table may follow each
 pub MayFollow-along : (table : Table) (created other : ℤ) (history past : List Op) (operation : Op)
     → IsTableOf table created history → IsTableOf table other past → MayFollow other past operation
     → MayFollow created history operation
@@ -184,12 +184,12 @@ own_live history operation item is =
     ap (λ (m : Fold). m.live (item_number item)) (fold_of-push history operation
     ∙ ap (λ o. unwrap_or (option_map (with_item (fold_of history)) o) (fold_of history)) is)
 
--- what stays to be shown of a new table
+-- the facts of a new table that don't follow from its states
 pub record Commits (table new : Table) (operation : Op) : Type 0 where
   pub last : new.last ≡ moment_of operation
   pub operations : new.operations ≡ table.operations + 1
 
--- what stays of a table, after any operation that fits
+-- a table after any operation that fits
 after_any : (created : ℤ) (history : List Op) (operation : Op) (table new : Table) → IsTableOf table created history
     → MayFollow created history operation → Commits table new operation
     → length new.states ≡ made (history ++ operation ∷ []) → AreStates new.states (history ++ operation ∷ [])

@@ -24,7 +24,7 @@ pub record ServesArchive (head : HeadValue) (history : List Op) (address bytes :
   pub there : address ≡ printed head.name.base (Archive number)
   pub text : bytes ≡ text (archive head history number)
 
--- what a feed with this head and this lawful history serves
+-- a feed with this head and this lawful history serves these bytes at this address
 pub record Served (head : HeadValue) (history : List Op) (address bytes : List ℕ) : Type 0 where
   pub is_head : IsHead head
   pub is_lawful : IsLawful head history

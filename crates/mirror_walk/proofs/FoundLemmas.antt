@@ -27,7 +27,7 @@ subscription-passes : (kind : Kind) → is_subscription kind ≡ true → kind �
 subscription-passes Subscription e = refl
 subscription-passes (Sealed number) e = cc
 
--- what is found is held, and passes the test
+-- an item that `find` returns is in the list, and passes the test
 
 find-holds : {A : Type 0} (P : A → Type 0) (test : A → Bool) (xs : List A) (x : A) → All P xs
     → find test xs ≡ Some x

@@ -39,7 +39,7 @@ use Rattle.mirror_walk.proofs.OfferedLemmas.{IsOfferOf, Mirrors, answer-mirrored
 use Rattle.mirror_walk.proofs.OfferedLemmas.{same-reading}
 use Rattle.mirror_walk.proofs.OutcomeLemmas.{chain_of-best}
 
--- what was offered
+-- the documents that were offered
 
 served-at : (head : HeadValue) (history : List Op) (offers : List Offering) (offer : Offering)
     → AreServed head history offers → Contains offers offer → Served head history offer.address offer.bytes
@@ -112,7 +112,7 @@ module _ (head : HeadValue) (history : List Op) (offers : List Offering) (kept :
           mirrors.offered e in
           archive-offered head history offers held.document number found.1 found.0
 
-  -- what is missing
+  -- the missing document
 
   missing-of : (prev : ℕ) → prev < 2 ^ 32 → (gap : Option ℕ) → gap_from kept prev ≡ gap
       → IsMissingOf head.name.base offers prev (option_map Archive gap)
@@ -202,7 +202,7 @@ module _ (head : HeadValue) (history : List Op) (offers : List Offering) (kept :
             (law-of_chain head past is_head (prefix-lawful head history last lawful));
       }
 
-  -- what is held with a best subscription document
+  -- the documents held with a best subscription document
 
   best-offered : (best : KeptValue) → best_of kept ≡ Some best
       → Any (IsOfferOf head history best.document) offers × (best.document.kind ≡ Subscription)

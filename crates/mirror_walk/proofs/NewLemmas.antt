@@ -183,7 +183,7 @@ stale-newest : (kept : List KeptValue) (document : DocValue) → document.kind �
 unfolding stale
 stale-newest kept document kind none = rw (kind, none) refl
 
--- what is held after an accepted document
+-- the documents held after an accepted document
 
 feed-kind : (kind : Kind) → Feed ≡ own_address kind → kind ≡ Subscription
 feed-kind Subscription e = refl

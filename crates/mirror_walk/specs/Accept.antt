@@ -133,7 +133,7 @@ accept base kept address given =
     unwrap_or (first_of (wrong_address base address document ∷ wrong_feed kept document ∷ known kept given
     ∷ stale kept document ∷ conflict kept given ∷ broken kept document ∷ [])) (Ok Taken)
 
--- what is held after an answer
+-- the documents held after an answer
 abbrev pub after_answer : List KeptValue → KeptValue → Answer → List KeptValue
 after_answer kept given (Ok Taken) = kept ++ given ∷ []
 after_answer kept given (Ok Known) = kept

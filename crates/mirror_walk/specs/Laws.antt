@@ -16,7 +16,7 @@ use Rattle.mirror_walk.specs.Offers.{Offering, AreAnswered, AreServed, IsOffered
 abbrev pub IsWithoutNewest : List Offering → Type 0
 IsWithoutNewest offers = (document : DocValue) → IsOffered offers document → document.kind ≡ Subscription → ⊥
 
--- of the subscription documents that were offered it has the greatest `last`
+-- this subscription document has the greatest `last` of those that were offered
 pub record IsNewest (offers : List Offering) (best : DocValue) : Type 0 where
   pub offered : IsOffered offers best
   pub kind : best.kind ≡ Subscription
@@ -34,7 +34,7 @@ pub record IsFirstNotOffered (base : List ℕ) (offers : List Offering) (prev nu
   pub not_offered : ¬ IsArchiveOffered base offers number
   pub greatest : (other : ℕ) → number < other → other ≤ prev → IsArchiveOffered base offers other
 
--- what is missing, if the best subscription document has this `prev`
+-- the first missing document, if the best subscription document has this `prev`
 abbrev pub IsMissingOf : List ℕ → List Offering → ℕ → Option Address → Type 0
 IsMissingOf base offers prev None = AreAllOffered base offers prev
 IsMissingOf base offers prev (Some Feed) = ⊥
@@ -48,7 +48,7 @@ pub record ShowsVersion (head : HeadValue) (history : List Op) (version : ℕ) (
   pub whole_chain : documents ≡ chain head (take version history)
   pub fold : ShowsTheFold documents (take version history)
 
--- what is held without and with a best subscription document
+-- the mirror has a best subscription document
 pub record ShowsBest (head : HeadValue) (history : List Op) (offers : List Offering) (kept : List KeptValue)
     (best : KeptValue)
     : Type 0 where

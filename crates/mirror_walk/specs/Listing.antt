@@ -27,7 +27,7 @@ entries_up_to live (suc number) = with_entry (entries_up_to live number) (live (
 unfoldable pub live_entries : List KeptValue → List EntryValue
 live_entries kept = entries_up_to (live_at kept) (greatest_member (chain_of kept))
 
--- what the documents show, where nothing but `missing` is missing
+-- the outcome, where nothing but `missing` is missing
 abbrev pub outcome_by : List KeptValue → Option KeptValue → Option Address → Outcome
 outcome_by kept best (Some missing) = Missing missing
 outcome_by kept None None = Complete 0 0

@@ -32,7 +32,7 @@ abbrev pub IsAnswerBefore : MirrorValue → List ℕ → List ℕ → Answer →
 IsAnswerBefore mirror address bytes answer =
     IsAnswerWithin mirror.capacity mirror.base mirror.kept address bytes answer mirror.kept
 
--- what the checks of these bytes under this address found, without a device call
+-- the result of the checks of these bytes under this address, without a device call
 abbrev pub IsChecked : MirrorValue → List ℕ → List ℕ → Result Checked Offered → Type 0
 IsChecked mirror address bytes (Ok (Answered accepted)) =
     (accepted ≢ Taken) × IsAnswerBefore mirror address bytes (Ok accepted)

@@ -28,7 +28,7 @@ use Rattle.mirror_walk.specs.Walk.{EndsAt, HasRefusal, IsAnswered, WalkEnding, W
 use Rattle.mirror_walk.specs.Walk.{is_known, is_stale, is_taken}
 use Rattle.mirror_walk.specs.Walk.WalkEnding.{not_there, refused, fetch_failed, filled, cut_short}
 
--- what a mirror's answer to a document that was found is for the walk
+-- the walk's visit for a mirror's answer to a document that was found
 abbrev pub visit_of : Answer → Result Visit WalkFault
 visit_of (Ok accepted) = Ok (visits.Accepted accepted)
 visit_of (Err (Full size needed capacity)) = Err (faults.Full size needed capacity)
@@ -77,7 +77,7 @@ HasAsked before after address (Err (faults.Full size needed capacity)) = after �
 HasAsked before after address (Err faults.DiskFault) = after ≡ before ++ address ∷ []
 HasAsked before after address (Err faults.NoMemory) = (after ≡ before) ⊎ (after ≡ before ++ address ∷ [])
 
--- of the mirror the base and the capacity stay, and of the disk all other areas
+-- the base and the capacity of the mirror stay, and all other areas of the disk
 pub record KeepsSetting (s t : DiskState) (before after : MirrorValue) : Type 0 where
   pub base : after.base ≡ before.base
   pub capacity : after.capacity ≡ before.capacity

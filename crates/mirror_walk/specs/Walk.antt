@@ -138,7 +138,7 @@ HasRefusal asked fetch_failed refusal = ⊥
 HasRefusal asked (filled size needed capacity) refusal = ⊥
 HasRefusal asked cut_short refusal = ⊥
 
--- what a walk returns: the numbers of its addresses and answers, the refusal, and what the documents show
+-- the result of a walk: the numbers of its addresses and answers, the refusal, and the outcome of the documents
 pub record IsWalked (addresses : List Address) (accepted : List Accepted) (left : List KeptValue)
     (ending : WalkEnding)
     (walked : Walked) : Type 0 where

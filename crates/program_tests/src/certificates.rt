@@ -98,7 +98,7 @@ fn a_mirror_certifies_what_it_kept(rt: HostRuntime) {
 /// The words of a mirror that fetches the store's feed.
 const FETCH: &[&str] = &["mirror", "--base", "http://feed.example/", "--fetch"];
 
-/// What the source has, as in `source_of`, its call that fails, the status and what is printed.
+/// The documents of the source, as in `source_of`, its call that fails, the status and the printed text.
 static FETCHED: [(&[(usize, usize)], u64, u8, &str); 6] = [
     (&[(0, 0), (1, 1), (2, 2), (3, 3)], 0, 0, THIRTEEN),
     (&[(0, 0), (1, 1), (2, 2), (3, 3)], 5, 0, THIRTEEN),

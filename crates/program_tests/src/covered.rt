@@ -166,7 +166,7 @@ fn push_document(rt: &impl Abort, alloc: Global, pile: &mut Vec<u8>, document: &
     );
 }
 
-/// What is audited, and the verdict on it.
+/// The certificate and the pile that are audited, and the verdict.
 #[derive(Clone, Copy)]
 struct Audited<'a> {
     documents: &'a [Document],
@@ -207,7 +207,7 @@ fn expect_order(rt: &impl Abort, alloc: Global, audit: &Audited, order: (usize, 
     assert!(rt; end.is(0, audit.accepted.as_bytes()), "{order:?}");
 }
 
-/// What is done to a document of a pile.
+/// A change of a document of a pile.
 #[derive(Clone, Copy, Debug)]
 enum Harm {
     /// One of its bytes is changed.
@@ -220,7 +220,7 @@ enum Harm {
     Repaired,
 }
 
-/// What is done to each document in turn.
+/// The changes of the documents, in turn.
 static HARMS: [Harm; 4] = [Harm::Changed, Harm::Lost, Harm::Doubled, Harm::Repaired];
 
 /// The text with its middle byte changed.

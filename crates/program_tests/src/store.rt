@@ -40,7 +40,7 @@ pub fn made(rt: &impl Abort, alloc: Global, options: &[&'static str], failing: u
     disk
 }
 
-/// What a command prints.
+/// The text that a command prints.
 #[derive(Clone, Copy)]
 enum Printed {
     Text(&'static str),

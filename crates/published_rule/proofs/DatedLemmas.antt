@@ -110,7 +110,7 @@ item-of_tombstone : (document : DocValue) (number : ℕ) (tombstone : TombstoneV
 item-of_tombstone document number tombstone has =
     (has.gone.0, Gone tombstone, has.gone.1, has.gone.2, has.member)
 
--- what counts is shown
+-- an entry that counts is shown
 
 shows-behind : (document : DocValue) (older : List DocValue) (number : ℕ) (entry : EntryValue)
     → HasNone number document.items → Shows older number entry → Shows (document ∷ older) number entry
@@ -197,7 +197,7 @@ shows-counted (document ∷ older) dated number entry counts = elim (one-or_none
       (shows-counted older dated.2 number entry (counts-behind document older number entry none counts))
 ]
 
--- what is shown counts
+-- an entry that is shown counts
 
 counts-more : (first : DocValue) (documents : List DocValue) (number : ℕ) (entry : EntryValue)
     → ¬ HasItemOf number first → Counts documents number entry → Counts (first ∷ documents) number entry

@@ -24,13 +24,13 @@ Precedes (Kept older) (Kept newer) = older.updated ≤ℤ newer.updated
 Precedes (Kept older) (Gone newer) = older.updated ≤ℤ newer.when
 Precedes (Gone older) newer = ⊥
 
--- what the member's live entry is later on, if it has one
+-- the member's live entry after this item, if it has one, isn't older
 abbrev LeavesLive : Item → Option EntryValue → Type 0
 LeavesLive item None = Unit {0}
 LeavesLive (Kept entry) (Some stored) = entry.updated ≤ℤ stored.updated
 LeavesLive (Gone tombstone) (Some stored) = ⊥
 
--- what the item of an earlier operation says of the members
+-- the members after an operation that has this item, or after later ones
 record Leaves (item : Item) (members : Fold) (count : ℕ) : Type 0 where
   within : item_number item ≤ count
   live : LeavesLive item (members.live (item_number item))
@@ -77,7 +77,7 @@ precedes-next history (Remove removal) item later leaves fits is named =
     (subst (λ (n : ℕ). IsSomeAnd ((fold_of history).live n)
     (λ stored. removal.tombstone.when ≡ later_of removal.moment stored.updated)) number fits))
 
--- what an item leaves after one more operation
+-- an item and one more operation
 
 leaves-from : (item later : Item) (members : Fold) → Precedes item later → item_number later ≡ item_number item
     → LeavesLive item ((with_item members later).live (item_number item))
@@ -121,7 +121,7 @@ leaves-more history operation item leaves fits = record {
       (λ later is named. precedes-next history operation item later leaves fits is named));
 }
 
--- what an operation's own item leaves
+-- an operation's own item
 
 own-live : (members : Fold) (item : Item) → LeavesLive item ((with_item members item).live (item_number item))
 own-live members (Kept entry) = rw (set-same entry.number (Some entry) members.live) (omega (arith, ints))

@@ -37,8 +37,8 @@ fn write_abcd<D: Disk>(rt: &impl Abort, disk: &mut D) {
     disk.sync(Area::Journal).expect(rt, "a device call");
 }
 
-/// What the functions below use of the system. They end the test where a call fails, which is cheaper to prove than `?`
-/// where a disk is owned.
+/// The parts of the system that the functions below use. They end the test where a call fails, which is cheaper to prove
+/// than `?` where a disk is owned.
 trait System: Abort + AllocGlobal + Files<File = File> {}
 
 impl<R: Abort + AllocGlobal + Files<File = File>> System for R {}

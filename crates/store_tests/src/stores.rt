@@ -114,7 +114,7 @@ fn steps<D: Disk>(
     ([empty, one, two], [first, second])
 }
 
-/// What the store shows after each step. A commit makes four device calls, and eight with a seal.
+/// The values that the store shows after each step. A commit makes four device calls, and eight with a seal.
 const SHOWN: [Shown; 3] = [
     Shown {
         window: 1,

@@ -1,4 +1,4 @@
--- What a line of `apply` asks for, by its parts.
+-- The ask of a line of `apply`, by its parts.
 use Rattle.std.proofs.Common.{◌≡◌, ◌≢◌, ◌⊎◌, ℕ, ◌+◌, ◌-◌, ◌<◌, ◌≤◌, ◌^◌, true, false, ◌&&◌, if◌then◌else◌, eqb}
 use Rattle.std.proofs.Common.{List, [], ◌∷◌, ◌++◌, length, take, drop, codes, decimal, Option, Some, None, option_map}
 use Rattle.std.proofs.Common.{option_and_then, Result, Ok, Err, IfOk, inl, inr, subst, nat_le, nat_lt, refl}
@@ -93,7 +93,7 @@ parted-at words at h =
     ap parted h.split ∙ parted-some (take at words) (drop (at + 1) words) h.none_before
     ∙ ap (λ (back : List ℕ). Some (take at words, back)) (sym whole)
 
--- what words ask to change, by their parts
+-- the change that words ask for, by their parts
 pub change_of-unparted : (words : List ℕ) → parted words ≡ None → change_of words ≡ None
 unfolding change_of
 change_of-unparted words e = rw e refl
@@ -122,7 +122,7 @@ swapped xs ys h = (bytes_eq-Decides ys xs).1 (sym ((bytes_eq-Decides xs ys).0 h)
 swapped-false : (xs ys : List ℕ) → bytes_eq xs ys ≡ false → bytes_eq ys xs ≡ false
 swapped-false xs ys h = false_from_ne_true _ (λ t. both_ways _ h (swapped ys xs t))
 
--- what a line asks, by its first word
+-- the ask of a line, by its first word
 pub line_ask-add : (line : List ℕ) → bytes_eq (take 4 line) (codes "add ") ≡ true →
     line_ask line ≡ option_map Add (title_of (drop 4 line))
 unfolding line_ask

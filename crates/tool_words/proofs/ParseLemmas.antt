@@ -307,7 +307,7 @@ fresh_of_distinct (x ∷ xs) next more h =
     (subst (All (λ other. other ≢ x.name)) (map-append name_of xs (next ∷ more)) h.0) in
     rw (other_name x.name next.name (λ e. ne (sym e))) (fresh_of_distinct xs next more h.1)
 
--- what is known of an option of these rules
+-- an option of these rules is found with this rule
 abbrev IsFoundAs : List Rule → Text → Option Text → Type 0
 IsFoundAs c name None = arg_by_long c name ≡ Some (built_flag name)
 IsFoundAs c name (Some value) = IsTrue (is_value value)
@@ -332,7 +332,7 @@ more_parses c rows w next word words turn step h = record {
   ends = subst (λ v. IsAtRest c rows (fold (walked c []) v words)) (sym step) h.ends;
 }
 
--- what a walk at rest holds
+-- the rows that a walk at rest holds
 pub record Holds (c : List Rule) (pending : Option (Text × List Text)) (held : List Row) (skip position : ℕ)
     (rows : List Row)
     : Type 0 where
@@ -461,7 +461,7 @@ is_simple_app names flags =
     built_flag (λ _. refl) (λ _. refl) names flags in
     rw (rules_filled 1 names flags, given, after, ordered)
 
--- what follows the walk
+-- the tests after the walk
 abbrev pub rest_passes : List Rule → Walk → Bool
 rest_passes c w =
     let a = built_app c in
@@ -548,7 +548,7 @@ flag_adds : (rows : List Row) (k : Text) → has_row k rows ≡ false
 flag_adds rows k none = rw none (fresh_row k (more_values DefaultValue (codes "false" ∷ [])) (unset_row k ∷ []) rows
     none)
 
--- what is found stays
+-- a row that is found stays found
 found_stays : (name k : Text) (rows : List Row) (r : Row) → find (has_name name) rows ≡ Some r
     → find (has_name name) (with_default rows (built_flag k)) ≡ Some r
 found_stays name k rows r h = elim (cases_Bool (has_row k rows)) [
@@ -760,7 +760,7 @@ module _ (names flags words : List Text) (options : List Given) (can : IsTrue (c
             ∙ flag_is names flags name options (flag_apart names flags apart_is name among) among are.known;
       }
 
--- what a parse of words of the grammar gives
+-- the options that a parse of words of the grammar finds
 pub matches_found : (names flags words : List Text) → IsTrue (can_be_read names flags) → SpellOptions names flags words
     → (app : App) (r : Result ArgMatches WordsFault) → app ≡ options_app names flags → IfOk r (HasMatchesOf app words)
     → IfOk r (λ m. (options : List Given) × AreOptions names flags words options × Match names flags options m)

@@ -1,4 +1,4 @@
--- What a line of `apply` asks for.
+-- The ask of a line of `apply`.
 use Rattle.std.specs.Prelude.{◌≡◌, ◌≢◌, ℕ, ◌+◌, ◌<◌, ◌^◌, List, [], ◌∷◌, ◌++◌, All, ◌==◌, ◌&&◌, if◌then◌else◌, nat_eq}
 use Rattle.std.specs.Prelude.{nat_le, nat_lt}
 use Rattle.std.specs.Prelude.{length, take, drop, codes, decimal, Option, Some, None, option_map, option_and_then}
@@ -39,7 +39,7 @@ change_by parts =
 unfoldable pub change_of : List ℕ → Option LineAsk
 change_of words = option_and_then change_by (parted words)
 
--- what the line asks for: `add TITLE`, `change N TITLE` or `remove N`. Any other line is a bad one
+-- the ask of a line: `add TITLE`, `change N TITLE` or `remove N`. Any other line is a bad one
 unfoldable pub line_ask : List ℕ → Option LineAsk
 line_ask line =
     if starts_with nat_eq line (codes "add ") then option_map Add (title_of (drop 4 line))

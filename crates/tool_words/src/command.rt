@@ -47,7 +47,7 @@ pub enum Command {
     },
 }
 
-/// What `show` prints.
+/// The document or listing that `show` prints.
 #[derive(Clone, Copy, Debug, PartialEq, Eq)]
 pub enum Show {
     /// The summary of the document that is the input.

@@ -13,7 +13,7 @@ use std::alloc::Global;
 /// The most bytes of a line's title.
 const LINE_TITLE_LIMIT: usize = 1_024;
 
-/// What a line of `apply` asks for.
+/// The ask of a line of `apply`.
 #[derive(Debug, Drop)]
 pub enum LineAsk {
     /// `add TITLE`: a new member with this title.

@@ -102,7 +102,7 @@ fn show(alloc: Global, words: &[String]) -> Result<Command, WordsFault>
     Ok(Command::Show(shown))
 }
 
-/// What `show` prints for `kind` and the word after it. `None` if they are not words of `show`.
+/// The document or listing that `show` prints for `kind` and the word after it. `None` if they are not words of `show`.
 fn shown_of(kind: &str, word: Option<&str>) -> Option<Show>
     ensures found { IfSome result (IsShow (kind.now ∷ cons_option (option_copied word.entry) [])) }
     ensures only { (shown : ShowValue) → IsShow (kind.now ∷ cons_option (option_copied word.entry) []) shown

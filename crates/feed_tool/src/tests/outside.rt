@@ -87,7 +87,7 @@ impl RuntimeClock for FixedTime {
     }
 }
 
-/// What the system's clock tells, and the milliseconds that `SystemClock` returns. A system can't tell a time before
+/// The time of the system's clock, and the milliseconds that `SystemClock` returns. A system can't tell a time before
 /// 1970.
 static TIMES: [(Option<u64>, u64); 6] = [
     (None, 0),

@@ -1,4 +1,4 @@
--- What `strip_prefix` says of bytes.
+-- The result of `strip_prefix` on bytes.
 use Rattle.std.proofs.Common.{◌≡◌, ◌≢◌, ℕ, List, ◌++◌, Option, Some, None, MatchOption, IfSome, option_copied, Bor, ap}
 use Rattle.std.proofs.Common.{sym, ◌∙◌}
 use Rattle.std.proofs.lemmas.Bool.Decides.{Decides-eqb}

@@ -1,4 +1,4 @@
--- What the walk over the path tells of the whole text.
+-- The walk over the path decides the whole text.
 use Rattle.std.proofs.Common.{◌≡◌, ◌↔◌, ℕ, List, ◌∷◌, ◌<◌, ◌==◌, Bool, true, false, get_or, drop, length, IsTrue, not}
 use Rattle.std.proofs.Common.{◌||◌, sym, ap, ◌∙◌, refl}
 use Rattle.std.proofs.lemmas.List.{at_drop_more, at_drop_all}

@@ -39,7 +39,7 @@ const CALLS: Token = Token(0);
 /// The system's report that something arrived at a connection.
 const ARRIVALS: Token = Token(1);
 
-/// What an `accept` came to.
+/// The result of an `accept`.
 enum Accepted<S> {
     Client(S),
     /// Nobody waits to connect, or the client has gone.

@@ -12,7 +12,7 @@ use Rattle.entry_reader.proofs.NumberLemmas.{byte_stops}
 use Rattle.entry_reader.proofs.NumberLemmas.{digit_leads, digit_err, digit_ok, number_fits}
 use Rattle.entry_reader.proofs.cursor.Cursor.number.Goals as goal
 
--- what is read from the byte on
+-- the result from the byte on is the result of the whole
 from_byte : (base byte : ℕ) (value : Option ℕ) (text rest tail end : List ℕ) → IsBase base →
     unwrap_or value 0 ≤ 0x10_FFFF → Leads (numbered_behind base) text (left base value) rest → rest ≡ byte ∷ tail →
     (r : Result ℕ Lapse) → Reads (left base value) (byte ∷ tail) r end → Reads (numbered_behind base) text r end

@@ -22,7 +22,7 @@ returns-in_err-length c =
     (same_reads whole_qname name_then to_qname from_qname text (Err e) end
     (joins_fails name_behind_joins text e end end c.in_err-length.ensures))
 
--- what is read after a name and its colon
+-- the result after a name and its colon is the result of the whole
 behind_colon : (text name after last end : List ℕ) → IsFound whole_name text name after → after ≡ colon ∷ last →
     (r : Result (List ℕ) Lapse) → Reads (local_behind name) last r end → Reads whole_qname text r end
 behind_colon text name after last end found is r read =

@@ -54,7 +54,7 @@ full : (g : Over) (c : After-append g)
 full g c =
     subst (λ (v : StoreValue). seal_count v ≡ (windows_of v.head v.history).full) (sym c.self.view_is) c.requires.full
 
--- what the append made of the log
+-- the log after the append
 appended : (g : Over) (c : In_default g) → let log = c.append.new.self in
     log ≡ record c.self.inside.journal {
       extents = c.self.inside.journal.extents ++ record {

@@ -30,7 +30,7 @@ area g c = ap (λ (l : LogValue). l.area) c.reserve.ensures.log ∙ c.self.invar
 keeps : (g : Over) (c : After-append g) → KeepsMirror c.args.self.now
 keeps g c = subst KeepsMirror c.self.view_is c.self.invariant
 
--- what the append began with
+-- the documents when the append begins
 documents : (g : Over) (c : After-append g) → KeepsDocuments (before g c).base (before g c).kept
     c.reserve.new.self
 documents g c =
