@@ -88,8 +88,7 @@ IsAtOnce (Show Pile) = ⊥
 IsAtOnce _ = Unit {0}
 
 -- whether the command has one defined end, with the status 0, and returns nothing but what it prints: each but
--- `mirror`,
--- `audit` and `drill`
+-- `mirror`, `audit` and `drill`
 abbrev pub IsTextual : Command → Type 0
 IsTextual (Mirror base fetch report capacity) = ⊥
 IsTextual Audit = ⊥

@@ -20,8 +20,7 @@
 //!
 //! Stands on `document_server` for the server, on `doc_source` for piles, the source, the input and the output, on
 //! `mirror_walk` for the mirror, on `coverage_certificate` and `coverage_auditor` for certificates, on `archive_sealer`
-//! and
-//! `atom_grammar` for the documents, and on the crates below them.
+//! and `atom_grammar` for the documents, and on the crates below them.
 #![tactic(auto)]
 
 mod commands;

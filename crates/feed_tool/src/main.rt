@@ -1,8 +1,10 @@
 //! The program `feed_tool`: one command for each thing that a feed needs.
 //!
-//! `feed_commands::run` does all the work, and its contract says which exit status the program ends with and which
-//! bytes it prints. `main` lends it the words of the command line, the files of the folder, the documents of HTTP
-//! servers, and the clock, the input, the output and the TCP of the system.
+//! `feed_commands::run` does all the work. `main` lends it the words of the command line, the files of the folder, the
+//! documents of HTTP servers, and the clock, the input, the output and the TCP of the system.
+//!
+//! The contract of `run` says which exit status the program ends with and which bytes it prints, as far as contracts
+//! see the content of what it is lent. They see the words, and of the system's objects only counts.
 //!
 //! `outside` has these as thin adapters. The traits that they implement are in the crates below, with objects in memory
 //! for tests.

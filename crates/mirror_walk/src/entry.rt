@@ -28,8 +28,8 @@ impl Mirror {
     /// A copy of the entry of a live member. `outcome` has listed the live entries, and no document was taken
     /// since.
     ///
-    /// If one feed served all documents held, it is the entry that counts by the published rules for
-    /// duplicates (RFC 5005 and RFC 6721).
+    /// If one feed served all documents held, it is the entry that counts by the published rule for
+    /// duplicates, in the chain of the best subscription document.
     ///
     /// Reads the entry's document back from the log, in one device call, unless it is the one that was read
     /// back last. So asking for the entries in order of number reads a document once for each run of its
@@ -47,7 +47,7 @@ impl Mirror {
         requires live { IsSome (live_at self.old.kept number) }
         requires stands { D.told → StandsFor (D.state disk.old) self.old }
         ensures entry { IfOk result (λ entry. D.told → live_at self.old.kept number ≡ Some entry) }
-        // If one feed served all documents held, the entry counts by the published rules.
+        // If one feed served all documents held, the entry counts in the chain of the best one.
         ensures published { IfOk result (λ entry. D.told → (head : HeadValue) (history : List Op)
             → self.old.base ≡ head.name.base → HoldsServed head history self.old.kept
             → Counts (chain_of self.old.kept) number entry) }

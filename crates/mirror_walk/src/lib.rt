@@ -17,9 +17,10 @@
 //! A document is taken only if it is canonical, lies at its own address below the mirror's base, belongs to
 //! the same feed as the others and adjoins its neighbours in the chain. `specs/Accept.antt` defines the
 //! answer to each offer. If all documents were served by one feed, none is refused, and a complete mirror
-//! shows the feed's entries as they were at the newest version offered: the law in `laws.rt` says so. These
-//! are the entries that count by the published rules for duplicates (RFC 5005 and RFC 6721): the clauses
-//! `published` of [`Mirror::next_live`] and [`Mirror::entry`] say so.
+//! shows the feed's entries as they were at the newest version offered: the law in `laws.rt` says so. In the
+//! chain of the best subscription document, these are the entries that count by the published rule for
+//! duplicates (RFC 5005, with the rule of `published_rule` for tombstones): the clauses `published` of
+//! [`Mirror::next_live`] and [`Mirror::entry`] say so. Archives held past that chain don't count.
 //!
 //! The texts of the documents taken are the payloads of the mirror area, in order. A crash at any moment of
 //! an offer leaves the documents held before, or those and the new one. In memory are only the parts of each

@@ -137,7 +137,7 @@ impl Mirror {
     /// live entries, and no document was taken since. Takes no memory.
     ///
     /// If one feed served all documents held, the live members are those with an entry that counts by the
-    /// published rules for duplicates (RFC 5005 and RFC 6721).
+    /// published rule for duplicates, in the chain of the best subscription document.
     pub fn next_live(&self, after: u32) -> Option<u32>
         requires unspent { is_spent self.now ≡ false }
         requires listed { IsTrue self.now.listed }

@@ -1,7 +1,8 @@
 -- Which entry of a member counts in a list of documents, by the published rules for duplicates.
 --
 -- RFC 5005: the entry with the latest `updated` counts. Among entries with the same `updated`, the one in the document
--- whose own `updated` is latest counts. RFC 6721: a tombstone removes each entry that isn't later than its `when`.
+-- whose own `updated` is latest counts. RFC 6721: a tombstone removes each entry from before its `when`. That it also
+-- removes an entry whose `updated` equals its `when` is a rule of this project.
 --
 -- The order of the documents in the list doesn't matter.
 use Rattle.std.specs.Prelude.{◌≡◌, ℕ, List, ◌<ℤ◌, ◌≤ℤ◌, Contains}

@@ -2,7 +2,7 @@ ghost use Rattle.published_rule.specs.Laws.{CutsKeepTheRule, ChainsKeepTheRule, 
 
 // The functions of this file do nothing. Each exists for its contract, which is a law over the definitions of specs/.
 
-/// The law of the published rule. In the documents of a lawful history an entry counts by RFC 5005 and RFC 6721 exactly
+/// The law of the published rule. In the documents of a lawful history an entry counts by `specs/Counts.antt` exactly
 /// where the newest document that has an item of its member has that entry. So a reader that goes by `updated` and
 /// `when` shows the same entries as one that goes by the order of the chain.
 ///

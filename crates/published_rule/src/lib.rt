@@ -3,10 +3,12 @@
 //!
 //! RFC 5005 tells a reader of several documents which of a member's entries counts: the one with the latest `updated`,
 //! and of those with the same `updated` the one of the document that was updated last. By RFC 6721 a tombstone removes
-//! the entries that aren't later than its `when`. `specs/Counts.antt` states both as one rule.
+//! the entries from before its `when`. The RFC doesn't speak of an entry whose `updated` equals the `when`. Here it is
+//! removed too: if a client posts an entry with an `updated` in the future and then deletes it, the tombstone's `when`
+//! is that `updated`. `specs/Counts.antt` states all of this as one rule.
 //!
 //! The feed goes by the order of its documents instead: the newest document that has an item of the member decides
-//! (`Shows` of `member_rules`). The law says that both rules give the same entries.
+//! (`Shows` of `member_rules`). The law says that both rules give the same entries in the documents of one chain.
 //!
 //! The crate has no code that runs. Its functions do nothing, so no edit of one could turn its meaning. A caller cites
 //! the contract:
