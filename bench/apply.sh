@@ -3,9 +3,9 @@
 # usage: bench/apply.sh N
 count=${1:?usage: bench/apply.sh N}
 top=$(CDPATH='' cd -- "$(dirname -- "$0")/.." && pwd) || exit 1
-"$top/feed_tool" apply 100 </dev/null >/dev/null || exit 1
+"$top/prove" || exit 1
 for lines in "$count" $((count * 2)); do
     seq "$lines" | sed 's/^/add Advisory number /' |
         /usr/bin/time -f "$lines lines: %e seconds, %M KiB" \
-            "$top/crates/feed_tool/out/feed_tool" apply 100 >/dev/null || exit 1
+            "$top/out/feed_tool" apply 100 >/dev/null || exit 1
 done

@@ -7,7 +7,7 @@ work=$(mktemp -d) || exit 1
 trap 'rm -rf "$work"' EXIT
 trap 'exit 1' HUP INT TERM
 
-"$top/feed_tool" apply 100 </dev/null >/dev/null || exit 1
+"$top/prove" || exit 1
 tool=$top/out/feed_tool
 for count in 1000 2000; do
     for run in 1 2 3; do

@@ -11,7 +11,7 @@ work=$(mktemp -d "${2:-/dev/shm}/mirror.XXXXXX") || exit 1
 trap 'rm -rf "$work"' EXIT
 trap 'exit 1' HUP INT TERM
 
-"$top/feed_tool" apply 100 </dev/null >/dev/null || exit 1
+"$top/prove" || exit 1
 tool=$top/out/feed_tool
 cd "$work" || exit 1
 "$tool" init --base http://feed.example/ --uuid 6d1f0c5a-93be-4c27-8d10-2b7f9e4a5c36 --title Feed --author Editor \

@@ -23,7 +23,7 @@ tool=${3:-$top/out/feed_tool}
 case $tool in
     */*) tool=$(CDPATH='' cd -- "$(dirname -- "$tool")" && pwd)/$(basename -- "$tool") || exit 1 ;;
 esac
-[ -n "$3" ] || "$top/feed_tool" apply 100 </dev/null >/dev/null || exit 1
+[ -n "$3" ] || "$top/prove" || exit 1
 
 disk=$(mktemp -d "${2:-${TMPDIR:-/tmp}}/serve.XXXXXX") || exit 1
 memory=$(mktemp -d /dev/shm/serve.XXXXXX) || { rm -rf "$disk"; exit 1; }

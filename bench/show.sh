@@ -44,7 +44,7 @@ awk 'BEGIN {
     }' "$work/short" >"$work/long" || exit 1
 
 measure_both() {
-    measure "show, $1" "$2" "$work/$1" "$top/crates/feed_tool/out/feed_tool" show
+    measure "show, $1" "$2" "$work/$1" "$top/out/feed_tool" show
     if command -v xmllint >/dev/null; then
         measure "xmllint, $1" "$2" "$work/$1" xmllint --noout --stream "$work/$1"
     fi

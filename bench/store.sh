@@ -10,7 +10,7 @@ work=$(mktemp -d "${2:-${TMPDIR:-/tmp}}/store.XXXXXX") || exit 1
 trap 'rm -rf "$work"' EXIT
 trap 'exit 1' HUP INT TERM
 
-"$top/feed_tool" apply 100 </dev/null >/dev/null || exit 1
+"$top/prove" || exit 1
 tool=$top/out/feed_tool
 
 # prints the changes a second of a command, whose input is a file

@@ -12,7 +12,7 @@ tool=${3:-$top/out/feed_tool}
 case $tool in
     */*) tool=$(CDPATH='' cd -- "$(dirname -- "$tool")" && pwd)/$(basename -- "$tool") || exit 1 ;;
 esac
-[ -n "$3" ] || "$top/feed_tool" apply 100 </dev/null >/dev/null || exit 1
+[ -n "$3" ] || "$top/prove" || exit 1
 
 work=$(mktemp -d "${2:-/dev/shm}/walk.XXXXXX") || exit 1
 server=

@@ -28,8 +28,7 @@ trap 'exit 1' HUP INT TERM
 : >"$work/failed"
 : >"$work/input"
 
-# The launcher builds the program first, if it has to.
-"$tool" apply 4 </dev/null >/dev/null || exit 1
+[ -n "$1" ] || "$top/prove" || exit 1
 
 cr=$(printf '\r')
 masked() { LC_ALL=C sed -E 's/[0-9]{4}-[0-9]{2}-[0-9]{2}T[0-9]{2}:[0-9]{2}:[0-9]{2}(\.[0-9]{3})?Z/NOW/g'; }

@@ -11,8 +11,8 @@ tool=${2:-$top/out/feed_tool}
 case $tool in
     */*) tool=$(CDPATH='' cd -- "$(dirname -- "$tool")" && pwd)/$(basename -- "$tool") || exit 1 ;;
 esac
-# The launcher builds the program. It isn't used below, because it looks at all sources at each start.
-[ -n "$2" ] || "$top/feed_tool" apply 4 </dev/null >/dev/null || exit 1
+# The launcher isn't used below, because it looks at all sources at each start.
+[ -n "$2" ] || "$top/prove" || exit 1
 
 work=$(mktemp -d) || exit 1
 (cd "$work" && "$tool" init --base http://feed.example/ --uuid 6d1f0c5a-93be-4c27-8d10-2b7f9e4a5c36 --title Feed \

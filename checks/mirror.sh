@@ -13,8 +13,8 @@ tool=${2:-$top/out/feed_tool}
 case $tool in
     */*) tool=$(CDPATH='' cd -- "$(dirname -- "$tool")" && pwd)/$(basename -- "$tool") || exit 1 ;;
 esac
-# The launcher builds the program. It isn't used below, because it looks at all sources at each start.
-[ -n "$2" ] || "$top/feed_tool" apply 4 </dev/null >/dev/null || exit 1
+# The launcher isn't used below, because it looks at all sources at each start.
+[ -n "$2" ] || "$top/prove" || exit 1
 
 work=$(mktemp -d) || exit 1
 mkdir "$work/server" "$work/mirror" || exit 1
