@@ -15,7 +15,7 @@ use Rattle.feed_recovery.specs.Faults.{IsLoadFault}
 use Rattle.feed_recovery.specs.Loading.{FailsBy, HasRaised, IsReadable, OnlyReads, Worked, fault_of}
 use Rattle.feed_recovery.specs.Opening.{AreSeals, IsJournal, IsSealCount, seal_of}
 use Rattle.feed_recovery.specs.declared.fault.LoadFault.{LoadFault}
-use Rattle.feed_recovery.specs.declared.fault.LoadFault.TheVariants.{BadSeal}
+use Rattle.feed_recovery.specs.declared.fault.LoadFault.TheVariants.{BadSeal, NoMemory}
 use Rattle.member_rules.specs.Coding.{heads, operations}
 use Rattle.member_rules.specs.Head.{HeadValue}
 use Rattle.member_rules.specs.declared.codec.CodecFault.{CodecFault}
@@ -83,6 +83,10 @@ readable_alone told s t a log readable reads = record {
   rules = readable.rules;
   listed = λ tells. subst (IsListed log) (sym (reads.areas a).content) (readable.listed tells);
 }
+
+-- out of memory has no cause in the payloads
+pub memory_fails : (told : Type 0) (s t : DiskState) → t.faults ≡ s.faults → FailsBy told s t NoMemory
+memory_fails told s t same = record { area = tt; cause = λ tells. tt; faults = same }
 
 -- a fault of a step is that of all steps until then
 pub fails_later : (told : Type 0) (s t u : DiskState) (fault : LoadFault) → OnlyReads s t → t.faults ≡ s.faults

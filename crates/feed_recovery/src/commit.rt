@@ -71,7 +71,10 @@ impl Store {
         begun_images_are_whole();
         archives_stay();
         windows_seal_in_turn();
-        self.append_seal(disk, &ready.seal)?;
+        if let Err(fault) = self.append_seal(disk, &ready.seal) {
+            drop(ready);
+            return Err(fault);
+        }
         self.append_operation(disk, ready)
     }
 
@@ -152,6 +155,7 @@ impl Store {
         } = ready;
         if let Err(fault) = self.journal.append(disk, &payload) {
             self.spent = true;
+            drop(operation);
             return Err(fault);
         }
         self.newest = None;

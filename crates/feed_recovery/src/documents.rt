@@ -37,7 +37,9 @@ impl Store {
             return Ok(Vec::from_slice(self.alloc, written.slice())?);
         }
         let document = subscription(self.alloc, &self.head, self.history.as_slice())?;
-        let written = write_doc(self.alloc, &document)?;
+        let text = write_doc(self.alloc, &document);
+        drop(document);
+        let written = text?;
         // Without memory for the copy, the next call makes the text again.
         self.newest = Bytes::of(self.alloc, written.as_slice()).ok();
         Ok(written)
@@ -222,9 +224,12 @@ fn document_of(
 {
     let entry = entry_of(alloc, payload, version)?;
     if entry.number != number || entry.updated != updated {
+        drop(entry);
         return Err(MemberFault::Changed { index: version });
     }
-    Ok(write_member(alloc, name, &entry)?)
+    let written = write_member(alloc, name, &entry);
+    drop(entry);
+    Ok(written?)
 }
 
 /// Returns the entry that the bytes of operation `version` set.

@@ -102,8 +102,18 @@ fn reopen<D: Disk>(
     }
     let head = head_of(alloc, disk, &mut journal)?;
     let mut members = Members::new(alloc, head.created);
-    let history = history_of(alloc, disk, &mut journal, &head, &mut members)?;
-    check_seals(alloc, disk, &head, history.as_slice(), &mut seals)?;
+    let history = match history_of(alloc, disk, &mut journal, &head, &mut members) {
+        Ok(history) => history,
+        Err(fault) => {
+            drop(head);
+            return Err(fault);
+        }
+    };
+    if let Err(fault) = check_seals(alloc, disk, &head, history.as_slice(), &mut seals) {
+        drop(head);
+        drop(history);
+        return Err(fault);
+    }
     Ok(Store {
         alloc,
         head,
@@ -185,8 +195,8 @@ fn history_of<D: Disk>(
     let count = journal.len();
     let mut history = Vec::with_capacity(alloc, count as usize - 1)?;
     for index in 1..count {
-        let operation = operation_of(alloc, disk, journal, head, members, index)?;
         members.prepare()?;
+        let operation = operation_of(alloc, disk, journal, head, members, index)?;
         members.commit(&operation);
         history.push(operation)?;
     }
@@ -224,6 +234,7 @@ fn operation_of<D: Disk>(
             if members.may_follow(&operation) && is_small(head, &operation) {
                 Ok(operation)
             } else {
+                drop(operation);
                 Err(LoadFault::BadRecord {
                     area: Area::Journal,
                     index,
@@ -330,7 +341,9 @@ fn check_seal<D: Disk>(
         Err(LogFault::NoMemory) => return Err(LoadFault::NoMemory),
     };
     let document = archive(alloc, head, history, number)?;
-    let text = write_doc(alloc, &document)?;
+    let written = write_doc(alloc, &document);
+    drop(document);
+    let text = written?;
     if payload == text {
         Ok(())
     } else {

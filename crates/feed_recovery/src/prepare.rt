@@ -94,7 +94,10 @@ impl Store {
           spare = self.new.spare;
         } }
     {
-        self.make_room()?;
+        if let Err(NoMemory) = self.make_room() {
+            drop(ask);
+            return Err(PrepareFault::NoMemory);
+        }
         let operation = decide(&self.members, &self.head.name, ask, now)?;
         self.ready(operation)
     }
@@ -107,8 +110,21 @@ impl Store {
         ensures commits { IfOk result (λ ready. MayCommit self.now ready) }
         ensures refused { IfErr result (IsFullFault self.now operation) }
     {
-        let seal = self.fitting_seal()?;
-        let payload = self.fitting_payload(&operation)?;
+        let seal = match self.fitting_seal() {
+            Ok(seal) => seal,
+            Err(fault) => {
+                drop(operation);
+                return Err(fault);
+            }
+        };
+        let payload = match self.fitting_payload(&operation) {
+            Ok(payload) => payload,
+            Err(fault) => {
+                drop(operation);
+                drop(seal);
+                return Err(fault);
+            }
+        };
         Ok(Ready {
             operation,
             version: self.version() + 1,
@@ -156,7 +172,9 @@ impl Store {
         }
         let number = self.seals.len() + 1;
         let document = archive(self.alloc, &self.head, self.history.as_slice(), number)?;
-        let text = write_doc(self.alloc, &document)?;
+        let written = write_doc(self.alloc, &document);
+        drop(document);
+        let text = written?;
         Ok(Some(Framed::of(self.alloc, text.as_slice())?))
     }
 
@@ -178,8 +196,7 @@ impl Store {
         self.history.reserve(1)?;
         self.members.prepare()?;
         self.journal.reserve()?;
-        self.seals.reserve()?;
-        Ok(())
+        self.seals.reserve()
     }
 }
 

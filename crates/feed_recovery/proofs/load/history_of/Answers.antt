@@ -9,7 +9,7 @@ use Rattle.feed_journal.specs.Log.{LogValue, payload_lengths}
 use Rattle.feed_journal.specs.Records.{records}
 use Rattle.feed_recovery.specs.Opening.{journal_of}
 use Rattle.feed_recovery.proofs.HistoryLemmas.{journal_more, lawful_more, long_log, long_more, table_spare, take_next}
-use Rattle.feed_recovery.proofs.ReadingLemmas.{fails_later, reads_join, worked_join}
+use Rattle.feed_recovery.proofs.ReadingLemmas.{fails_later, memory_fails, readable_later, reads_join, worked_join}
 use Rattle.feed_recovery.proofs.load.history_of.Goals as goal
 use Rattle.member_rules.specs.Coding.{operations}
 use Rattle.member_rules.specs.History.{IsLawful, history_limit}
@@ -21,14 +21,45 @@ returns-in_err-operation-clause-reads g c = reads_join (g.D.Disk.state c.args.di
     c.operation_of.ensures.reads
 
 pub returns-in_err-prepare-clause-reads : goal.returns-in_err-prepare-clause-reads
-returns-in_err-prepare-clause-reads g c = reads_join (g.D.Disk.state c.args.disk.now)
-    (g.D.Disk.state c.loop-index.disk) (g.D.Disk.state c.operation_of.new.disk) c.loop-index.invariant.reads
-    c.operation_of.ensures.reads
+returns-in_err-prepare-clause-reads g c = c.loop-index.invariant.reads
 
 pub returns-in_err-push-clause-reads : goal.returns-in_err-push-clause-reads
 returns-in_err-push-clause-reads g c = reads_join (g.D.Disk.state c.args.disk.now)
     (g.D.Disk.state c.loop-index.disk) (g.D.Disk.state c.operation_of.new.disk) c.loop-index.invariant.reads
     c.operation_of.ensures.reads
+
+pub operation_of-requires-clause-journal : goal.operation_of-requires-clause-journal
+operation_of-requires-clause-journal g c =
+    let before = c.loop-index.invariant in
+    readable_later g.D.Disk.told (g.D.Disk.state c.args.disk.now) (g.D.Disk.state c.loop-index.disk) Journal
+    c.args.journal.now c.loop-index.journal c.requires.journal before.reads before.worked
+
+pub commit-requires-clause-follows : goal.commit-requires-clause-follows
+commit-requires-clause-follows g c =
+    let created = c.args.head.now.created in
+    let history = c.loop-index.history.items in
+    let table = table_spare c.loop-index.members c.prepare.new.self created history c.loop-index.invariant.table
+    c.prepare.ensures.same in
+    record {
+      created = created;
+      history = history;
+      table_of = table;
+      follows = c.in_ok-operation.ensures.follows created history table;
+    }
+
+pub returns-in_err-prepare-clause-fault : goal.returns-in_err-prepare-clause-fault
+returns-in_err-prepare-clause-fault g c =
+    let returned = err_from_is_err_and c.from_residual-in_err-prepare.result
+    c.from_residual-in_err-prepare.ensures.1 in
+    rw (returned.1, returned.2) (memory_fails g.D.Disk.told (g.D.Disk.state c.args.disk.now)
+    (g.D.Disk.state c.loop-index.disk) c.loop-index.invariant.worked.faults)
+
+pub returns-in_err-push-clause-fault : goal.returns-in_err-push-clause-fault
+returns-in_err-push-clause-fault g c =
+    let returned = err_from_is_err_and c.from_residual-in_err-push.result c.from_residual-in_err-push.ensures.1 in
+    rw (returned.1, returned.2) (memory_fails g.D.Disk.told (g.D.Disk.state c.args.disk.now)
+    (g.D.Disk.state c.operation_of.new.disk)
+    (c.in_ok-operation.ensures.worked.faults ∙ c.loop-index.invariant.worked.faults))
 
 pub returns-in_err-operation-clause-fault : goal.returns-in_err-operation-clause-fault
 returns-in_err-operation-clause-fault g c =
@@ -36,7 +67,9 @@ returns-in_err-operation-clause-fault g c =
     let m = g.D.Disk.state c.loop-index.disk in
     let t = g.D.Disk.state c.operation_of.new.disk in
     let before = c.loop-index.invariant in
-    let fails = c.in_err-operation.ensures.fault c.loop-index.history.items before.table (λ tells. record {
+    let table = table_spare c.loop-index.members c.prepare.new.self c.args.head.now.created c.loop-index.history.items
+    before.table c.prepare.ensures.same in
+    let fails = c.in_err-operation.ensures.fault c.loop-index.history.items table (λ tells. record {
       is_head = c.requires.head;
       lawful = before.lawful;
       is = ap (λ (l : List ℕ). take c.loop-index.index (records l)) (before.reads.areas Journal).content
@@ -61,9 +94,10 @@ loop-index-preserved g c =
     let pushed : c.push.new.self.items ≡ history ++ operation ∷ [] = grind (arith, common_steps) in
     let few : length history < history_limit =
     omega (arith, before.count, c.loop-index-test.true, c.len-count.ensures, c.requires.journal.rules.few) in
-    let follows = found.follows head.created history before.table in
-    let table = c.commit.ensures.table head.created history
-    (table_spare c.loop-index.members c.prepare.new.self head.created history before.table c.prepare.ensures.same) in
+    let room = table_spare c.loop-index.members c.prepare.new.self head.created history before.table
+    c.prepare.ensures.same in
+    let follows = found.follows head.created history room in
+    let table = c.commit.ensures.table head.created history room in
     record {
       worked = worked_join s m t c.args.journal.now c.loop-index.journal c.operation_of.new.journal before.worked
           found.worked;

@@ -3,18 +3,53 @@ use Rattle.feed_disk.specs.declared.area.Area.TheVariants.{Journal, Sealed}
 use Rattle.feed_journal.specs.Log.{LogValue}
 use Rattle.feed_journal.specs.Records.{records}
 use Rattle.feed_journal.proofs.ExtentLemmas.{length-payloads}
-use Rattle.feed_recovery.specs.Opening.{AreSeals, IsSealCount}
-use Rattle.feed_recovery.proofs.ReadingLemmas.{both_logs, readable_alone, readable_later, reads_join, worked_join}
+use Rattle.feed_recovery.specs.Opening.{AreSeals, IsJournal, IsSealCount}
+use Rattle.feed_recovery.proofs.ReadingLemmas.{both_logs, fails_later, readable_alone, readable_later, reads_join}
+use Rattle.feed_recovery.proofs.ReadingLemmas.{worked_join}
 use Rattle.feed_recovery.proofs.load.reopen.Goals as goal
 use Rattle.member_rules.specs.declared.operation.Op.{Op}
 
-pub returns-in_err-history-clause-reads : goal.returns-in_err-history-clause-reads
-returns-in_err-history-clause-reads g c = reads_join (g.D.Disk.state c.args.disk.now)
+pub history_of-requires-clause-journal : goal.history_of-requires-clause-journal
+history_of-requires-clause-journal g c =
+    readable_later g.D.Disk.told (g.D.Disk.state c.args.disk.now) (g.D.Disk.state c.head_of.new.disk) Journal
+    c.args.journal c.head_of.new.journal c.requires.journal c.head_of.ensures.reads c.in_ok-head.ensures.worked
+
+pub check_seals-requires-clause-seals : goal.check_seals-requires-clause-seals
+check_seals-requires-clause-seals g c =
+    let s = g.D.Disk.state c.args.disk.now in
+    let n = g.D.Disk.state c.history_of.new.disk in
+    readable_alone g.D.Disk.told s n Sealed c.args.seals c.requires.seals
+    (reads_join s (g.D.Disk.state c.head_of.new.disk) n c.head_of.ensures.reads c.history_of.ensures.reads)
+
+pub returns-in-Err-clause-fault : goal.returns-in-Err-clause-fault
+returns-in-Err-clause-fault g c =
+    fails_later g.D.Disk.told (g.D.Disk.state c.args.disk.now) (g.D.Disk.state c.head_of.new.disk)
+    (g.D.Disk.state c.history_of.new.disk) c.in-Err.fault c.head_of.ensures.reads
+    c.in_ok-head.ensures.worked.faults c.in-Err.ensures.fault
+
+pub returns-in-Err-check_seals-clause-fault : goal.returns-in-Err-check_seals-clause-fault
+returns-in-Err-check_seals-clause-fault g c =
+    let s = g.D.Disk.state c.args.disk.now in
+    let m = g.D.Disk.state c.head_of.new.disk in
+    let n = g.D.Disk.state c.history_of.new.disk in
+    fails_later g.D.Disk.told s n (g.D.Disk.state c.check_seals.new.disk) c.in-Err-check_seals.fault
+    (reads_join s m n c.head_of.ensures.reads c.history_of.ensures.reads)
+    (c.in-Ok.ensures.worked.faults ∙ c.in_ok-head.ensures.worked.faults)
+    (c.in-Err-check_seals.ensures.fault (λ tells.
+    subst (λ (l : List Op). IsJournal (records (n.content Journal)) c.in_ok-head.head l) (sym c.as_slice.ensures.value)
+    (record {
+      is_head = c.in_ok-head.ensures.rules;
+      lawful = c.in-Ok.ensures.lawful;
+      is = ap records (c.history_of.ensures.reads.areas Journal).content ∙ c.in-Ok.ensures.payloads tells;
+    })))
+
+pub returns-in-Err-clause-reads : goal.returns-in-Err-clause-reads
+returns-in-Err-clause-reads g c = reads_join (g.D.Disk.state c.args.disk.now)
     (g.D.Disk.state c.head_of.new.disk) (g.D.Disk.state c.history_of.new.disk) c.head_of.ensures.reads
     c.history_of.ensures.reads
 
-pub returns-in_err-check_seals-clause-reads : goal.returns-in_err-check_seals-clause-reads
-returns-in_err-check_seals-clause-reads g c =
+pub returns-in-Err-check_seals-clause-reads : goal.returns-in-Err-check_seals-clause-reads
+returns-in-Err-check_seals-clause-reads g c =
     let s = g.D.Disk.state c.args.disk.now in
     let n = g.D.Disk.state c.history_of.new.disk in
     reads_join s n (g.D.Disk.state c.check_seals.new.disk)
@@ -37,8 +72,8 @@ returns-clause-calls g c =
     both_logs s n (g.D.Disk.state c.check_seals.new.disk) c.args.journal.calls c.history_of.new.journal.calls
     c.args.seals.calls c.check_seals.new.seals.calls
     (worked_join s m n c.args.journal c.head_of.new.journal c.history_of.new.journal c.in_ok-head.ensures.worked
-    c.in_ok-history.ensures.worked).calls
-    c.in_ok-check_seals.ensures.worked.calls
+    c.in-Ok.ensures.worked).calls
+    c.in_default.ensures.worked.calls
 
 pub returns-clause-stands : goal.returns-clause-stands
 returns-clause-stands g c = λ tells.
@@ -48,7 +83,7 @@ returns-clause-stands g c = λ tells.
     let u = g.D.Disk.state c.check_seals.new.disk in
     let told = g.D.Disk.told in
     let head = c.in_ok-head.head in
-    let history = c.in_ok-history.history.items in
+    let history = c.in-Ok.history.items in
     let seals = c.check_seals.new.seals in
     let first = c.head_of.ensures.reads in
     let second = c.history_of.ensures.reads in
@@ -57,27 +92,27 @@ returns-clause-stands g c = λ tells.
     let journal_there = readable_alone told n u Journal c.history_of.new.journal
     (readable_later told m n Journal c.head_of.new.journal c.history_of.new.journal
     (readable_later told s m Journal c.args.journal c.head_of.new.journal c.requires.journal first
-    c.in_ok-head.ensures.worked) second c.in_ok-history.ensures.worked) third in
+    c.in_ok-head.ensures.worked) second c.in-Ok.ensures.worked) third in
     let seals_there = readable_later told n u Sealed c.args.seals seals
     (readable_alone told s n Sealed c.args.seals c.requires.seals (reads_join s m n first second)) third
-    c.in_ok-check_seals.ensures.worked in
+    c.in_default.ensures.worked in
     let listed = seals_there.listed tells in
     let counted : IsSealCount head history (length c.args.seals.extents) =
     subst (λ (l : List Op). IsSealCount head l (length c.args.seals.extents)) c.as_slice.ensures.value
-    c.in_ok-check_seals.ensures.count in
+    c.in_default.ensures.count in
     record {
       opens = record {
         is_journal = record {
           is_head = c.in_ok-head.ensures.rules;
-          lawful = c.in_ok-history.ensures.lawful;
-          is = ap records (later.areas Journal).content ∙ c.in_ok-history.ensures.payloads tells;
+          lawful = c.in-Ok.ensures.lawful;
+          is = ap records (later.areas Journal).content ∙ c.in-Ok.ensures.payloads tells;
         };
         are_seals = subst (λ (l : List ℕ). AreSeals head history (records l)) (sym (third.areas Sealed).content)
             (subst (λ (l : List Op). AreSeals head l (records (n.content Sealed))) c.as_slice.ensures.value
-            (c.in_ok-check_seals.ensures.seals tells));
+            (c.in_default.ensures.seals tells));
         number = sym (ap length listed.list) ∙ length-payloads seals.extents (u.content Sealed);
         count = subst (λ (l : LogValue). IsSealCount head history (length l.extents))
-            (sym c.in_ok-check_seals.ensures.worked.log) counted;
+            (sym c.in_default.ensures.worked.log) counted;
       };
       journal = journal_there.listed tells;
       seals = listed;

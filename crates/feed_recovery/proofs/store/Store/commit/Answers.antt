@@ -7,18 +7,19 @@ use Rattle.feed_recovery.specs.Settled.{IsAtRest, OpensPast, Settled}
 use Rattle.feed_recovery.specs.Store.{StandsFor, StoreValue, seal_count}
 use Rattle.feed_recovery.proofs.BothLemmas.{both_joins}
 use Rattle.feed_recovery.proofs.CountLemmas.{calls_most, ok_both}
+use Rattle.feed_recovery.proofs.LoadedLemmas.{journal_sealed, mirror_journal, mirror_sealed, sealed_journal}
 use Rattle.feed_recovery.proofs.SettleLemmas.{adding_leaves, rest_settles, sealing_leaves}
 use Rattle.feed_recovery.proofs.store.Store.commit.Goals as goal
 
-pub returns-in_err-append_seal-clause-moments : goal.returns-in_err-append_seal-clause-moments
-returns-in_err-append_seal-clause-moments g c = λ tells rests.
+pub returns-in-Err-clause-moments : goal.returns-in-Err-clause-moments
+returns-in-Err-clause-moments g c = λ tells rests.
     sealing_leaves c.begun_images_are_whole.ensures (g.D.Disk.state c.args.disk.now)
     (g.D.Disk.state c.append_seal.new.disk) c.args.self.now c.args.ready.operation
     (g.met.D.Disk.is_disk c.args.disk.now) (c.requires.stands tells) rests
-    (c.append_seal.ensures.others Journal (λ clash. cc)) (c.append_seal.ensures.moments tells rests)
+    (c.append_seal.ensures.others Journal journal_sealed) (c.append_seal.ensures.moments tells rests)
 
-pub returns-in_err-append_seal-clause-mirror : goal.returns-in_err-append_seal-clause-mirror
-returns-in_err-append_seal-clause-mirror g c = c.append_seal.ensures.others Mirror (λ clash. cc)
+pub returns-in-Err-clause-mirror : goal.returns-in-Err-clause-mirror
+returns-in-Err-clause-mirror g c = c.append_seal.ensures.others Mirror mirror_sealed
 
 pub returns-clause-moments : goal.returns-clause-moments
 returns-clause-moments g c = λ tells rests.
@@ -28,16 +29,16 @@ returns-clause-moments g c = λ tells rests.
     let store = c.args.self.now in
     let operation = c.args.ready.operation in
     let sealed : StoreValue = record store { seals = c.append_seal.new.self.seals } in
-    let stands = subst (StandsFor m) c.append_seal.ensures.same (c.in_ok-append_seal.ensures.stands tells) in
-    let rests' = c.in_ok-append_seal.ensures.rests tells rests in
+    let stands = subst (StandsFor m) c.append_seal.ensures.same (c.in_default.ensures.stands tells) in
+    let rests' = c.in_default.ensures.rests tells rests in
     both_joins s m t (OpensPast store.head (store.history ++ operation ∷ []) (length store.history))
     (sealing_leaves c.begun_images_are_whole.ensures s m store operation (g.met.D.Disk.is_disk c.args.disk.now)
-    (c.requires.stands tells) rests (c.append_seal.ensures.others Journal (λ clash. cc))
+    (c.requires.stands tells) rests (c.append_seal.ensures.others Journal journal_sealed)
     (c.append_seal.ensures.moments tells rests))
     (adding_leaves c.begun_images_are_whole.ensures c.archives_stay.ensures c.windows_seal_in_turn.ensures sealed
-    operation c.in_ok-append_seal.ensures.full c.requires.prepared.lawful m t
+    operation c.in_default.ensures.full c.requires.prepared.lawful m t
     (g.met.D.Disk.is_disk c.append_seal.new.disk) stands rests'
-    (c.append_operation.ensures.others Sealed (λ clash. cc)) (c.append_operation.ensures.moments tells rests'))
+    (c.append_operation.ensures.others Sealed sealed_journal) (c.append_operation.ensures.moments tells rests'))
 
 pub returns-clause-settled : goal.returns-clause-settled
 returns-clause-settled g c =
@@ -51,14 +52,14 @@ returns-clause-settled g c =
     (λ stands rests tells start. rest_settles c.begun_images_are_whole.ensures t store.head store.history
     (seal_count store)
     (stands tells).opens
-    (rests tells (c.in_ok-append_seal.ensures.rests tells start)))
+    (rests tells (c.in_default.ensures.rests tells start)))
     c.append_operation.ensures.stands c.append_operation.ensures.rests
 
 pub returns-clause-mirror : goal.returns-clause-mirror
 returns-clause-mirror g c =
     alone_joins (g.D.Disk.state c.args.disk.now) (g.D.Disk.state c.append_seal.new.disk)
-    (g.D.Disk.state c.append_operation.new.disk) Mirror (c.append_seal.ensures.others Mirror (λ clash. cc))
-    (c.append_operation.ensures.others Mirror (λ clash. cc))
+    (g.D.Disk.state c.append_operation.new.disk) Mirror (c.append_seal.ensures.others Mirror mirror_sealed)
+    (c.append_operation.ensures.others Mirror mirror_journal)
 
 pub returns-clause-most : goal.returns-clause-most
 returns-clause-most g c =
@@ -70,5 +71,5 @@ returns-clause-most g c =
     calls_most c.args.ready.seal s m t c.args.self.now c.append_seal.new.self c.append_operation.new.self
     (ap (λ (v : StoreValue). v.journal) c.append_seal.ensures.same) c.append_operation.ensures.seals
     (subst (λ (v : ReadyValue). MakesSealCalls v.seal s m before after) c.ready.view_is
-    c.in_ok-append_seal.ensures.calls)
+    c.in_default.ensures.calls)
     c.append_operation.ensures.most
