@@ -1,14 +1,15 @@
 -- The entry that an operation's bytes set.
 use Rattle.std.proofs.Common.{◌≡◌, ◌⊎◌, inl, inr, ⊎_elim, ℕ, zero, suc, ◌-◌, ◌≤◌, List, Some, Ok, Err, Result, sym, ◌∙◌}
 use Rattle.std.proofs.Common.{ap, ℤ, Global, Vec, length, subst, arith}
-use Rattle.std.specs.Prelude.{slice_get, option_map, IfOk}
+use Rattle.std.specs.Prelude.{slice_get, slice_index_or, option_map, IfOk}
 use Rattle.std.proofs.lemmas.Option.{slice_get_within, slice_get-map, get_or_from_slice_get}
 use Rattle.atom_values.specs.Entry.{EntryValue, IsEntry}
 use Rattle.atom_writer.specs.Pieced.{text_of}
 use Rattle.atom_writer.proofs.PiecedLemmas.{one_reading}
 use Rattle.atom_writer.specs.Members.{member_text}
 use Rattle.feed_recovery.proofs.FaultLemmas.{some_same}
-use Rattle.feed_recovery.specs.Documents.{IsDocumentOf, IsLiveDocument, Sets}
+use Rattle.feed_recovery.specs.Documents.{IsDocumentOf, IsLiveDocument, IsMemberDocument, IsVersion}
+use Rattle.feed_recovery.specs.Documents.{Sets}
 use Rattle.feed_recovery.specs.Store.{StoreValue}
 use Rattle.feed_recovery.specs.declared.fault.MemberFault.{MemberFault}
 use Rattle.member_rules.specs.declared.state.State.TheVariants.{Live}
@@ -19,7 +20,7 @@ use Rattle.member_rules.specs.Fold.{fold_of, state_of}
 use Rattle.member_rules.specs.Head.{HeadValue, IsHead}
 use Rattle.member_rules.specs.History.{IsLawful}
 use Rattle.member_rules.specs.Laws.{IsSetBy}
-use Rattle.member_rules.specs.Operation.{IsOperation}
+use Rattle.member_rules.specs.Operation.{IsOperation, moment_of}
 use Rattle.member_rules.specs.declared.codec.CodecFault.{CodecFault}
 use Rattle.member_rules.specs.declared.codec.CodecFault.TheVariants.{BadField, NoMemory}
 use Rattle.member_rules.specs.declared.operation.Op.{Op}
@@ -113,11 +114,44 @@ state_within history number version updated state =
           changed,
     )) set.set_by
 
-module _ (store : StoreValue) (is_head : IsHead store.head) (number version : ℕ) (updated : ℤ)
+-- the moment of the operation that set an entry is the entry's `edited`
+pub set_edited : (history : List Op) (version : ℕ) (operation : Op) (entry : EntryValue)
+    → operation ≡ slice_index_or history (version - 1) operation
+    → (slice_get history (version - 1) ≡ Some (Add entry)) ⊎ (slice_get history (version - 1) ≡ Some (Change entry))
+    → moment_of operation ≡ entry.edited
+set_edited history version operation entry there (inl added) =
+    ap moment_of (there ∙ get_or_from_slice_get history (version - 1) (Add entry) operation added)
+set_edited history version operation entry there (inr changed) =
+    ap moment_of (there ∙ get_or_from_slice_get history (version - 1) (Change entry) operation changed)
+
+-- the document of the bytes that a disk gave, with the timestamps that the history has for the member
+pub document_version : (store : StoreValue) (number version : ℕ) (edited updated : ℤ) (operation : Op)
+    (payload : List ℕ) → state_of store.history number ≡ Live updated version
+    → operation ≡ slice_index_or store.history (version - 1) operation → edited ≡ moment_of operation
+    → (result : Result (Vec ℕ Global) MemberFault)
+    → IfOk result (λ written. IsDocumentOf store.head.name payload number edited updated written.items)
+    → IfOk result (λ written. IsMemberDocument store number written.items)
+document_version store number version edited updated operation payload state there dated (Err fault) made = tt
+document_version store number version edited updated operation payload state there dated (Ok written) made =
+    let set = version-is store.history number updated version state in
+    record {
+      stored = set.entry;
+      live = set.live;
+      entry = made.entry;
+      is_entry = made.is_entry;
+      version = record {
+        named = made.version.named;
+        edited_is = made.version.edited_is ∙ dated ∙ set_edited store.history version operation set.entry there set.set_by;
+        updated_is = made.version.updated_is ∙ sym set.dated;
+      };
+      text = made.text;
+    }
+
+module _ (store : StoreValue) (is_head : IsHead store.head) (number version : ℕ) (edited updated : ℤ)
     (state : state_of store.history number ≡ Live updated version) (payloads : List (List ℕ)) (payload : List ℕ)
     (is : IsJournal payloads store.head store.history) (found : slice_get payloads version ≡ Some payload) where
   pub document_live : (result : Result (Vec ℕ Global) MemberFault)
-      → IfOk result (λ written. IsDocumentOf store.head.name payload number written.items)
+      → IfOk result (λ written. IsDocumentOf store.head.name payload number edited updated written.items)
       → IfOk result (λ written. IsLiveDocument store number written.items)
   document_live (Err fault) made = tt
   document_live (Ok written) made =

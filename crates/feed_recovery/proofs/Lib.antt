@@ -16,6 +16,8 @@ pub mod InitLemmas
 pub mod LoadedLemmas
 -- `Store::load`: its steps, which write nothing
 pub mod ReadingLemmas
+-- `Store::load`: `refusal`, its refusals over any disk
+pub mod RefusedLemmas
 -- `Store::prepare`: its refusals
 pub mod RefusalLemmas
 -- `Store::due_seal`: the number and the length of the next seal

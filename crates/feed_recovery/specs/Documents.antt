@@ -27,11 +27,20 @@ pub record IsLiveSince (history : List Op) (number version : ℕ) : Type 0 where
   pub updated : ℤ
   pub state : state_of history number ≡ Live updated version
 
--- the bytes are the member document of an entry of this member
+-- the entry is of this member, and has these timestamps
+pub record IsVersion (entry : EntryValue) (number : ℕ) (edited updated : ℤ) : Type 0 where
+  pub named : entry.number ≡ number
+  pub edited_is : entry.edited ≡ edited
+  pub updated_is : entry.updated ≡ updated
+
+-- The bytes are the member document of an entry of this member. The entry has the `edited` and the `updated` of the
+-- entry that the member has, so it isn't another version.
 pub record IsMemberDocument (store : StoreValue) (number : ℕ) (written : List ℕ) : Type 0 where
+  pub stored : EntryValue
+  pub live : (fold_of store.history).live number ≡ Some stored
   pub entry : EntryValue
   pub is_entry : IsEntry entry
-  pub named : entry.number ≡ number
+  pub version : IsVersion entry number stored.edited stored.updated
   pub text : written ≡ member_text store.head.name entry
 
 -- the bytes are the member document of the entry that the member has
@@ -52,11 +61,13 @@ IsMemberFault store number NoMemory = (version : ℕ) × IsLiveSince store.histo
 abbrev pub Sets : List ℕ → EntryValue → Type 0
 Sets payload entry = (payload ≡ text_of operations (Add entry)) ⊎ (payload ≡ text_of operations (Change entry))
 
--- the bytes are the member document of the entry, which is of this member, that the operation's bytes set
-pub record IsDocumentOf (name : FeedName) (payload : List ℕ) (number : ℕ) (written : List ℕ) : Type 0 where
+-- the bytes are the member document of the entry that the operation's bytes set; it is of this member, and has these
+-- timestamps
+pub record IsDocumentOf (name : FeedName) (payload : List ℕ) (number : ℕ) (edited updated : ℤ)
+    (written : List ℕ) : Type 0 where
   pub entry : EntryValue
   pub is_entry : IsEntry entry
-  pub named : entry.number ≡ number
+  pub version : IsVersion entry number edited updated
   pub sets : Sets payload entry
   pub text : written ≡ member_text name entry
 

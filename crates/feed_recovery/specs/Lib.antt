@@ -3,6 +3,7 @@ pub mod Settled
 pub mod Init
 pub mod Faults
 pub mod Loading
+pub mod Refused
 pub mod Store
 pub mod Prepare
 pub mod Commit

@@ -1,4 +1,4 @@
-ghost use Rattle.std.specs.Prelude.{◌≡◌, ◌≢◌, ◌↔◌, ◌-◌, ◌≤◌, ℕ, true, false, length, slice_get, IfOk, IfErr, OnOk};
+ghost use Rattle.std.specs.Prelude.{◌≡◌, ◌≢◌, ◌↔◌, ◌-◌, ◌≤◌, ℕ, true, false, length, slice_get, IfOk, IfErr, OnOk, IsTrue};
 ghost use Rattle.atom_values.specs.Counts.{Rose};
 ghost use Rattle.atom_values.specs.Entry.{EntryValue, IsEntry};
 ghost use Rattle.atom_writer.specs.Pieces.{text};
@@ -8,7 +8,8 @@ ghost use Rattle.feed_disk.specs.declared.area.Area.TheVariants.{Journal};
 ghost use Rattle.feed_journal.specs.Log.{MakesCalls, MakesSome};
 ghost use Rattle.feed_journal.specs.Records.{records};
 ghost use Rattle.feed_recovery.specs.Documents.{IsDocumentOf, IsEntryFault, IsLiveDocument, IsLiveSince};
-ghost use Rattle.feed_recovery.specs.Documents.{IsMemberDocument, IsMemberFault, IsSealed, Sets, sealed_count};
+ghost use Rattle.feed_recovery.specs.Documents.{IsMemberDocument, IsMemberFault, IsSealed, IsVersion, Sets};
+ghost use Rattle.feed_recovery.specs.Documents.{sealed_count};
 ghost use Rattle.feed_recovery.specs.Opening.{seal_of};
 ghost use Rattle.feed_recovery.specs.Store.{StandsFor, call_count, is_spent};
 ghost use Rattle.member_rules.specs.Documents as documents;
@@ -117,7 +118,7 @@ impl Store {
         requires unspent { is_spent self.old ≡ false }
         requires stands { D.told → StandsFor (D.state disk.old) self.old }
         ensures document { IfOk result (λ written. D.told → IsLiveDocument self.old number written.items) }
-        // With any disk, it is the document of an entry of this member.
+        // With any disk, its entry has the number, the `edited` and the `updated` of the member's entry.
         ensures entry { IfOk result (λ written. IsMemberDocument self.old number written.items) }
         ensures live { OnOk result ((version : ℕ) × IsLiveSince self.old.history number version) }
         ensures refused { IfErr result (IsMemberFault self.old number) }
@@ -150,11 +151,13 @@ impl Store {
             State::Live { updated, version } => (updated, version),
         };
         let payload = self.read_operation(disk, version)?;
+        let edited = self.history[version as usize - 1].moment();
         document_of(
             self.alloc,
             &self.head.name,
             payload.as_slice(),
             number,
+            edited,
             updated,
             version,
         )
@@ -205,31 +208,39 @@ impl Store {
 }
 
 /// Returns the member document of the entry that the bytes of operation `version` set. Any other bytes are
-/// `Changed`, and so is an entry of another member or with another `updated`: a disk whose content contracts
-/// don't see may give them.
+/// `Changed`, and so is an entry of another member, or with another `edited` or `updated`: a disk whose content
+/// contracts don't see may give them.
 fn document_of(
     alloc: Global,
     name: &FeedName,
     payload: &[u8],
     number: u32,
+    edited: Stamp,
     updated: Stamp,
     version: u32,
 ) -> Result<Vec<u8>, MemberFault>
-    ensures document { IfOk result (λ written. IsDocumentOf name.now payload.now number written.items) }
+    ensures document { IfOk result (λ written.
+        IsDocumentOf name.now payload.now number edited updated written.items) }
     ensures refused { IfErr result (IsEntryFault version) }
     ensures no_fault { result ≢ Err MemberFault.DiskFault }
     ensures never { (entry : EntryValue) → IsEntry entry → Sets payload.now entry
-        → entry.number ≡ number → entry.updated ≡ updated
-        → (index : ℕ) → result ≢ Err (MemberFault.Changed index) }
+        → IsVersion entry number edited updated → (index : ℕ) → result ≢ Err (MemberFault.Changed index) }
 {
     let entry = entry_of(alloc, payload, version)?;
-    if entry.number != number || entry.updated != updated {
+    if !is_version(&entry, number, edited, updated) {
         drop(entry);
         return Err(MemberFault::Changed { index: version });
     }
     let written = write_member(alloc, name, &entry);
     drop(entry);
     Ok(written?)
+}
+
+/// Whether the entry is of this member, and has these timestamps.
+fn is_version(entry: &Entry, number: u32, edited: Stamp, updated: Stamp) -> bool
+    ensures { IsTrue result ↔ IsVersion entry.now number edited updated }
+{
+    entry.number == number && entry.edited == edited && entry.updated == updated
 }
 
 /// Returns the entry that the bytes of operation `version` set.

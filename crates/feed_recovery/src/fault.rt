@@ -25,11 +25,11 @@ pub enum LoadFault {
     NotInit,
     /// The journal's payload `index`, counted from 0, can't be there. If it isn't the bytes of a head (payload 0)
     /// or of an operation, `at` is the offset of its first bad field. If it is an operation that can't follow
-    /// those before it, or whose entry is too large, `at` is its length.
+    /// those before it, or whose entry is too large, `at` is its length. If it is read short, `at` is 0.
     BadRecord { area: Area, index: u32, at: usize },
     /// A journal of `records` operations can't have `seals` seals.
     SealCount { records: u32, seals: u32 },
-    /// The seal `index`, counted from 1, isn't the text of that archive.
+    /// The seal `index`, counted from 1, isn't the text of that archive, or is read short.
     BadSeal { index: u32 },
     /// A device call failed.
     DiskFault,

@@ -7,9 +7,11 @@ ghost use Rattle.feed_disk.specs.declared.area.Area.{Area as AreaValue};
 ghost use Rattle.feed_disk.specs.declared.area.Area.TheVariants.{Journal, Sealed, Mirror};
 ghost use Rattle.feed_journal.specs.Log.{MakesCalls, MakesSome, payload_lengths};
 ghost use Rattle.feed_journal.specs.Records.{records};
-ghost use Rattle.feed_recovery.specs.Faults.{IsLoadFault};
+ghost use Rattle.feed_recovery.specs.Faults.{IsBadOperation, IsLoadFault};
 ghost use Rattle.feed_recovery.specs.Loading.{FailsBy, IsReadable, OnlyReads, Worked, calls_of, fault_of};
 ghost use Rattle.feed_recovery.specs.Opening.{AreSeals, IsJournal, IsSealCount, Opens, journal_of, seal_of};
+ghost use Rattle.feed_recovery.specs.Refused.{IsNoHead, IsRefusal, IsShort, IsShortOrBad, Refuses, RefusesHistory};
+ghost use Rattle.feed_recovery.specs.Refused.{RefusesRecord, RefusesSeal, RefusesSeals};
 ghost use Rattle.feed_recovery.specs.Settled.{AlwaysLeavesBoth, AreWhole, IsAtRest, OpensPast, Settled};
 ghost use Rattle.feed_recovery.specs.Store.{StandsFor, call_count, is_spent, least_frame};
 ghost use Rattle.member_rules.specs.Coding.{heads, operations};
@@ -49,8 +51,8 @@ impl Store {
         ensures refused { IfErr result (λ fault. D.told
             → IsLoadFault (records ((D.state disk.old).content Journal))
             (records ((D.state disk.old).content Sealed)) fault) }
-        ensures area { (area : AreaValue) (index at : ℕ)
-            → result ≡ Err (LoadFault.BadRecord area index at) → area ≡ Journal }
+        // With any disk, the refusal is one of two logs.
+        ensures refusal { IfErr result IsRefusal }
         ensures same { OnOk result (D.told → (a : AreaValue)
             → records ((D.state disk.new).content a) ≡ records ((D.state disk.old).content a)) }
 
@@ -96,6 +98,7 @@ fn reopen<D: Disk>(
     ensures worked { OnOk result ((D.state disk.new).faults ≡ (D.state disk.old).faults) }
     ensures reads { OnlyReads (D.state disk.old) (D.state disk.new) }
     ensures fault { IfErr result (FailsBy D.told (D.state disk.old) (D.state disk.new)) }
+    ensures refused { IfErr result (Refuses journal.extents seals.extents) }
 {
     if journal.len() == 0 {
         return Err(LoadFault::NotInit);
@@ -126,7 +129,7 @@ fn reopen<D: Disk>(
     })
 }
 
-/// Reads the journal's payload of an index. A payload that is shorter than it was is a bad record at its start.
+/// Reads the journal's payload of an index. A payload that is read short is a bad record of this index at 0.
 fn payload_of<D: Disk>(disk: &mut D, journal: &mut Log, index: u32) -> Result<Vec<u8>, LoadFault>
     requires journal { IsReadable D.told (D.state disk.old) Journal journal.old }
     requires within { index < length journal.old.extents }
@@ -137,6 +140,7 @@ fn payload_of<D: Disk>(disk: &mut D, journal: &mut Log, index: u32) -> Result<Ve
     ensures worked { OnOk result (Worked (D.state disk.old) (D.state disk.new) journal.old journal.new) }
     ensures reads { OnlyReads (D.state disk.old) (D.state disk.new) }
     ensures fault { IfErr result (FailsBy D.told (D.state disk.old) (D.state disk.new)) }
+    ensures refused { IfErr result (RefusesRecord IsShort index) }
 {
     match journal.read(disk, index) {
         Ok(payload) => Ok(payload),
@@ -160,6 +164,8 @@ fn head_of<D: Disk>(alloc: Global, disk: &mut D, journal: &mut Log) -> Result<He
     ensures worked { OnOk result (Worked (D.state disk.old) (D.state disk.new) journal.old journal.new) }
     ensures reads { OnlyReads (D.state disk.old) (D.state disk.new) }
     ensures fault { IfErr result (FailsBy D.told (D.state disk.old) (D.state disk.new)) }
+    ensures refused { IfErr result
+        (RefusesRecord (IsShortOrBad IsNoHead journal.old.extents 0) 0) }
 {
     let payload = payload_of(disk, journal, 0)?;
     match read_head(alloc, payload.as_slice()) {
@@ -191,6 +197,7 @@ fn history_of<D: Disk>(
     ensures worked { OnOk result (Worked (D.state disk.old) (D.state disk.new) journal.old journal.new) }
     ensures reads { OnlyReads (D.state disk.old) (D.state disk.new) }
     ensures fault { IfErr result (FailsBy D.told (D.state disk.old) (D.state disk.new)) }
+    ensures refused { IfErr result (RefusesHistory head.now journal.old.extents) }
 {
     let count = journal.len();
     let mut history = Vec::with_capacity(alloc, count as usize - 1)?;
@@ -227,6 +234,9 @@ fn operation_of<D: Disk>(
     ensures fault { (history : List Operation) → IsTableOf members.now head.now.created history
         → (D.told → IsJournal (take index (records ((D.state disk.old).content Journal))) head.now history)
         → IfErr result (FailsBy D.told (D.state disk.old) (D.state disk.new)) }
+    ensures refused { (history : List Operation) → IsTableOf members.now head.now.created history
+        → IfErr result (RefusesRecord
+        (IsShortOrBad (IsBadOperation head.now history) journal.old.extents index) index) }
 {
     let payload = payload_of(disk, journal, index)?;
     match read_op(alloc, payload.as_slice()) {
@@ -288,6 +298,7 @@ fn check_seals<D: Disk>(
     ensures reads { OnlyReads (D.state disk.old) (D.state disk.new) }
     ensures fault { (D.told → IsJournal (records ((D.state disk.old).content Journal)) head.now history.now)
         → IfErr result (FailsBy D.told (D.state disk.old) (D.state disk.new)) }
+    ensures refused { IfErr result (RefusesSeals head.now history.now seals.old.extents) }
 {
     let found = seals.len();
     if !is_seal_count(head, history, found) {
@@ -332,6 +343,7 @@ fn check_seal<D: Disk>(
         → (D.told → AreSeals head.now history.now
         (take index (records ((D.state disk.old).content Sealed))))
         → IfErr result (FailsBy D.told (D.state disk.old) (D.state disk.new)) }
+    ensures refused { IfErr result (RefusesSeal (index + 1)) }
 {
     let number = index + 1;
     let payload = match seals.read(disk, index) {

@@ -1,4 +1,4 @@
-use Rattle.std.proofs.Common.{◌≡◌, ◌+◌, List, ℕ, length, take, Some, sym, ◌∙◌, ap, subst}
+use Rattle.std.proofs.Common.{◌≡◌, ◌+◌, ◌<◌, List, ℕ, length, take, Some, sym, ◌∙◌, ap, subst, arith}
 use Rattle.std.specs.Prelude.{slice_get}
 use Rattle.std.proofs.lemmas.Result.{err_from_is_err_and}
 use Rattle.feed_disk.specs.declared.area.Area.TheVariants.{Journal, Sealed}
@@ -7,6 +7,7 @@ use Rattle.feed_journal.specs.Records.{records}
 use Rattle.feed_recovery.specs.Opening.{AreSeals, IsJournal, IsSealCount, seal_of}
 use Rattle.feed_recovery.proofs.HistoryLemmas.{full_within, seals_more}
 use Rattle.feed_recovery.proofs.ReadingLemmas.{fails_later, reads_join, worked_join}
+use Rattle.feed_recovery.proofs.RefusedLemmas.{refused-seal}
 use Rattle.feed_recovery.proofs.load.check_seals.Goals as goal
 
 pub check_seal-requires-clause-full : goal.check_seal-requires-clause-full
@@ -53,3 +54,11 @@ loop-index-preserved g c =
           ≡ Some (seal_of c.args.head.now c.args.history.now (c.loop-index.index + 1)))
           (before.reads.areas Sealed).content (c.in_ok-check_seal.ensures.seal tells));
     }
+
+pub returns-in_err-check_seal-clause-refused : goal.returns-in_err-check_seal-clause-refused
+returns-in_err-check_seal-clause-refused g c =
+    let inside : c.loop-index.index < length c.args.seals.now.extents =
+    omega (arith, c.loop-index-test.true, c.len-found.ensures) in
+    let returned = err_from_is_err_and c.from_residual.result c.from_residual.ensures.1 in
+    rw (returned.1, returned.2) (refused-seal c.args.head.now c.args.history.now c.args.seals.now.extents
+    c.loop-index.index c.in_err-check_seal.field-0.0 inside c.in_err-check_seal.ensures.refused)

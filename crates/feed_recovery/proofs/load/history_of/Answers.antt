@@ -7,9 +7,11 @@ use Rattle.atom_writer.specs.Pieced.{text_of}
 use Rattle.feed_disk.specs.declared.area.Area.TheVariants.{Journal}
 use Rattle.feed_journal.specs.Log.{LogValue, payload_lengths}
 use Rattle.feed_journal.specs.Records.{records}
+use Rattle.feed_recovery.specs.Refused.{RefusesHistory}
 use Rattle.feed_recovery.specs.Opening.{journal_of}
 use Rattle.feed_recovery.proofs.HistoryLemmas.{journal_more, lawful_more, long_log, long_more, table_spare, take_next}
 use Rattle.feed_recovery.proofs.ReadingLemmas.{fails_later, memory_fails, readable_later, reads_join, worked_join}
+use Rattle.feed_recovery.proofs.RefusedLemmas.{refused-after}
 use Rattle.feed_recovery.proofs.load.history_of.Goals as goal
 use Rattle.member_rules.specs.Coding.{operations}
 use Rattle.member_rules.specs.History.{IsLawful, history_limit}
@@ -133,3 +135,19 @@ returns-clause-long g c =
     long_log c.args.journal.now.extents c.args.journal.now.size (length c.loop-index.history.items)
     c.requires.journal.rules.follow many
     (λ k n from_one inside there. before.long k n from_one (omega (arith, inside, many, before.count)) there)
+
+pub returns-in_err-operation-clause-refused : goal.returns-in_err-operation-clause-refused
+returns-in_err-operation-clause-refused g c =
+    let before = c.loop-index.invariant in
+    let head = c.args.head.now in
+    let fault = c.in_err-operation.field-0.0 in
+    let inside : c.loop-index.index < length c.args.journal.now.extents =
+    omega (arith, c.loop-index-test.true, c.len-count.ensures) in
+    let refused = refused-after head c.loop-index.history.items c.loop-index.journal.extents c.loop-index.index fault
+    before.lawful before.count
+    (subst (λ (l : LogValue). c.loop-index.index < length l.extents) (sym before.worked.log) inside)
+    (c.in_err-operation.ensures.refused c.loop-index.history.items before.table) in
+    let returned = err_from_is_err_and c.from_residual-in_err-operation.result
+    c.from_residual-in_err-operation.ensures.1 in
+    rw (returned.1, returned.2)
+    (subst (λ (l : LogValue). RefusesHistory head l.extents fault) before.worked.log refused)

@@ -1,4 +1,5 @@
-use Rattle.std.proofs.Common.{List, ℕ, length, sym, ◌∙◌, ap, subst}
+use Rattle.std.proofs.Common.{◌≡◌, ◌+◌, ◌<◌, List, ℕ, length, sym, ◌∙◌, ap, subst, arith}
+use Rattle.std.proofs.lemmas.Result.{err_from_is_err_and}
 use Rattle.feed_disk.specs.declared.area.Area.TheVariants.{Journal, Sealed}
 use Rattle.feed_journal.specs.Log.{LogValue}
 use Rattle.feed_journal.specs.Records.{records}
@@ -6,6 +7,8 @@ use Rattle.feed_journal.proofs.ExtentLemmas.{length-payloads}
 use Rattle.feed_recovery.specs.Opening.{AreSeals, IsJournal, IsSealCount}
 use Rattle.feed_recovery.proofs.ReadingLemmas.{both_logs, fails_later, readable_alone, readable_later, reads_join}
 use Rattle.feed_recovery.proofs.ReadingLemmas.{worked_join}
+use Rattle.feed_recovery.specs.Refused.{RefusesHistory, RefusesSeals}
+use Rattle.feed_recovery.proofs.RefusedLemmas.{refuses-head, refuses-history, refuses-seals}
 use Rattle.feed_recovery.proofs.load.reopen.Goals as goal
 use Rattle.member_rules.specs.declared.operation.Op.{Op}
 
@@ -117,3 +120,35 @@ returns-clause-stands g c = λ tells.
       journal = journal_there.listed tells;
       seals = listed;
     }
+
+pub returns-in_err-head-clause-refused : goal.returns-in_err-head-clause-refused
+returns-in_err-head-clause-refused g c =
+    let some : 0 < length c.args.journal.extents = omega (arith, c.len.ensures, c.if-len-eq0.false) in
+    let returned = err_from_is_err_and c.from_residual.result c.from_residual.ensures.1 in
+    rw (returned.1, returned.2) (refuses-head c.args.journal.extents c.args.seals.extents c.in_err-head.field-0.0
+    some c.in_err-head.ensures.refused)
+
+pub returns-in_err-history-clause-refused : goal.returns-in_err-history-clause-refused
+returns-in_err-history-clause-refused g c =
+    let head = c.in_ok-head.head in
+    let fault = c.in_err-history.field-0.0 in
+    let refused = subst (λ (l : LogValue). RefusesHistory head l.extents fault) c.in_ok-head.ensures.worked.log
+    c.in_err-history.ensures.refused in
+    let returned = err_from_is_err_and c.from_residual-in_err-history.result
+    c.from_residual-in_err-history.ensures.1 in
+    rw (returned.1, returned.2) (refuses-history c.args.journal.extents c.args.seals.extents head fault
+    c.in_ok-head.ensures.rules refused)
+
+pub returns-in_err-check_seals-clause-refused : goal.returns-in_err-check_seals-clause-refused
+returns-in_err-check_seals-clause-refused g c =
+    let head = c.in_ok-head.head in
+    let history = c.in_ok-history.history.items in
+    let fault = c.in_err-check_seals.field-0.0 in
+    let many : length c.args.journal.extents ≡ length history + 1 =
+    sym (ap (λ (l : LogValue). length l.extents) c.in_ok-head.ensures.worked.log) ∙ c.in_ok-history.ensures.count in
+    let refused = subst (λ (l : List Op). RefusesSeals head l c.args.seals.extents fault) c.as_slice.ensures.value
+    c.in_err-check_seals.ensures.refused in
+    let returned = err_from_is_err_and c.from_residual-in_err-check_seals.result
+    c.from_residual-in_err-check_seals.ensures.1 in
+    rw (returned.1, returned.2) (refuses-seals c.args.journal.extents c.args.seals.extents head history fault
+    c.in_ok-head.ensures.rules c.in_ok-history.ensures.lawful many refused)

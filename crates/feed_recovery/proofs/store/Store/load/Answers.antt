@@ -1,7 +1,8 @@
-use Rattle.std.proofs.Common.{List, ℕ, subst}
+use Rattle.std.proofs.Common.{List, ℕ, Err, ap, subst}
 use Rattle.std.proofs.lemmas.Result.{err_from_is_err_and}
 use Rattle.feed_disk.specs.declared.area.Area.TheVariants.{Journal, Sealed, Mirror}
 use Rattle.feed_journal.specs.Records.{records}
+use Rattle.feed_journal.specs.declared.fault.LogFault.{LogFault}
 use Rattle.feed_recovery.specs.Faults.{IsLoadFault}
 use Rattle.feed_recovery.specs.Store.{seal_count}
 use Rattle.feed_recovery.proofs.FaultLemmas.{opens_without}
@@ -9,6 +10,7 @@ use Rattle.feed_recovery.proofs.LoadedLemmas.{all_same, alone_stands, journal_sa
 use Rattle.feed_recovery.proofs.LoadedLemmas.{loaded_calls, loaded_rests, mirror_alone, mirror_journal}
 use Rattle.feed_recovery.proofs.LoadedLemmas.{sealed_journal, sealed_same, sealed_stands, settled_stays}
 use Rattle.feed_recovery.proofs.ReadingLemmas.{reads_begin}
+use Rattle.feed_recovery.proofs.RefusedLemmas.{refusal-log}
 use Rattle.feed_recovery.proofs.SettleLemmas.{rest_settles}
 use Rattle.feed_recovery.proofs.store.Store.load.Goals as goal
 
@@ -121,3 +123,26 @@ returns-clause-calls g c =
     (g.D.Disk.state c.reopen.new.disk) c.in_ok-journal.journal.calls c.in_ok-seals.seals.calls _
     c.in_ok-journal.ensures.calls.0 c.in_ok-seals.ensures.calls.0 c.in_ok-journal.ensures.calls.1
     c.in_ok-seals.ensures.calls.1 c.in_ok-store.ensures.calls
+
+pub returns-in_err-journal-clause-refusal : goal.returns-in_err-journal-clause-refusal
+returns-in_err-journal-clause-refusal g c =
+    let returned = err_from_is_err_and c.from_residual.result c.from_residual.ensures.1 in
+    rw returned.1 (refusal-log c.in_err-journal.field-0.0 returned.0
+    (λ index is. c.in_err-journal.ensures.unchanged index (ap (λ (f : LogFault). Err f) is)) returned.2)
+
+pub returns-in_err-seals-clause-refusal : goal.returns-in_err-seals-clause-refusal
+returns-in_err-seals-clause-refusal g c =
+    let returned = err_from_is_err_and c.from_residual-in_err-seals.result c.from_residual-in_err-seals.ensures.1 in
+    rw returned.1 (refusal-log c.in_err-seals.field-0.0 returned.0
+    (λ index is. c.in_err-seals.ensures.unchanged index (ap (λ (f : LogFault). Err f) is)) returned.2)
+
+pub returns-in_err-store-clause-refusal : goal.returns-in_err-store-clause-refusal
+returns-in_err-store-clause-refusal g c =
+    let returned = err_from_is_err_and c.from_residual-in_err-store.result c.from_residual-in_err-store.ensures.1 in
+    rw (returned.1, returned.2) (record {
+      journal = c.in_ok-journal.journal;
+      seals = c.in_ok-seals.seals;
+      journal_rules = c.in_ok-journal.ensures.log.0;
+      seals_rules = c.in_ok-seals.ensures.log.0;
+      refuses = c.in_err-store.ensures.refused;
+    })

@@ -1,0 +1,124 @@
+-- Why a load refuses, over any disk: also over one whose content contracts don't see. Then the list of the log that was
+-- loaded stands for the payloads. A payload is read short if the disk gives less of it than the log has for it.
+use Rattle.std.specs.Prelude.{◌≡◌, ◌⊎◌, ℕ, ◌+◌, ◌<◌, ◌≤◌, List, length, Some, slice_get}
+use Rattle.atom_writer.specs.Pieced.{IsNoText, IsPlaceOfRefusal}
+use Rattle.feed_disk.specs.declared.area.Area.TheVariants.{Journal}
+use Rattle.feed_journal.specs.Log.{LogValue, IsLog, payload_lengths}
+use Rattle.feed_journal.specs.declared.extent.Extent.{Extent}
+use Rattle.feed_recovery.specs.Faults.{IsBadOperation}
+use Rattle.feed_recovery.specs.Opening.{IsSealCount}
+use Rattle.feed_recovery.specs.declared.fault.LoadFault.{LoadFault}
+use Rattle.feed_recovery.specs.declared.fault.LoadFault.TheVariants.{NotInit, BadRecord, SealCount, BadSeal}
+use Rattle.feed_recovery.specs.declared.fault.LoadFault.TheVariants.{DiskFault, NoMemory}
+use Rattle.member_rules.specs.Coding.{heads}
+use Rattle.member_rules.specs.Head.{HeadValue, IsHead}
+use Rattle.member_rules.specs.History.{IsLawful}
+use Rattle.member_rules.specs.declared.operation.Op.{Op}
+
+-- the bytes aren't those of a head: their first bad field is at this offset
+abbrev pub IsNoHead : List ℕ → ℕ → Type 0
+IsNoHead payload at = IsNoText heads payload × IsPlaceOfRefusal heads payload at
+
+-- the bytes that were read of the payload of this index, as many as the log has for it, are bad at this offset
+pub record IsBadThere (bad : List ℕ → ℕ → Type 0) (extents : List Extent) (index at : ℕ) : Type 0 where
+  pub payload : List ℕ
+  pub whole : slice_get (payload_lengths extents) index ≡ Some (length payload)
+  pub is_bad : bad payload at
+
+-- the offset of a payload that was read short is 0
+abbrev pub IsShort : ℕ → Type 0
+IsShort at = at ≡ 0
+
+-- the payload was read short, or its bytes are bad
+abbrev pub IsShortOrBad : (List ℕ → ℕ → Type 0) → List Extent → ℕ → ℕ → Type 0
+IsShortOrBad bad extents index at = IsShort at ⊎ IsBadThere bad extents index at
+
+-- The journal's payload of this index isn't taken: the fault names it, and an offset that `place` allows. A failed call
+-- and out of memory name nothing.
+abbrev pub RefusesRecord : (ℕ → Type 0) → ℕ → LoadFault → Type 0
+RefusesRecord place index NotInit = ⊥
+RefusesRecord place index (BadRecord area named at) = (area ≡ Journal) × (named ≡ index) × place at
+RefusesRecord place index (SealCount records seals) = ⊥
+RefusesRecord place index (BadSeal number) = ⊥
+RefusesRecord place index DiskFault = Unit {0}
+RefusesRecord place index NoMemory = Unit {0}
+
+-- the payload of this index comes after those of a lawful history, and was read short, or can't follow them
+pub record IsBadAfter (head : HeadValue) (extents : List Extent) (index at : ℕ) : Type 0 where
+  pub history : List Op
+  pub lawful : IsLawful head history
+  pub follows : index ≡ length history + 1
+  pub within : index < length extents
+  pub place : IsShortOrBad (IsBadOperation head history) extents index at
+
+-- an operation of the journal isn't taken
+abbrev pub RefusesHistory : HeadValue → List Extent → LoadFault → Type 0
+RefusesHistory head extents NotInit = ⊥
+RefusesHistory head extents (BadRecord area index at) = (area ≡ Journal) × IsBadAfter head extents index at
+RefusesHistory head extents (SealCount records seals) = ⊥
+RefusesHistory head extents (BadSeal number) = ⊥
+RefusesHistory head extents DiskFault = Unit {0}
+RefusesHistory head extents NoMemory = Unit {0}
+
+-- the seal of this number, counted from 1, isn't taken: it was read short, or isn't the text of its archive
+abbrev pub RefusesSeal : ℕ → LoadFault → Type 0
+RefusesSeal number NotInit = ⊥
+RefusesSeal number (BadRecord area index at) = ⊥
+RefusesSeal number (SealCount records seals) = ⊥
+RefusesSeal number (BadSeal named) = named ≡ number
+RefusesSeal number DiskFault = Unit {0}
+RefusesSeal number NoMemory = Unit {0}
+
+-- the history can't have as many seals as the log has, or one of them isn't taken
+abbrev pub RefusesSeals : HeadValue → List Op → List Extent → LoadFault → Type 0
+RefusesSeals head history seals NotInit = ⊥
+RefusesSeals head history seals (BadRecord area index at) = ⊥
+RefusesSeals head history seals (SealCount records found) =
+    (records ≡ length history) × (found ≡ length seals) × ¬ IsSealCount head history found
+RefusesSeals head history seals (BadSeal number) = (1 ≤ number) × (number ≤ length seals)
+RefusesSeals head history seals DiskFault = Unit {0}
+RefusesSeals head history seals NoMemory = Unit {0}
+
+-- the first payload, if there is one, isn't taken
+pub record IsBadFirst (extents : List Extent) (index at : ℕ) : Type 0 where
+  pub first : index ≡ 0
+  pub some : 0 < length extents
+  pub place : IsShortOrBad IsNoHead extents 0 at
+
+-- an operation isn't taken after a head
+pub record IsBadLater (extents : List Extent) (index at : ℕ) : Type 0 where
+  pub head : HeadValue
+  pub is_head : IsHead head
+  pub after : IsBadAfter head extents index at
+
+-- a journal with this list of payloads has a history of `records` operations, which can't have as many seals as the other
+-- list
+pub record IsOtherCount (journal seals : List Extent) (records found : ℕ) : Type 0 where
+  pub head : HeadValue
+  pub history : List Op
+  pub is_head : IsHead head
+  pub lawful : IsLawful head history
+  pub records_is : records ≡ length history
+  pub journal_is : length journal ≡ records + 1
+  pub found_is : found ≡ length seals
+  pub bad : ¬ IsSealCount head history found
+
+-- Why a load refuses these two lists of payloads. `NotInit` is only where the journal's list is empty. A payload that is
+-- read short is `BadRecord` of its own index at 0, or `BadSeal` of its number from 1.
+abbrev pub Refuses : List Extent → List Extent → LoadFault → Type 0
+Refuses journal seals NotInit = length journal ≡ 0
+Refuses journal seals (BadRecord area index at) =
+    (area ≡ Journal) × (IsBadFirst journal index at ⊎ IsBadLater journal index at)
+Refuses journal seals (SealCount records found) = IsOtherCount journal seals records found
+Refuses journal seals (BadSeal number) = (1 ≤ number) × (number ≤ length seals)
+Refuses journal seals DiskFault = Unit {0}
+Refuses journal seals NoMemory = Unit {0}
+
+-- The fault is one of a load of two logs. Over a disk that contracts don't see, no public clause names what the two logs
+-- list, so that the two logs here are only some two.
+pub record IsRefusal (fault : LoadFault) : Type 0 where
+  pub journal : LogValue
+  pub seals : LogValue
+  pub journal_rules : IsLog journal
+  pub seals_rules : IsLog seals
+  pub refuses : Refuses journal.extents seals.extents fault
