@@ -143,10 +143,12 @@ returns-in_err-operation-clause-refused g c =
     let fault = c.in_err-operation.field-0.0 in
     let inside : c.loop-index.index < length c.args.journal.now.extents =
     omega (arith, c.loop-index-test.true, c.len-count.ensures) in
+    let table = table_spare c.loop-index.members c.prepare.new.self head.created c.loop-index.history.items
+    before.table c.prepare.ensures.same in
     let refused = refused-after head c.loop-index.history.items c.loop-index.journal.extents c.loop-index.index fault
     before.lawful before.count
     (subst (λ (l : LogValue). c.loop-index.index < length l.extents) (sym before.worked.log) inside)
-    (c.in_err-operation.ensures.refused c.loop-index.history.items before.table) in
+    (c.in_err-operation.ensures.refused c.loop-index.history.items table) in
     let returned = err_from_is_err_and c.from_residual-in_err-operation.result
     c.from_residual-in_err-operation.ensures.1 in
     rw (returned.1, returned.2)

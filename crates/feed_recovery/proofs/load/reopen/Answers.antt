@@ -128,27 +128,22 @@ returns-in_err-head-clause-refused g c =
     rw (returned.1, returned.2) (refuses-head c.args.journal.extents c.args.seals.extents c.in_err-head.field-0.0
     some c.in_err-head.ensures.refused)
 
-pub returns-in_err-history-clause-refused : goal.returns-in_err-history-clause-refused
-returns-in_err-history-clause-refused g c =
+pub returns-in-Err-clause-refused : goal.returns-in-Err-clause-refused
+returns-in-Err-clause-refused g c =
     let head = c.in_ok-head.head in
-    let fault = c.in_err-history.field-0.0 in
+    let fault = c.in-Err.fault in
     let refused = subst (λ (l : LogValue). RefusesHistory head l.extents fault) c.in_ok-head.ensures.worked.log
-    c.in_err-history.ensures.refused in
-    let returned = err_from_is_err_and c.from_residual-in_err-history.result
-    c.from_residual-in_err-history.ensures.1 in
-    rw (returned.1, returned.2) (refuses-history c.args.journal.extents c.args.seals.extents head fault
-    c.in_ok-head.ensures.rules refused)
+    c.in-Err.ensures.refused in
+    refuses-history c.args.journal.extents c.args.seals.extents head fault c.in_ok-head.ensures.rules refused
 
-pub returns-in_err-check_seals-clause-refused : goal.returns-in_err-check_seals-clause-refused
-returns-in_err-check_seals-clause-refused g c =
+pub returns-in-Err-check_seals-clause-refused : goal.returns-in-Err-check_seals-clause-refused
+returns-in-Err-check_seals-clause-refused g c =
     let head = c.in_ok-head.head in
-    let history = c.in_ok-history.history.items in
-    let fault = c.in_err-check_seals.field-0.0 in
+    let history = c.in-Ok.history.items in
+    let fault = c.in-Err-check_seals.fault in
     let many : length c.args.journal.extents ≡ length history + 1 =
-    sym (ap (λ (l : LogValue). length l.extents) c.in_ok-head.ensures.worked.log) ∙ c.in_ok-history.ensures.count in
+    sym (ap (λ (l : LogValue). length l.extents) c.in_ok-head.ensures.worked.log) ∙ c.in-Ok.ensures.count in
     let refused = subst (λ (l : List Op). RefusesSeals head l c.args.seals.extents fault) c.as_slice.ensures.value
-    c.in_err-check_seals.ensures.refused in
-    let returned = err_from_is_err_and c.from_residual-in_err-check_seals.result
-    c.from_residual-in_err-check_seals.ensures.1 in
-    rw (returned.1, returned.2) (refuses-seals c.args.journal.extents c.args.seals.extents head history fault
-    c.in_ok-head.ensures.rules c.in_ok-history.ensures.lawful many refused)
+    c.in-Err-check_seals.ensures.refused in
+    refuses-seals c.args.journal.extents c.args.seals.extents head history fault c.in_ok-head.ensures.rules
+    c.in-Ok.ensures.lawful many refused
