@@ -1,5 +1,5 @@
 -- The store and the disk after a part of the answer.
-use Rattle.std.proofs.Common.{◌≡◌, inl, refl, sym, ap, ◌∙◌, ℕ, ◌≤◌, ◌||◌, Bool, true, false, arith}
+use Rattle.std.proofs.Common.{◌≡◌, ◌≢◌, inl, refl, sym, ap, ◌∙◌, ℕ, ◌≤◌, ◌||◌, Bool, true, false, arith, Result, Ok, Err}
 use Rattle.std.specs.Prelude.{None}
 use Rattle.std.proofs.lemmas.List.{append-nil}
 use Rattle.feed_disk.specs.Disk.{DiskState}
@@ -127,3 +127,16 @@ module _ (old new : StoreValue) (calls : ℕ) where
 
   pub gains-member : new ≡ record old { journal = record old.journal { calls = calls } } → Gains old new None
   gains-member same = gains-none old new (ap (λ (o : StoreValue). o.history) same) (ap seal_count same)
+
+-- a call that worked has no fault
+pub worked : {T E : Type 0} (value : T) (fault : E) → (let result : Result T E = Ok value in result ≢ Err fault)
+worked value fault same = cc
+
+same_fault : {T E : Type 0} (fault other : E) → (let result : Result T E = Err fault in result ≡ Err other)
+    → fault ≡ other
+same_fault fault other same = cc
+
+-- a call that failed by one fault didn't fail by another
+pub failed_by : {T E : Type 0} (fault given other : E) → fault ≡ given → given ≢ other
+    → (let result : Result T E = Err fault in result ≢ Err other)
+failed_by fault given other is differs same = differs (sym is ∙ same_fault fault other same)

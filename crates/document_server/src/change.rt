@@ -184,7 +184,13 @@ fn commit<D: Disk>(
 {
     // Its contract is a law that the proof uses.
     windows_seal_in_turn();
-    let reply = made_change(alloc, &store.head().name, ready.op())?;
+    let reply = match made_change(alloc, &store.head().name, ready.op()) {
+        Ok(reply) => reply,
+        Err(NoMemory) => {
+            drop(ready);
+            return Err(Failure::NoMemory);
+        }
+    };
     store.commit(disk, ready)?;
     Ok(reply)
 }

@@ -164,9 +164,17 @@ fn serve_into<D: Disk, C: Clock, L: Door>(
     stores_open_in_one_way();
     begun_images_are_whole();
     let mut store = Store::load(alloc, disk)?;
-    lines.reserve(requests as usize)?;
-    door.listen(listen)?;
-    serve_links(alloc, &mut store, disk, clock, door, requests, lines)
+    if let Err(NoMemory) = lines.reserve(requests as usize) {
+        drop(store);
+        return Err(End::NoMemory);
+    }
+    if let Err(Failed) = door.listen(listen) {
+        drop(store);
+        return Err(End::DoorFault);
+    }
+    let served = serve_links(alloc, &mut store, disk, clock, door, requests, lines);
+    drop(store);
+    served
 }
 
 /// Serves the connections that the door gives, at most `requests`.
@@ -353,17 +361,6 @@ impl From<LoadFault> for End {
 
     fn from(fault: LoadFault) -> End {
         End::Load(fault)
-    }
-}
-
-impl From<NoMemory> for End {
-    ghost use Rattle.std.specs.Prelude.{◌≡◌};
-    ghost use Rattle.document_server.specs.declared.session.End.TheVariants.{NoMemory as OutOfMemory};
-
-    ghost from_gives = { λ _ end. end ≡ OutOfMemory };
-
-    fn from(_error: NoMemory) -> End {
-        End::NoMemory
     }
 }
 

@@ -4,7 +4,7 @@ use Rattle.http_face.specs.declared.request.Verb.{Verb}
 use Rattle.document_server.specs.Answer.{ComesTo}
 use Rattle.document_server.specs.Reply.{IsOfArchive, unchanged}
 use Rattle.document_server.proofs.RowLemmas.{archive-refuses}
-use Rattle.document_server.proofs.StepLemmas.{reads-none, replied-none, steps-none}
+use Rattle.document_server.proofs.StepLemmas.{reads-none, replied-none, steps-none, worked}
 use Rattle.document_server.proofs.dispatch.of_archive.Goals as goal
 
 pub returns-in-Get-clause-answered : goal.returns-in-Get-clause-answered
@@ -19,7 +19,7 @@ returns-in_default g c = record {
       (sym c.refused_method.ensures.reply)
       (archive-refuses c.args.store.now c.args.number c.args.verb c.in_default.not-Get));
   own = c.refused_method.ensures.refusal.own;
-  steps = steps-none g.D.Disk.told _ c.args.store.now _ (λ e. cc) c.requires.unspent c.requires.stands;
+  steps = steps-none g.D.Disk.told _ c.args.store.now _ (worked _ _) c.requires.unspent c.requires.stands;
   reads = reads-none _ c.args.store.now;
   undone = λ _. c.refused_method.ensures.refusal.undone;
 }

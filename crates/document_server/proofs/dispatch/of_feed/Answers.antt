@@ -3,7 +3,7 @@ use Rattle.http_face.specs.Request.{RequestValue}
 use Rattle.http_face.specs.declared.request.Verb.TheVariants.{Get, Post}
 use Rattle.http_face.specs.declared.reply.Reply.{Reply}
 use Rattle.document_server.specs.Reply.{IsOfFeed, unchanged}
-use Rattle.document_server.proofs.StepLemmas.{reads-none, replied-none, steps-none}
+use Rattle.document_server.proofs.StepLemmas.{reads-none, replied-none, steps-none, worked}
 use Rattle.document_server.proofs.RowLemmas.{comes-as, commits-as, feed-refuses, feed-verb}
 use Rattle.document_server.proofs.dispatch.of_feed.Goals as goal
 
@@ -35,7 +35,7 @@ returns-in_default g c =
           (λ (r : Reply). IsOfFeed c.args.store.now c.args.request.now c.args.now c.args.request.now.verb
           (unchanged r)) (sym c.refused_method.ensures.reply) row);
       own = c.refused_method.ensures.refusal.own;
-      steps = steps-none g.D.Disk.told _ c.args.store.now _ (λ e. cc) c.requires.unspent c.requires.stands;
+      steps = steps-none g.D.Disk.told _ c.args.store.now _ (worked _ _) c.requires.unspent c.requires.stands;
       leaves = inl (reads-none _ c.args.store.now);
       grows = λ _ done. absurd (c.refused_method.ensures.refusal.undone done);
       same = λ _. refl;

@@ -5,7 +5,7 @@ use Rattle.member_rules.specs.Head.{HeadValue}
 use Rattle.document_server.specs.Reply.{unchanged}
 use Rattle.document_server.proofs.RowLemmas.{comes-as, commits-as, not-found-refusal, of-archive, of-feed, of-member}
 use Rattle.document_server.proofs.RowLemmas.{target-as}
-use Rattle.document_server.proofs.StepLemmas.{reads-none, replied-none, steps-none}
+use Rattle.document_server.proofs.StepLemmas.{reads-none, replied-none, steps-none, worked}
 use Rattle.document_server.proofs.dispatch.reply_of.Goals as goal
 
 pub returns-in-Other-clause-answered : goal.returns-in-Other-clause-answered
@@ -81,7 +81,7 @@ returns-in_default-read_target g c =
         ),
       ));
       own = missing.own;
-      steps = steps-none g.D.Disk.told _ c.args.store.now _ (λ e. cc) c.requires.unspent c.requires.stands;
+      steps = steps-none g.D.Disk.told _ c.args.store.now _ (worked _ _) c.requires.unspent c.requires.stands;
       leaves = inl (reads-none _ c.args.store.now);
       grows = λ _ done. absurd (missing.undone done);
       same = λ _. refl;

@@ -1,8 +1,37 @@
-use Rattle.std.proofs.Common.{Err, inl, inr, refl, ap, ◌∙◌}
+use Rattle.std.proofs.Common.{◌≡◌, ◌≢◌, inl, inr, ℕ, Global, Vec, Result, Err, refl, ap, ◌∙◌}
+use Rattle.feed_recovery.specs.declared.fault.ArchiveFault.{ArchiveFault}
+use Rattle.feed_recovery.specs.declared.fault.ArchiveFault.TheVariants.{NotSealed, Changed, DiskFault, NoMemory}
+use Rattle.document_server.specs.declared.failure.Failure.{Failure}
+use Rattle.document_server.specs.declared.failure.Failure.TheVariants as failure
+use Rattle.http_face.specs.declared.reply.Reply.{Reply}
 use Rattle.http_face.specs.declared.reply.Media.TheVariants.{Feed}
 use Rattle.document_server.specs.Reply.{document_reply, unchanged}
-use Rattle.document_server.proofs.StepLemmas.{gains-archive, replied-unchanged, steps-archive, steps-archive-failed}
+use Rattle.document_server.proofs.StepLemmas.{failed_by, gains-archive, replied-unchanged, steps-archive}
+use Rattle.document_server.proofs.StepLemmas.{steps-archive-failed, worked}
 use Rattle.document_server.proofs.document.show_archive.Goals as goal
+
+-- the faults that aren't of the disk
+not_sealed : (fault : ArchiveFault) (number sealed : ℕ) → fault ≡ NotSealed number sealed
+    → (let result : Result (Vec ℕ Global) ArchiveFault = Err fault in result ≢ Err DiskFault)
+not_sealed fault number sealed is = failed_by fault (NotSealed number sealed) DiskFault is (λ same. cc)
+
+changed : (fault : ArchiveFault) (index : ℕ) → fault ≡ Changed index
+    → (let result : Result (Vec ℕ Global) ArchiveFault = Err fault in result ≢ Err DiskFault)
+changed fault index is = failed_by fault (Changed index) DiskFault is (λ same. cc)
+
+no_memory : (fault : ArchiveFault) → fault ≡ NoMemory
+    → (let result : Result (Vec ℕ Global) ArchiveFault = Err fault in result ≢ Err DiskFault)
+no_memory fault is = failed_by fault NoMemory DiskFault is (λ same. cc)
+
+named : (n given number sealed : ℕ) → (n ≡ number) × (given ≡ sealed) → NotSealed n given ≡ NotSealed number sealed
+named n given number sealed (first, second) =
+    ap (λ (k : ℕ). NotSealed k given) first ∙ ap (λ (k : ℕ). NotSealed number k) second
+
+changed_reply : (let result : Result Reply Failure = Err failure.Changed in result ≢ Err failure.Disk)
+changed_reply same = cc
+
+no_memory_reply : (let result : Result Reply Failure = Err failure.NoMemory in result ≢ Err failure.Disk)
+no_memory_reply same = cc
 
 pub returns-in-Ok-clause-answered : goal.returns-in-Ok-clause-answered
 returns-in-Ok-clause-answered g c = λ told.
@@ -11,28 +40,34 @@ returns-in-Ok-clause-answered g c = λ told.
       c.in-Ok.ensures.sealed,
       ap unchanged (c.document.ensures ∙ ap (document_reply Feed) (c.in-Ok.ensures.document told)),
     ))
-    (gains-archive c.args.store.now c.archive.new.self _ (c.in-Ok.ensures.same (λ e. cc)))
+    (gains-archive c.args.store.now c.archive.new.self _ (c.in-Ok.ensures.same (worked _ _)))
 
 pub returns-in-Ok-clause-steps : goal.returns-in-Ok-clause-steps
 returns-in-Ok-clause-steps g c =
     let ensured = c.in-Ok.ensures in
     steps-archive g.D.Disk.told _ _ c.args.store.now c.archive.new.self _ _ c.requires.unspent ensured.areas
     ensured.calls
-    (ensured.same (λ e. cc)) (λ e. cc) (ensured.stands (λ e. cc)) (ensured.unfailed (λ e. cc))
+    (ensured.same (worked _ _)) (worked _ _) (ensured.stands (worked _ _)) (ensured.unfailed (worked _ _))
 
 pub returns-in-Err-NotSealed-clause-answered : goal.returns-in-Err-NotSealed-clause-answered
 returns-in-Err-NotSealed-clause-answered g c = λ told.
+    let is = c.in-Err-NotSealed.field-0-is in
     replied-unchanged _ c.args.store.now c.archive.new.self c.line.result
-    (let numbers = c.in-Err-NotSealed.ensures.numbers _ _ (ap Err c.in-Err-NotSealed.field-0-is) in
-    inr (c.in-Err-NotSealed.ensures.refused.0 (cc), ap unchanged c.line.ensures))
-    (gains-archive c.args.store.now c.archive.new.self _ (c.in-Err-NotSealed.ensures.same (λ e. cc)))
+    (let numbers = c.in-Err-NotSealed.ensures.numbers _ _ (ap Err is) in
+    inr (
+      c.in-Err-NotSealed.ensures.refused.0 (ap Err (is ∙ named _ _ _ _ numbers)),
+      ap unchanged c.line.ensures,
+    ))
+    (gains-archive c.args.store.now c.archive.new.self _ (c.in-Err-NotSealed.ensures.same (not_sealed _ _ _ is)))
 
 pub returns-in-Err-NotSealed-clause-steps : goal.returns-in-Err-NotSealed-clause-steps
 returns-in-Err-NotSealed-clause-steps g c =
+    let is = c.in-Err-NotSealed.field-0-is in
     let ensured = c.in-Err-NotSealed.ensures in
     steps-archive g.D.Disk.told _ _ c.args.store.now c.archive.new.self _ _ c.requires.unspent ensured.areas
     ensured.calls
-    (ensured.same (λ e. cc)) (λ e. cc) (ensured.stands (λ e. cc)) (ensured.unfailed (λ e. cc))
+    (ensured.same (not_sealed _ _ _ is)) (worked _ _)
+    (ensured.stands (not_sealed _ _ _ is)) (ensured.unfailed (not_sealed _ _ _ is))
 
 pub returns-in-Err-DiskFault-clause-steps : goal.returns-in-Err-DiskFault-clause-steps
 returns-in-Err-DiskFault-clause-steps g c =
@@ -43,18 +78,23 @@ returns-in-Err-DiskFault-clause-steps g c =
 
 pub returns-in-Err-Changed-clause-steps : goal.returns-in-Err-Changed-clause-steps
 returns-in-Err-Changed-clause-steps g c =
+    let is = c.in-Err-Changed.field-0-is in
     let ensured = c.in-Err-Changed.ensures in
     steps-archive g.D.Disk.told _ _ c.args.store.now c.archive.new.self _ _ c.requires.unspent ensured.areas
     ensured.calls
-    (ensured.same (λ e. cc)) (λ e. cc) (ensured.stands (λ e. cc)) (ensured.unfailed (λ e. cc))
+    (ensured.same (changed _ _ is)) changed_reply
+    (ensured.stands (changed _ _ is)) (ensured.unfailed (changed _ _ is))
 
 pub returns-in-Err-NoMemory-clause-answered : goal.returns-in-Err-NoMemory-clause-answered
 returns-in-Err-NoMemory-clause-answered g c = λ told.
-    gains-archive c.args.store.now c.archive.new.self _ (c.in-Err-NoMemory.ensures.same (λ e. cc))
+    let is = c.in-Err-NoMemory.field-0-is in
+    gains-archive c.args.store.now c.archive.new.self _ (c.in-Err-NoMemory.ensures.same (no_memory _ is))
 
 pub returns-in-Err-NoMemory-clause-steps : goal.returns-in-Err-NoMemory-clause-steps
 returns-in-Err-NoMemory-clause-steps g c =
+    let is = c.in-Err-NoMemory.field-0-is in
     let ensured = c.in-Err-NoMemory.ensures in
     steps-archive g.D.Disk.told _ _ c.args.store.now c.archive.new.self _ _ c.requires.unspent ensured.areas
     ensured.calls
-    (ensured.same (λ e. cc)) (λ e. cc) (ensured.stands (λ e. cc)) (ensured.unfailed (λ e. cc))
+    (ensured.same (no_memory _ is)) no_memory_reply
+    (ensured.stands (no_memory _ is)) (ensured.unfailed (no_memory _ is))

@@ -1,9 +1,10 @@
-use Rattle.std.proofs.Common.{◌≡◌, ◌∙◌, inl, inr, refl, sym, ap, subst, ◌<◌, List, [], ◌∷◌, ◌++◌, length, Err}
+use Rattle.std.proofs.Common.{◌≡◌, ◌≢◌, ◌∙◌, inl, inr, refl, sym, ap, subst, ◌<◌, List, [], ◌∷◌, ◌++◌, length, Err}
 use Rattle.std.proofs.Common.{arith}
 use Rattle.std.proofs.Common.{length-append}
 use Rattle.document_server.specs.Serving.{ServesFrom}
 use Rattle.document_server.specs.declared.line.Line.{Line}
 use Rattle.document_server.specs.declared.session.End.{End}
+use Rattle.document_server.specs.declared.session.End.TheVariants as end
 use Rattle.document_server.specs.declared.session.End.TheVariants.{DiskFault}
 use Rattle.document_server.proofs.PendingLemmas.{pending-lawful}
 use Rattle.document_server.proofs.ServingLemmas.{Going, Linked, going-begins, going-breaks, going-ends, going-more}
@@ -15,6 +16,12 @@ use Rattle.feed_disk.proofs.MomentLemmas.{alone_begins, alone_joins}
 use Rattle.member_rules.specs.Head.{HeadValue}
 use Rattle.member_rules.specs.History.{IsLawful}
 use Rattle.document_server.proofs.session.serve_links.Goals as goal
+
+door_end : end.DoorFault ≢ DiskFault
+door_end same = cc
+
+done_end : end.Done ≢ DiskFault
+done_end same = cc
 
 pub loop-count-init : goal.loop-count-init
 loop-count-init g c =
@@ -59,7 +66,7 @@ returns-in_err-link-clause-serves g c = λ told start counts.
     going-ends start before disk moments coming first last seen opened store lines _
     (going-still start before disk moments coming first door last seen opened store lines (held.going told start)
     (λ see. c.in_err-link.ensures.err see.1)) counts (held.stands told) (held.settled told)
-    (rw (p.1, p.2) (λ is. cc))
+    (rw (p.1, p.2) door_end)
 
 pub returns-in_default-clause-serves : goal.returns-in_default-clause-serves
 returns-in_default-clause-serves g c = λ told start counts.
@@ -78,7 +85,7 @@ returns-in_default-clause-serves g c = λ told start counts.
     going-ends start before disk moments coming first last seen opened store lines _
     (going-still start before disk moments coming first door last seen opened store lines (held.going told start)
     (λ see. (rw c.in_default.is at (c.in_ok-link.ensures.given see.1)).1)) counts (held.stands told) (held.settled told)
-    (λ is. cc)
+    done_end
 
 pub returns-clause-serves : goal.returns-clause-serves
 returns-clause-serves g c = λ told start counts.
@@ -94,7 +101,7 @@ returns-clause-serves g c = λ told start counts.
     let store = c.loop-count.store in
     let lines = c.loop-count.lines.items in
     going-ends start before disk moments coming first door seen opened store lines _ (held.going told start) counts
-    (held.stands told) (held.settled told) (λ is. cc)
+    (held.stands told) (held.settled told) done_end
 
 pub returns-then-is_spent-clause-serves : goal.returns-then-is_spent-clause-serves
 returns-then-is_spent-clause-serves g c = λ told start counts.
