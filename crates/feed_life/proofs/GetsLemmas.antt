@@ -3,12 +3,35 @@ use Rattle.std.proofs.Common.{◌≡◌, ◌≢◌, inl, inr, ℕ, ◌<◌, ◌�
 use Rattle.std.specs.Prelude.{Result, Ok, Err, IfOk, IfErr}
 use Rattle.atom_values.specs.Counts.{Rose, counted}
 use Rattle.doc_source.specs.declared.fetch.GetFault.{GetFault}
-use Rattle.doc_source.specs.declared.fetch.GetFault.TheVariants.{Failed}
+use Rattle.doc_source.specs.declared.fetch.GetFault.TheVariants.{Failed, NoMemory}
 use Rattle.feed_disk.specs.Disk.{DiskState}
 use Rattle.feed_disk.specs.Moments.{LeavesAlone}
 use Rattle.feed_disk.specs.declared.area.Area.{Area}
 use Rattle.feed_life.specs.StoreFetch.{Gets, StoreFetchValue, Worked}
 use Rattle.feed_recovery.specs.Store.{StoreValue, is_spent}
+use Rattle.feed_recovery.specs.declared.fault.ArchiveFault.{ArchiveFault}
+use Rattle.feed_recovery.specs.declared.fault.ArchiveFault.TheVariants.{Changed, DiskFault, NotSealed}
+use Rattle.feed_recovery.specs.declared.fault.ArchiveFault.TheVariants.{NoMemory as ArchiveNoMemory}
+
+-- results that no failed device call gave
+
+pub ok-works : {T E : Type 0} (value : T) (fault : E) → ◌≢◌ {A = Result T E} (Ok value) (Err fault)
+ok-works value fault e = cc
+
+pub not_sealed-works : {T : Type 0} (fault : ArchiveFault) (number sealed : ℕ) → fault ≡ NotSealed number sealed
+    → ◌≢◌ {A = Result T ArchiveFault} (Err fault) (Err DiskFault)
+not_sealed-works fault number sealed is e = cc
+
+pub changed-works : {T : Type 0} (fault : ArchiveFault) (index : ℕ) → fault ≡ Changed index
+    → ◌≢◌ {A = Result T ArchiveFault} (Err fault) (Err DiskFault)
+changed-works fault index is e = cc
+
+pub no_memory-works : {T : Type 0} (fault : ArchiveFault) → fault ≡ ArchiveNoMemory
+    → ◌≢◌ {A = Result T ArchiveFault} (Err fault) (Err DiskFault)
+no_memory-works fault is e = cc
+
+pub no_memory-answers : {T : Type 0} → ◌≢◌ {A = Result T GetFault} (Err NoMemory) (Err Failed)
+no_memory-answers e = cc
 
 or_true : (b : Bool) → (b || true) ≡ true
 or_true true = refl
