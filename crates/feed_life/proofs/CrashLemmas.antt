@@ -20,6 +20,12 @@ use Rattle.feed_recovery.specs.Settled.{OpensPast, Settled}
 use Rattle.member_rules.specs.Head.{HeadValue}
 use Rattle.member_rules.specs.declared.operation.Op.{Op}
 
+-- what two clauses of a call together say of its result
+pub ok-both : {X E : Type 0} (result : Result X E) (P Q R : X → Type 0) → ((value : X) → P value → Q value → R value)
+    → IfOk result P → IfOk result Q → IfOk result R
+ok-both (Ok value) P Q R both p q = both value p q
+ok-both (Err fault) P Q R both p q = tt
+
 -- the one image of an area that is synced
 synced-image : (first image : List ℕ) → MayLeave first [] image → image ≡ first
 synced-image first image may =

@@ -60,15 +60,15 @@ halted-inside old request now stop history held left disk version sealed stops l
     }
 
 pub life-halted : (inside old : LifeValue) (request : RequestValue) (now : ℕ) (stop : Stop) (history : List Op)
-    (held : List (List KeptValue)) (left disk : MemoryValue) (version sealed stops : ℕ) → inside ≡ old
-    → Lives old history held
+    (held : List (List KeptValue)) (made left disk : MemoryValue) (version sealed stops : ℕ) → inside ≡ old
+    → Lives old history held → left ≡ made
     → (IsStoreOf inside.head history inside.disk
-    → LeavesStopped inside.head request now stop history inside.disk left)
+    → LeavesStopped inside.head request now stop history inside.disk made)
     → ((later : List Op) → IsStoreOf inside.head later left → IsLeft inside.head later disk version sealed)
     → HasPayloadsOf left disk
     → IsHalted old (record inside { disk = disk; version = version; sealed = sealed; stops = stops; lost = false })
     request now stop history held
-life-halted inside old request now stop history held left disk version sealed stops view lives stopped load same =
+life-halted inside old request now stop history held made left disk version sealed stops view lives put stopped load same =
     let before = subst (λ (l : LifeValue). Lives l history held) (sym view) lives in
     subst (λ (l : LifeValue). IsHalted l (record inside {
       disk = disk;
@@ -77,5 +77,6 @@ life-halted inside old request now stop history held left disk version sealed st
       stops = stops;
       lost = false;
     }) request now stop history held) view
-    (halted-inside inside request now stop history held left disk version sealed stops before (stopped before.store)
-    load same)
+    (halted-inside inside request now stop history held left disk version sealed stops before
+    (subst (λ (d : MemoryValue). LeavesStopped inside.head request now stop history inside.disk d) (sym put)
+    (stopped before.store)) load same)

@@ -22,7 +22,7 @@ use std::alloc::Global;
 pub(crate) const NO_MEMORY: u16 = 503;
 
 /// An answered request.
-#[derive(Debug, Drop)]
+#[derive(Drop)]
 pub(crate) struct Answered {
     pub(crate) reply: Reply,
     pub(crate) line: Line,
@@ -68,6 +68,8 @@ pub(crate) fn ask(
     let mut store = open(alloc, disk)?;
     let reply = answer(alloc, &mut store, disk, request, now);
     if reply.status == NO_MEMORY || store.is_spent() {
+        drop(reply);
+        drop(store);
         return Err(NoMemory);
     }
     let line = Line {
@@ -76,10 +78,12 @@ pub(crate) fn ask(
         calls: store.calls(),
         whole: true,
     };
+    let sealed = store.sealed();
+    drop(store);
     Ok(Answered {
         reply,
         line,
-        sealed: store.sealed(),
+        sealed,
     })
 }
 
@@ -106,20 +110,31 @@ fn doc_below(
 ) -> Result<Option<SentDoc>, NoMemory>
     ensures { IfOk result (Sends base.now request.now reply version) }
 {
-    let Reply { media, body, .. } = reply;
+    let Reply {
+        media,
+        location,
+        body,
+        ..
+    } = reply;
+    drop(location);
     let Media::Feed = media else {
+        drop(body);
         return Ok(None);
     };
     // A feed document is made, in a reply to a request of its address.
     let Some(address) = base.read_target(request.target.slice()) else {
+        drop(body);
         return Err(NoMemory);
     };
     let Body::Made(bytes) = body else {
         return Err(NoMemory);
     };
-    let address = Bytes::from_vec(base.print(alloc, address)?);
+    let Ok(address) = base.print(alloc, address) else {
+        drop(bytes);
+        return Err(NoMemory);
+    };
     Ok(Some(SentDoc {
-        address,
+        address: Bytes::from_vec(address),
         bytes,
         version,
     }))

@@ -19,7 +19,7 @@ use http_face::Request;
 use std::alloc::Global;
 
 /// The number of operations of a store and that of its sealed archives.
-#[derive(Debug, Drop)]
+#[derive(Drop)]
 pub(crate) struct Numbers {
     pub(crate) version: u32,
     pub(crate) sealed: u32,
@@ -66,11 +66,9 @@ pub(crate) fn crash_from(
         return Err(NoMemory);
     }
     if stop.call > ended - begun {
-        let left = crash_after(disk, &stop.choice)?;
-        return Ok(left);
+        return crash_after(disk, &stop.choice);
     }
-    let left = crash_at(disk, begun + stop.call, &stop.choice)?;
-    Ok(left)
+    crash_at(disk, begun + stop.call, &stop.choice)
 }
 
 /// Answers a request, without the reply. Returns the number of device calls before it.
@@ -94,7 +92,9 @@ fn run(
         return Err(NoMemory);
     }
     let reply = answer(alloc, store, disk, request, now);
-    if reply.status == NO_MEMORY || store.is_spent() {
+    let status = reply.status;
+    drop(reply);
+    if status == NO_MEMORY || store.is_spent() {
         return Err(NoMemory);
     }
     Ok(begun)
@@ -116,12 +116,12 @@ pub(crate) fn ask_into(
     begun_images_are_whole();
     let mut store = open(alloc, disk)?;
     if stop.call == 0 {
-        let left = crash_after(disk, &stop.choice)?;
-        return Ok(left);
+        drop(store);
+        return crash_after(disk, &stop.choice);
     }
-    let begun = run(alloc, &mut store, disk, request, now)?;
-    let left = crash_from(disk, begun, stop)?;
-    Ok(left)
+    let begun = run(alloc, &mut store, disk, request, now);
+    drop(store);
+    crash_from(disk, begun?, stop)
 }
 
 /// Loads the store of a disk, for its numbers.
@@ -132,8 +132,10 @@ pub(crate) fn load_numbers(alloc: Global, disk: &mut MemoryDisk) -> Result<Numbe
     ensures same { OnOk result (HasPayloadsOf disk.old disk.new) }
 {
     let store = open(alloc, disk)?;
-    Ok(Numbers {
+    let numbers = Numbers {
         version: store.version(),
         sealed: store.sealed(),
-    })
+    };
+    drop(store);
+    Ok(numbers)
 }

@@ -19,6 +19,7 @@ use http_face::Request;
 use member_rules::{Head, sealed_windows_are_full};
 use std::alloc::Global;
 use std::marker::Model;
+use std::mem::replace;
 
 /// A store and its mirrors on disks in memory, and what the store sent.
 ///
@@ -84,8 +85,15 @@ impl Life {
         // A law, which does nothing.
         sealed_windows_are_full();
         let head = head.copy(alloc)?;
-        let disk = store_disk(alloc, &head)?;
-        let mirrors = empty_disks(alloc, mirrors)?;
+        let Ok(disk) = store_disk(alloc, &head) else {
+            drop(head);
+            return Err(NoMemory);
+        };
+        let Ok(mirrors) = empty_disks(alloc, mirrors) else {
+            drop(head);
+            drop(disk);
+            return Err(NoMemory);
+        };
         Ok(Life {
             alloc,
             head,
@@ -150,7 +158,8 @@ impl Life {
         ensures lost { OnErr result (self.new.lost ≡ true) }
     {
         self.lost = true;
-        self.disk = ask_into(self.alloc, &mut self.disk, request, now, stop)?;
+        let left = ask_into(self.alloc, &mut self.disk, request, now, stop)?;
+        drop(replace(&mut self.disk, left));
         let numbers = load_numbers(self.alloc, &mut self.disk)?;
         self.version = numbers.version;
         self.sealed = numbers.sealed;
@@ -234,7 +243,10 @@ fn store_disk(alloc: Global, head: &Head) -> Result<MemoryDisk, NoMemory>
     match Store::init(alloc, &mut disk, head) {
         Ok(()) => Ok(disk),
         // A call of a disk without listed calls fails only if memory runs out.
-        Err(_) => Err(NoMemory),
+        Err(_) => {
+            drop(disk);
+            Err(NoMemory)
+        }
     }
 }
 
@@ -245,7 +257,10 @@ fn empty_disks(alloc: Global, count: u32) -> Result<Vec<MemoryDisk>, NoMemory>
 {
     let mut disks = Vec::new(alloc);
     for _index in 0..count {
-        disks.push(new_disk(alloc))?;
+        let Ok(()) = disks.push(new_disk(alloc)) else {
+            drop(disks);
+            return Err(NoMemory);
+        };
     }
     Ok(disks)
 }

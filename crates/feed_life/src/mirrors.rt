@@ -90,7 +90,9 @@ pub(crate) fn give(
         → LeavesGiven head.now history doc.now None kept disk.old disk.new) }
 {
     let mut mirror = open_mirror(alloc, head, disk)?;
-    offer(&mut mirror, disk, doc)
+    let offered = offer(&mut mirror, disk, doc);
+    drop(mirror);
+    offered
 }
 
 /// Offers a document that was sent to the mirror of a disk, and crashes within one of its device calls.
@@ -108,13 +110,14 @@ pub(crate) fn give_into(
 {
     let mut mirror = open_mirror(alloc, head, disk)?;
     if stop.call == 0 {
-        let left = crash_after(disk, &stop.choice)?;
-        return Ok(left);
+        drop(mirror);
+        return crash_after(disk, &stop.choice);
     }
     let begun = disk.calls();
-    offer(&mut mirror, disk, doc)?;
-    let left = crash_from(disk, begun, stop)?;
-    Ok(left)
+    let offered = offer(&mut mirror, disk, doc);
+    drop(mirror);
+    offered?;
+    crash_from(disk, begun, stop)
 }
 
 /// The entries that the mirror of a disk shows.
@@ -124,7 +127,9 @@ pub(crate) fn show(alloc: Global, head: &Head, disk: &mut MemoryDisk) -> Result<
         → IsShown head.now history kept outcome × IsMirrorOf head.now history disk.new kept) }
 {
     let mut mirror = open_mirror(alloc, head, disk)?;
-    mirror.outcome()
+    let outcome = mirror.outcome();
+    drop(mirror);
+    outcome
 }
 
 /// The certificate of the mirror of a disk, if no document is missing.
@@ -138,12 +143,22 @@ pub(crate) fn certify(
         → IsCertified head.now history kept made × IsMirrorOf head.now history disk.new kept) }
 {
     let mut mirror = open_mirror(alloc, head, disk)?;
-    let outcome = mirror.outcome()?;
+    let Ok(outcome) = mirror.outcome() else {
+        drop(mirror);
+        return Err(NoMemory);
+    };
     match outcome {
-        Outcome::Missing { .. } => Ok(None),
-        Outcome::Complete { .. } => match Certificate::of(alloc, &mut mirror, disk) {
-            Ok(certificate) => Ok(Some(certificate)),
-            Err(_) => Err(NoMemory),
-        },
+        Outcome::Missing { .. } => {
+            drop(mirror);
+            Ok(None)
+        }
+        Outcome::Complete { .. } => {
+            let made = Certificate::of(alloc, &mut mirror, disk);
+            drop(mirror);
+            match made {
+                Ok(certificate) => Ok(Some(certificate)),
+                Err(_) => Err(NoMemory),
+            }
+        }
     }
 }

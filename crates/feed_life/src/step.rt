@@ -21,6 +21,7 @@ use http_face::Request;
 use member_rules::{Head, archives_stay};
 use mirror_walk::{Outcome, served_documents_show_the_fold};
 use std::alloc::Global;
+use std::mem::replace;
 
 /// Begins a life with this head and this number of mirrors, and makes a step by each of the events.
 ///
@@ -43,7 +44,10 @@ pub fn life(alloc: Global, head: &Head, mirrors: u32, events: &[Event]) -> Resul
     let mut life = Life::new(alloc, head, mirrors)?;
     for event in events {
         // The line of a request isn't part of a life.
-        let _ = life.step_by(event)?;
+        let Ok(_) = life.step_by(event) else {
+            drop(life);
+            return Err(NoMemory);
+        };
     }
     Ok(life)
 }
@@ -63,7 +67,9 @@ impl Life {
         ensures lost { OnErr result (self.new.lost ≡ true) }
         ensures spent { self.old.lost ≡ true → IsErr result }
     {
-        self.step_by(&event)
+        let line = self.step_by(&event);
+        drop(event);
+        line
     }
 
     /// Makes a step by an event, which the caller keeps.
@@ -238,7 +244,8 @@ fn give_or_crash(
     match stop {
         None => give(alloc, head, disk, doc),
         Some(stop) => {
-            *disk = give_into(alloc, head, disk, doc, stop)?;
+            let left = give_into(alloc, head, disk, doc, stop)?;
+            drop(replace(disk, left));
             Ok(())
         }
     }
@@ -262,7 +269,8 @@ fn walk_or_crash(
     match stop {
         None => walk(alloc, head, store_disk, disk),
         Some(stop) => {
-            *disk = walk_into(alloc, head, store_disk, disk, stop)?;
+            let left = walk_into(alloc, head, store_disk, disk, stop)?;
+            drop(replace(disk, left));
             Ok(())
         }
     }

@@ -90,6 +90,7 @@ impl<D: Disk> StoreFetch<D> {
             self.new ≡ record self.old { failures = counted self.old.failures }) }
     {
         if written.len() > MAX_ANSWER {
+            drop(written);
             return Err(self.fail());
         }
         Ok(Some(written))
@@ -183,14 +184,14 @@ impl<D: Disk> Fetch for StoreFetch<D> {
             → (D.state self.new.disk).faults + self.new.failures
             ≡ (D.state self.old.disk).faults + self.old.failures }
     {
-        let asked = Bytes::of(alloc, address)?;
         self.asked.reserve(1)?;
+        let asked = Bytes::of(alloc, address)?;
         // There is room, so the address is never handed back.
         let _ = self.asked.push(asked);
         let answer = self.answer(address);
         if let Err(GetFault::NoMemory) = answer {
             // A call that ran out of memory isn't counted as asked.
-            let _ = self.asked.pop();
+            drop(self.asked.pop());
         }
         answer
     }

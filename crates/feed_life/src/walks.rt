@@ -51,7 +51,10 @@ fn documents_of(
         → IsStoreOf head history store_disk.old → IsStoreOf head history store_disk.new) }
 {
     let mut copy = copy_of(store_disk)?;
-    let store = open(alloc, &mut copy)?;
+    let Ok(store) = open(alloc, &mut copy) else {
+        drop(copy);
+        return Err(NoMemory);
+    };
     Ok(StoreFetch::new(alloc, store, copy))
 }
 
@@ -84,8 +87,7 @@ fn walk_over(
     begun_images_are_whole();
     stores_answer_what_is_served();
     let walked = mirror.walk(disk, documents);
-    end_of(walked)?;
-    Ok(())
+    end_of(walked)
 }
 
 /// A mirror walks over documents, and crashes within one of the device calls of its disk.
@@ -106,17 +108,15 @@ fn walk_amid(
     begun_images_are_whole();
     stores_answer_what_is_served();
     if stop.call == 0 {
-        let left = crash_after(disk, &stop.choice)?;
-        return Ok(left);
+        return crash_after(disk, &stop.choice);
     }
     let begun = disk.calls();
     walk_over(mirror, disk, documents)?;
-    let left = crash_from(disk, begun, stop)?;
-    Ok(left)
+    crash_from(disk, begun, stop)
 }
 
-// A proof drops each part of a mirror and of a source at each exit of the function that owns it. So each of the next
-// four functions owns one of them, and has two exits.
+// A value that goes out of scope is proved to be dropped field by field, at each exit. So each of the next four
+// functions owns one large value, and drops it by a call.
 
 /// Loads the mirror of a disk, which walks over documents.
 fn walk_by(
@@ -131,7 +131,9 @@ fn walk_by(
         → LeavesWalked head.now history None kept disk.old disk.new) }
 {
     let mut mirror = open_mirror(alloc, head, disk)?;
-    walk_over(&mut mirror, disk, documents)
+    let walked = walk_over(&mut mirror, disk, documents);
+    drop(mirror);
+    walked
 }
 
 /// The same with a crash within one of the device calls of the mirror's disk.
@@ -148,7 +150,9 @@ fn walk_into_by(
         → LeavesWalked head.now history (Some stop.now) kept disk.old left) }
 {
     let mut mirror = open_mirror(alloc, head, disk)?;
-    walk_amid(&mut mirror, disk, documents, stop)
+    let left = walk_amid(&mut mirror, disk, documents, stop);
+    drop(mirror);
+    left
 }
 
 /// The mirror of a disk walks over the documents of a store.
@@ -166,7 +170,9 @@ pub(crate) fn walk(
         → IsStoreOf head.now history store_disk.old → IsStoreOf head.now history store_disk.new) }
 {
     let mut documents = documents_of(alloc, store_disk)?;
-    walk_by(alloc, head, disk, &mut documents)
+    let walked = walk_by(alloc, head, disk, &mut documents);
+    drop(documents);
+    walked
 }
 
 /// The same with a crash within one of the device calls of the mirror's disk.
@@ -185,5 +191,7 @@ pub(crate) fn walk_into(
         → IsStoreOf head.now history store_disk.old → IsStoreOf head.now history store_disk.new) }
 {
     let mut documents = documents_of(alloc, store_disk)?;
-    walk_into_by(alloc, head, disk, &mut documents, stop)
+    let left = walk_into_by(alloc, head, disk, &mut documents, stop);
+    drop(documents);
+    left
 }

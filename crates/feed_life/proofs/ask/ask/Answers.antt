@@ -15,7 +15,7 @@ returns c = record {
       c.answer-reply.ensures.head _ _ _ (c.answer-reply.ensures.answered tt) c.if-reply-eq-NO_MEMORY.false
       (sym c.is_spent.ensures ∙ c.if-is_spent.false) c.answer-reply.ensures.spent
       (λ other. c.answer-reply.ensures.stands other tt) (λ other. c.answer-reply.ensures.settled other tt) refl
-      c.version.ensures refl c.sealed.ensures;
+      c.version.ensures refl c.sealed-sealed.ensures;
   calls =
       subst (λ (n : ℕ). (number : ℕ) × MakesCalls (state_of c.args.disk.now)
       (state_of c.answer-reply.new.disk) 0 n number)

@@ -16,6 +16,6 @@ returns c =
           let same = c.in-Some.ensures.only other is_address
           (subst (λ (t : List ℕ). IsTarget c.args.base.now other t) (sym target) named) in
           cc;
-      is = same-doc c.from_vec-address.result _ c.in-Made.bytes _ c.args.version
-          (c.from_vec-address.ensures ∙ c.in_ok-print.ensures) (sym (ap body_text c.in-Made.is));
+      is = same-doc c.from_vec.result _ c.in-Made.bytes _ c.args.version
+          (c.from_vec.ensures ∙ c.in-Ok.ensures) (sym (ap body_text c.in-Made.is));
     }

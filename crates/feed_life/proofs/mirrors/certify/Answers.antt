@@ -10,28 +10,28 @@ pub returns-in-Missing : goal.returns-in-Missing
 returns-in-Missing c history kept mirror =
     let opened = c.in_ok-mirror.ensures.opened kept mirror.loads in (
       missing-some kept c.in-Missing.address
-          (sym (ap outcome_of opened.kept_is) ∙ sym c.in_ok-outcome.ensures.outcome ∙ c.in-Missing.is),
+          (sym (ap outcome_of opened.kept_is) ∙ sym c.in-Ok.ensures.outcome ∙ c.in-Missing.is),
       opened-mirror c.args.head.now kept c.open_mirror.new.disk c.in_ok-mirror.mirror opened history mirror.served,
     )
 
-pub of-requires-clause-best : goal.of-requires-clause-best
-of-requires-clause-best c =
+pub of-made-requires-clause-best : goal.of-made-requires-clause-best
+of-made-requires-clause-best c =
     complete-some c.outcome.new.self.kept c.in-Complete.version c.in-Complete.live
-    (ap (λ (m : MirrorValue). outcome_of m.kept) c.outcome.ensures.same ∙ sym c.in_ok-outcome.ensures.outcome
+    (ap (λ (m : MirrorValue). outcome_of m.kept) c.outcome.ensures.same ∙ sym c.in-Ok.ensures.outcome
     ∙ c.in-Complete.is)
 
-pub returns-in-Ok : goal.returns-in-Ok
-returns-in-Ok c history kept mirror =
+pub returns-in-Ok-made : goal.returns-in-Ok-made
+returns-in-Ok-made c history kept mirror =
     let opened = c.in_ok-mirror.ensures.opened kept mirror.loads in
     let same = c.outcome.ensures.same in (
-      mirror-certified c.args.head.now history kept c.outcome.new.self c.in-Ok.certificate c.in-Complete.version
+      mirror-certified c.args.head.now history kept c.outcome.new.self c.in-Ok-made.certificate c.in-Complete.version
           c.in-Complete.live (ap (λ (m : MirrorValue). m.base) same ∙ opened.base)
           (ap (λ (m : MirrorValue). m.kept) same ∙ opened.kept_is) mirror.served
-          (ap (λ (m : MirrorValue). outcome_of m.kept) same ∙ sym c.in_ok-outcome.ensures.outcome ∙ c.in-Complete.is)
-          c.in-Ok.ensures.parts (c.in-Ok.ensures.served tt),
+          (ap (λ (m : MirrorValue). outcome_of m.kept) same ∙ sym c.in-Ok.ensures.outcome ∙ c.in-Complete.is)
+          c.in-Ok-made.ensures.parts (c.in-Ok-made.ensures.served tt),
       record {
-        loads = alone-loads c.open_mirror.new.disk c.of.new.disk (LoadsTo c.args.head.now.name.base kept) opened.loads
-            (c.of.ensures.areas MirrorArea);
+        loads = alone-loads c.open_mirror.new.disk c.of-made.new.disk (LoadsTo c.args.head.now.name.base kept) opened.loads
+            (c.of-made.ensures.areas MirrorArea);
         served = mirror.served;
       },
     )

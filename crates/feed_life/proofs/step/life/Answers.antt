@@ -15,8 +15,8 @@ loop-event-init c = midway-born c.args.head.now c.args.mirrors c.args.events.now
 pub loop-event-preserved : goal.loop-event-preserved
 loop-event-preserved c =
     midway-more c.args.head.now c.args.mirrors c.args.events.now c.loop-event.event-index c.event-item.result
-    c.loop-event.life c.step_by.new.self c.in_ok-step_by.field-0 c.loop-event-test.true c.event-item.is
-    c.in_ok-step_by.ensures.stepped c.loop-event.invariant
+    c.loop-event.life c.step_by.new.self c.in-Ok.field-0 c.loop-event-test.true c.event-item.is
+    c.in-Ok.ensures.stepped c.loop-event.invariant
 
 pub returns : goal.returns
 returns c =

@@ -1,4 +1,5 @@
-use Rattle.std.proofs.Common.{List, Option, OnOk, sym, subst}
+use Rattle.std.proofs.Common.{List, Option, Some, OnOk, sym, subst}
+use Rattle.feed_disk.specs.Memory.{MemoryValue}
 use Rattle.feed_life.specs.Life.{IsMirrorOf, IsStoreOf}
 use Rattle.feed_life.specs.Mirrors.{LeavesWalked}
 use Rattle.feed_life.specs.declared.event.Stop.{Stop}
@@ -13,8 +14,9 @@ returns-in-None-clause-walked c =
     → LeavesWalked c.args.head.now history stop kept c.args.disk.now c.walk.new.disk)) (sym c.in-None.is)
     c.walk.ensures.walked
 
-pub returns-in_ok-disk-in-Some-clause-walked : goal.returns-in_ok-disk-in-Some-clause-walked
-returns-in_ok-disk-in-Some-clause-walked c history kept is_store is_mirror =
-    subst (λ (stop : Option Stop). LeavesWalked c.args.head.now history stop kept c.args.disk.now
-    c.in_ok-disk-in-Some.field-0)
-    (sym c.in-Some.is) (c.in_ok-disk-in-Some.ensures.walked history kept is_store is_mirror)
+pub returns-in_ok-left-in-Some-clause-walked : goal.returns-in_ok-left-in-Some-clause-walked
+returns-in_ok-left-in-Some-clause-walked c history kept is_store is_mirror =
+    subst (λ (stop : Option Stop). LeavesWalked c.args.head.now history stop kept c.args.disk.now c.replace.new.dest)
+    (sym c.in-Some.is)
+    (subst (λ (disk : MemoryValue). LeavesWalked c.args.head.now history (Some c.in-Some.stop) kept c.args.disk.now disk)
+    (sym c.replace.ensures.after) (c.in_ok-left-in-Some.ensures.walked history kept is_store is_mirror))

@@ -10,7 +10,7 @@ pub returns-clause-documents : goal.returns-clause-documents
 returns-clause-documents c head history is_store =
     let copied = crash-settled head history c.args.store_disk.now c.in_ok-copy.copy is_store.settled
     c.in_ok-copy.ensures.copy in
-    let loaded = (c.in_ok-store.ensures.opened head history copied).loaded in
+    let loaded = (c.in-Ok.ensures.opened head history copied).loaded in
     subst (λ (f : StoreFetchValue MemoryValue). HasDocuments head history f) (sym c.new.ensures) record {
       is_head = is_store.opens.is_journal.is_head;
       lawful = is_store.opens.is_journal.lawful;

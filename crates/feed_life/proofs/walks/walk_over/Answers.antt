@@ -1,12 +1,13 @@
 use Rattle.std.proofs.Common.{refl}
+use Rattle.std.proofs.lemmas.Result.{on_ok_weaker}
 use Rattle.doc_source.specs.Fetch.{FetchState}
 use Rattle.feed_disk.specs.declared.area.Area.TheVariants.{Journal}
 use Rattle.feed_life.specs.StoreFetch.{store_answers}
-use Rattle.feed_life.proofs.WalkedLemmas.{walk-runs}
+use Rattle.feed_life.proofs.WalkedLemmas.{on-ok-of, walk-runs}
 use Rattle.feed_life.proofs.walks.walk_over.Goals as goal
 
 pub returns-clause-runs : goal.returns-clause-runs
-returns-clause-runs c head history kept ready =
+returns-clause-runs c = on_ok_weaker c.end_of.result (λ over head history kept ready.
     let documents = c.args.documents.now in
     let source : FetchState = record {
       asked = documents.asked;
@@ -15,9 +16,10 @@ returns-clause-runs c head history kept ready =
     } in
     walk-runs c.begun_images_are_whole.ensures c.stores_answer_what_is_served.ensures head history kept c.args.disk.now
     c.walk-walked.new.disk c.args.mirror.now c.walk-walked.new.self documents source ready refl _
-    c.walk-walked.result c.in_ok-end_of.ensures (c.walk-walked.ensures.served tt head history)
+    c.walk-walked.result over (c.walk-walked.ensures.served tt head history)
     (c.walk-walked.ensures.walked tt) (λ worked. c.walk-walked.ensures.stands worked tt)
-    (c.walk-walked.ensures.moments tt tt) (λ worked. c.walk-walked.ensures.rests worked tt) c.walk-walked.ensures.most
+    (c.walk-walked.ensures.moments tt tt) (λ worked. c.walk-walked.ensures.rests worked tt) c.walk-walked.ensures.most)
+    c.end_of.ensures
 
 pub returns-clause-later : goal.returns-clause-later
-returns-clause-later c = (c.walk-walked.ensures.others Journal (λ e. cc)).leaves.later
+returns-clause-later c = on-ok-of c.end_of.result _ (c.walk-walked.ensures.others Journal (λ e. cc)).leaves.later
