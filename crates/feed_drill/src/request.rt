@@ -67,7 +67,11 @@ fn reads_as_title(alloc: Global, bytes: &[u8], title: &[u8]) -> bool
     ensures { IsTrue result → (draft : DraftValue) → Spells bytes.now draft → draft ≡ titled title.now }
 {
     match read_entry(alloc, bytes) {
-        Ok(draft) => is_titled(&draft, title),
+        Ok(draft) => {
+            let titled = is_titled(&draft, title);
+            drop(draft);
+            titled
+        }
         Err(_) => false,
     }
 }

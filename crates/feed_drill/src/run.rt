@@ -45,8 +45,12 @@ fn have_turns(
 {
     let mut course = Course::new(alloc, seed);
     for before in 0..count {
-        have_whole_turn(alloc, life, &mut course, head, before + 1)?;
+        let Ok(()) = have_whole_turn(alloc, life, &mut course, head, before + 1) else {
+            drop(course);
+            return Err(NoMemory);
+        };
     }
+    drop(course);
     Ok(())
 }
 
@@ -73,18 +77,21 @@ fn summarize(life: &mut Life, head: &Head, seed: u64, count: u32) -> Result<Summ
     let Some(certificate) = life.certificate(0)? else {
         return Err(NoMemory);
     };
-    if certificate.version != count {
+    let complete = certificate.version;
+    let live_count = certificate.live_count;
+    let live_digest = certificate.live_digest;
+    drop(certificate);
+    if complete != count {
         return Err(NoMemory);
     }
-    let live_digest = certificate.live_digest;
     Ok(Summary {
         operations: count,
         version: life.version(),
         archives: life.sealed(),
         stops: life.stops(),
         mirror_stops: life.mirror_stops(),
-        complete: certificate.version,
-        live_count: certificate.live_count,
+        complete,
+        live_count,
         live_digest,
     })
 }
@@ -99,8 +106,17 @@ pub fn drill(alloc: Global, head: &Head, seed: u64, count: u32) -> Result<Drill,
         drill.summary ≡ summary_of head.now (operations head.now seed count) count) }
 {
     let mut life = Life::new(alloc, head, 1)?;
-    have_turns(alloc, &mut life, head, seed, count)?;
-    walk(&mut life)?;
-    let summary = summarize(&mut life, head, seed, count)?;
+    let Ok(()) = have_turns(alloc, &mut life, head, seed, count) else {
+        drop(life);
+        return Err(NoMemory);
+    };
+    let Ok(()) = walk(&mut life) else {
+        drop(life);
+        return Err(NoMemory);
+    };
+    let Ok(summary) = summarize(&mut life, head, seed, count) else {
+        drop(life);
+        return Err(NoMemory);
+    };
     Ok(Drill { life, summary })
 }

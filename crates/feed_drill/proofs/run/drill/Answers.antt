@@ -12,4 +12,4 @@ have_turns-requires c = born-lived c.args.head.now c.args.seed c.in_ok-life.life
 }
 
 pub returns-clause-drilled : goal.returns-clause-drilled
-returns-clause-drilled c = c.in_ok-summary.ensures.drilled
+returns-clause-drilled c = c.in-Ok-summarize.ensures.drilled
