@@ -65,8 +65,11 @@ pub(crate) fn end_printed<O: Sink>(alloc: Global, output: &mut O, printed: Print
     ensures no_fault { result.status ≢ code_of status.OutputFault
         → (O.state output.new).faults ≡ (O.state output.old).faults }
 {
-    match printed.write(output) {
-        Ok(()) => end_as(alloc, printed.status()),
+    let status = printed.status();
+    let written = printed.write(output);
+    drop(printed);
+    match written {
+        Ok(()) => end_as(alloc, status),
         Err(Failed) => end_as(alloc, Status::OutputFault),
     }
 }
