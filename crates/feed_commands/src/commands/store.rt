@@ -164,7 +164,9 @@ pub fn show_feed<D: Disk>(alloc: Global, disk: &mut D) -> Result<Vec<u8>, Fault>
 {
     stores_open_in_one_way();
     let mut store = Store::load(alloc, disk)?;
-    Ok(store.subscription()?)
+    let text = store.subscription();
+    drop(store);
+    Ok(text?)
 }
 
 /// Returns the text of an archive of the store.
@@ -182,7 +184,9 @@ pub fn show_archive<D: Disk>(alloc: Global, number: u32, disk: &mut D) -> Result
 {
     stores_open_in_one_way();
     let mut store = Store::load(alloc, disk)?;
-    Ok(store.archive(disk, number)?)
+    let text = store.archive(disk, number);
+    drop(store);
+    Ok(text?)
 }
 
 /// Returns the document of a live member of the store.
@@ -200,5 +204,7 @@ pub fn show_member<D: Disk>(alloc: Global, number: u32, disk: &mut D) -> Result<
 {
     stores_open_in_one_way();
     let mut store = Store::load(alloc, disk)?;
-    Ok(store.member(disk, number)?)
+    let text = store.member(disk, number);
+    drop(store);
+    Ok(text?)
 }

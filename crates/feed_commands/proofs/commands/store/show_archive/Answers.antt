@@ -22,55 +22,55 @@ returns-in_err-store-clause-refused g c =
     answer-bad (g.D.Disk.state c.args.disk.now).content (archive_answer c.args.number) c.in_err-store.field-0.0
     (c.in_err-store.ensures.refused told) (c.in_err-store.ensures.only told) refusal)
 
-pub returns-in_err-archive-clause-refused : goal.returns-in_err-archive-clause-refused
-returns-in_err-archive-clause-refused g c =
-    let p = err_from_is_err_and c.from_residual-in_err-archive.result c.from_residual-in_err-archive.ensures.1 in
+pub returns-in_err-text-clause-refused : goal.returns-in_err-text-clause-refused
+returns-in_err-text-clause-refused g c =
+    let p = err_from_is_err_and c.from_residual-in_err-text.result c.from_residual-in_err-text.ensures.1 in
     let store = c.in_ok-store.store in
-    let fault = c.in_err-archive.field-0.0 in
+    let fault = c.in_err-text.field-0.0 in
     let before = (g.D.Disk.state c.args.disk.now).content in
     let loaded = (g.D.Disk.state c.load.new.disk).content in
     rw (p.1, p.2) (λ refusal told.
     answer-on before (archive_answer c.args.number) _ (stored_of store) c.stores_open_in_one_way.ensures
     (opens-same before loaded (stored_of store) (c.in_ok-store.ensures.same told)
     (c.in_ok-store.ensures.opens told).opens)
-    (archive-refused store c.args.number fault (λ index e. c.in_err-archive.ensures.never told index (ap Err e))
-    (λ named sealed e. c.in_err-archive.ensures.numbers named sealed (ap Err e))
-    (λ e. c.in_err-archive.ensures.refused.0 (ap Err e)) refusal))
+    (archive-refused store c.args.number fault (λ index e. c.in_err-text.ensures.never told index (ap Err e))
+    (λ named sealed e. c.in_err-text.ensures.numbers named sealed (ap Err e))
+    (λ e. c.in_err-text.ensures.refused.0 (ap Err e)) refusal))
 
-pub returns-in_err-archive-clause-safe : goal.returns-in_err-archive-clause-safe
-returns-in_err-archive-clause-safe g c = λ told head operations least settled.
+pub returns-in_err-text-clause-safe : goal.returns-in_err-text-clause-safe
+returns-in_err-text-clause-safe g c = λ told head operations least settled.
     let loaded = c.in_ok-store.ensures.moments told head operations least settled in
     both_joins _ _ _ (OpensPast head operations least) loaded
     (both_alone _ _ (OpensPast head operations least) (g.met.D.Disk.is_disk c.load.new.disk)
-    (c.archive.ensures.areas Journal) (c.archive.ensures.areas Sealed) loaded.now)
+    (c.archive-text.ensures.areas Journal) (c.archive-text.ensures.areas Sealed) loaded.now)
 
-pub returns-in_err-archive-clause-mirror : goal.returns-in_err-archive-clause-mirror
-returns-in_err-archive-clause-mirror g c =
-    alone_joins _ _ _ Mirror c.load.ensures.mirror (c.archive.ensures.areas Mirror)
+pub returns-in_err-text-clause-mirror : goal.returns-in_err-text-clause-mirror
+returns-in_err-text-clause-mirror g c =
+    alone_joins _ _ _ Mirror c.load.ensures.mirror (c.archive-text.ensures.areas Mirror)
 
-pub returns-in_err-archive-clause-disk_faults : goal.returns-in_err-archive-clause-disk_faults
-returns-in_err-archive-clause-disk_faults g c =
-    let p = err_from_is_err_and c.from_residual-in_err-archive.result c.from_residual-in_err-archive.ensures.1 in
+pub returns-in_err-text-clause-disk_faults : goal.returns-in_err-text-clause-disk_faults
+returns-in_err-text-clause-disk_faults g c =
+    let p = err_from_is_err_and c.from_residual-in_err-text.result c.from_residual-in_err-text.ensures.1 in
     rw (p.1, p.2) (λ other.
-    c.in_err-archive.ensures.unfailed
-    (λ e. let is : c.in_err-archive.field-0.0 ≡ DiskFault = cc in other (ap (λ f. Err (archive_fault f)) is))
+    c.in_err-text.ensures.unfailed
+    (λ e. let is : c.in_err-text.field-0.0 ≡ DiskFault = cc in other (ap (λ f. Err (archive_fault f)) is))
     ∙ c.in_ok-store.ensures.unfailed (λ e. cc))
 
-pub returns-in_err-archive-clause-disk : goal.returns-in_err-archive-clause-disk
-returns-in_err-archive-clause-disk g c =
-    let p = err_from_is_err_and c.from_residual-in_err-archive.result c.from_residual-in_err-archive.ensures.1 in
-    let fault = c.in_err-archive.field-0.0 in
+pub returns-in_err-text-clause-disk : goal.returns-in_err-text-clause-disk
+returns-in_err-text-clause-disk g c =
+    let p = err_from_is_err_and c.from_residual-in_err-text.result c.from_residual-in_err-text.ensures.1 in
+    let fault = c.in_err-text.field-0.0 in
     rw (p.1, p.2) (λ e.
     let is : archive_fault fault ≡ Disk = cc in
     let same : (g.D.Disk.state c.load.new.disk).faults ≡ (g.D.Disk.state c.args.disk.now).faults =
     c.in_ok-store.ensures.unfailed (λ e. cc) in
-    subst (λ n. Rose n (g.D.Disk.state c.archive.new.disk).faults) same
-    (c.in_err-archive.ensures.failed (ap Err (archive-disk fault is))))
+    subst (λ n. Rose n (g.D.Disk.state c.archive-text.new.disk).faults) same
+    (c.in_err-text.ensures.failed (ap Err (archive-disk fault is))))
 
-pub returns-in_err-archive-clause-own : goal.returns-in_err-archive-clause-own
-returns-in_err-archive-clause-own g c =
-    let p = err_from_is_err_and c.from_residual-in_err-archive.result c.from_residual-in_err-archive.ensures.1 in
-    let fault = c.in_err-archive.field-0.0 in
+pub returns-in_err-text-clause-own : goal.returns-in_err-text-clause-own
+returns-in_err-text-clause-own g c =
+    let p = err_from_is_err_and c.from_residual-in_err-text.result c.from_residual-in_err-text.ensures.1 in
+    let fault = c.in_err-text.field-0.0 in
     rw (p.1, p.2) (λ e. let is : archive_fault fault ≡ Input = cc in archive-input fault is)
 
 pub returns-clause-answer : goal.returns-clause-answer
@@ -81,11 +81,11 @@ returns-clause-answer g c = λ told.
     answer-on before (archive_answer c.args.number) _ (stored_of store) c.stores_open_in_one_way.ensures
     (opens-same before loaded (stored_of store) (c.in_ok-store.ensures.same told)
     (c.in_ok-store.ensures.opens told).opens)
-    (archive-sealed store c.args.number _ c.in_ok-archive.ensures.sealed (c.in_ok-archive.ensures.document told))
+    (archive-sealed store c.args.number _ c.in_ok-text.ensures.sealed (c.in_ok-text.ensures.document told))
 
 pub returns-clause-safe : goal.returns-clause-safe
 returns-clause-safe g c = λ told head operations least settled.
     let loaded = c.in_ok-store.ensures.moments told head operations least settled in
     both_joins _ _ _ (OpensPast head operations least) loaded
     (both_alone _ _ (OpensPast head operations least) (g.met.D.Disk.is_disk c.load.new.disk)
-    (c.archive.ensures.areas Journal) (c.archive.ensures.areas Sealed) loaded.now)
+    (c.archive-text.ensures.areas Journal) (c.archive-text.ensures.areas Sealed) loaded.now)

@@ -22,4 +22,4 @@ returns-clause-answer g c = λ told.
     answer-on before feed_answer _ (stored_of store) c.stores_open_in_one_way.ensures
     (opens-same before loaded (stored_of store) (c.in_ok-store.ensures.same told)
     (c.in_ok-store.ensures.opens told).opens)
-    (ap (λ bytes. record { status = Done; printed = bytes }) c.in_ok-subscription.ensures.document)
+    (ap (λ bytes. record { status = Done; printed = bytes }) c.in_ok-text.ensures.document)

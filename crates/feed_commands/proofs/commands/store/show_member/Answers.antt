@@ -19,33 +19,33 @@ returns-in_err-store-clause-refused g c =
     answer-bad (g.D.Disk.state c.args.disk.now).content (member_answer c.args.number) c.in_err-store.field-0.0
     (c.in_err-store.ensures.refused told) (c.in_err-store.ensures.only told) refusal)
 
-pub returns-in_err-member-clause-refused : goal.returns-in_err-member-clause-refused
-returns-in_err-member-clause-refused g c =
-    let p = err_from_is_err_and c.from_residual-in_err-member.result c.from_residual-in_err-member.ensures.1 in
+pub returns-in_err-text-clause-refused : goal.returns-in_err-text-clause-refused
+returns-in_err-text-clause-refused g c =
+    let p = err_from_is_err_and c.from_residual-in_err-text.result c.from_residual-in_err-text.ensures.1 in
     let store = c.in_ok-store.store in
-    let fault = c.in_err-member.field-0.0 in
+    let fault = c.in_err-text.field-0.0 in
     let before = (g.D.Disk.state c.args.disk.now).content in
     let loaded = (g.D.Disk.state c.load.new.disk).content in
     rw (p.1, p.2) (λ refusal told.
     answer-on before (member_answer c.args.number) _ (stored_of store) c.stores_open_in_one_way.ensures
     (opens-same before loaded (stored_of store) (c.in_ok-store.ensures.same told)
     (c.in_ok-store.ensures.opens told).opens)
-    (member-refused store c.args.number fault c.in_err-member.ensures.refused
-    (λ index e. c.in_err-member.ensures.never told index (ap Err e)) refusal))
+    (member-refused store c.args.number fault c.in_err-text.ensures.refused
+    (λ index e. c.in_err-text.ensures.never told index (ap Err e)) refusal))
 
-pub returns-in_err-member-clause-safe : goal.returns-in_err-member-clause-safe
-returns-in_err-member-clause-safe g c = λ told head operations least settled.
+pub returns-in_err-text-clause-safe : goal.returns-in_err-text-clause-safe
+returns-in_err-text-clause-safe g c = λ told head operations least settled.
     let loaded = c.in_ok-store.ensures.moments told head operations least settled in
     both_joins _ _ _ (OpensPast head operations least) loaded
     (both_alone _ _ (OpensPast head operations least) (g.met.D.Disk.is_disk c.load.new.disk)
-    (c.member.ensures.areas Journal) (c.member.ensures.areas Sealed) loaded.now)
+    (c.member-text.ensures.areas Journal) (c.member-text.ensures.areas Sealed) loaded.now)
 
-pub returns-in_err-member-clause-disk_faults : goal.returns-in_err-member-clause-disk_faults
-returns-in_err-member-clause-disk_faults g c =
-    let p = err_from_is_err_and c.from_residual-in_err-member.result c.from_residual-in_err-member.ensures.1 in
+pub returns-in_err-text-clause-disk_faults : goal.returns-in_err-text-clause-disk_faults
+returns-in_err-text-clause-disk_faults g c =
+    let p = err_from_is_err_and c.from_residual-in_err-text.result c.from_residual-in_err-text.ensures.1 in
     rw (p.1, p.2) (λ other.
-    c.in_err-member.ensures.unfailed
-    (λ e. let is : c.in_err-member.field-0.0 ≡ DiskFault = cc in other (ap (λ f. Err (member_fault f)) is))
+    c.in_err-text.ensures.unfailed
+    (λ e. let is : c.in_err-text.field-0.0 ≡ DiskFault = cc in other (ap (λ f. Err (member_fault f)) is))
     ∙ c.in_ok-store.ensures.unfailed (λ e. cc))
 
 pub returns-clause-answer : goal.returns-clause-answer
@@ -56,12 +56,12 @@ returns-clause-answer g c = λ told.
     answer-on before (member_answer c.args.number) _ (stored_of store) c.stores_open_in_one_way.ensures
     (opens-same before loaded (stored_of store) (c.in_ok-store.ensures.same told)
     (c.in_ok-store.ensures.opens told).opens)
-    (member-live store c.args.number c.in_ok-member.ensures.live.0 _ c.in_ok-member.ensures.live.1
-    (c.in_ok-member.ensures.document told))
+    (member-live store c.args.number c.in_ok-text.ensures.live.0 _ c.in_ok-text.ensures.live.1
+    (c.in_ok-text.ensures.document told))
 
 pub returns-clause-safe : goal.returns-clause-safe
 returns-clause-safe g c = λ told head operations least settled.
     let loaded = c.in_ok-store.ensures.moments told head operations least settled in
     both_joins _ _ _ (OpensPast head operations least) loaded
     (both_alone _ _ (OpensPast head operations least) (g.met.D.Disk.is_disk c.load.new.disk)
-    (c.member.ensures.areas Journal) (c.member.ensures.areas Sealed) loaded.now)
+    (c.member-text.ensures.areas Journal) (c.member-text.ensures.areas Sealed) loaded.now)
