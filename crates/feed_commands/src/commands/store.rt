@@ -55,8 +55,17 @@ pub fn apply<D: Disk, C: Clock, I: Source>(
 {
     stores_open_in_one_way();
     let mut store = Store::load(alloc, disk)?;
-    apply_lines(alloc, &mut store, disk, clock, input)?;
-    Ok(store.subscription()?)
+    match apply_lines(alloc, &mut store, disk, clock, input) {
+        Ok(()) => {
+            let text = store.subscription();
+            drop(store);
+            Ok(text?)
+        }
+        Err(fault) => {
+            drop(store);
+            Err(fault)
+        }
+    }
 }
 
 /// Applies the lines of the input to the store that was loaded.

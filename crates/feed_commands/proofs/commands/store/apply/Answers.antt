@@ -30,30 +30,26 @@ returns-in_err-store-clause-unrefused g c =
     let p = err_from_is_err_and c.from_residual.result c.from_residual.ensures.1 in
     rw (p.1, p.2) (λ e. absurd (load-no-input c.in_err-store.field-0.0 cc))
 
-pub returns-in_err-apply_lines-clause-refused : goal.returns-in_err-apply_lines-clause-refused
-returns-in_err-apply_lines-clause-refused g c =
-    let p = err_from_is_err_and c.from_residual-in_err-apply_lines.result
-    c.from_residual-in_err-apply_lines.ensures.1 in
+pub returns-in-Err-clause-refused : goal.returns-in-Err-clause-refused
+returns-in-Err-clause-refused g c =
     let store = c.in_ok-store.store in
     let before = (g.D.Disk.state c.args.disk.now).content in
     let loaded = (g.D.Disk.state c.load.new.disk).content in
     let moments = g.C.Clock.coming c.args.clock.now in
     let input = (g.I.Source.state c.args.input.now).left in
-    rw (p.1, p.2) (λ refusal told clock source.
+    (λ refusal told clock source.
     answer-on before (apply_answer moments input) _ (stored_of store) c.stores_open_in_one_way.ensures
     (opens-same before loaded (stored_of store) (c.in_ok-store.ensures.same told)
     (c.in_ok-store.ensures.opens told).opens)
-    (apply-refused moments input (stored_of store) (stored_of c.apply_lines.new.store) c.in_err-apply_lines.field-0.0
-    (c.in_err-apply_lines.ensures.refused refusal told clock source)))
+    (apply-refused moments input (stored_of store) (stored_of c.apply_lines.new.store) c.in-Err.fault
+    (c.in-Err.ensures.refused refusal told clock source)))
 
-pub returns-in_err-apply_lines-clause-applied : goal.returns-in_err-apply_lines-clause-applied
-returns-in_err-apply_lines-clause-applied g c =
-    let p = err_from_is_err_and c.from_residual-in_err-apply_lines.result
-    c.from_residual-in_err-apply_lines.ensures.1 in
+pub returns-in-Err-clause-applied : goal.returns-in-Err-clause-applied
+returns-in-Err-clause-applied g c =
     let store = c.in_ok-store.store in
     let before = g.D.Disk.state c.args.disk.now in
     let loaded = g.D.Disk.state c.load.new.disk in
-    rw (p.1, p.2) (λ told.
+    (λ told.
     applies-safely before loaded (g.D.Disk.state c.apply_lines.new.disk) (g.C.Clock.coming c.args.clock.now)
     (g.I.Source.state c.args.input.now).left (g.C.Clock.told × g.I.Source.told) _ _ (stored_of store)
     (g.met.D.Disk.is_disk c.args.disk.now) told c.stores_open_in_one_way.ensures
@@ -61,44 +57,40 @@ returns-in_err-apply_lines-clause-applied g c =
     (c.in_ok-store.ensures.opens told).opens)
     (c.in_ok-store.ensures.moments told)
     (λ whole.
-    c.in_err-apply_lines.ensures.leaves told (c.in_ok-store.ensures.rests told whole)
+    c.in-Err.ensures.leaves told (c.in_ok-store.ensures.rests told whole)
     (c.in_ok-store.ensures.settled told whole))
-    (λ e. let is : c.in_err-apply_lines.field-0.0 ≡ Disk = cc in ap Err is))
+    (λ e. let is : c.in-Err.fault ≡ Disk = cc in ap Err is))
 
-pub returns-in_err-apply_lines-clause-opens : goal.returns-in_err-apply_lines-clause-opens
-returns-in_err-apply_lines-clause-opens g c =
-    let p = err_from_is_err_and c.from_residual-in_err-apply_lines.result
-    c.from_residual-in_err-apply_lines.ensures.1 in
+pub returns-in-Err-clause-opens : goal.returns-in-Err-clause-opens
+returns-in-Err-clause-opens g c =
     let store = c.in_ok-store.store in
-    let fault = c.in_err-apply_lines.field-0.0 in
+    let fault = c.in-Err.fault in
     let before = (g.D.Disk.state c.args.disk.now).content in
     let loaded = (g.D.Disk.state c.load.new.disk).content in
-    rw (p.1, p.2) (λ told clock source refusal.
+    (λ told clock source refusal.
     opens-applied (g.C.Clock.coming c.args.clock.now) (g.I.Source.state c.args.input.now).left (stored_of store)
     (stored_of c.apply_lines.new.store) before (g.D.Disk.state c.apply_lines.new.disk).content (Some fault)
     c.stores_open_in_one_way.ensures
     (opens-same before loaded (stored_of store) (c.in_ok-store.ensures.same told)
     (c.in_ok-store.ensures.opens told).opens)
-    (c.in_err-apply_lines.ensures.refused refusal told clock source)
-    (c.in_err-apply_lines.ensures.stands (λ e. no-disk fault refusal cc) told).opens)
+    (c.in-Err.ensures.refused refusal told clock source)
+    (c.in-Err.ensures.stands (λ e. no-disk fault refusal cc) told).opens)
 
-pub returns-in_err-apply_lines-clause-unrefused : goal.returns-in_err-apply_lines-clause-unrefused
-returns-in_err-apply_lines-clause-unrefused g c =
-    let p = err_from_is_err_and c.from_residual-in_err-apply_lines.result
-    c.from_residual-in_err-apply_lines.ensures.1 in
+pub returns-in-Err-clause-unrefused : goal.returns-in-Err-clause-unrefused
+returns-in-Err-clause-unrefused g c =
     let store = c.in_ok-store.store in
     let before = (g.D.Disk.state c.args.disk.now).content in
     let loaded = (g.D.Disk.state c.load.new.disk).content in
-    rw (p.1, p.2) (λ e told clock source.
-    let is : c.in_err-apply_lines.field-0.0 ≡ Input = cc in (
+    (λ e told clock source.
+    let is : c.in-Err.fault ≡ Input = cc in (
       stored_of store,
       opens-same before loaded (stored_of store) (c.in_ok-store.ensures.same told)
           (c.in_ok-store.ensures.opens told).opens,
-      c.in_err-apply_lines.ensures.unrefused (ap Err is) told clock source,
+      c.in-Err.ensures.unrefused (ap Err is) told clock source,
     ))
 
-pub returns-in_err-subscription-clause-applied : goal.returns-in_err-subscription-clause-applied
-returns-in_err-subscription-clause-applied g c =
+pub returns-in_err-text-in-Ok-clause-applied : goal.returns-in_err-text-in-Ok-clause-applied
+returns-in_err-text-in-Ok-clause-applied g c =
     let store = c.in_ok-store.store in
     let before = g.D.Disk.state c.args.disk.now in
     let loaded = g.D.Disk.state c.load.new.disk in
@@ -110,24 +102,24 @@ returns-in_err-subscription-clause-applied g c =
     (c.in_ok-store.ensures.opens told).opens)
     (c.in_ok-store.ensures.moments told)
     (λ whole.
-    c.in_ok-apply_lines.ensures.leaves told (c.in_ok-store.ensures.rests told whole)
+    c.in-Ok.ensures.leaves told (c.in_ok-store.ensures.rests told whole)
     (c.in_ok-store.ensures.settled told whole))
     (λ e. cc)
 
-pub returns-in_err-subscription-clause-refused : goal.returns-in_err-subscription-clause-refused
-returns-in_err-subscription-clause-refused g c =
-    let p = err_from_is_err_and c.from_residual-in_err-subscription.result c.from_residual-in_err-subscription.ensures.1
+pub returns-in_err-text-in-Ok-clause-refused : goal.returns-in_err-text-in-Ok-clause-refused
+returns-in_err-text-in-Ok-clause-refused g c =
+    let p = err_from_is_err_and c.from_residual-in_err-text-in-Ok.result c.from_residual-in_err-text-in-Ok.ensures.1
     in
     rw (p.1, p.2) (λ refusal. absurd refusal)
 
-pub returns-in_err-subscription-clause-opens : goal.returns-in_err-subscription-clause-opens
-returns-in_err-subscription-clause-opens g c =
-    let p = err_from_is_err_and c.from_residual-in_err-subscription.result c.from_residual-in_err-subscription.ensures.1
+pub returns-in_err-text-in-Ok-clause-opens : goal.returns-in_err-text-in-Ok-clause-opens
+returns-in_err-text-in-Ok-clause-opens g c =
+    let p = err_from_is_err_and c.from_residual-in_err-text-in-Ok.result c.from_residual-in_err-text-in-Ok.ensures.1
     in
     rw (p.1, p.2) (λ told clock source refusal. absurd refusal)
 
-pub returns-clause-answer : goal.returns-clause-answer
-returns-clause-answer g c = λ told clock source.
+pub returns-in_ok-text-in-Ok-clause-answer : goal.returns-in_ok-text-in-Ok-clause-answer
+returns-in_ok-text-in-Ok-clause-answer g c = λ told clock source.
     let store = c.in_ok-store.store in
     let before = (g.D.Disk.state c.args.disk.now).content in
     let loaded = (g.D.Disk.state c.load.new.disk).content in
@@ -136,12 +128,12 @@ returns-clause-answer g c = λ told clock source.
     answer-on before (apply_answer moments input) _ (stored_of store) c.stores_open_in_one_way.ensures
     (opens-same before loaded (stored_of store) (c.in_ok-store.ensures.same told)
     (c.in_ok-store.ensures.opens told).opens)
-    (ap (λ bytes. record { status = Done; printed = bytes }) c.in_ok-subscription.ensures.document
+    (ap (λ bytes. record { status = Done; printed = bytes }) c.in_ok-text-in-Ok.ensures.document
     ∙ apply-made moments input (stored_of store) (stored_of c.apply_lines.new.store)
-    (c.in_ok-apply_lines.ensures.made told clock source))
+    (c.in-Ok.ensures.made told clock source))
 
-pub returns-clause-applied : goal.returns-clause-applied
-returns-clause-applied g c =
+pub returns-in_ok-text-in-Ok-clause-applied : goal.returns-in_ok-text-in-Ok-clause-applied
+returns-in_ok-text-in-Ok-clause-applied g c =
     let store = c.in_ok-store.store in
     let before = g.D.Disk.state c.args.disk.now in
     let loaded = g.D.Disk.state c.load.new.disk in
@@ -153,12 +145,12 @@ returns-clause-applied g c =
     (c.in_ok-store.ensures.opens told).opens)
     (c.in_ok-store.ensures.moments told)
     (λ whole.
-    c.in_ok-apply_lines.ensures.leaves told (c.in_ok-store.ensures.rests told whole)
+    c.in-Ok.ensures.leaves told (c.in_ok-store.ensures.rests told whole)
     (c.in_ok-store.ensures.settled told whole))
     (λ e. cc)
 
-pub returns-clause-opens : goal.returns-clause-opens
-returns-clause-opens g c = λ told clock source answered.
+pub returns-in_ok-text-in-Ok-clause-opens : goal.returns-in_ok-text-in-Ok-clause-opens
+returns-in_ok-text-in-Ok-clause-opens g c = λ told clock source answered.
     let store = c.in_ok-store.store in
     let before = (g.D.Disk.state c.args.disk.now).content in
     let loaded = (g.D.Disk.state c.load.new.disk).content in
@@ -167,5 +159,5 @@ returns-clause-opens g c = λ told clock source answered.
     c.stores_open_in_one_way.ensures
     (opens-same before loaded (stored_of store) (c.in_ok-store.ensures.same told)
     (c.in_ok-store.ensures.opens told).opens)
-    (c.in_ok-apply_lines.ensures.made told clock source)
-    (c.in_ok-apply_lines.ensures.stands (λ e. cc) told).opens
+    (c.in-Ok.ensures.made told clock source)
+    (c.in-Ok.ensures.stands (λ e. cc) told).opens
