@@ -144,7 +144,9 @@ fn print_pile<D: Disk, O: Sink>(
         → (O.state output.new).faults ≡ (O.state output.old).faults }
 {
     let mut store = Store::load(alloc, disk)?;
-    print_documents(alloc, &mut store, disk, output)
+    let printed = print_documents(alloc, &mut store, disk, output);
+    drop(store);
+    printed
 }
 
 /// Prints the documents of a store that was loaded.
@@ -186,14 +188,16 @@ fn print_documents<D: Disk, O: Sink>(
     Ok(())
 }
 
-/// Prints an offer of a pile. Its memory is free then.
+/// Prints an offer of a pile, and drops it.
 fn print_offer<O: Sink>(output: &mut O, offer: Offer) -> Result<(), Failed>
     ensures prefix { O.told → TakesPrefix (O.state output.old) (O.state output.new) (offer_text offer) }
     ensures whole { OnOk result (O.told
         → (O.state output.new).taken ≡ (O.state output.old).taken ++ offer_text offer) }
     ensures counts { HasCause (O.state output.old).faults (O.state output.new).faults result }
 {
-    write_offer(output, offer.address.slice(), offer.bytes.slice())
+    let printed = write_offer(output, offer.address.slice(), offer.bytes.slice());
+    drop(offer);
+    printed
 }
 
 /// Makes the subscription document of the store, at its address.

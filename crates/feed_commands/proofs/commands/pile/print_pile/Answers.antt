@@ -20,7 +20,7 @@ returns-in_err-store-clause-opened g c = λ fault is told stored opens refusal.
     (c.in_err-store.ensures.only told stored.head stored.history stored.seals opens) (subst IsRefusal same refusal)
 
 pub returns-clause-whole : goal.returns-clause-whole
-returns-clause-whole g c = on_ok_weaker c.print_documents.result
+returns-clause-whole g c = on_ok_weaker c.print_documents-printed.result
     (λ whole told.
     let stored = stored_of c.in_ok-store.store in (
       stored,
@@ -28,7 +28,7 @@ returns-clause-whole g c = on_ok_weaker c.print_documents.result
           (c.in_ok-store.ensures.same told) (c.in_ok-store.ensures.opens told).opens,
       whole told,
     ))
-    c.print_documents.ensures.whole
+    c.print_documents-printed.ensures.whole
 
 pub returns-clause-prefix : goal.returns-clause-prefix
 returns-clause-prefix g c = λ is told.
@@ -36,13 +36,13 @@ returns-clause-prefix g c = λ is told.
       stored,
       opens-same (g.D.Disk.state c.args.disk.now).content (g.D.Disk.state c.load.new.disk).content stored
           (c.in_ok-store.ensures.same told) (c.in_ok-store.ensures.opens told).opens,
-      c.print_documents.ensures.prefix is told,
+      c.print_documents-printed.ensures.prefix is told,
     )
 
 pub returns-clause-cut : goal.returns-clause-cut
 returns-clause-cut g c = λ fault is sink.
     let stored = stored_of c.in_ok-store.store in
-    let cut = c.print_documents.ensures.cut fault is sink in (
+    let cut = c.print_documents-printed.ensures.cut fault is sink in (
       cut.1.front,
       cut.1.taken,
       λ told.
@@ -56,14 +56,14 @@ returns-clause-cut g c = λ fault is sink.
     )
 
 pub returns-clause-refused : goal.returns-clause-refused
-returns-clause-refused g c = λ fault is refusal told. absurd (c.print_documents.ensures.opened fault is told refusal)
+returns-clause-refused g c = λ fault is refusal told. absurd (c.print_documents-printed.ensures.opened fault is told refusal)
 
 pub returns-clause-safe : goal.returns-clause-safe
 returns-clause-safe g c = λ told head operations least settled.
     let loaded = c.in_ok-store.ensures.moments told head operations least settled in
     both_joins _ _ _ (OpensPast head operations least) loaded
     (both_alone _ _ (OpensPast head operations least) (g.met.D.Disk.is_disk c.load.new.disk)
-    (c.print_documents.ensures.areas Journal) (c.print_documents.ensures.areas Sealed) loaded.now)
+    (c.print_documents-printed.ensures.areas Journal) (c.print_documents-printed.ensures.areas Sealed) loaded.now)
 
 pub returns-clause-mirror : goal.returns-clause-mirror
-returns-clause-mirror g c = alone_joins _ _ _ Mirror c.load.ensures.mirror (c.print_documents.ensures.areas Mirror)
+returns-clause-mirror g c = alone_joins _ _ _ Mirror c.load.ensures.mirror (c.print_documents-printed.ensures.areas Mirror)
