@@ -101,9 +101,9 @@ pub fn history_of<C: Clock, I: Source>(
     let mut members = Members::new(alloc, head.created);
     let mut history = Vec::new(alloc);
     while lines.next(input)? {
+        members.prepare()?;
         let number = history.len() as u64 + 1;
         let operation = operation_of(alloc, head, &members, number, clock, lines.line())?;
-        members.prepare()?;
         members.commit(&operation);
         history.push(operation)?;
     }
@@ -167,7 +167,19 @@ pub fn apply<C: Clock, I: Source>(
     ensures faults { result ≢ Err Fault.Input → (I.state input.new).faults ≡ (I.state input.old).faults }
 {
     let head = test_head(alloc, window)?;
-    let history = history_of(alloc, &head, clock, input)?;
-    let doc = subscription(alloc, &head, history.as_slice())?;
-    Ok(write_doc(alloc, &doc)?)
+    match history_of(alloc, &head, clock, input) {
+        Ok(history) => {
+            let doc = subscription(alloc, &head, history.as_slice());
+            drop(history);
+            drop(head);
+            let doc = doc?;
+            let text = write_doc(alloc, &doc);
+            drop(doc);
+            Ok(text?)
+        }
+        Err(fault) => {
+            drop(head);
+            Err(fault)
+        }
+    }
 }

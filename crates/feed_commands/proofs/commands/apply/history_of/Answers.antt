@@ -47,6 +47,9 @@ returns-in_err-operation-clause-refused g c =
     let moments = g.C.Clock.coming c.args.clock.now in
     let history = c.loop-history.history.items in
     let held = c.loop-history.invariant in
+    let table : IsTableOf c.prepare.new.self c.args.head.now.created history =
+    rw c.in_ok-prepare.ensures.same
+    (IsTableOf-with_room c.loop-history.members c.prepare.new.self.spare c.args.head.now.created history held.table) in
     let len : vec_len c.loop-history.history ≡ length history = search rules in
     rw (p.1, p.2) (λ refusal source clock.
     ap (λ (a : Applied (List Op)). a.fault)
@@ -59,19 +62,21 @@ returns-in_err-operation-clause-refused g c =
     (history_step-is c.args.head.now moments history (length history) c.next.new.self.line _ _ _
     (Err c.in_err-operation.field-0.0) c.line.ensures (ap (λ (n : ℕ). n + 1) (c.len.ensures ∙ len))
     (held.moments clock 0 ∙ ap moments (zero-add (length history)))
-    (c.in_err-operation.ensures.refused refusal clock history held.table))))
+    (c.in_err-operation.ensures.refused refusal clock history table))))
 
 pub commit-requires-clause-follows : goal.commit-requires-clause-follows
 commit-requires-clause-follows g c =
     let head = c.args.head.now in
     let history = c.loop-history.history.items in
     let held = c.loop-history.invariant in
+    let table : IsTableOf c.prepare.new.self head.created history =
+    rw c.in_ok-prepare.ensures.same
+    (IsTableOf-with_room c.loop-history.members c.prepare.new.self.spare head.created history held.table) in
     record {
       created = head.created;
       history = history;
-      table_of = rw c.in_ok-prepare.ensures.same
-          (IsTableOf-with_room c.loop-history.members c.prepare.new.self.spare head.created history held.table);
-      follows = c.in_ok-operation.ensures.follows history held.table;
+      table_of = table;
+      follows = c.in_ok-operation.ensures.follows history table;
     }
 
 pub loop-history-init : goal.loop-history-init
@@ -108,6 +113,9 @@ loop-history-preserved g c =
     let operation = c.in_ok-operation.operation in
     let held = c.loop-history.invariant in
     let pushed = c.in_ok-push.ensures.items in
+    let table : IsTableOf c.prepare.new.self head.created history =
+    rw c.in_ok-prepare.ensures.same
+    (IsTableOf-with_room c.loop-history.members c.prepare.new.self.spare head.created history held.table) in
     let len : vec_len c.loop-history.history ≡ length history = search rules in
     record {
       progress = λ source clock. rw (pushed, length-append history (operation ∷ []))
@@ -118,16 +126,14 @@ loop-history-preserved g c =
           (history_step-is head moments history (length history) c.next.new.self.line _ _ _ (Ok operation)
           c.line.ensures (ap (λ (n : ℕ). n + 1) (c.len.ensures ∙ len))
           (held.moments clock 0 ∙ ap moments (zero-add (length history)))
-          (c.in_ok-operation.ensures.operation clock history held.table)));
+          (c.in_ok-operation.ensures.operation clock history table)));
       moments = λ clock k.
           let later : k + 1 + length history ≡ k + length c.push.new.self.items =
           omega (arith, ap length pushed, length-append history (operation ∷ [])) in
           c.in_ok-operation.ensures.moment clock k ∙ held.moments clock (k + 1) ∙ ap moments later;
       knows = c.in_ok-next.ensures.knows;
-      table = rw pushed (c.commit.ensures.table head.created history
-          (rw c.in_ok-prepare.ensures.same
-          (IsTableOf-with_room c.loop-history.members c.prepare.new.self.spare head.created history held.table)));
-      lawful = rw pushed (c.in_ok-operation.ensures.lawful history held.table held.lawful);
+      table = rw pushed (c.commit.ensures.table head.created history table);
+      lawful = rw pushed (c.in_ok-operation.ensures.lawful history table held.lawful);
       few = omega (
         arith,
         held.few,
