@@ -54,7 +54,9 @@ pub fn init<D: Disk, C: Clock>(
         capacity,
         created: stamp_of(clock.now()),
     };
-    Store::init(alloc, disk, &head)?;
+    let made = Store::init(alloc, disk, &head);
+    drop(head);
+    made?;
     Ok(printed)
 }
 

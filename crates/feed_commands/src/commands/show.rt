@@ -28,8 +28,14 @@ pub fn show<I: Source>(alloc: Global, input: &mut I) -> Result<Vec<u8>, Fault>
     ensures faults { result ≢ Err Fault.Input → (I.state input.new).faults ≡ (I.state input.old).faults }
 {
     let bytes = read_to_end(alloc, input)?;
-    match read_doc(alloc, bytes.as_slice()) {
-        Ok(doc) => Ok(summary(alloc, &doc)?),
+    let read = read_doc(alloc, bytes.as_slice());
+    drop(bytes);
+    match read {
+        Ok(doc) => {
+            let lines = summary(alloc, &doc);
+            drop(doc);
+            Ok(lines?)
+        }
         Err(ReadFault::NotADocument { at }) => Err(Fault::Refused(Refusal::BadDocument {
             offset: at as u64,
         })),

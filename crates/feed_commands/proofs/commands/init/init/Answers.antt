@@ -13,21 +13,21 @@ returns-in_err-printed-clause-makes g c =
     makes-none (g.D.Disk.state c.args.disk.now) c.args.name c.args.window c.args.capacity g.C.Clock.told
     (g.C.Clock.coming c.args.clock.now 0) _ (g.met.D.Disk.is_disk c.args.disk.now) false≢true)
 
-pub returns-in_err-init-clause-refused : goal.returns-in_err-init-clause-refused
-returns-in_err-init-clause-refused g c =
-    let p = err_from_is_err_and c.from_residual-in_err-init.result c.from_residual-in_err-init.ensures.1 in
-    rw (p.1, p.2) (λ refusal told. init_refused (g.D.Disk.state c.args.disk.now).content c.in_err-init.field-0.0
-    (λ is. c.in_err-init.ensures.already (ap Err is) told) refusal)
+pub returns-in_err-made-clause-refused : goal.returns-in_err-made-clause-refused
+returns-in_err-made-clause-refused g c =
+    let p = err_from_is_err_and c.from_residual-in_err-made.result c.from_residual-in_err-made.ensures.1 in
+    rw (p.1, p.2) (λ refusal told. init_refused (g.D.Disk.state c.args.disk.now).content c.in_err-made.field-0.0
+    (λ is. c.in_err-made.ensures.already (ap Err is) told) refusal)
 
-pub returns-in_err-init-clause-makes : goal.returns-in_err-init-clause-makes
-returns-in_err-init-clause-makes g c =
-    let p = err_from_is_err_and c.from_residual-in_err-init.result c.from_residual-in_err-init.ensures.1 in
+pub returns-in_err-made-clause-makes : goal.returns-in_err-made-clause-makes
+returns-in_err-made-clause-makes g c =
+    let p = err_from_is_err_and c.from_residual-in_err-made.result c.from_residual-in_err-made.ensures.1 in
     rw p.1 (λ told. record {
       now = c.now.result;
       is_moment = λ clock. c.now.ensures.moment clock;
       makes = made_at _ _ c.args.name c.args.window c.args.capacity c.now.result c.stamp_of.result _ c.stamp_of.ensures
           (record {
-            moments = c.in_err-init.ensures.moments told;
+            moments = c.in_err-made.ensures.moments told;
             settled = λ done. absurd (false≢true done);
             opens = λ done. absurd (false≢true done);
           });
@@ -36,7 +36,7 @@ returns-in_err-init-clause-makes g c =
 pub returns-clause-answer : goal.returns-clause-answer
 returns-clause-answer g c = λ told. inr (
   (λ has.
-      ⊎_elim (λ e. cc) (λ later. ⊎_elim (λ e. cc) (λ e. cc) later) (c.in_ok-init.ensures.refused told has)),
+      ⊎_elim (λ e. cc) (λ later. ⊎_elim (λ e. cc) (λ e. cc) later) (c.in_ok-made.ensures.refused told has)),
   ap (λ bytes. record { status = Done; printed = bytes }) c.in_ok-printed.ensures.items,
 )
 
@@ -46,8 +46,8 @@ returns-clause-makes g c = λ told. record {
   is_moment = λ clock. c.now.ensures.moment clock;
   makes = made_at _ _ c.args.name c.args.window c.args.capacity c.now.result c.stamp_of.result _ c.stamp_of.ensures
       (record {
-        moments = c.in_ok-init.ensures.moments told;
-        settled = λ done. c.in_ok-init.ensures.settled told;
-        opens = λ done. c.in_ok-init.ensures.opens told;
+        moments = c.in_ok-made.ensures.moments told;
+        settled = λ done. c.in_ok-made.ensures.settled told;
+        opens = λ done. c.in_ok-made.ensures.opens told;
       });
 }
