@@ -88,7 +88,9 @@ fn verdict<I: Source>(alloc: Global, input: &mut I) -> Result<Printed, Fault>
     ensures faults { result ≢ Err Fault.Input → (I.state input.new).faults ≡ (I.state input.old).faults }
 {
     let (certificate, room) = read_certificate(alloc, input)?;
-    judge(alloc, &certificate, room, input)
+    let printed = judge(alloc, &certificate, room, input);
+    drop(certificate);
+    printed
 }
 
 /// Reads a certificate, and returns it and how many bytes the pile after it may have.
@@ -106,8 +108,10 @@ fn read_certificate<I: Source>(alloc: Global, input: &mut I) -> Result<(Certific
     ensures faults { result ≢ Err Fault.Input → (I.state input.new).faults ≡ (I.state input.old).faults }
 {
     let text = read_part(alloc, input)?;
-    let certificate = Certificate::read(alloc, text.as_slice())?;
-    Ok((certificate, (AUDIT_LIMIT - text.len()) as u64))
+    let room = (AUDIT_LIMIT - text.len()) as u64;
+    let certificate = Certificate::read(alloc, text.as_slice());
+    drop(text);
+    Ok((certificate?, room))
 }
 
 /// Audits a certificate against the pile that is the rest of the input, of at most `room` bytes.
@@ -130,7 +134,9 @@ fn judge<I: Source>(
     ensures faults { result ≢ Err Fault.Input → (I.state input.new).faults ≡ (I.state input.old).faults }
 {
     let offers = read_pile(alloc, room, input)?;
-    let verdict = coverage_auditor::audit(alloc, certificate, offers.as_slice())?;
+    let verdict = coverage_auditor::audit(alloc, certificate, offers.as_slice());
+    drop(offers);
+    let verdict = verdict?;
     Ok(Printed::Text {
         status: verdict_status(verdict),
         text: verdict_line(alloc, &certificate.base, verdict)?,

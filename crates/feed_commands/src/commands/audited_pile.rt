@@ -38,9 +38,13 @@ pub(super) fn read_pile<I: Source>(
     let mut offers = Vec::new(alloc);
     while let Some(offer) = reader.next(input)? {
         if offers.len() == MAX_AUDITED_OFFERS {
+            drop(offer);
+            drop(offers);
+            drop(reader);
             return Err(Fault::Refused(Refusal::TooManyOffers));
         }
         offers.push(offer)?;
     }
+    drop(reader);
     Ok(offers)
 }

@@ -18,14 +18,14 @@ returns-clause-refused g c =
     let pile = (g.I.Source.state c.read_certificate.new.input).left in
     let room = c.in_ok-certificate.room in
     err-weaker (λ (fault : Fault). IsRefusal fault → g.I.Source.told → RefusesPile room pile fault)
-    (λ (fault : Fault). IsRefusal fault → g.I.Source.told → IsAudited first (fault_answer fault)) c.judge.result
+    (λ (fault : Fault). IsRefusal fault → g.I.Source.told → IsAudited first (fault_answer fault)) c.judge-printed.result
     (λ fault refuses refusal told.
     pile-refused first c.in_ok-certificate.certificate pile room (c.in_ok-certificate.ensures.begins told)
     c.in_ok-certificate.ensures.room fault (refuses refusal told))
-    c.judge.ensures.refused
+    c.judge-printed.ensures.refused
 
 pub returns-clause-within : goal.returns-clause-within
 returns-clause-within g c = λ is told.
     inr (pile-stops (g.I.Source.state c.args.input.now) (g.I.Source.state c.read_certificate.new.input)
-    (g.I.Source.state c.judge.new.input) c.in_ok-certificate.certificate c.in_ok-certificate.room
-    (c.in_ok-certificate.ensures.begins told) c.in_ok-certificate.ensures.room (c.judge.ensures.within is told))
+    (g.I.Source.state c.judge-printed.new.input) c.in_ok-certificate.certificate c.in_ok-certificate.room
+    (c.in_ok-certificate.ensures.begins told) c.in_ok-certificate.ensures.room (c.judge-printed.ensures.within is told))
