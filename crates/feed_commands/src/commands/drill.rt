@@ -50,9 +50,16 @@ fn drilled(alloc: Global, seed: u64, count: u32) -> Result<(Life, Vec<u8>), NoMe
     ensures text { IfOk result (λ x. x.1.items ≡ drill_text seed count) }
 {
     let head = test_head(alloc, DRILL_WINDOW)?;
-    let drill = feed_drill::drill(alloc, &head, seed, count)?;
-    let text = drill.summary.print(alloc)?;
-    Ok((drill.life, text))
+    let drill = feed_drill::drill(alloc, &head, seed, count);
+    drop(head);
+    let drill = drill?;
+    match drill.summary.print(alloc) {
+        Ok(text) => Ok((drill.life, text)),
+        Err(NoMemory) => {
+            drop(drill);
+            Err(NoMemory)
+        }
+    }
 }
 
 /// Prints the summary of a drill.
@@ -74,6 +81,9 @@ fn end_drilled<O: Sink>(alloc: Global, output: &mut O, life: Life, text: &[u8]) 
             lines: Many::new(alloc),
             life: Some(life),
         },
-        Err(Failed) => end_as(alloc, Status::OutputFault),
+        Err(Failed) => {
+            drop(life);
+            end_as(alloc, Status::OutputFault)
+        }
     }
 }
