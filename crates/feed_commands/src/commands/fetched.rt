@@ -127,48 +127,10 @@ fn load_and_walk<D: Disk, F: Fetch>(
         (LeavesFetched capacity base.now (F.state fetch.old).answers (D.state disk.old) (D.state disk.new)
         (result ≡ Err (ReportFault.Other Fault.Disk)) (IsOk result)) }
 {
-    let mirror = Mirror::load(alloc, disk, base.copy(alloc)?, capacity)?;
-    report_loaded(alloc, base, report, mirror, disk, fetch)
-}
-
-/// Walks with a mirror that was loaded, and drops it. It is a function of its own, because the proof drops a mirror
-/// field by field.
-fn report_loaded<D: Disk, F: Fetch>(
-    alloc: Global,
-    base: &Base,
-    report: bool,
-    mut mirror: Mirror,
-    disk: &mut D,
-    fetch: &mut F,
-) -> Result<Printed, ReportFault>
-    requires base { base.now ≡ mirror.base }
-    requires usable { IsUsable D.told (D.state disk.old) mirror }
-    requires loaded { IsLoadedOf mirror.base (payloads_of mirror.kept) mirror.kept }
-    ensures printed { IfOk result (λ printed. D.told → F.told
-        → IsWalkReport report mirror.capacity mirror.base mirror.kept (F.state fetch.old).answers
-        (printed_answer printed)) }
-    ensures refused { IfErr result (λ fault. IsReportRefusal fault → D.told → F.told
-        → IsFetched report mirror.capacity mirror.base mirror.kept (F.state fetch.old).answers
-        (report_answer fault)) }
-    ensures ends { IfOk result (λ printed. IsDone (code_of (printed_answer printed).status)) }
-    ensures own { IfErr result MayEndWalkReport }
-    ensures asks { F.told → AsksOfMirror mirror.capacity mirror.base mirror.kept
-        (F.state fetch.old) (F.state fetch.new) }
-    ensures walk { D.told → F.told → GoesWalk mirror.capacity mirror.base mirror.kept
-        (F.state fetch.old).answers (D.state disk.old) (D.state disk.new)
-        (result ≡ Err (ReportFault.Other Fault.Disk)) (IsOk result) }
-    ensures others { (a : AreaValue) → a ≢ MirrorArea
-        → LeavesAlone (D.state disk.old) (D.state disk.new) a }
-    ensures disk { result ≡ Err (ReportFault.Other Fault.Disk)
-        → Rose (D.state disk.old).faults (D.state disk.new).faults }
-    ensures disk_faults { result ≢ Err (ReportFault.Other Fault.Disk)
-        → (D.state disk.new).faults ≡ (D.state disk.old).faults }
-    ensures fetch { result ≡ Err ReportFault.Fetch
-        → Rose (F.state fetch.old).faults (F.state fetch.new).faults }
-    ensures fetch_faults { result ≢ Err ReportFault.Fetch
-        → (F.state fetch.new).faults ≡ (F.state fetch.old).faults }
-{
-    report_walk(alloc, base, report, &mut mirror, disk, fetch)
+    let mut mirror = Mirror::load(alloc, disk, base.copy(alloc)?, capacity)?;
+    let printed = report_walk(alloc, base, report, &mut mirror, disk, fetch);
+    drop(mirror);
+    printed
 }
 
 /// Walks over the documents of the source with a mirror that was loaded, and returns what is printed.

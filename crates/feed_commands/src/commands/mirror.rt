@@ -163,45 +163,10 @@ fn load_and_offer<D: Disk, I: Source>(
         (LeavesMirrored capacity base.now (I.state input.old).left (D.state disk.old) (D.state disk.new)
         (result ≡ Err (ReportFault.Other Fault.Disk)) (IsOk result)) }
 {
-    let mirror = Mirror::load(alloc, disk, base.copy(alloc)?, capacity)?;
-    Ok(report_loaded(alloc, base, report, mirror, disk, input)?)
-}
-
-/// Offers the documents to a mirror that was loaded, and drops it. It is a function of its own, because the proof drops
-/// a mirror field by field.
-fn report_loaded<D: Disk, I: Source>(
-    alloc: Global,
-    base: &Base,
-    report: bool,
-    mut mirror: Mirror,
-    disk: &mut D,
-    input: &mut I,
-) -> Result<Printed, Fault>
-    requires base { base.now ≡ mirror.base }
-    requires usable { IsUsable D.told (D.state disk.old) mirror }
-    requires loaded { IsLoadedOf mirror.base (payloads_of mirror.kept) mirror.kept }
-    ensures printed { IfOk result (λ printed. D.told → I.told
-        → IsReport report mirror.capacity mirror.base mirror.kept (I.state input.old).left
-        (printed_answer printed)) }
-    ensures refused { IfErr result (λ fault. IsRefusal fault → D.told → I.told
-        → IsMirrored report mirror.capacity mirror.base mirror.kept (I.state input.old).left
-        (fault_answer fault)) }
-    ensures ends { IfOk result (λ printed. IsDone (code_of (printed_answer printed).status)) }
-    ensures own { IfErr result MayEndOffers }
-    ensures gives { GivesOffers mirror.capacity mirror.base mirror.kept (I.state input.old).left
-        I.told D.told (D.state disk.old) (D.state disk.new) (result ≡ Err Fault.Disk) (IsOk result) }
-    ensures others { (a : AreaValue) → a ≢ MirrorArea
-        → LeavesAlone (D.state disk.old) (D.state disk.new) a }
-    ensures disk { result ≡ Err Fault.Disk → Rose (D.state disk.old).faults (D.state disk.new).faults }
-    ensures disk_faults { result ≢ Err Fault.Disk
-        → (D.state disk.new).faults ≡ (D.state disk.old).faults }
-    ensures input { result ≡ Err Fault.Input → Rose (I.state input.old).faults (I.state input.new).faults }
-    ensures within { result ≡ Err Fault.Input → I.told
-        → ReadsWithinPile mirror.capacity mirror.base mirror.kept
-        (I.state input.old) (I.state input.new) }
-    ensures faults { result ≢ Err Fault.Input → (I.state input.new).faults ≡ (I.state input.old).faults }
-{
-    report_offers(alloc, base, report, &mut mirror, disk, input)
+    let mut mirror = Mirror::load(alloc, disk, base.copy(alloc)?, capacity)?;
+    let printed = report_offers(alloc, base, report, &mut mirror, disk, input);
+    drop(mirror);
+    Ok(printed?)
 }
 
 /// Offers the documents of the pile that is the input to a mirror that was loaded, and returns what is printed.

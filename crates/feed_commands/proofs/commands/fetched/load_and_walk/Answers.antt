@@ -28,7 +28,7 @@ returns-in_err-mirror-clause-refused g c =
     })
 
 pub returns-clause-printed : goal.returns-clause-printed
-returns-clause-printed g c = IfOk-weaker c.report_loaded.result _ _
+returns-clause-printed g c = IfOk-weaker c.report_walk-printed.result _ _
     (λ printed said disk source. record {
       kept = c.in_ok-mirror.mirror.kept;
       loaded = subst (λ (b : List ℕ). IsLoadedOf b (records ((g.D.Disk.state c.args.disk.now).content MirrorArea))
@@ -37,10 +37,10 @@ returns-clause-printed g c = IfOk-weaker c.report_loaded.result _ _
           (g.F.Fetch.state c.args.fetch.now).answers (printed_answer printed))
           _ _ _ _ c.in_ok-mirror.ensures.capacity (c.in_ok-mirror.ensures.base ∙ c.in_ok-copy.ensures.same)
           (said disk source);
-    }) c.report_loaded.ensures.printed
+    }) c.report_walk-printed.ensures.printed
 
 pub returns-clause-refused : goal.returns-clause-refused
-returns-clause-refused g c = IfErr-weaker c.report_loaded.result _ _
+returns-clause-refused g c = IfErr-weaker c.report_walk-printed.result _ _
     (λ fault said refusal disk source. inl record {
       kept = c.in_ok-mirror.mirror.kept;
       loaded = subst (λ (b : List ℕ). IsLoadedOf b (records ((g.D.Disk.state c.args.disk.now).content MirrorArea))
@@ -49,7 +49,7 @@ returns-clause-refused g c = IfErr-weaker c.report_loaded.result _ _
           (g.F.Fetch.state c.args.fetch.now).answers (report_answer fault))
           _ _ _ _ c.in_ok-mirror.ensures.capacity (c.in_ok-mirror.ensures.base ∙ c.in_ok-copy.ensures.same)
           (said refusal disk source);
-    }) c.report_loaded.ensures.refused
+    }) c.report_walk-printed.ensures.refused
 
 pub returns-clause-asks : goal.returns-clause-asks
 returns-clause-asks g c = λ disk source. inr record {
@@ -57,26 +57,26 @@ returns-clause-asks g c = λ disk source. inr record {
   loaded = subst (λ (b : List ℕ). IsLoadedOf b (records ((g.D.Disk.state c.args.disk.now).content MirrorArea))
       c.in_ok-mirror.mirror.kept) c.in_ok-copy.ensures.same (c.in_ok-mirror.ensures.loaded disk);
   asks = moved (λ (n : ℕ) (b : List ℕ). AsksOfMirror n b c.in_ok-mirror.mirror.kept
-      (g.F.Fetch.state c.args.fetch.now) (g.F.Fetch.state c.report_loaded.new.fetch))
+      (g.F.Fetch.state c.args.fetch.now) (g.F.Fetch.state c.report_walk-printed.new.fetch))
       _ _ _ _ c.in_ok-mirror.ensures.capacity (c.in_ok-mirror.ensures.base ∙ c.in_ok-copy.ensures.same)
-      (c.report_loaded.ensures.asks source);
+      (c.report_walk-printed.ensures.asks source);
 }
 
 pub returns-clause-others : goal.returns-clause-others
 returns-clause-others g c = λ a other.
-    alone_joins _ _ _ a (c.in_ok-mirror.ensures.others a other) (c.report_loaded.ensures.others a other)
+    alone_joins _ _ _ a (c.in_ok-mirror.ensures.others a other) (c.report_walk-printed.ensures.others a other)
 
 pub returns-clause-kept : goal.returns-clause-kept
 returns-clause-kept g c = λ disk source whole.
     leaves-taken _ _ _ _ (leaves-walk (g.D.Disk.state c.args.disk.now) (g.D.Disk.state c.load.new.disk)
-    (g.D.Disk.state c.report_loaded.new.disk) (g.met.D.Disk.is_disk c.args.disk.now) disk whole c.args.capacity
+    (g.D.Disk.state c.report_walk-printed.new.disk) (g.met.D.Disk.is_disk c.args.disk.now) disk whole c.args.capacity
     c.args.base.now c.in_ok-mirror.mirror.kept
     (subst (λ (b : List ℕ). IsLoadedOf b (records ((g.D.Disk.state c.args.disk.now).content MirrorArea))
     c.in_ok-mirror.mirror.kept) c.in_ok-copy.ensures.same (c.in_ok-mirror.ensures.loaded disk))
     (c.in_ok-mirror.ensures.moments disk) (c.in_ok-mirror.ensures.rests disk)
-    (g.F.Fetch.state c.args.fetch.now).answers (c.report_loaded.result ≡ Err (Other Disk)) (IsOk c.report_loaded.result)
+    (g.F.Fetch.state c.args.fetch.now).answers (c.report_walk-printed.result ≡ Err (Other Disk)) (IsOk c.report_walk-printed.result)
     (moved (λ (n : ℕ) (b : List ℕ). GoesWalk n b c.in_ok-mirror.mirror.kept (g.F.Fetch.state c.args.fetch.now).answers
-    (g.D.Disk.state c.load.new.disk) (g.D.Disk.state c.report_loaded.new.disk)
-    (c.report_loaded.result ≡ Err (Other Disk)) (IsOk c.report_loaded.result))
+    (g.D.Disk.state c.load.new.disk) (g.D.Disk.state c.report_walk-printed.new.disk)
+    (c.report_walk-printed.result ≡ Err (Other Disk)) (IsOk c.report_walk-printed.result))
     _ _ _ _ c.in_ok-mirror.ensures.capacity (c.in_ok-mirror.ensures.base ∙ c.in_ok-copy.ensures.same)
-    (c.report_loaded.ensures.walk disk source)))
+    (c.report_walk-printed.ensures.walk disk source)))

@@ -27,67 +27,67 @@ returns-in_err-mirror-clause-refused g c =
       answer = refl;
     })
 
-pub returns-in_err-report_loaded-clause-refused : goal.returns-in_err-report_loaded-clause-refused
-returns-in_err-report_loaded-clause-refused g c =
-    let p = err_from_is_err_and c.from_residual-in_err-report_loaded.result
-    c.from_residual-in_err-report_loaded.ensures.1 in
+pub returns-in_err-printed-clause-refused : goal.returns-in_err-printed-clause-refused
+returns-in_err-printed-clause-refused g c =
+    let p = err_from_is_err_and c.from_residual-in_err-printed.result
+    c.from_residual-in_err-printed.ensures.1 in
     rw (p.1, p.2) (λ refusal disk input. inl record {
       kept = c.in_ok-mirror.mirror.kept;
       loaded = (subst (λ (b : List ℕ). IsLoadedOf b (records ((g.D.Disk.state c.args.disk.now).content MirrorArea))
           c.in_ok-mirror.mirror.kept) c.in_ok-copy.ensures.same (c.in_ok-mirror.ensures.loaded disk));
       is = moved (λ (n : ℕ) (b : List ℕ). IsMirrored c.args.report n b c.in_ok-mirror.mirror.kept
-          (g.I.Source.state c.args.input.now).left (fault_answer c.in_err-report_loaded.field-0.0))
+          (g.I.Source.state c.args.input.now).left (fault_answer c.in_err-printed.field-0.0))
           _ _ _ _ c.in_ok-mirror.ensures.capacity (c.in_ok-mirror.ensures.base ∙ c.in_ok-copy.ensures.same)
-          (c.in_err-report_loaded.ensures.refused refusal disk input);
+          (c.in_err-printed.ensures.refused refusal disk input);
     })
 
-pub returns-in_err-report_loaded-clause-others : goal.returns-in_err-report_loaded-clause-others
-returns-in_err-report_loaded-clause-others g c = λ a other.
-    alone_joins _ _ _ a (c.in_ok-mirror.ensures.others a other) (c.report_loaded.ensures.others a other)
+pub returns-in_err-printed-clause-others : goal.returns-in_err-printed-clause-others
+returns-in_err-printed-clause-others g c = λ a other.
+    alone_joins _ _ _ a (c.in_ok-mirror.ensures.others a other) (c.report_offers-printed.ensures.others a other)
 
-pub returns-in_err-report_loaded-clause-kept : goal.returns-in_err-report_loaded-clause-kept
-returns-in_err-report_loaded-clause-kept g c =
-    let p = err_from_is_err_and c.from_residual-in_err-report_loaded.result
-    c.from_residual-in_err-report_loaded.ensures.1 in
+pub returns-in_err-printed-clause-kept : goal.returns-in_err-printed-clause-kept
+returns-in_err-printed-clause-kept g c =
+    let p = err_from_is_err_and c.from_residual-in_err-printed.result
+    c.from_residual-in_err-printed.ensures.1 in
     rw (p.1, p.2) (λ disk input whole. leaves-taken _ _ _ _ (mirrored-weaker c.args.capacity c.args.base.now
     (g.I.Source.state c.args.input.now).left
-    (g.D.Disk.state c.args.disk.now) (g.D.Disk.state c.report_loaded.new.disk) (c.report_loaded.result ≡ Err Disk)
-    _ (IsOk c.report_loaded.result) _ (λ e. cc (e, c.in_err-report_loaded.is, c.in_err-report_loaded.was))
+    (g.D.Disk.state c.args.disk.now) (g.D.Disk.state c.report_offers-printed.new.disk) (c.report_offers-printed.result ≡ Err Disk)
+    _ (IsOk c.report_offers-printed.result) _ (λ e. cc (e, c.in_err-printed.is, c.in_err-printed.was))
     (λ ok. absurd (false≢true ok))
     (leaves-offers (g.D.Disk.state c.args.disk.now) (g.D.Disk.state c.load.new.disk)
-    (g.D.Disk.state c.report_loaded.new.disk) (g.met.D.Disk.is_disk c.args.disk.now) disk whole c.args.capacity
+    (g.D.Disk.state c.report_offers-printed.new.disk) (g.met.D.Disk.is_disk c.args.disk.now) disk whole c.args.capacity
     c.args.base.now c.in_ok-mirror.mirror.kept
     (subst (λ (b : List ℕ). IsLoadedOf b (records ((g.D.Disk.state c.args.disk.now).content MirrorArea))
     c.in_ok-mirror.mirror.kept) c.in_ok-copy.ensures.same (c.in_ok-mirror.ensures.loaded disk))
     (c.in_ok-mirror.ensures.moments disk) (c.in_ok-mirror.ensures.rests disk)
-    (g.I.Source.state c.args.input.now).left g.I.Source.told (c.report_loaded.result ≡ Err Disk)
-    (IsOk c.report_loaded.result) input
+    (g.I.Source.state c.args.input.now).left g.I.Source.told (c.report_offers-printed.result ≡ Err Disk)
+    (IsOk c.report_offers-printed.result) input
     (moved (λ (n : ℕ) (b : List ℕ). GivesOffers n b c.in_ok-mirror.mirror.kept
     (g.I.Source.state c.args.input.now).left g.I.Source.told g.D.Disk.told (g.D.Disk.state c.load.new.disk)
-    (g.D.Disk.state c.report_loaded.new.disk) (c.report_loaded.result ≡ Err Disk) (IsOk c.report_loaded.result))
+    (g.D.Disk.state c.report_offers-printed.new.disk) (c.report_offers-printed.result ≡ Err Disk) (IsOk c.report_offers-printed.result))
     _ _ _ _ c.in_ok-mirror.ensures.capacity (c.in_ok-mirror.ensures.base ∙ c.in_ok-copy.ensures.same)
-    c.report_loaded.ensures.gives))))
+    c.report_offers-printed.ensures.gives))))
 
 pub returns-clause-others : goal.returns-clause-others
 returns-clause-others g c = λ a other.
-    alone_joins _ _ _ a (c.in_ok-mirror.ensures.others a other) (c.report_loaded.ensures.others a other)
+    alone_joins _ _ _ a (c.in_ok-mirror.ensures.others a other) (c.report_offers-printed.ensures.others a other)
 
 pub returns-clause-kept : goal.returns-clause-kept
 returns-clause-kept g c = λ disk input whole. leaves-taken _ _ _ _ (mirrored-weaker c.args.capacity c.args.base.now
     (g.I.Source.state c.args.input.now).left
-    (g.D.Disk.state c.args.disk.now) (g.D.Disk.state c.report_loaded.new.disk) (c.report_loaded.result ≡ Err Disk)
-    _ (IsOk c.report_loaded.result) _ (λ e. cc (e, c.in_ok-report_loaded.is, c.in_ok-report_loaded.was))
-    (λ ok. rw c.in_ok-report_loaded.was refl)
+    (g.D.Disk.state c.args.disk.now) (g.D.Disk.state c.report_offers-printed.new.disk) (c.report_offers-printed.result ≡ Err Disk)
+    _ (IsOk c.report_offers-printed.result) _ (λ e. cc (e, c.in_ok-printed.is, c.in_ok-printed.was))
+    (λ ok. rw c.in_ok-printed.was refl)
     (leaves-offers (g.D.Disk.state c.args.disk.now) (g.D.Disk.state c.load.new.disk)
-    (g.D.Disk.state c.report_loaded.new.disk) (g.met.D.Disk.is_disk c.args.disk.now) disk whole c.args.capacity
+    (g.D.Disk.state c.report_offers-printed.new.disk) (g.met.D.Disk.is_disk c.args.disk.now) disk whole c.args.capacity
     c.args.base.now c.in_ok-mirror.mirror.kept
     (subst (λ (b : List ℕ). IsLoadedOf b (records ((g.D.Disk.state c.args.disk.now).content MirrorArea))
     c.in_ok-mirror.mirror.kept) c.in_ok-copy.ensures.same (c.in_ok-mirror.ensures.loaded disk))
     (c.in_ok-mirror.ensures.moments disk) (c.in_ok-mirror.ensures.rests disk)
-    (g.I.Source.state c.args.input.now).left g.I.Source.told (c.report_loaded.result ≡ Err Disk)
-    (IsOk c.report_loaded.result) input
+    (g.I.Source.state c.args.input.now).left g.I.Source.told (c.report_offers-printed.result ≡ Err Disk)
+    (IsOk c.report_offers-printed.result) input
     (moved (λ (n : ℕ) (b : List ℕ). GivesOffers n b c.in_ok-mirror.mirror.kept
     (g.I.Source.state c.args.input.now).left g.I.Source.told g.D.Disk.told (g.D.Disk.state c.load.new.disk)
-    (g.D.Disk.state c.report_loaded.new.disk) (c.report_loaded.result ≡ Err Disk) (IsOk c.report_loaded.result))
+    (g.D.Disk.state c.report_offers-printed.new.disk) (c.report_offers-printed.result ≡ Err Disk) (IsOk c.report_offers-printed.result))
     _ _ _ _ c.in_ok-mirror.ensures.capacity (c.in_ok-mirror.ensures.base ∙ c.in_ok-copy.ensures.same)
-    c.report_loaded.ensures.gives)))
+    c.report_offers-printed.ensures.gives)))
