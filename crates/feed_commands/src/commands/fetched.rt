@@ -171,6 +171,8 @@ fn report_walk<D: Disk, F: Fetch>(
 {
     begun_images_are_whole();
     let walked = mirror.walk(disk, fetch)?;
-    let made = Report::of_walk(alloc, base, report, &walked)?;
+    let made = Report::of_walk(alloc, base, report, &walked);
+    drop(walked);
+    let made = made?;
     Ok(made.end(alloc, base, mirror, disk)?)
 }

@@ -205,7 +205,9 @@ fn report_offers<D: Disk, I: Source>(
     begun_images_are_whole();
     let mut reader = PileReader::new(alloc, INPUT_LIMIT)?;
     let mut made = Report::new(alloc, report);
-    offer_all(&mut made, mirror, disk, &mut reader, input)?;
+    let offered = offer_all(&mut made, mirror, disk, &mut reader, input);
+    drop(reader);
+    offered?;
     made.end(alloc, base, mirror, disk)
 }
 
@@ -246,7 +248,9 @@ fn offer_all<D: Disk, I: Source>(
 {
     begun_images_are_whole();
     while let Some(offer) = reader.next(input)? {
-        report.offer(mirror, disk, offer.address.slice(), offer.bytes.slice())?;
+        let added = report.offer(mirror, disk, offer.address.slice(), offer.bytes.slice());
+        drop(offer);
+        added?;
     }
     Ok(())
 }

@@ -64,15 +64,15 @@ returns-in_err-offer-clause-within g c = λ is told.
     c.in_err-offer.ensures.limit c.in_err-offer.ensures.bound (omega (arith, c.in_err-offer.ensures.used))
     (c.in_err-offer.ensures.stays going told)
 
-pub returns-in_err-offer-2-clause-refused : goal.returns-in_err-offer-2-clause-refused
-returns-in_err-offer-2-clause-refused g c =
-    let p = err_from_is_err_and c.from_residual-in_err-offer-2.result c.from_residual-in_err-offer-2.ensures.1 in
+pub returns-in_err-added-clause-refused : goal.returns-in_err-added-clause-refused
+returns-in_err-added-clause-refused g c =
+    let p = err_from_is_err_and c.from_residual-in_err-added.result c.from_residual-in_err-added.ensures.1 in
     let h = c.loop-offer.invariant in
-    let fault = c.in_err-offer-2.field-0.0 in
+    let fault = c.in_err-added.field-0.0 in
     rw (p.1, p.2) (λ refusal told.
     offered-refused (λ (f : Fault). IsMirrored c.args.report.now.detailed c.args.mirror.now.capacity
     c.args.mirror.now.base c.args.mirror.now.kept
-    (g.I.Source.state c.args.input.now).left (fault_answer f)) fault c.in_err-offer-2.ensures.own refusal
+    (g.I.Source.state c.args.input.now).left (fault_answer f)) fault c.in_err-added.ensures.own refusal
     (λ size needed most same.
     giving-full g.I.Source.told g.D.Disk.told c.args.report.now.detailed c.args.mirror.now
     (g.D.Disk.state c.args.disk.now)
@@ -92,13 +92,13 @@ returns-in_err-offer-2-clause-refused g c =
     c.in-Some.is (c.in_ok-offer.ensures.stays (c.in_ok-offer.ensures.refusal h.amid.fresh) t))
     c.in_ok-offer.ensures.limit (omega (arith, c.in_ok-offer.ensures.bound))
     c.slice.result.now c.slice-in-Some.result.now size needed most c.slice.ensures c.slice-in-Some.ensures
-    (c.in_err-offer-2.ensures.full size needed most (ap Err same)) told))
+    (c.in_err-added.ensures.full size needed most (ap Err same)) told))
 
-pub returns-in_err-offer-2-clause-gives : goal.returns-in_err-offer-2-clause-gives
-returns-in_err-offer-2-clause-gives g c =
-    let p = err_from_is_err_and c.from_residual-in_err-offer-2.result c.from_residual-in_err-offer-2.ensures.1 in
+pub returns-in_err-added-clause-gives : goal.returns-in_err-added-clause-gives
+returns-in_err-added-clause-gives g c =
+    let p = err_from_is_err_and c.from_residual-in_err-added.result c.from_residual-in_err-added.ensures.1 in
     let h = c.loop-offer.invariant in
-    let fault = c.in_err-offer-2.field-0.0 in
+    let fault = c.in_err-added.field-0.0 in
     giving-fault g.I.Source.told g.D.Disk.told c.args.report.now.detailed c.args.mirror.now
     (g.D.Disk.state c.args.disk.now)
     (g.I.Source.state c.args.input.now)
@@ -116,33 +116,33 @@ returns-in_err-offer-2-clause-gives g c =
     ≡ used_text c.loop-offer.reader.used (Ok o) ++ unused c.next.new.self (g.I.Source.state c.next.new.source))
     c.in-Some.is (c.in_ok-offer.ensures.stays (c.in_ok-offer.ensures.refusal h.amid.fresh) t))
     c.in_ok-offer.ensures.limit (omega (arith, c.in_ok-offer.ensures.bound))
-    (g.D.Disk.state c.offer.new.disk) fault _ _ c.in_err-offer-2.ensures.own
+    (g.D.Disk.state c.offer-added.new.disk) fault _ _ c.in_err-added.ensures.own
     (λ is. let a = p.1 in let b = p.2 in cc)
-    (not-ok c.from_residual-in_err-offer-2.result _ p.1) c.begun_images_are_whole.ensures
+    (not-ok c.from_residual-in_err-added.result _ p.1) c.begun_images_are_whole.ensures
     (λ told rest.
-    subst (λ (a : List ℕ). AlwaysLeaves (g.D.Disk.state c.loop-offer.disk) (g.D.Disk.state c.offer.new.disk) MirrorArea
+    subst (λ (a : List ℕ). AlwaysLeaves (g.D.Disk.state c.loop-offer.disk) (g.D.Disk.state c.offer-added.new.disk) MirrorArea
     (IsOfferStep c.loop-offer.mirror a c.in-Some.offer.bytes)) c.slice.ensures
-    (subst (λ (x : List ℕ). AlwaysLeaves (g.D.Disk.state c.loop-offer.disk) (g.D.Disk.state c.offer.new.disk) MirrorArea
+    (subst (λ (x : List ℕ). AlwaysLeaves (g.D.Disk.state c.loop-offer.disk) (g.D.Disk.state c.offer-added.new.disk) MirrorArea
     (IsOfferStep c.loop-offer.mirror c.slice.result.now x)) c.slice-in-Some.ensures
-    (c.offer.ensures.moments told rest)))
+    (c.offer-added.ensures.moments told rest)))
     (λ other given. subst (λ disk. GivesOffers c.args.mirror.now.capacity c.args.mirror.now.base c.args.mirror.now.kept
     (g.I.Source.state c.args.input.now).left g.I.Source.told g.D.Disk.told (g.D.Disk.state c.args.disk.now)
-    (g.D.Disk.state disk) (c.from_residual-in_err-offer-2.result ≡ Err Disk)
-    (IsOk c.from_residual-in_err-offer-2.result))
-    (sym (c.in_err-offer-2.ensures.unmoved other).1) given)
+    (g.D.Disk.state disk) (c.from_residual-in_err-added.result ≡ Err Disk)
+    (IsOk c.from_residual-in_err-added.result))
+    (sym (c.in_err-added.ensures.unmoved other).1) given)
 
-pub returns-in_err-offer-2-clause-others : goal.returns-in_err-offer-2-clause-others
-returns-in_err-offer-2-clause-others g c = λ a other.
+pub returns-in_err-added-clause-others : goal.returns-in_err-added-clause-others
+returns-in_err-added-clause-others g c = λ a other.
     alone_joins _ (g.D.Disk.state c.loop-offer.disk) _ a (c.loop-offer.invariant.others a other)
-    (c.in_err-offer-2.ensures.others a other)
+    (c.in_err-added.ensures.others a other)
 
 pub loop-offer-preserved : goal.loop-offer-preserved
 loop-offer-preserved g c =
     let h = c.loop-offer.invariant in
     let mirror = c.loop-offer.mirror in
-    let left = c.offer.new.mirror in
+    let left = c.offer-added.new.mirror in
     let offer = c.in-Some.offer in
-    let answered = c.in_ok-offer-2.ensures.answer in
+    let answered = c.in_ok-added.ensures.answer in
     giving-next g.I.Source.told g.D.Disk.told c.args.report.now.detailed c.args.mirror.now
     (g.D.Disk.state c.args.disk.now)
     (g.I.Source.state c.args.input.now)
@@ -160,23 +160,23 @@ loop-offer-preserved g c =
     ≡ used_text c.loop-offer.reader.used (Ok o) ++ unused c.next.new.self (g.I.Source.state c.next.new.source))
     c.in-Some.is (c.in_ok-offer.ensures.stays (c.in_ok-offer.ensures.refusal h.amid.fresh) t))
     c.in_ok-offer.ensures.limit (omega (arith, c.in_ok-offer.ensures.bound))
-    (g.D.Disk.state c.offer.new.disk) left c.offer.new.self answered.0 (c.in_ok-offer.ensures.refusal h.amid.fresh)
+    (g.D.Disk.state c.offer-added.new.disk) left c.offer-added.new.self answered.0 (c.in_ok-offer.ensures.refusal h.amid.fresh)
     (subst (λ (o : Option Offer). IfSome o IsOffer) c.in-Some.is c.in_ok-offer.ensures.rules) answered.1
     (subst (λ (a : List ℕ). IsAnswerWithin mirror.capacity mirror.base mirror.kept a offer.bytes answered.0 left.kept)
     c.slice.ensures
     (subst (λ (x : List ℕ).
     IsAnswerWithin mirror.capacity mirror.base mirror.kept c.slice.result.now x answered.0 left.kept)
     c.slice-in-Some.ensures answered.2))
-    (subst (λ (a : List ℕ). HasAdded c.loop-offer.report c.offer.new.self a answered.0) c.slice.ensures answered.3)
-    c.in_ok-offer-2.ensures.same (c.in_ok-offer-2.ensures.usable (λ e. cc))
+    (subst (λ (a : List ℕ). HasAdded c.loop-offer.report c.offer-added.new.self a answered.0) c.slice.ensures answered.3)
+    c.in_ok-added.ensures.same (c.in_ok-added.ensures.usable (λ e. cc))
     (λ told rest.
-    subst (λ (a : List ℕ). AlwaysLeaves (g.D.Disk.state c.loop-offer.disk) (g.D.Disk.state c.offer.new.disk) MirrorArea
+    subst (λ (a : List ℕ). AlwaysLeaves (g.D.Disk.state c.loop-offer.disk) (g.D.Disk.state c.offer-added.new.disk) MirrorArea
     (IsOfferStep c.loop-offer.mirror a c.in-Some.offer.bytes)) c.slice.ensures
-    (subst (λ (x : List ℕ). AlwaysLeaves (g.D.Disk.state c.loop-offer.disk) (g.D.Disk.state c.offer.new.disk) MirrorArea
+    (subst (λ (x : List ℕ). AlwaysLeaves (g.D.Disk.state c.loop-offer.disk) (g.D.Disk.state c.offer-added.new.disk) MirrorArea
     (IsOfferStep c.loop-offer.mirror c.slice.result.now x)) c.slice-in-Some.ensures
-    (c.offer.ensures.moments told rest)))
-    (λ told rest. c.in_ok-offer-2.ensures.rests (λ e. cc) told rest) c.in_ok-offer-2.ensures.others
-    (c.in_ok-offer-2.ensures.disk_faults (λ e. cc)) (c.in_ok-offer.ensures.unfailed (λ e. cc))
+    (c.offer-added.ensures.moments told rest)))
+    (λ told rest. c.in_ok-added.ensures.rests (λ e. cc) told rest) c.in_ok-added.ensures.others
+    (c.in_ok-added.ensures.disk_faults (λ e. cc)) (c.in_ok-offer.ensures.unfailed (λ e. cc))
 
 pub returns-clause-gives : goal.returns-clause-gives
 returns-clause-gives g c =

@@ -22,60 +22,60 @@ returns-in_err-reader-clause-gives g c =
     (g.I.Source.state c.args.input.now).left _ _ c.begun_images_are_whole.ensures c.requires.usable c.requires.loaded
     (λ whole. not-ok c.from_residual.result _ p.1 whole)
 
-pub returns-in_err-offer_all-clause-refused : goal.returns-in_err-offer_all-clause-refused
-returns-in_err-offer_all-clause-refused g c =
-    let p = err_from_is_err_and c.from_residual-in_err-offer_all.result c.from_residual-in_err-offer_all.ensures.1 in
+pub returns-in_err-offered-clause-refused : goal.returns-in_err-offered-clause-refused
+returns-in_err-offered-clause-refused g c =
+    let p = err_from_is_err_and c.from_residual-in_err-offered.result c.from_residual-in_err-offered.ensures.1 in
     rw (p.1, p.2) (λ refusal disk told.
     subst (λ (detailed : Bool). IsMirrored detailed c.args.mirror.now.capacity c.args.mirror.now.base
-    c.args.mirror.now.kept (g.I.Source.state c.args.input.now).left (fault_answer c.in_err-offer_all.field-0.0))
-    c.new-made.ensures.detailed (c.in_err-offer_all.ensures.refused refusal told))
+    c.args.mirror.now.kept (g.I.Source.state c.args.input.now).left (fault_answer c.in_err-offered.field-0.0))
+    c.new-made.ensures.detailed (c.in_err-offered.ensures.refused refusal told))
 
-pub returns-in_err-offer_all-clause-gives : goal.returns-in_err-offer_all-clause-gives
-returns-in_err-offer_all-clause-gives g c =
-    let p = err_from_is_err_and c.from_residual-in_err-offer_all.result c.from_residual-in_err-offer_all.ensures.1 in
+pub returns-in_err-offered-clause-gives : goal.returns-in_err-offered-clause-gives
+returns-in_err-offered-clause-gives g c =
+    let p = err_from_is_err_and c.from_residual-in_err-offered.result c.from_residual-in_err-offered.ensures.1 in
     let first = c.args.mirror.now in
-    let fault = c.in_err-offer_all.field-0.0 in
-    let later = g.D.Disk.state c.offer_all.new.disk in
+    let fault = c.in_err-offered.field-0.0 in
+    let later = g.D.Disk.state c.offer_all-offered.new.disk in
     gives-later g.D.Disk.told first.capacity first.base first.kept (g.D.Disk.state c.args.disk.now)
     (g.I.Source.state c.args.input.now).left g.I.Source.told later later _ _ _ _
     (λ e. let same : fault ≡ Disk = cc in p.1 ∙ ap Err (p.2 ∙ same))
-    (λ whole. absurd (not-ok c.from_residual-in_err-offer_all.result _ p.1 whole)) (alone_begins later MirrorArea)
-    c.in_err-offer_all.ensures.gives
+    (λ whole. absurd (not-ok c.from_residual-in_err-offered.result _ p.1 whole)) (alone_begins later MirrorArea)
+    c.in_err-offered.ensures.gives
 
 pub end-requires : goal.end-requires
 end-requires g c =
     let first = c.args.mirror.now in
-    let left = c.offer_all.new.mirror in
-    let held = c.in_ok-offer_all.ensures.offers in
-    let same = c.offer_all.ensures.same in
+    let left = c.offer_all-offered.new.mirror in
+    let held = c.in_ok-offered.ensures.offers in
+    let same = c.offer_all-offered.ensures.same in
     record {
       base = c.requires.base ∙ sym same.base;
-      usable = c.in_ok-offer_all.ensures.usable (λ e. cc);
+      usable = c.in_ok-offered.ensures.usable (λ e. cc);
       no_line = certificate-lines c.new-made.result.detailed first.capacity first.base first.kept (map offering held.0)
-          left.kept c.offer_all.new.report held.2;
+          left.kept c.offer_all-offered.new.report held.2;
     }
 
 pub returns-clause-printed : goal.returns-clause-printed
 returns-clause-printed g c = IfOk-weaker c.end.result _ _ (λ printed ends disk told.
     let first = c.args.mirror.now in
-    let held = c.in_ok-offer_all.ensures.offers in
-    let left = c.offer_all.new.mirror.kept in
-    let loaded = subst (λ (b : List ℕ). IsLoadedOf b (payloads_of left) left) (sym c.offer_all.ensures.same.base)
+    let held = c.in_ok-offered.ensures.offers in
+    let left = c.offer_all-offered.new.mirror.kept in
+    let loaded = subst (λ (b : List ℕ). IsLoadedOf b (payloads_of left) left) (sym c.offer_all-offered.ensures.same.base)
     (answered-loaded first.capacity first.base first.kept (map offering held.0) held.2.answers left held.2.answered
     c.requires.loaded) in
     let reports = subst (λ (detailed : Bool). Reports detailed first.capacity first.base first.kept
     (map offering held.0)
-    left c.offer_all.new.report) c.new-made.ensures.detailed held.2 in
+    left c.offer_all-offered.new.report) c.new-made.ensures.detailed held.2 in
     record {
       offers = held.0;
       read = held.1 told;
       left = left;
       has = record { answers = reports.answers; answered = reports.answered };
       is = report-is c.args.report first.capacity first.base first.kept
-          (map offering held.0) left c.offer_all.new.report
+          (map offering held.0) left c.offer_all-offered.new.report
           (printed_answer printed) reports
-          (subst (λ (b : List ℕ). EndsReport (Unit {0}) b c.offer_all.new.report left (printed_answer printed))
-          c.requires.base (ends-told _ c.args.base.now c.offer_all.new.report left (printed_answer printed)
+          (subst (λ (b : List ℕ). EndsReport (Unit {0}) b c.offer_all-offered.new.report left (printed_answer printed))
+          c.requires.base (ends-told _ c.args.base.now c.offer_all-offered.new.report left (printed_answer printed)
           (disk, loaded)
           ends));
     }) c.end.ensures.printed
@@ -86,18 +86,18 @@ returns-clause-refused g c = IfErr-weaker c.end.result _ _ (λ fault never refus
 
 pub returns-clause-ends : goal.returns-clause-ends
 returns-clause-ends g c = IfOk-weaker c.end.result _ _ (λ printed ends.
-    report-done _ c.args.base.now c.offer_all.new.report c.offer_all.new.mirror.kept (printed_answer printed)
+    report-done _ c.args.base.now c.offer_all-offered.new.report c.offer_all-offered.new.mirror.kept (printed_answer printed)
     ends) c.end.ensures.printed
 
 pub returns-clause-others : goal.returns-clause-others
 returns-clause-others g c = λ a other.
-    alone_joins _ (g.D.Disk.state c.offer_all.new.disk) _ a (c.in_ok-offer_all.ensures.others a other)
+    alone_joins _ (g.D.Disk.state c.offer_all-offered.new.disk) _ a (c.in_ok-offered.ensures.others a other)
     (c.end.ensures.areas a)
 
 pub returns-clause-gives : goal.returns-clause-gives
 returns-clause-gives g c =
     let first = c.args.mirror.now in
     gives-later g.D.Disk.told first.capacity first.base first.kept (g.D.Disk.state c.args.disk.now)
-    (g.I.Source.state c.args.input.now).left g.I.Source.told (g.D.Disk.state c.offer_all.new.disk)
+    (g.I.Source.state c.args.input.now).left g.I.Source.told (g.D.Disk.state c.offer_all-offered.new.disk)
     (g.D.Disk.state c.end.new.disk) _ _ _ _ (λ e. absurd (cc)) (λ whole. refl)
-    (c.end.ensures.areas MirrorArea) c.in_ok-offer_all.ensures.gives
+    (c.end.ensures.areas MirrorArea) c.in_ok-offered.ensures.gives
