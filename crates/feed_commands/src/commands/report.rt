@@ -156,9 +156,12 @@ impl Report {
     {
         let answer = mirror.offer(disk, address, bytes);
         if let Some(fault) = room_fault(&answer) {
+            drop(answer);
             return Err(fault);
         }
-        Ok(self.add(address, &answer)?)
+        let added = self.add(address, &answer);
+        drop(answer);
+        Ok(added?)
     }
 
     /// Adds the answer to an offer.
@@ -348,7 +351,9 @@ fn push_entries<D: Disk>(out: &mut Vec<u8>, mirror: &mut Mirror, disk: &mut D) -
     let mut after = 0;
     while let Some(number) = mirror.next_live(after) {
         let entry = live_entry(mirror, disk, number)?;
-        push_entry(out, &entry)?;
+        let pushed = push_entry(out, &entry);
+        drop(entry);
+        pushed?;
         after = number;
     }
     Ok(())

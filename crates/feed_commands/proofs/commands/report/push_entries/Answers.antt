@@ -8,28 +8,18 @@ returns-in_err-entry-clause-areas g c = λ a.
     alone_joins _ (g.D.Disk.state c.loop-number.disk) _ a (c.loop-number.invariant.areas a)
     (c.in_err-entry.ensures.areas a)
 
-pub returns-in_err-push_entry-clause-areas : goal.returns-in_err-push_entry-clause-areas
-returns-in_err-push_entry-clause-areas g c = λ a.
+pub returns-in_err-pushed-clause-areas : goal.returns-in_err-pushed-clause-areas
+returns-in_err-pushed-clause-areas g c = λ a.
     alone_joins _ (g.D.Disk.state c.loop-number.disk) _ a (c.loop-number.invariant.areas a)
     (c.in_ok-entry.ensures.areas a)
-
-pub loop-number-preserved-in_ok-push_entry : goal.loop-number-preserved-in_ok-push_entry
-loop-number-preserved-in_ok-push_entry g c =
-    let h = c.loop-number.invariant in
-    listing-next g.D.Disk.told c.args.mirror.now (g.D.Disk.state c.args.disk.now) c.args.out.now.items
-    (g.D.Disk.state c.loop-number.disk) c.loop-number.mirror c.loop-number.out.items c.loop-number.after h
-    (g.D.Disk.state c.live_entry.new.disk) c.live_entry.new.mirror c.push_entry.new.out.items c.in-Some.number
-    c.in_ok-entry.entry c.in-Some.ensures.found (λ told. c.in_ok-entry.ensures.entry told) c.in_ok-push_entry.ensures
-    (c.in_ok-entry.ensures.kept (λ e. cc)) (c.in_ok-entry.ensures.listed (λ e. cc))
-    (c.in_ok-entry.ensures.usable (λ e. cc)) c.in_ok-entry.ensures.areas (c.in_ok-entry.ensures.disk_faults (λ e. cc))
 
 pub loop-number-preserved : goal.loop-number-preserved
 loop-number-preserved g c =
     let h = c.loop-number.invariant in
     listing-next g.D.Disk.told c.args.mirror.now (g.D.Disk.state c.args.disk.now) c.args.out.now.items
     (g.D.Disk.state c.loop-number.disk) c.loop-number.mirror c.loop-number.out.items c.loop-number.after h
-    (g.D.Disk.state c.live_entry.new.disk) c.live_entry.new.mirror c.push_entry.new.out.items c.in-Some.number
-    c.in_ok-entry.entry c.in-Some.ensures.found (λ told. c.in_ok-entry.ensures.entry told) c.in_ok-push_entry.ensures
+    (g.D.Disk.state c.live_entry.new.disk) c.live_entry.new.mirror c.push_entry-pushed.new.out.items c.in-Some.number
+    c.in_ok-entry.entry c.in-Some.ensures.found (λ told. c.in_ok-entry.ensures.entry told) c.in_ok-pushed.ensures
     (c.in_ok-entry.ensures.kept (λ e. cc)) (c.in_ok-entry.ensures.listed (λ e. cc))
     (c.in_ok-entry.ensures.usable (λ e. cc)) c.in_ok-entry.ensures.areas (c.in_ok-entry.ensures.disk_faults (λ e. cc))
 

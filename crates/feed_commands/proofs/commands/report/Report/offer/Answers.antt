@@ -8,8 +8,8 @@ returns-in-Some-clause-usable g c = λ other.
     (λ e. other (ap Err e)) in
     record { unspent = c.offer-answer.ensures.unspent not_disk; stands = c.offer-answer.ensures.stands not_disk }
 
-pub returns-in_err-add-clause-usable : goal.returns-in_err-add-clause-usable
-returns-in_err-add-clause-usable g c = λ other.
+pub returns-in_err-added-clause-usable : goal.returns-in_err-added-clause-usable
+returns-in_err-added-clause-usable g c = λ other.
     let not_disk = reportable-not_disk c.offer-answer.result (sym c.in_default.ensures) in
     record { unspent = c.offer-answer.ensures.unspent not_disk; stands = c.offer-answer.ensures.stands not_disk }
 
