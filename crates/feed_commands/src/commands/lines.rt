@@ -19,7 +19,7 @@ const LF: u8 = b'\n';
 const BUFFER: usize = 65_536;
 
 /// Why there is no next line.
-#[derive(Clone, Copy, Debug, PartialEq, Eq)]
+#[derive(Clone, Copy)]
 pub enum LinesFault {
     /// The input has more than `INPUT_LIMIT` bytes, and all its lines within the limit were given.
     TooLong,
@@ -53,7 +53,7 @@ impl From<Failed> for LinesFault {
 
 /// A reader of the lines of an input, which it reads once and in order, a buffer at a time. It keeps a prefix of each
 /// line, which is enough to tell a line that is too long, so that its memory doesn't grow with a line.
-#[derive(Debug, Drop)]
+#[derive(Drop)]
 pub struct Lines {
     buffer: Vec<u8>,
     start: usize,

@@ -34,7 +34,7 @@ use feed_recovery::{LoadFault, Store};
 use std::alloc::Global;
 
 /// Why a pile isn't printed whole.
-#[derive(Clone, Copy, Debug, PartialEq, Eq)]
+#[derive(Clone, Copy)]
 pub enum PrintFault {
     /// A call on the output failed.
     Output,

@@ -14,7 +14,7 @@ use doc_source::{Sink, write_all};
 use std::alloc::Global;
 
 /// The output of a command with two defined ends at one of them, and its status.
-#[derive(Debug, Drop)]
+#[derive(Drop)]
 pub(crate) enum Printed {
     /// This text.
     Text { status: Status, text: Vec<u8> },

@@ -35,7 +35,7 @@ use mirror_walk::{Accepted, Mirror, Offered, Outcome, Refusal, Walked};
 use std::alloc::Global;
 
 /// How many offers got each answer.
-#[derive(Clone, Copy, Debug, PartialEq, Eq)]
+#[derive(Clone, Copy)]
 pub struct Counts {
     pub taken: u32,
     pub known: u32,
@@ -44,7 +44,7 @@ pub struct Counts {
 }
 
 /// The report of a mirror as it is made: a line for each refused offer so far, and how many offers got each answer.
-#[derive(Debug, Drop)]
+#[derive(Drop)]
 pub struct Report {
     /// Whether the report is printed. If not, the certificate of what is held is, and no line is kept.
     pub detailed: bool,

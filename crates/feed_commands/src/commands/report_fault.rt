@@ -11,7 +11,7 @@ use feed_disk::Area;
 use mirror_walk::{MirrorFault, WalkFault};
 
 /// Why `mirror` makes no report.
-#[derive(Debug, Drop)]
+#[derive(Drop)]
 pub enum ReportFault {
     /// A call on the source of documents failed.
     Fetch,

@@ -20,7 +20,7 @@ use feed_disk::Disk;
 use std::alloc::Global;
 
 /// Why a session ended before its defined end.
-#[derive(Clone, Copy, Debug, PartialEq, Eq)]
+#[derive(Clone, Copy)]
 pub enum SessionFault {
     /// A call on the door failed.
     Door,
