@@ -67,6 +67,8 @@ fn serves_clients(rt: HostRuntime) {
         answer_next(&rt, &mut door, &disk);
         expect_reply(&rt, client);
     }
+    drop(door);
+    drop(disk);
 }
 
 #[test]
@@ -83,6 +85,8 @@ fn serves_a_client_while_another_is_silent(rt: HostRuntime) {
     silent.shutdown(Shutdown::Write).expect(&rt, "an end");
     answer_next(&rt, &mut door, &disk);
     expect_reply(&rt, silent);
+    drop(door);
+    drop(disk);
 }
 
 #[test]
@@ -103,4 +107,6 @@ fn reads_on_after_a_reply(rt: HostRuntime) {
     }
     slow.shutdown(Shutdown::Write).expect(&rt, "an end");
     expect_reply(&rt, slow);
+    drop(door);
+    drop(disk);
 }
