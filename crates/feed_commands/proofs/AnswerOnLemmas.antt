@@ -24,6 +24,7 @@ use Rattle.feed_commands.specs.declared.status.Status.TheVariants.{Done}
 use Rattle.feed_commands.specs.Answer.{Answer}
 use Rattle.feed_commands.specs.Applied.{Applied}
 use Rattle.feed_commands.specs.Apply.{answer_by}
+use Rattle.feed_commands.specs.Crash.{ComesAfterLoad}
 use Rattle.feed_commands.specs.Fault.{fault_answer, IsRefusal}
 use Rattle.feed_commands.specs.StoreFaults.{archive_fault, load_fault, member_fault}
 use Rattle.feed_commands.specs.Stored.{IsAnswerOn, applied_store, apply_answer, archive_answer, member_answer}
@@ -147,6 +148,15 @@ load-no-input (load.SealCount records seals) e = cc
 load-no-input (load.BadSeal index) e = cc
 load-no-input load.DiskFault e = cc
 load-no-input load.NoMemory e = cc
+
+-- a store that isn't loaded ends no command after its load
+pub load-unfinished : (fault : LoadFault) → ComesAfterLoad (load_fault fault) → ⊥
+load-unfinished load.NotInit h = absurd h
+load-unfinished (load.BadRecord area index at) h = absurd h
+load-unfinished (load.SealCount records seals) h = absurd h
+load-unfinished (load.BadSeal index) h = absurd h
+load-unfinished load.DiskFault h = absurd h
+load-unfinished load.NoMemory h = absurd h
 
 module _ (moments : ℕ → ℕ) (input : List ℕ) (opened made : Stored) where
   -- the lines made the store

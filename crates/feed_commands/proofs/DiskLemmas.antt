@@ -1,7 +1,8 @@
 -- The store after a command that isn't done, or that failed.
-use Rattle.std.proofs.Common.{ℕ, List, inl, inr, ⊎_elim, refl}
+use Rattle.std.proofs.Common.{ℕ, inl, inr, ⊎_elim, refl}
+use Rattle.doc_source.specs.Outside.{SourceState}
 use Rattle.feed_disk.specs.Disk.{DiskState, IsDisk}
-use Rattle.feed_recovery.specs.Settled.{IsUnused}
+use Rattle.feed_recovery.specs.Settled.{AlwaysLeavesBoth, IsUnused, LeavesStores, OpensPast}
 use Rattle.atom_writer.specs.declared.doc.FeedName.{FeedName}
 use Rattle.feed_recovery.proofs.PastLemmas.{both_stay}
 use Rattle.feed_commands.specs.Crash.{AppliesSafely, LeavesApplied, MakesStoreAt}
@@ -40,23 +41,43 @@ makes-weaker before after name window capacity told moment done less h m = recor
   };
 }
 
--- the same, if there are more ends with a failed call
-pub applies-weaker : (before after : DiskState) (moments : ℕ → ℕ) (input : List ℕ) (told failed more : Type 0) →
-    (failed → more) → AppliesSafely before after moments input told failed →
-    AppliesSafely before after moments input told more
-applies-weaker before after moments input told failed more h safely = λ head operations least settled.
-    ⊎_elim (λ leaves. inl leaves)
-    (λ (l : LeavesApplied before after moments input told head operations least failed). inr record {
+-- a disk on which no call is made
+pub leaves-none : {T : Type 0} (s : DiskState) → IsDisk T s → LeavesStores s s
+leaves-none s is = λ head operations least settled. both_stay s (OpensPast head operations least) is settled
+
+-- a store that isn't loaded, of which nothing is written
+pub applies-none : {T : Type 0} (s : DiskState) (moments : ℕ → ℕ) (input rest : SourceState)
+    (told failed stopped later : Type 0) → IsDisk T s → (later → ⊥)
+    → AppliesSafely s s moments input rest told failed stopped later
+applies-none s moments input rest told failed stopped later is never = λ head operations least settled.
+    inl (never, both_stay s (OpensPast head operations least) is settled)
+
+-- a statement on the ends of `apply` holds if more of them have a failed call of the disk, and fewer one of the input,
+-- and fewer come after the load
+pub applies-weaker : (before after : DiskState) (moments : ℕ → ℕ) (input rest : SourceState)
+    (told failed stopped later more fewer less : Type 0) → (failed → more) → (fewer → stopped) → (less → later) →
+    AppliesSafely before after moments input rest told failed stopped later →
+    AppliesSafely before after moments input rest told more fewer less
+applies-weaker before after moments input rest told failed stopped later more fewer less fails stops ends safely =
+    λ head operations least settled.
+    ⊎_elim
+    (λ (unloaded : (later → ⊥) × AlwaysLeavesBoth before after (OpensPast head operations least)).
+    inl (λ l. unloaded.0 (ends l), unloaded.1))
+    (λ (l : LeavesApplied before after moments input rest told head operations least failed stopped). inr record {
       opened = l.opened;
       opens = l.opens;
       same = l.same;
       made = l.made;
-      lines = l.lines;
       history = l.history;
-      adds = l.adds;
+      lines = record {
+        one_more = l.lines.one_more;
+        first = l.lines.first;
+        read = λ f. l.lines.read (stops f);
+      };
       loaded = l.loaded;
+      before_lines = l.before_lines;
       each = l.each;
       now = l.now;
-      whole = λ none. l.whole (λ f. none (h f));
+      whole = λ none. l.whole (λ f. none (fails f));
     })
     (safely head operations least settled)

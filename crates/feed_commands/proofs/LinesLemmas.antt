@@ -1,8 +1,8 @@
 -- How far a search of a line's end came.
-use Rattle.std.proofs.Common.{◌≡◌, ◌≢◌, ℕ, zero, suc, ◌+◌, ◌-◌, ◌<◌, ◌≤◌, Bool, true, not, eqb, List, [], ◌∷◌, ◌++◌}
+use Rattle.std.proofs.Common.{◌≡◌, ◌≢◌, ℕ, zero, suc, ◌+◌, ◌-◌, ◌<◌, ◌≤◌, Bool, true, false, not, eqb, List, [], ◌∷◌, ◌++◌}
 use Rattle.std.proofs.Common.{length, take, drop, refl, sym, ap, ◌∙◌, subst, inl, inr, arith}
 use Rattle.std.proofs.lemmas.List.{append-nil, append_assoc, drop-take, drop-drop, length-append, length-take, take_at}
-use Rattle.std.proofs.lemmas.Bool.{both_ways, eq-eqb, not-true}
+use Rattle.std.proofs.lemmas.Bool.{both_ways, eq-eqb, false≢true, not-true}
 use Rattle.std.proofs.lemmas.List.Elements.{All-append, All-nil}
 use Rattle.doc_source.specs.Outside.{SourceState}
 use Rattle.atom_values.specs.Ascii.{lf}
@@ -69,6 +69,7 @@ pub record GoesOn (T : Type 0) (before : LinesState) (input : SourceState) (now 
   pub from : T → input.left ≡ read ++ rest.left
   pub used : allowance before ≡ length so_far + allowance now
   pub knows : T → KnowsEnd now rest
+  pub ended : before.ended ≡ true → now.ended ≡ true
   pub faults : rest.faults ≡ input.faults
 
 pub GoesOn-begin : {T : Type 0} {before : LinesState} {input : SourceState} {now : LinesState} →
@@ -82,6 +83,7 @@ GoesOn-begin {T} {before} {input} {now} e knows = record {
   from = λ _. refl;
   used = rw e (omega arith);
   knows = λ t. rw e (knows t);
+  ended = λ was. ap (λ s. s.ended) e ∙ was;
   faults = refl;
 }
 
@@ -97,6 +99,7 @@ GoesOn-taken {T} {before} {input} {now} {after} {rest} g t allowed ended = recor
   from = g.from;
   used = rw (t.spent, allowed) (omega (arith, length-append g.so_far now.ahead, g.used));
   knows = λ k. rw ended (g.knows k);
+  ended = λ was. ended ∙ g.ended was;
   faults = g.faults;
 }
 
@@ -114,6 +117,7 @@ GoesOn-filled {T} {before} {input} {now} {after} {rest} {more} g spent line r by
   from = λ k. g.from k ∙ ap (λ xs. g.read ++ xs) (bytes k) ∙ sym (append_assoc g.read after.ahead more.left);
   used = omega (arith, g.used, r.used, ap length spent);
   knows = knows;
+  ended = λ was. absurd (false≢true (sym r.going_on ∙ g.ended was));
   faults = faults ∙ g.faults;
 }
 
@@ -170,6 +174,7 @@ FindsLine-last {T} {before} {input} {now} {after} {rest} {more} g spent line s s
     spent = ap (λ xs. xs ++ more.left) s.ahead ∙ s.after_left;
     some = prefix_some g.so_far (λ e. some (ap length (line ∙ g.front) ∙ e));
     within = omega (arith, g.used);
+    ended = s.ended;
   };
 }
 
@@ -187,13 +192,18 @@ IsTooLong-met {T} {before} {input} {now} {rest} g spent none more k =
           (sym (ap (take (allowance before)) all ∙ take_at g.so_far rest.left (allowance before) full)) g.no_lf;
     }
 
+not-ended : (before now : Bool) → (before ≡ true → now ≡ true) → now ≡ false → before ≡ false
+not-ended true now stays going_on = absurd (false≢true (sym going_on ∙ stays refl))
+not-ended false now stays going_on = refl
+
 -- a call failed before the line ended
 pub StopsAmid-met : {T : Type 0} {before : LinesState} {input : SourceState} {now : LinesState}
-    {rest more : SourceState} → GoesOn T before input now rest → now.ahead ≡ [] → more.left ≡ rest.left → T →
-    StopsAmid before input more
-StopsAmid-met {T} {before} {input} {now} {rest} {more} g spent same k =
+    {rest more : SourceState} → GoesOn T before input now rest → now.ahead ≡ [] → now.ended ≡ false →
+    more.left ≡ rest.left → T → StopsAmid before input more
+StopsAmid-met {T} {before} {input} {now} {rest} {more} g spent going_on same k =
     let all : before.ahead ++ g.read ≡ g.so_far = g.met ∙ ap (λ xs. g.so_far ++ xs) spent ∙ append-nil g.so_far in
     record {
+      going_on = not-ended before.ended now.ended g.ended going_on;
       read = g.read;
       from = g.from k ∙ ap (λ xs. g.read ++ xs) (sym same);
       no_lf = subst HasNoLf (sym all) g.no_lf;

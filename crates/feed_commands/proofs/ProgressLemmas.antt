@@ -4,9 +4,9 @@ use Rattle.std.proofs.Common.{◌++◌, length, take, Some, None, Result, Ok, Er
 use Rattle.std.proofs.Common.{length-append, append_assoc, append-nil, add-zero, zero-add, add_assoc, one-add}
 use Rattle.std.specs.Prelude.{All}
 use Rattle.std.proofs.lemmas.List.Elements.{All-nil, All-head, All-tail, All-push}
-use Rattle.std.proofs.lemmas.List.{take_all, take_at}
+use Rattle.std.proofs.lemmas.List.{take_at}
 use Rattle.std.proofs.Math.Seq.{take-append-add}
-use Rattle.std.proofs.lemmas.Bool.{cases_lt}
+use Rattle.std.proofs.lemmas.Bool.{cases_lt, false≢true}
 use Rattle.std.proofs.lemmas.List.Concat.{flat_map-append}
 use Rattle.feed_commands.specs.declared.fault.Fault.{Fault}
 use Rattle.feed_commands.specs.declared.fault.Fault.TheVariants.{Refused}
@@ -16,7 +16,8 @@ use Rattle.atom_values.specs.Ascii.{lf}
 use Rattle.feed_commands.specs.Line.{prefix_limit}
 use Rattle.feed_commands.specs.Lines.{lines, ended_lines, input_limit, LinesState, stream, allowance, HasNoLf}
 use Rattle.feed_commands.specs.Lines.{FindsLine, FindsEnded, FindsLast, IsTooLong, StopsAmid}
-use Rattle.feed_commands.specs.Applied.{Applied, Step, IsMadeBy, IsUnrefused, after_line, applied, apply_lines, then_too_long}
+use Rattle.feed_commands.specs.Applied.{Applied, Step, IsMadeByFirst, IsMadeByRead, IsUnrefused, after_line, applied}
+use Rattle.feed_commands.specs.Applied.{apply_lines, lines_within, then_too_long}
 use Rattle.feed_commands.proofs.LineLemmas.{with_lf, lines-ended, ended_lines-ended, lines-last, ended_lines-none}
 use Rattle.feed_commands.proofs.LineLemmas.{ended_lines-joined, lines-joined, with_lf-first}
 
@@ -67,6 +68,14 @@ ended-front line rest size more h e =
     ∙ ap (λ (x : List ℕ). line ++ x) (rw one-add refl)) in
     ap ended_lines front ∙ ended_lines-ended line (take more rest) h
 
+-- the lines of an input within the limit, and of one past it
+lines-short : (whole : List ℕ) → length whole ≤ input_limit → lines_within whole ≡ lines whole
+lines-short whole h = let e : nat_le (length whole) input_limit ≡ true = search (rules, tests) in rw e refl
+
+lines-past : (whole : List ℕ) → input_limit < length whole →
+    lines_within whole ≡ ended_lines (take input_limit whole)
+lines-past whole h = let e : nat_le (length whole) input_limit ≡ false = search (rules, tests) in rw e refl
+
 -- the lines so far, each with its LF, made the feed
 pub record Going {F : Type 0} (step : Step F) (start : F) (whole : List ℕ) (reader : LinesState) (input : SourceState)
     (before : ℕ) (feed : F) : Type 0 where
@@ -79,16 +88,17 @@ pub record Going {F : Type 0} (step : Step F) (start : F) (whole : List ℕ) (re
 
 -- the input was used up by a last line without LF
 pub record Spent {F : Type 0} (step : Step F) (start : F) (whole : List ℕ) (reader : LinesState) (input : SourceState)
-    (feed : F) : Type 0 where
+    (before : ℕ) (feed : F) : Type 0 where
   pub nothing : stream reader input ≡ []
   pub within : length whole ≤ input_limit
+  pub count : before ≡ length (lines whole)
   pub made : apply_lines step start 0 (lines whole) ≡ made_whole feed
-  pub before : (apply_lines step start 0 (ended_lines whole)).fault ≡ None
+  pub ended : reader.ended ≡ true
 
 -- `before` lines of the input made the feed, and none of them was refused
 abbrev pub Progress : {F : Type 0} → Step F → F → List ℕ → LinesState → SourceState → ℕ → F → Type 0
 Progress step start whole reader input before feed = Going step start whole reader input before feed
-    ⊎ Spent step start whole reader input feed
+    ⊎ Spent step start whole reader input before feed
 
 module _ {F : Type 0} (step : Step F) where
   -- more lines go on from the feed that the first ones make
@@ -128,6 +138,14 @@ module _ {F : Type 0} (step : Step F) where
   unfolding applied
   applied-past start whole h = let e : nat_le (length whole) input_limit ≡ false = search (rules, tests) in rw e refl
 
+  -- the bytes within the limit, if there are more
+  front-past : (start : F) (whole : List ℕ) (reader : LinesState) (input : SourceState) (before : ℕ) (feed : F)
+      (g : Going step start whole reader input before feed) →
+      take input_limit whole ≡ with_lf g.ended ++ take (allowance reader) (stream reader input)
+  front-past start whole reader input before feed g =
+      ap (take input_limit) g.split
+      ∙ (rw (← g.used) (take-append-add (with_lf g.ended) (stream reader input) (allowance reader)))
+
   -- before the first line
   pub Progress-start : (start : F) (whole : List ℕ) (reader : LinesState) (input : SourceState) → reader.ahead ≡ [] →
       reader.allowed ≡ input_limit → whole ≡ input.left → Progress step start whole reader input 0 start
@@ -140,19 +158,41 @@ module _ {F : Type 0} (step : Step F) where
     used = omega (arith, ap length none, all);
   }
 
-  -- the feed is made by the first lines
+  -- these lines come first in the input, and they made the feed
+  first-made : (start feed : F) (whole : List ℕ) (first more : List (List ℕ)) (count : ℕ) →
+      lines_within whole ≡ first ++ more → count ≡ length first → apply_lines step start 0 first ≡ made_whole feed →
+      IsMadeByFirst step start whole count feed
+  first-made start feed whole first more count split is made = record {
+    within = omega (arith, ap length split, length-append first more, is);
+    lines = ap (λ ls. apply_lines step start 0 (take count ls)) split
+        ∙ ap (apply_lines step start 0) (take_at first more count (sym is)) ∙ made;
+  }
+
+  -- the lines so far are the first ones within the limit
+  Going-first : (start : F) (whole : List ℕ) (reader : LinesState) (input : SourceState) (before : ℕ) (feed : F)
+      (g : Going step start whole reader input before feed) →
+      (more : List (List ℕ)) × (lines_within whole ≡ g.ended ++ more)
+  Going-first start whole reader input before feed g = ⊎_elim
+      (λ (long : input_limit < length whole). (
+        ended_lines (take (allowance reader) (stream reader input)),
+        lines-past whole long ∙ ap ended_lines (front-past start whole reader input before feed g)
+            ∙ ended_lines-more g.ended (take (allowance reader) (stream reader input)) g.no_lf,
+      ))
+      (λ (short : length whole ≤ input_limit). (
+        lines (stream reader input),
+        lines-short whole short ∙ ap lines g.split ∙ lines-joined g.ended (stream reader input) g.no_lf,
+      ))
+      (cases_lt input_limit (length whole))
+
+  -- this number of lines made the feed, the first of the input
   pub Progress-made : (start : F) (whole : List ℕ) (reader : LinesState) (input : SourceState) (before : ℕ)
-      (feed : F) → Progress step start whole reader input before feed → IsMadeBy step start whole feed
-  Progress-made start whole reader input before feed (inl g) = record {
-    count = length g.ended;
-    lines = ap (λ ls. apply_lines step start 0 (take (length g.ended) ls))
-        (ap lines g.split ∙ lines-joined g.ended (stream reader input) g.no_lf)
-        ∙ ap (apply_lines step start 0) (take_at g.ended (lines (stream reader input)) (length g.ended) refl) ∙ g.made;
-  }
-  Progress-made start whole reader input before feed (inr s) = record {
-    count = length (lines whole);
-    lines = ap (apply_lines step start 0) (take_all (length (lines whole)) (lines whole) (omega arith)) ∙ s.made;
-  }
+      (feed : F) → Progress step start whole reader input before feed → IsMadeByFirst step start whole before feed
+  Progress-made start whole reader input before feed (inl g) =
+      let first = Going-first start whole reader input before feed g in
+      first-made start feed whole g.ended first.0 before first.1 g.count g.made
+  Progress-made start whole reader input before feed (inr s) =
+      first-made start feed whole (lines whole) [] before
+      (lines-short whole s.within ∙ sym (append-nil (lines whole))) s.count s.made
 
   -- where there is no further line, the feed is the input's
   pub Progress-end : (start : F) (whole : List ℕ) (reader : LinesState) (input : SourceState) (before : ℕ)
@@ -182,11 +222,9 @@ module _ {F : Type 0} (step : Step F) where
       ≡ then_too_long (apply_lines step feed before (ended_lines (take (allowance reader) (stream reader input))))
   goes-past start whole reader input before feed g h =
       let left = ended_lines (take (allowance reader) (stream reader input)) in
-      let front : take input_limit whole ≡ with_lf g.ended ++ take (allowance reader) (stream reader input) =
-      ap (take input_limit) g.split
-      ∙ (rw (← g.used) (take-append-add (with_lf g.ended) (stream reader input) (allowance reader))) in
       applied-past start whole h
-      ∙ ap (λ ls. then_too_long (apply_lines step start 0 ls)) (ap ended_lines front
+      ∙ ap (λ ls. then_too_long (apply_lines step start 0 ls))
+      (ap ended_lines (front-past start whole reader input before feed g)
       ∙ ended_lines-more g.ended (take (allowance reader) (stream reader input)) g.no_lf)
       ∙ ap then_too_long (apply_lines-append start feed 0 g.ended left g.made
       ∙ ap (λ n. apply_lines step feed n left) (zero-add (length g.ended) ∙ sym g.count))
@@ -223,17 +261,18 @@ module _ {F : Type 0} (step : Step F) where
   Spent-last : (start : F) (whole : List ℕ) (reader : LinesState) (input : SourceState) (after : LinesState)
       (rest : SourceState) (before : ℕ) (feed next : F) (line : List ℕ) →
       Going step start whole reader input before feed → HasNoLf line → FindsLast reader input after rest line →
-      step feed before line ≡ Ok next → Spent step start whole after rest next
+      step feed before line ≡ Ok next → Spent step start whole after rest (before + 1) next
   Spent-last start whole reader input after rest before feed next line g h f ok =
       let split = last-split start whole reader input before feed g line f.whole in
+      let all : lines whole ≡ g.ended ++ line ∷ [] =
+      ap lines split ∙ lines-joined g.ended line g.no_lf ∙ ap (λ ls. g.ended ++ ls) (lines-last line h f.some) in
       record {
         nothing = f.spent;
         within = omega (arith, ap length split, length-append (with_lf g.ended) line, g.used, f.within);
-        made = ap (apply_lines step start 0) (ap lines split ∙ lines-joined g.ended line g.no_lf
-            ∙ ap (λ ls. g.ended ++ ls) (lines-last line h f.some))
+        count = omega (arith, g.count, ap length all, length-append g.ended (line ∷ []));
+        made = ap (apply_lines step start 0) all
             ∙ made-push start feed next g.ended line before g.count g.made ok;
-        before = ap (λ (a : Applied F). a.fault) (ap (apply_lines step start 0) (ap ended_lines split
-            ∙ ended_lines-joined g.ended line g.no_lf h) ∙ g.made);
+        ended = f.ended;
       }
 
   -- the next line was found, and it makes the next feed
@@ -304,11 +343,11 @@ module _ {F : Type 0} (step : Step F) where
   Progress-long start whole reader input before feed (inr s) t = absurd (omega (arith, ap length s.nothing, t.more))
 
   -- a call on the input failed within a line
-  pub Progress-amid : (start : F) (begin : SourceState) (reader : LinesState) (input : SourceState)
+  pub Progress-read : (start : F) (begin : SourceState) (reader : LinesState) (input : SourceState)
       (rest : SourceState) (before : ℕ) (feed : F) →
       Progress step start begin.left reader input before feed → StopsAmid reader input rest →
-      IsUnrefused step start begin rest
-  Progress-amid start begin reader input rest before feed (inl g) a =
+      IsMadeByRead step start begin rest feed
+  Progress-read start begin reader input rest before feed (inl g) a =
       let read = reader.ahead ++ a.read in
       record {
         read = with_lf g.ended ++ read;
@@ -316,22 +355,13 @@ module _ {F : Type 0} (step : Step F) where
             ∙ ap (λ (x : List ℕ). with_lf g.ended ++ x) (sym (append_assoc reader.ahead a.read rest.left))
             ∙ sym (append_assoc (with_lf g.ended) read rest.left);
         within = omega (arith, length-append (with_lf g.ended) read, g.used, a.within);
-        lines = ap (λ (a : Applied F). a.fault) (ap (apply_lines step start 0)
-            (ended_lines-joined g.ended read g.no_lf a.no_lf) ∙ g.made);
+        lines = ap (apply_lines step start 0) (ended_lines-joined g.ended read g.no_lf a.no_lf) ∙ g.made;
       }
-  Progress-amid start begin reader input rest before feed (inr s) a =
-      let gone : length rest.left ≡ 0 =
-      omega (
-        arith,
-        ap length s.nothing,
-        length-append reader.ahead input.left,
-        ap length a.from,
-        length-append a.read rest.left,
-      ) in
-      let none : rest.left ≡ [] = empty-length rest.left gone in
-      record {
-        read = begin.left;
-        from = sym (append-nil begin.left) ∙ ap (λ (x : List ℕ). begin.left ++ x) (sym none);
-        within = s.within;
-        lines = s.before;
-      }
+  Progress-read start begin reader input rest before feed (inr s) a = absurd (false≢true (sym a.going_on ∙ s.ended))
+
+  pub Progress-amid : (start : F) (begin : SourceState) (reader : LinesState) (input : SourceState)
+      (rest : SourceState) (before : ℕ) (feed : F) →
+      Progress step start begin.left reader input before feed → StopsAmid reader input rest →
+      IsUnrefused step start begin rest
+  Progress-amid start begin reader input rest before feed progress amid =
+      (feed, Progress-read start begin reader input rest before feed progress amid)

@@ -176,7 +176,32 @@ committed-store : (stored : Stored) (operation : Op) (head : HeadValue) (history
 committed-store stored operation head history seals is_head is_history is_sealed =
     rw (is_sealed, is_head, is_history) refl
 
--- the line asks for an operation that was prepared, which took room alone, and then committed
+-- the line asks for an operation that was prepared, which took room alone
+pub line-prepared : (old prepared : StoreValue) (members journal seals spare : ℕ)
+    → prepared
+    ≡ record old {
+      members = record old.members { spare = members };
+      journal = record old.journal { spare = journal };
+      seals = record old.seals { spare = seals };
+      spare = spare;
+    }
+    → old.journal.size ≡ size_of (journal_of old.head old.history)
+    → old.seals.size ≡ size_of (seals_of old.head old.history (seal_count old))
+    → (number now : ℕ) (line : List ℕ) (ask : Ask) (ready : ReadyValue) → line_ask line ≡ Some ask
+    → decision_of old ask now ≡ Ok ready.operation → MayCommit prepared ready
+    → line_made old number now line ≡ Ok (with_operation (stored_of old) ready.operation)
+line-prepared old prepared members journal seals spare same journal_size seals_size number now line ask ready asks
+    decided may =
+    let roomy : StoreValue = record old {
+      members = record old.members { spare = members };
+      journal = record old.journal { spare = journal };
+      seals = record old.seals { spare = seals };
+      spare = spare;
+    } in
+    line-committed roomy journal_size seals_size number now line ask ready asks decided
+    (subst (λ (s : StoreValue). MayCommit s ready) same may)
+
+-- and that was then committed
 pub line-made : (old prepared new : StoreValue) (members journal seals spare : ℕ)
     → prepared
     ≡ record old {
@@ -193,14 +218,8 @@ pub line-made : (old prepared new : StoreValue) (members journal seals spare : �
     → seal_count new ≡ sealed_count new → line_made old number now line ≡ Ok (stored_of new)
 line-made old prepared new members journal seals spare same journal_size seals_size number now line ask ready asks
     decided may is_head is_history is_sealed =
-    let roomy : StoreValue = record old {
-      members = record old.members { spare = members };
-      journal = record old.journal { spare = journal };
-      seals = record old.seals { spare = seals };
-      spare = spare;
-    } in
-    line-committed roomy journal_size seals_size number now line ask ready asks decided
-    (subst (λ (s : StoreValue). MayCommit s ready) same may)
+    line-prepared old prepared members journal seals spare same journal_size seals_size number now line ask ready asks
+    decided may
     ∙ ap (λ (s : Stored). Ok s)
     (committed-store (stored_of old) ready.operation new.head new.history (seal_count new)
     (is_head ∙ ap (λ (s : StoreValue). s.head) same)

@@ -105,6 +105,11 @@ pub read_as : (words : List (List ℕ)) (result : Result Command WordsFault) (re
     → read ≡ command → IfOk result (IsCommandOf words) → IsCommandOf words command
 read_as words result read command is same found = subst (IsCommandOf words) same (rw is at found)
 
+-- the words are those of the command that was read
+pub read_words-of : (words : List (List ℕ)) (result : Result Command WordsFault) (read : Command) → result ≡ Ok read
+    → IfOk result (IsCommandOf words) → IsCommandOf words read
+read_words-of words result read is found = read_as words result read read is refl found
+
 -- and of no other command
 pub read_only : (words : List (List ℕ)) (result : Result Command WordsFault) (read command : Command) → result ≡ Ok read
     → read ≡ command

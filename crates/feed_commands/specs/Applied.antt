@@ -41,14 +41,25 @@ applied step feed input =
     then apply_lines step feed 0 (lines_of input)
     else then_too_long (apply_lines step feed 0 (ended_lines (take input_limit input)))
 
--- the bytes that were read before a call failed are within the limit, and no line among them is refused
-pub record IsUnrefused {F : Type 0} (step : Step F) (feed : F) (before after : SourceState) : Type 0 where
+-- The bytes that were read before a call failed are within the limit. The lines that ended among them, none of which is
+-- refused, made this feed.
+pub record IsMadeByRead {F : Type 0} (step : Step F) (feed : F) (before after : SourceState) (made : F) : Type 0 where
   pub read : List ℕ
   pub from : before.left ≡ read ++ after.left
   pub within : length read ≤ input_limit
-  pub lines : (apply_lines step feed 0 (ended_lines read)).fault ≡ None
+  pub lines : apply_lines step feed 0 (ended_lines read) ≡ record { feed = made; fault = None }
 
--- the first lines of the input, none of which is refused, made this feed
-pub record IsMadeBy {F : Type 0} (step : Step F) (feed : F) (input : List ℕ) (made : F) : Type 0 where
-  pub count : ℕ
-  pub lines : apply_lines step feed 0 (take count (lines_of input)) ≡ record { feed = made; fault = None }
+-- no line among the bytes that were read before a call failed is refused
+abbrev pub IsUnrefused : {F : Type 0} → Step F → F → SourceState → SourceState → Type 0
+IsUnrefused {F} step feed before after = (made : F) × IsMadeByRead step feed before after made
+
+-- the lines of an input that are within the limit
+abbrev pub lines_within : List ℕ → List (List ℕ)
+lines_within input =
+    if nat_le (length input) input_limit then lines_of input else ended_lines (take input_limit input)
+
+-- this number of lines of the input, which are its first and none of which is refused, made this feed
+pub record IsMadeByFirst {F : Type 0} (step : Step F) (feed : F) (input : List ℕ) (count : ℕ) (made : F)
+    : Type 0 where
+  pub within : count ≤ length (lines_within input)
+  pub lines : apply_lines step feed 0 (take count (lines_within input)) ≡ record { feed = made; fault = None }

@@ -1,15 +1,23 @@
 -- The images that a crash within a command, or after it, may leave of a store.
-use Rattle.std.specs.Prelude.{◌≡◌, ◌⊎◌, ℕ, ◌<◌, ◌≤◌, min, List, [], ◌∷◌, ◌++◌, length, pos, None}
+use Rattle.std.specs.Prelude.{◌≡◌, ◌⊎◌, ℕ, ◌+◌, ◌-◌, ◌*◌, ◌<◌, ◌≤◌, min, List, [], ◌∷◌, ◌++◌, length, pos, None}
+use Rattle.std.specs.Prelude.{Result, Ok, Err}
+use Rattle.atom_values.specs.Counts.{counter_limit}
 use Rattle.atom_writer.specs.declared.doc.FeedName.{FeedName}
+use Rattle.doc_source.specs.Outside.{SourceState}
 use Rattle.feed_disk.specs.Disk.{DiskState}
 use Rattle.feed_disk.specs.Moments.{LeavesOnlyBoth}
 use Rattle.feed_disk.specs.declared.area.Area.TheVariants.{Journal, Sealed}
 use Rattle.feed_recovery.specs.Settled.{AlwaysLeavesBoth, IsInit, NowBoth, OpensPast, Settled, Unused}
 use Rattle.feed_recovery.specs.Stored.{OpensTo, Stored}
-use Rattle.feed_commands.specs.Applied.{IsMadeBy}
+use Rattle.feed_commands.specs.declared.fault.Fault.{Fault}
+use Rattle.feed_commands.specs.declared.fault.Fault.TheVariants.{Input, Full, Refused}
+use Rattle.feed_commands.specs.declared.status.Status.TheVariants as ends
+use Rattle.feed_commands.specs.Applied.{IsMadeByFirst, IsMadeByRead, Step}
+use Rattle.feed_commands.specs.Status.{code_of}
 use Rattle.feed_commands.specs.Stored.{applied_store, stored_step}
 use Rattle.member_rules.specs.Head.{HeadValue}
 use Rattle.member_rules.specs.declared.operation.Op.{Op}
+use Rattle.tool_words.specs.Words.{IsCommandOf}
 use Rattle.tool_words.specs.declared.command.Command.{Command}
 use Rattle.tool_words.specs.declared.command.Command.TheVariants.{Apply, Serve}
 
@@ -18,6 +26,10 @@ abbrev pub AddsNothing : Command → Type 0
 AddsNothing (Apply None) = ⊥
 AddsNothing (Serve listen requests) = ⊥
 AddsNothing _ = Unit {0}
+
+-- the words are those of a command that adds no operation to a store, or of none
+abbrev pub AddsNoOperation : List (List ℕ) → Type 0
+AddsNoOperation words = (command : Command) → IsCommandOf words command → AddsNothing command
 
 -- the greatest stamp: 9999-12-31T23:59:59.999Z
 abbrev pub last_stamp : ℕ
@@ -46,32 +58,71 @@ pub record MakesStoreAt (before after : DiskState) (name : FeedName) (window cap
 abbrev pub IsWithOneMore : List Op → List Op → Type 0
 IsWithOneMore made history = (history ≡ made) ⊎ ((operation : Op) × (history ≡ made ++ operation ∷ []))
 
+-- The first lines of the input made this store. The history is that of the store, or that of the store which one line
+-- more makes.
+pub record AddsFirstLines (step : Step Stored) (opened : Stored) (input : List ℕ) (made : Stored) (history : List Op)
+    : Type 0 where
+  pub count : ℕ
+  pub makes : IsMadeByFirst step opened input count made
+  pub adds :
+      (history ≡ made.history)
+      ⊎ ((next : Stored) × IsMadeByFirst step opened input (count + 1) next × (history ≡ next.history))
+
+-- The lines of the input made this store, and this is its history, with the operation of the next line if that failed
+-- on the disk. If a call on the input failed (`stopped`), these are all lines that ended before it.
+pub record AreMadeByLines (moments : ℕ → ℕ) (input rest : SourceState) (told stopped : Type 0) (opened made : Stored)
+    (history : List Op) : Type 0 where
+  pub one_more : IsWithOneMore made.history history
+  pub first : told → AddsFirstLines (stored_step moments) opened input.left made history
+  pub read : stopped → told → IsMadeByRead (stored_step moments) opened input rest made
+
 -- `apply` on a store that was loaded. Until the load's last device call a crash leaves what it could leave before; then
 -- it leaves the history that was opened, with some of the operations that the lines add. If no device call failed, it
 -- leaves all of them at the end.
-pub record LeavesApplied (before after : DiskState) (moments : ℕ → ℕ) (input : List ℕ) (told : Type 0)
-    (head : HeadValue) (operations : List Op) (least : ℕ) (failed : Type 0) : Type 0 where
+pub record LeavesApplied (before after : DiskState) (moments : ℕ → ℕ) (input rest : SourceState) (told : Type 0)
+    (head : HeadValue) (operations : List Op) (least : ℕ) (failed stopped : Type 0) : Type 0 where
   pub opened : Stored
   pub opens : OpensTo before.content opened
   pub same : opened.head ≡ head
-  -- the store that the lines made, and its history with an operation that failed on the disk
   pub made : Stored
-  pub lines : told → IsMadeBy (stored_step moments) opened input made
   pub history : List Op
-  pub adds : IsWithOneMore made.history history
+  pub lines : AreMadeByLines moments input rest told stopped opened made history
+  -- the moment of the last device call of the load, which comes before the four or more of each operation
   pub loaded : ℕ
+  pub before_lines : after.clock < counter_limit
+      → loaded + 4 * (length made.history - length opened.history) ≤ after.clock
   pub each : LeavesOnlyBoth before after Journal Sealed (λ c journal sealed.
       (c ≤ loaded → OpensPast head operations least journal sealed)
       × (loaded < c → OpensPast head history (length opened.history) journal sealed))
   pub now : NowBoth after (OpensPast head history (length opened.history))
   pub whole : ¬ failed → (history ≡ made.history) × Settled after head history (length history)
 
--- `apply` on a store, whatever it ends with; if the store isn't loaded, a crash leaves what it could leave before
-abbrev pub AppliesSafely : DiskState → DiskState → (ℕ → ℕ) → List ℕ → Type 0 → Type 0 → Type 0
-AppliesSafely before after moments input told failed =
+-- the fault comes only after a store was loaded
+abbrev pub ComesAfterLoad : Fault → Type 0
+ComesAfterLoad Input = Unit {0}
+ComesAfterLoad (Full area size needed capacity) = Unit {0}
+ComesAfterLoad (Refused refusal) = Unit {0}
+ComesAfterLoad _ = ⊥
+
+-- `apply` on a store ended after the load
+abbrev pub EndsAfterLoad : {A : Type 0} → Result A Fault → Type 0
+EndsAfterLoad (Ok written) = Unit {0}
+EndsAfterLoad (Err fault) = ComesAfterLoad fault
+
+-- the exit statuses with which `apply` on a store ends only after the load
+abbrev pub IsStatusAfterLoad : ℕ → Type 0
+IsStatusAfterLoad ended =
+    (ended ≡ code_of ends.Done) ⊎ (ended ≡ code_of ends.OutputFault) ⊎ (ended ≡ code_of ends.InputFault)
+    ⊎ (ended ≡ code_of ends.BadInput) ⊎ (ended ≡ code_of ends.Full) ⊎ (ended ≡ code_of ends.Refused)
+
+-- `apply` on a store, whatever it ends with. If the store isn't loaded, a crash leaves what it could leave before.
+-- `later` says that the command ended after the load.
+abbrev pub AppliesSafely :
+    DiskState → DiskState → (ℕ → ℕ) → SourceState → SourceState → Type 0 → Type 0 → Type 0 → Type 0 → Type 0
+AppliesSafely before after moments input rest told failed stopped later =
     (head : HeadValue) (operations : List Op) (least : ℕ) → Settled before head operations least
-    → AlwaysLeavesBoth before after (OpensPast head operations least)
-    ⊎ LeavesApplied before after moments input told head operations least failed
+    → (¬ later × AlwaysLeavesBoth before after (OpensPast head operations least))
+    ⊎ LeavesApplied before after moments input rest told head operations least failed stopped
 
 -- the history to which the content opens after an `apply` that came to an answer
 abbrev pub OpensToApplied : DiskState → DiskState → (ℕ → ℕ) → List ℕ → Type 0

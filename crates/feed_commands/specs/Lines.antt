@@ -1,6 +1,6 @@
 -- The lines of an input, and a reader of them.
 use Rattle.std.specs.Prelude.{◌≡◌, ◌⊎◌, ℕ, ◌+◌, ◌-◌, ◌<◌, ◌≤◌, List, [], ◌∷◌, ◌++◌, Bool, ◌==◌, if◌then◌else◌, length, take}
-use Rattle.std.specs.Prelude.{IsTrue}
+use Rattle.std.specs.Prelude.{IsTrue, true, false}
 use Rattle.atom_values.specs.Ascii.{lf}
 use Rattle.feed_commands.specs.Line.{prefix_limit}
 use Rattle.doc_source.specs.Outside.{SourceState}
@@ -69,6 +69,7 @@ pub record FindsLast (before : LinesState) (input : SourceState) (after : LinesS
   pub spent : stream after rest ≡ []
   pub some : 0 < length line
   pub within : length line ≤ allowance before
+  pub ended : after.ended ≡ true
 
 -- a line was found
 pub record FindsLine (before : LinesState) (input : SourceState) (after : LinesState)
@@ -83,8 +84,9 @@ pub record IsTooLong (before : LinesState) (input : SourceState) : Type 0 where
   pub more : allowance before < length (stream before input)
   pub no_lf : HasNoLf (take (allowance before) (stream before input))
 
--- no line ended in the bytes that were read before a call failed
+-- No line ended in the bytes that were read before a call failed. The input hadn't come to its end.
 pub record StopsAmid (before : LinesState) (input : SourceState) (rest : SourceState) : Type 0 where
+  pub going_on : before.ended ≡ false
   pub read : List ℕ
   pub from : input.left ≡ read ++ rest.left
   pub no_lf : HasNoLf (before.ahead ++ read)
@@ -109,6 +111,7 @@ pub record TakesAll (before after : LinesState) : Type 0 where
 
 -- bytes were read, and that many fewer may be read from now on
 pub record ReadsMore (before after : LinesState) : Type 0 where
+  pub going_on : before.ended ≡ false
   pub some : 0 < length after.ahead
   pub used : length after.ahead + after.allowed ≡ before.allowed
 
@@ -117,3 +120,4 @@ pub record IsSpent (after : LinesState) (input rest : SourceState) : Type 0 wher
   pub ahead : after.ahead ≡ []
   pub left : input.left ≡ []
   pub after_left : rest.left ≡ []
+  pub ended : after.ended ≡ true

@@ -116,6 +116,18 @@ DrillsNot words = (seed count : ℕ) → ¬ IsCommandOf words (Drill seed count)
 abbrev pub FetchesNot : List (List ℕ) → Type 0
 FetchesNot words = (command : Command) → IsCommandOf words command → ¬ Fetches command
 
+-- the words are those of a command that has no use for the disk, or of none
+abbrev pub UsesNoDisk : List (List ℕ) → Type 0
+UsesNoDisk words = (command : Command) → IsCommandOf words command → ¬ UsesDisk command
+
+-- the words are those of a command that has no use for the clock, or of none
+abbrev pub UsesNoClock : List (List ℕ) → Type 0
+UsesNoClock words = (command : Command) → IsCommandOf words command → ¬ UsesClock command
+
+-- the words are those of a command that doesn't read the input, or of none
+abbrev pub ReadsNoInput : List (List ℕ) → Type 0
+ReadsNoInput words = (command : Command) → IsCommandOf words command → ¬ ReadsInput command
+
 -- contracts can see all that the command's answer depends on
 pub record IsSeen (command : Command) (disk_told clock_told input_told fetch_told : Type 0) : Type 0 where
   pub answering : IsAnswering command

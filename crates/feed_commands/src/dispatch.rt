@@ -9,7 +9,8 @@ ghost use Rattle.feed_commands.specs.Audit.{EndsAuditing};
 ghost use Rattle.doc_source.specs.Fetch.{FetchState};
 ghost use Rattle.feed_recovery.specs.Settled.{LeavesStores};
 ghost use Rattle.feed_recovery.specs.Stored.{OpensTo, Stored};
-ghost use Rattle.feed_commands.specs.Crash.{AddsNothing, AppliesSafely, MakesStoreAt, OpensToApplied};
+ghost use Rattle.feed_commands.specs.Crash.{AddsNoOperation, AddsNothing, AppliesSafely, EndsAfterLoad, IsStatusAfterLoad};
+ghost use Rattle.feed_commands.specs.Crash.{MakesStoreAt, OpensToApplied};
 ghost use Rattle.feed_commands.specs.Drill.{EndsDrilling};
 ghost use Rattle.feed_commands.specs.Fault.{fault_answer, HasAnswer, IsRefusal};
 ghost use Rattle.feed_commands.specs.Run.{HasRange, IsDueAnswer, IsGiven, IsSeen, IsUnrefusedBy, IsStatus, IsAnswered};
@@ -18,7 +19,7 @@ ghost use Rattle.feed_commands.specs.Outside.{outside_of};
 ghost use Rattle.feed_commands.specs.Pile.{EndsCut};
 ghost use Rattle.feed_commands.specs.Run.{EndsWith, IsAtOnce, IsComplete, IsAlone, IsDone, IsTextual, PrintsAtOnce, alone_line};
 ghost use Rattle.feed_commands.specs.Run.{DrillsNot, FetchesNot, IsSeenUnfetched, MirrorsNot, ReadsInput, ServesNot};
-ghost use Rattle.feed_commands.specs.Run.{UsesClock, UsesDisk};
+ghost use Rattle.feed_commands.specs.Run.{ReadsNoInput, UsesClock, UsesDisk, UsesNoClock, UsesNoDisk};
 ghost use Rattle.feed_commands.specs.Serve.{EndsServing, IsServedWhole};
 ghost use Rattle.feed_commands.specs.Status.{code_of};
 ghost use Rattle.tool_words.specs.Words.{IsCommandOf};
@@ -140,19 +141,21 @@ pub fn run<D: Disk, C: Clock, L: Door, F: Fetch, I: Source, O: Sink>(
         (I.state input.old) (I.state input.new) (O.state output.old) (O.state output.new)
         result.status given.status }
 
-    // A crash within the command, or after it: the commands that add no operation leave what a crash could leave of a
-    // store before, `init` leaves an unused disk as it is or with the new store, and `apply` leaves the history before,
-    // with some of the lines' operations, and with all of them at its end. `mirror` alone reaches the mirror's area.
-    ensures safe { (command : CommandValue) → IsCommandOf (map string_bytes words.now) command
-        → AddsNothing command → D.told → LeavesStores (D.state disk.old) (D.state disk.new) }
+    // A crash within the command, or after it: the commands that add no operation, and words that name none, leave
+    // what a crash could leave of a store before. `init` leaves an unused disk as it is or with the new store. `apply`
+    // leaves the history before, with some of the lines' operations, and with all of them at its end. Its lines are
+    // those that were read. `mirror` alone reaches the mirror's area.
+    ensures safe { AddsNoOperation (map string_bytes words.now) → D.told
+        → LeavesStores (D.state disk.old) (D.state disk.new) }
     ensures made { (name : FeedName) (window capacity : ℕ)
         → IsCommandOf (map string_bytes words.now) (Init name window capacity) → D.told
         → MakesStoreAt (D.state disk.old) (D.state disk.new) name window capacity C.told
         (C.coming clock.old 0)
         ((result.status ≡ code_of status.Done) ⊎ (result.status ≡ code_of status.OutputFault)) }
     ensures applied { IsCommandOf (map string_bytes words.now) (Apply None) → D.told
-        → AppliesSafely (D.state disk.old) (D.state disk.new) (C.coming clock.old) (I.state input.old).left
-        (C.told × I.told) (result.status ≡ code_of status.DiskFault) }
+        → AppliesSafely (D.state disk.old) (D.state disk.new) (C.coming clock.old)
+        (I.state input.old) (I.state input.new) (C.told × I.told) (result.status ≡ code_of status.DiskFault)
+        (result.status ≡ code_of status.InputFault) (IsStatusAfterLoad result.status) }
     ensures opens { IsCommandOf (map string_bytes words.now) (Apply None) → D.told → C.told → I.told
         → IsAnswered result.status
         → OpensToApplied (D.state disk.old) (D.state disk.new) (C.coming clock.old) (I.state input.old).left }
@@ -207,13 +210,11 @@ pub fn run<D: Disk, C: Clock, L: Door, F: Fetch, I: Source, O: Sink>(
         → EndsDrilling seed count result.life result.status }
     ensures no_life { DrillsNot (map string_bytes words.now) → result.life ≡ None }
 
-    // A command that has no use for the disk, the clock or the input leaves it as it is.
-    ensures no_disk { (command : CommandValue) → IsCommandOf (map string_bytes words.now) command
-        → ¬ UsesDisk command → disk.new ≡ disk.old }
-    ensures no_clock { (command : CommandValue) → IsCommandOf (map string_bytes words.now) command
-        → ¬ UsesClock command → clock.new ≡ clock.old }
-    ensures no_input { (command : CommandValue) → IsCommandOf (map string_bytes words.now) command
-        → ¬ ReadsInput command → input.new ≡ input.old }
+    // A command that has no use for the disk, the clock or the input leaves it as it is. So do words that name no
+    // command.
+    ensures no_disk { UsesNoDisk (map string_bytes words.now) → disk.new ≡ disk.old }
+    ensures no_clock { UsesNoClock (map string_bytes words.now) → clock.new ≡ clock.old }
+    ensures no_input { ReadsNoInput (map string_bytes words.now) → input.new ≡ input.old }
 {
     let command = match read_words(alloc, words) {
         Ok(command) => command,
@@ -315,8 +316,9 @@ fn answer<D: Disk, C: Clock, I: Source>(
         (C.coming clock.old 0)
         (IsOk result) }
     ensures applied { command ≡ Apply None → D.told
-        → AppliesSafely (D.state disk.old) (D.state disk.new) (C.coming clock.old) (I.state input.old).left
-        (C.told × I.told) (result ≡ Err Fault.Disk) }
+        → AppliesSafely (D.state disk.old) (D.state disk.new) (C.coming clock.old)
+        (I.state input.old) (I.state input.new) (C.told × I.told)
+        (result ≡ Err Fault.Disk) (result ≡ Err Fault.Input) (EndsAfterLoad result) }
     ensures opens { command ≡ Apply None → D.told → C.told → I.told → HasAnswer result
         → OpensToApplied (D.state disk.old) (D.state disk.new) (C.coming clock.old) (I.state input.old).left }
     ensures mirror { LeavesAlone (D.state disk.old) (D.state disk.new) Mirror }

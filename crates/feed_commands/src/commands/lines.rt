@@ -180,8 +180,8 @@ impl Lines {
             → (self.old.allowed ≡ 0) × (I.told → 0 < length (I.state input.old).left) }
         ensures input { result ≡ Err LinesFault.Input
             → Rose (I.state input.old).faults (I.state input.new).faults }
-        ensures amid { result ≡ Err LinesFault.Input → I.told
-            → (I.state input.new).left ≡ (I.state input.old).left }
+        ensures amid { result ≡ Err LinesFault.Input → (self.old.ended ≡ false)
+            × (I.told → (I.state input.new).left ≡ (I.state input.old).left) }
         ensures knows { OnOk result (I.told → KnowsEnd self.new (I.state input.new)) }
         ensures faults { result ≢ Err LinesFault.Input
             → (I.state input.new).faults ≡ (I.state input.old).faults }

@@ -1,6 +1,6 @@
-ghost use Rattle.std.specs.Prelude.{◌≡◌, ◌≢◌, ◌+◌, false, ◌∷◌, [], ◌++◌, length, Some, None, Ok, Err, IfOk, IfErr};
+ghost use Rattle.std.specs.Prelude.{◌≡◌, ◌≢◌, ◌+◌, ◌<◌, ◌≤◌, false, ◌∷◌, [], ◌++◌, length, Some, None, Ok, Err, IfOk, IfErr};
 ghost use Rattle.std.specs.Prelude.{OnOk, OnErr};
-ghost use Rattle.atom_values.specs.Counts.{Rose};
+ghost use Rattle.atom_values.specs.Counts.{Rose, counter_limit};
 ghost use Rattle.feed_disk.specs.Moments.{LeavesAlone};
 ghost use Rattle.feed_disk.specs.declared.area.Area.TheVariants.{Mirror};
 ghost use Rattle.feed_recovery.specs.Settled.{AlwaysLeavesBoth, IsAtRest, OpensPast, Settled};
@@ -9,11 +9,11 @@ ghost use Rattle.feed_recovery.specs.Stored.{OpensTo, Stored, stored_of};
 ghost use Rattle.feed_commands.specs.declared.status.Status.TheVariants as status;
 ghost use Rattle.feed_commands.specs.Applied.{IsUnrefused};
 ghost use Rattle.feed_recovery.specs.Settled.{LeavesStores};
-ghost use Rattle.feed_commands.specs.Crash.{AppliesSafely, OpensToApplied};
+ghost use Rattle.feed_commands.specs.Crash.{AppliesSafely, EndsAfterLoad, OpensToApplied};
 ghost use Rattle.feed_commands.specs.Fault.{fault_answer, HasAnswer, IsRefusal};
 ghost use Rattle.feed_commands.specs.Loaded.{LeavesLines, line_made};
 ghost use Rattle.feed_commands.specs.Stored.{IsAnswerOn, applied_store, apply_answer, archive_answer};
-ghost use Rattle.feed_commands.specs.Stored.{feed_answer, member_answer, stored_step};
+ghost use Rattle.feed_commands.specs.Stored.{feed_answer, member_answer, stored_step, with_operation};
 ghost use Rattle.member_rules.specs.declared.operation.Op.{Op};
 
 use crate::commands::line::line_ask;
@@ -40,7 +40,8 @@ pub fn apply<D: Disk, C: Clock, I: Source>(
         → IsAnswerOn (D.state disk.old).content (apply_answer (C.coming clock.old) (I.state input.old).left)
         (fault_answer fault)) }
     ensures applied { D.told → AppliesSafely (D.state disk.old) (D.state disk.new)
-        (C.coming clock.old) (I.state input.old).left (C.told × I.told) (result ≡ Err Fault.Disk) }
+        (C.coming clock.old) (I.state input.old) (I.state input.new) (C.told × I.told)
+        (result ≡ Err Fault.Disk) (result ≡ Err Fault.Input) (EndsAfterLoad result) }
     ensures opens { D.told → C.told → I.told → HasAnswer result
         → OpensToApplied (D.state disk.old) (D.state disk.new)
         (C.coming clock.old) (I.state input.old).left }
@@ -88,8 +89,9 @@ fn apply_lines<D: Disk, C: Clock, I: Source>(
     ensures stands { result ≢ Err Fault.Disk → D.told → StandsFor (D.state disk.new) store.new }
     ensures leaves { D.told → IsAtRest (D.state disk.old)
         → Settled (D.state disk.old) store.old.head store.old.history (length store.old.history)
-        → LeavesLines (D.state disk.old) (D.state disk.new) (C.coming clock.old) (I.state input.old).left
-        (C.told × I.told) (stored_of store.old) (result ≡ Err Fault.Disk) }
+        → LeavesLines (D.state disk.old) (D.state disk.new) (C.coming clock.old) (I.state input.old)
+        (I.state input.new) (C.told × I.told) (stored_of store.old)
+        (result ≡ Err Fault.Disk) (result ≡ Err Fault.Input) }
     ensures mirror { LeavesAlone (D.state disk.old) (D.state disk.new) Mirror }
     ensures disk { result ≡ Err Fault.Disk → Rose (D.state disk.old).faults (D.state disk.new).faults }
     ensures disk_faults { result ≢ Err Fault.Disk → (D.state disk.new).faults ≡ (D.state disk.old).faults }
@@ -130,7 +132,7 @@ fn apply_line<D: Disk>(
         × (D.told → StandsFor (D.state disk.new) store.new)) }
     ensures untouched { result ≢ Err Fault.Disk → OnErr result (disk.new ≡ disk.old) }
 
-    // A crash leaves the history before or with the operation.
+    // A crash leaves the history before or with the operation of the line, which took four device calls or more.
     ensures leaves { OnOk result (D.told → IsAtRest (D.state disk.old) → (operation : Op)
         × (store.new.history ≡ store.old.history ++ operation ∷ [])
         × AlwaysLeavesBoth (D.state disk.old) (D.state disk.new)
@@ -138,7 +140,10 @@ fn apply_line<D: Disk>(
     ensures settled { OnOk result (D.told → IsAtRest (D.state disk.old)
         → Settled (D.state disk.new) store.new.head store.new.history (length store.new.history)) }
     ensures rests { OnOk result (D.told → IsAtRest (D.state disk.old) → IsAtRest (D.state disk.new)) }
+    ensures calls { OnOk result ((D.state disk.new).clock < counter_limit
+        → (D.state disk.old).clock + 4 ≤ (D.state disk.new).clock) }
     ensures failed { result ≡ Err Fault.Disk → D.told → IsAtRest (D.state disk.old) → (operation : Op)
+        × (line_made store.old number now line.now ≡ Ok (with_operation (stored_of store.old) operation))
         × (store.new.history ≡ store.old.history)
         × AlwaysLeavesBoth (D.state disk.old) (D.state disk.new)
         (OpensPast store.old.head (store.old.history ++ operation ∷ []) (length store.old.history)) }

@@ -5,20 +5,21 @@ use Rattle.tool_words.specs.declared.command.Show.TheVariants.{Pile}
 use Rattle.feed_commands.specs.declared.commands.report_fault.ReportFault.TheVariants.{Other}
 use Rattle.feed_commands.specs.declared.fault.Fault.TheVariants.{Disk, Input, NoMemory}
 use Rattle.feed_commands.specs.Answer.{Answer}
-use Rattle.feed_commands.specs.Crash.{AddsNothing}
+use Rattle.feed_commands.specs.Crash.{IsStatusAfterLoad}
 use Rattle.feed_commands.specs.Drill.{EndsDrilling}
 use Rattle.feed_commands.specs.Fault.{fault_answer}
 use Rattle.feed_commands.specs.Mirroring.{EndsFetching, EndsMirroring}
 use Rattle.feed_commands.specs.Outside.{outside_of}
 use Rattle.feed_commands.specs.Status.{code_of}
-use Rattle.feed_commands.proofs.DiskLemmas.{applies-weaker, makes-none, makes-weaker}
-use Rattle.feed_commands.proofs.EndLemmas.{answered-refusal, no_door, no_end, no_output, no_three}
+use Rattle.feed_commands.proofs.DiskLemmas.{applies-none, applies-weaker, leaves-none, makes-none, makes-weaker}
+use Rattle.feed_commands.proofs.EndLemmas.{answered-refusal, input_end, loaded_fault, no_door, no_end, no_output}
+use Rattle.feed_commands.proofs.EndLemmas.{no_three, unloaded_five}
 use Rattle.feed_commands.proofs.MirrorEndLemmas.{fault-complete}
 use Rattle.feed_commands.proofs.PileEndLemmas.{cut-at-once, pile-is_status}
 use Rattle.feed_commands.proofs.PrintLemmas.{alone-fault, prints-from}
 use Rattle.feed_commands.proofs.RunLemmas.{ends-done, ends-refused, ends-unsent, no_command, read_all, read_as, same_serve}
-use Rattle.feed_commands.proofs.RunLemmas.{audit-status, fetched-status, mirror-status, same_mirror, seen-unfetched}
-use Rattle.feed_commands.proofs.RunLemmas.{drill-status, same_drill, serve-status, usage}
+use Rattle.feed_commands.proofs.RunLemmas.{audit-status, fetched-status, mirror-status, read_words-of, same_mirror}
+use Rattle.feed_commands.proofs.RunLemmas.{drill-status, same_drill, seen-unfetched, serve-status, usage}
 use Rattle.feed_commands.proofs.dispatch.run.Goals as goal
 
 pub returns-in-Err-Usage-clause-made : goal.returns-in-Err-Usage-clause-made
@@ -46,9 +47,9 @@ returns-in-Ok-write_all-clause-answered g c = read_all _ c.read_words.result c.i
     (λ sink. rw (← c.as_slice.ensures.value) (c.in-Ok-write_all.ensures.whole sink))))
 
 pub returns-in-Ok-write_all-clause-safe : goal.returns-in-Ok-write_all-clause-safe
-returns-in-Ok-write_all-clause-safe g c = read_all _ c.read_words.result c.in-Ok.command _ c.in-Ok.is
-    c.read_words.ensures.only
-    c.answer.ensures.safe
+returns-in-Ok-write_all-clause-safe g c = λ others.
+    c.answer.ensures.safe (others c.in-Ok.command
+    (read_words-of _ c.read_words.result c.in-Ok.command c.in-Ok.is c.read_words.ensures.found))
 
 pub returns-in-Ok-write_all-clause-made : goal.returns-in-Ok-write_all-clause-made
 returns-in-Ok-write_all-clause-made g c = λ name window capacity of_words told.
@@ -58,7 +59,8 @@ returns-in-Ok-write_all-clause-made g c = λ name window capacity of_words told.
 
 pub returns-in-Ok-write_all-clause-applied : goal.returns-in-Ok-write_all-clause-applied
 returns-in-Ok-write_all-clause-applied g c = λ of_words told.
-    applies-weaker _ _ _ _ _ _ _ (λ e. cc) (c.in-Ok-answer.ensures.applied
+    applies-weaker _ _ _ _ _ _ _ _ _ _ _ _ (λ e. cc)
+    (λ e. absurd (omega (arith, e, c.end_as-in-Ok-write_all.ensures.status))) (λ e. tt) (c.in-Ok-answer.ensures.applied
     (read_all _ c.read_words.result c.in-Ok.command (λ command. c.in-Ok.command ≡ command) c.in-Ok.is
     c.read_words.ensures.only refl (Apply None) of_words) told)
 
@@ -74,9 +76,9 @@ returns-in-Ok-answer-clause-answered g c = read_all _ c.read_words.result c.in-O
     c.write_all-in-Ok-answer.ensures.counts))))
 
 pub returns-in-Ok-answer-clause-safe : goal.returns-in-Ok-answer-clause-safe
-returns-in-Ok-answer-clause-safe g c = read_all _ c.read_words.result c.in-Ok.command _ c.in-Ok.is
-    c.read_words.ensures.only
-    c.answer.ensures.safe
+returns-in-Ok-answer-clause-safe g c = λ others.
+    c.answer.ensures.safe (others c.in-Ok.command
+    (read_words-of _ c.read_words.result c.in-Ok.command c.in-Ok.is c.read_words.ensures.found))
 
 pub returns-in-Ok-answer-clause-made : goal.returns-in-Ok-answer-clause-made
 returns-in-Ok-answer-clause-made g c = λ name window capacity of_words told.
@@ -86,7 +88,8 @@ returns-in-Ok-answer-clause-made g c = λ name window capacity of_words told.
 
 pub returns-in-Ok-answer-clause-applied : goal.returns-in-Ok-answer-clause-applied
 returns-in-Ok-answer-clause-applied g c = λ of_words told.
-    applies-weaker _ _ _ _ _ _ _ (λ e. cc) (c.in-Ok-answer.ensures.applied
+    applies-weaker _ _ _ _ _ _ _ _ _ _ _ _ (λ e. cc)
+    (λ e. absurd (omega (arith, e, c.end_as-in-Err-write_all.ensures.status))) (λ e. tt) (c.in-Ok-answer.ensures.applied
     (read_all _ c.read_words.result c.in-Ok.command (λ command. c.in-Ok.command ≡ command) c.in-Ok.is
     c.read_words.ensures.only refl (Apply None) of_words) told)
 
@@ -109,8 +112,9 @@ returns-clause-no_hidden_disk_fault g c = λ other.
     other (c.end_with-in-Err.ensures.status ∙ ap (λ fault. code_of (fault_answer fault).status) same))
 
 pub returns-clause-safe : goal.returns-clause-safe
-returns-clause-safe g c = read_all _ c.read_words.result c.in-Ok.command _ c.in-Ok.is c.read_words.ensures.only
-    c.answer.ensures.safe
+returns-clause-safe g c = λ others.
+    c.answer.ensures.safe (others c.in-Ok.command
+    (read_words-of _ c.read_words.result c.in-Ok.command c.in-Ok.is c.read_words.ensures.found))
 
 pub returns-clause-made : goal.returns-clause-made
 returns-clause-made g c = λ name window capacity of_words told.
@@ -123,8 +127,11 @@ returns-clause-made g c = λ name window capacity of_words told.
 
 pub returns-clause-applied : goal.returns-clause-applied
 returns-clause-applied g c = λ of_words told.
-    applies-weaker _ _ _ _ _ _ _ (λ e. let same : c.in-Err.fault ≡ Disk = cc in
+    applies-weaker _ _ _ _ _ _ _ _ _ _ _ _ (λ e. let same : c.in-Err.fault ≡ Disk = cc in
     c.end_with-in-Err.ensures.status ∙ ap (λ fault. code_of (fault_answer fault).status) same)
+    (λ e. let same : c.in-Err.fault ≡ Input = input_end c.in-Err.fault (sym c.end_with-in-Err.ensures.status ∙ e) in
+    ap Err same)
+    (λ ends. loaded_fault c.in-Err.fault (subst IsStatusAfterLoad c.end_with-in-Err.ensures.status ends))
     (c.in-Err.ensures.applied
     (read_all _ c.read_words.result c.in-Ok.command (λ command. c.in-Ok.command ≡ command) c.in-Ok.is
     c.read_words.ensures.only refl (Apply None) of_words) told)
@@ -155,8 +162,9 @@ returns-in-Serve-clause-alone g c = λ sink once.
     c.in-Ok.is c.in-Serve.is c.read_words.ensures.found))
 
 pub returns-in-Serve-clause-safe : goal.returns-in-Serve-clause-safe
-returns-in-Serve-clause-safe g c = read_all _ c.read_words.result c.in-Ok.command _ c.in-Ok.is
-    c.read_words.ensures.only (λ adds. absurd (subst AddsNothing c.in-Serve.is adds))
+returns-in-Serve-clause-safe g c = λ others.
+    absurd (others (Serve c.in-Serve.listen c.in-Serve.requests) (read_as _ c.read_words.result c.in-Ok.command _
+    c.in-Ok.is c.in-Serve.is c.read_words.ensures.found))
 
 pub returns-in-Serve-clause-serves : goal.returns-in-Serve-clause-serves
 returns-in-Serve-clause-serves g c =
@@ -434,3 +442,112 @@ pub returns-in-Drill-clause-no_life : goal.returns-in-Drill-clause-no_life
 returns-in-Drill-clause-no_life g c = λ others.
     absurd (others _ _ (read_as _ c.read_words.result c.in-Ok.command _ c.in-Ok.is c.in-Drill.is
     c.read_words.ensures.found))
+
+-- words that name no command, or that find no memory
+
+pub returns-in-Err-Usage-clause-safe : goal.returns-in-Err-Usage-clause-safe
+returns-in-Err-Usage-clause-safe g c = λ others told.
+    leaves-none (g.D.Disk.state c.args.disk.now) (g.met.D.Disk.is_disk c.args.disk.now)
+
+pub returns-in-Err-Usage-clause-applied : goal.returns-in-Err-Usage-clause-applied
+returns-in-Err-Usage-clause-applied g c = λ of_words.
+    absurd (no_command _ c.read_words.result (usage c.in-Err-Usage.is c.in-Err-Usage.field-0-is)
+    c.read_words.ensures.only (Apply None) of_words)
+
+pub returns-in-Err-NoMemory-clause-safe : goal.returns-in-Err-NoMemory-clause-safe
+returns-in-Err-NoMemory-clause-safe g c = λ others told.
+    leaves-none (g.D.Disk.state c.args.disk.now) (g.met.D.Disk.is_disk c.args.disk.now)
+
+pub returns-in-Err-NoMemory-clause-applied : goal.returns-in-Err-NoMemory-clause-applied
+returns-in-Err-NoMemory-clause-applied g c = λ of_words told.
+    applies-none (g.D.Disk.state c.args.disk.now) _ _ _ _ _ _ _ (g.met.D.Disk.is_disk c.args.disk.now)
+    (λ ends. unloaded_five (subst IsStatusAfterLoad c.end_with.ensures.status ends))
+
+-- the objects that a command has no use for
+
+pub returns-in-Ok-write_all-clause-no_disk : goal.returns-in-Ok-write_all-clause-no_disk
+returns-in-Ok-write_all-clause-no_disk g c = λ others.
+    c.answer.ensures.no_disk (others c.in-Ok.command
+    (read_words-of _ c.read_words.result c.in-Ok.command c.in-Ok.is c.read_words.ensures.found))
+
+pub returns-in-Ok-write_all-clause-no_clock : goal.returns-in-Ok-write_all-clause-no_clock
+returns-in-Ok-write_all-clause-no_clock g c = λ others.
+    c.answer.ensures.no_clock (others c.in-Ok.command
+    (read_words-of _ c.read_words.result c.in-Ok.command c.in-Ok.is c.read_words.ensures.found))
+
+pub returns-in-Ok-write_all-clause-no_input : goal.returns-in-Ok-write_all-clause-no_input
+returns-in-Ok-write_all-clause-no_input g c = λ others.
+    c.answer.ensures.no_input (others c.in-Ok.command
+    (read_words-of _ c.read_words.result c.in-Ok.command c.in-Ok.is c.read_words.ensures.found))
+
+pub returns-in-Ok-answer-clause-no_disk : goal.returns-in-Ok-answer-clause-no_disk
+returns-in-Ok-answer-clause-no_disk g c = λ others.
+    c.answer.ensures.no_disk (others c.in-Ok.command
+    (read_words-of _ c.read_words.result c.in-Ok.command c.in-Ok.is c.read_words.ensures.found))
+
+pub returns-in-Ok-answer-clause-no_clock : goal.returns-in-Ok-answer-clause-no_clock
+returns-in-Ok-answer-clause-no_clock g c = λ others.
+    c.answer.ensures.no_clock (others c.in-Ok.command
+    (read_words-of _ c.read_words.result c.in-Ok.command c.in-Ok.is c.read_words.ensures.found))
+
+pub returns-in-Ok-answer-clause-no_input : goal.returns-in-Ok-answer-clause-no_input
+returns-in-Ok-answer-clause-no_input g c = λ others.
+    c.answer.ensures.no_input (others c.in-Ok.command
+    (read_words-of _ c.read_words.result c.in-Ok.command c.in-Ok.is c.read_words.ensures.found))
+
+pub returns-clause-no_disk : goal.returns-clause-no_disk
+returns-clause-no_disk g c = λ others.
+    c.answer.ensures.no_disk (others c.in-Ok.command
+    (read_words-of _ c.read_words.result c.in-Ok.command c.in-Ok.is c.read_words.ensures.found))
+
+pub returns-clause-no_clock : goal.returns-clause-no_clock
+returns-clause-no_clock g c = λ others.
+    c.answer.ensures.no_clock (others c.in-Ok.command
+    (read_words-of _ c.read_words.result c.in-Ok.command c.in-Ok.is c.read_words.ensures.found))
+
+pub returns-clause-no_input : goal.returns-clause-no_input
+returns-clause-no_input g c = λ others.
+    c.answer.ensures.no_input (others c.in-Ok.command
+    (read_words-of _ c.read_words.result c.in-Ok.command c.in-Ok.is c.read_words.ensures.found))
+
+pub returns-in-Serve-clause-no_disk : goal.returns-in-Serve-clause-no_disk
+returns-in-Serve-clause-no_disk g c = λ others.
+    absurd (others (Serve c.in-Serve.listen c.in-Serve.requests) (read_as _ c.read_words.result c.in-Ok.command _
+    c.in-Ok.is c.in-Serve.is c.read_words.ensures.found) tt)
+
+pub returns-in-Serve-clause-no_clock : goal.returns-in-Serve-clause-no_clock
+returns-in-Serve-clause-no_clock g c = λ others.
+    absurd (others (Serve c.in-Serve.listen c.in-Serve.requests) (read_as _ c.read_words.result c.in-Ok.command _
+    c.in-Ok.is c.in-Serve.is c.read_words.ensures.found) tt)
+
+pub returns-in-Mirror-default-true-default-default-clause-no_disk :
+    goal.returns-in-Mirror-default-true-default-default-clause-no_disk
+returns-in-Mirror-default-true-default-default-clause-no_disk g c = λ others.
+    let arm = c.in-Mirror-default-true-default-default in
+    let is : c.in-Ok.command ≡ Mirror arm.base true arm.report arm.capacity =
+    arm.is ∙ ap (λ (f : Bool). Mirror arm.base f arm.report arm.capacity) arm.fetch-test in
+    absurd (others (Mirror arm.base true arm.report arm.capacity) (read_as _ c.read_words.result c.in-Ok.command _
+    c.in-Ok.is is c.read_words.ensures.found) tt)
+
+pub returns-in-Mirror-default-false-default-default-clause-no_disk :
+    goal.returns-in-Mirror-default-false-default-default-clause-no_disk
+returns-in-Mirror-default-false-default-default-clause-no_disk g c = λ others.
+    let arm = c.in-Mirror-default-false-default-default in
+    let is : c.in-Ok.command ≡ Mirror arm.base false arm.report arm.capacity =
+    arm.is ∙ ap (λ (f : Bool). Mirror arm.base f arm.report arm.capacity) arm.fetch-test in
+    absurd (others (Mirror arm.base false arm.report arm.capacity) (read_as _ c.read_words.result c.in-Ok.command _
+    c.in-Ok.is is c.read_words.ensures.found) tt)
+
+pub returns-in-Mirror-default-false-default-default-clause-no_input :
+    goal.returns-in-Mirror-default-false-default-default-clause-no_input
+returns-in-Mirror-default-false-default-default-clause-no_input g c = λ others.
+    let arm = c.in-Mirror-default-false-default-default in
+    let is : c.in-Ok.command ≡ Mirror arm.base false arm.report arm.capacity =
+    arm.is ∙ ap (λ (f : Bool). Mirror arm.base f arm.report arm.capacity) arm.fetch-test in
+    absurd (others (Mirror arm.base false arm.report arm.capacity) (read_as _ c.read_words.result c.in-Ok.command _
+    c.in-Ok.is is c.read_words.ensures.found) tt)
+
+pub returns-in-Audit-clause-no_input : goal.returns-in-Audit-clause-no_input
+returns-in-Audit-clause-no_input g c = λ others.
+    absurd (others Audit (read_as _ c.read_words.result c.in-Ok.command _ c.in-Ok.is c.in-Audit.is
+    c.read_words.ensures.found) tt)

@@ -1,11 +1,11 @@
-use Rattle.std.proofs.Common.{◌≡◌, Err, ap, ◌∙◌}
+use Rattle.std.proofs.Common.{◌≡◌, Err, ap, ◌∙◌, inl}
 use Rattle.std.specs.Prelude.{Some, None}
 use Rattle.std.proofs.lemmas.Result.{err_from_is_err_and}
 use Rattle.feed_recovery.specs.Stored.{stored_of}
 use Rattle.feed_commands.specs.declared.fault.Fault.TheVariants.{Disk, Input}
 use Rattle.feed_commands.specs.declared.status.Status.TheVariants.{Done}
 use Rattle.feed_commands.specs.Stored.{apply_answer}
-use Rattle.feed_commands.proofs.AnswerOnLemmas.{answer-bad, answer-on, apply-made, apply-refused, load-no-input, not-refusal, opens-applied}
+use Rattle.feed_commands.proofs.AnswerOnLemmas.{answer-bad, answer-on, apply-made, apply-refused, load-no-input, load-unfinished, not-refusal, opens-applied}
 use Rattle.feed_commands.proofs.MomentsLemmas.{applies-safely}
 use Rattle.feed_commands.proofs.StoreLemmas.{no-disk, opens-same}
 use Rattle.feed_commands.proofs.commands.store.apply.Goals as goal
@@ -17,6 +17,12 @@ returns-in_err-store-clause-refused g c =
     answer-bad (g.D.Disk.state c.args.disk.now).content
     (apply_answer (g.C.Clock.coming c.args.clock.now) (g.I.Source.state c.args.input.now).left)
     c.in_err-store.field-0.0 (c.in_err-store.ensures.refused told) (c.in_err-store.ensures.only told) refusal)
+
+pub returns-in_err-store-clause-applied : goal.returns-in_err-store-clause-applied
+returns-in_err-store-clause-applied g c =
+    let p = err_from_is_err_and c.from_residual.result c.from_residual.ensures.1 in
+    rw (p.1, p.2) (λ told head operations least settled.
+    inl (load-unfinished c.in_err-store.field-0.0, c.load.ensures.moments told head operations least settled))
 
 pub returns-in_err-store-clause-opens : goal.returns-in_err-store-clause-opens
 returns-in_err-store-clause-opens g c =
@@ -51,7 +57,8 @@ returns-in-Err-clause-applied g c =
     let loaded = g.D.Disk.state c.load.new.disk in
     (λ told.
     applies-safely before loaded (g.D.Disk.state c.apply_lines.new.disk) (g.C.Clock.coming c.args.clock.now)
-    (g.I.Source.state c.args.input.now).left (g.C.Clock.told × g.I.Source.told) _ _ (stored_of store)
+    (g.I.Source.state c.args.input.now) (g.I.Source.state c.apply_lines.new.input)
+    (g.C.Clock.told × g.I.Source.told) _ _ _ _ _ (stored_of store)
     (g.met.D.Disk.is_disk c.args.disk.now) told c.stores_open_in_one_way.ensures
     (opens-same before.content loaded.content (stored_of store) (c.in_ok-store.ensures.same told)
     (c.in_ok-store.ensures.opens told).opens)
@@ -59,7 +66,8 @@ returns-in-Err-clause-applied g c =
     (λ whole.
     c.in-Err.ensures.leaves told (c.in_ok-store.ensures.rests told whole)
     (c.in_ok-store.ensures.settled told whole))
-    (λ e. let is : c.in-Err.fault ≡ Disk = cc in ap Err is))
+    (λ e. let is : c.in-Err.fault ≡ Disk = cc in ap Err is)
+    (λ e. let is : c.in-Err.fault ≡ Input = cc in ap Err is))
 
 pub returns-in-Err-clause-opens : goal.returns-in-Err-clause-opens
 returns-in-Err-clause-opens g c =
@@ -91,12 +99,15 @@ returns-in-Err-clause-unrefused g c =
 
 pub returns-in_err-text-in-Ok-clause-applied : goal.returns-in_err-text-in-Ok-clause-applied
 returns-in_err-text-in-Ok-clause-applied g c =
+    let p = err_from_is_err_and c.from_residual-in_err-text-in-Ok.result c.from_residual-in_err-text-in-Ok.ensures.1
+    in
     let store = c.in_ok-store.store in
     let before = g.D.Disk.state c.args.disk.now in
     let loaded = g.D.Disk.state c.load.new.disk in
-    λ told.
+    rw (p.1, p.2) (λ told.
     applies-safely before loaded (g.D.Disk.state c.apply_lines.new.disk) (g.C.Clock.coming c.args.clock.now)
-    (g.I.Source.state c.args.input.now).left (g.C.Clock.told × g.I.Source.told) _ _ (stored_of store)
+    (g.I.Source.state c.args.input.now) (g.I.Source.state c.apply_lines.new.input)
+    (g.C.Clock.told × g.I.Source.told) _ _ _ _ _ (stored_of store)
     (g.met.D.Disk.is_disk c.args.disk.now) told c.stores_open_in_one_way.ensures
     (opens-same before.content loaded.content (stored_of store) (c.in_ok-store.ensures.same told)
     (c.in_ok-store.ensures.opens told).opens)
@@ -104,7 +115,7 @@ returns-in_err-text-in-Ok-clause-applied g c =
     (λ whole.
     c.in-Ok.ensures.leaves told (c.in_ok-store.ensures.rests told whole)
     (c.in_ok-store.ensures.settled told whole))
-    (λ e. cc)
+    (λ e. cc) (λ e. cc))
 
 pub returns-in_err-text-in-Ok-clause-refused : goal.returns-in_err-text-in-Ok-clause-refused
 returns-in_err-text-in-Ok-clause-refused g c =
@@ -139,7 +150,8 @@ returns-in_ok-text-in-Ok-clause-applied g c =
     let loaded = g.D.Disk.state c.load.new.disk in
     λ told.
     applies-safely before loaded (g.D.Disk.state c.apply_lines.new.disk) (g.C.Clock.coming c.args.clock.now)
-    (g.I.Source.state c.args.input.now).left (g.C.Clock.told × g.I.Source.told) _ _ (stored_of store)
+    (g.I.Source.state c.args.input.now) (g.I.Source.state c.apply_lines.new.input)
+    (g.C.Clock.told × g.I.Source.told) _ _ _ _ _ (stored_of store)
     (g.met.D.Disk.is_disk c.args.disk.now) told c.stores_open_in_one_way.ensures
     (opens-same before.content loaded.content (stored_of store) (c.in_ok-store.ensures.same told)
     (c.in_ok-store.ensures.opens told).opens)
@@ -147,7 +159,7 @@ returns-in_ok-text-in-Ok-clause-applied g c =
     (λ whole.
     c.in-Ok.ensures.leaves told (c.in_ok-store.ensures.rests told whole)
     (c.in_ok-store.ensures.settled told whole))
-    (λ e. cc)
+    (λ e. cc) (λ e. cc)
 
 pub returns-in_ok-text-in-Ok-clause-opens : goal.returns-in_ok-text-in-Ok-clause-opens
 returns-in_ok-text-in-Ok-clause-opens g c = λ told clock source answered.

@@ -10,11 +10,12 @@ use Rattle.feed_commands.specs.declared.fault.Fault.{Fault}
 use Rattle.feed_commands.specs.declared.fault.Fault.TheVariants.{Input, Disk}
 use Rattle.feed_commands.specs.Apply.{lines_fault}
 use Rattle.feed_commands.specs.Loaded.{LeavesLines}
-use Rattle.feed_commands.specs.Stored.{applied_store, stored_step}
+use Rattle.feed_commands.specs.Stored.{applied_store, stored_step, with_operation}
 use Rattle.feed_commands.proofs.FaultLemmas.{input-of_lines, refusal-of_lines}
 use Rattle.feed_recovery.proofs.PastLemmas.{both_stay, leaves-more}
 use Rattle.feed_commands.proofs.MomentsLemmas.{lines-fail, lines-leave}
-use Rattle.feed_commands.proofs.ProgressLemmas.{Progress, Progress-amid, Progress-end, Progress-long, Progress-made, Progress-refused, Progress-start, Progress-step}
+use Rattle.feed_commands.proofs.ProgressLemmas.{Progress, Progress-amid, Progress-end, Progress-long, Progress-made}
+use Rattle.feed_commands.proofs.ProgressLemmas.{Progress-read, Progress-refused, Progress-start, Progress-step}
 use Rattle.feed_commands.proofs.StepLemmas.{stored_step-prefix}
 use Rattle.feed_commands.proofs.StoreLemmas.{disk-or-not, line-is, no-disk}
 use Rattle.feed_commands.proofs.commands.store.apply_lines.Goals as goal
@@ -22,13 +23,18 @@ use Rattle.member_rules.specs.Head.{HeadValue}
 use Rattle.member_rules.specs.declared.operation.Op.{Op}
 
 pub returns-in_err-lines-clause-leaves : goal.returns-in_err-lines-clause-leaves
-returns-in_err-lines-clause-leaves g c = λ told rests settled.
+returns-in_err-lines-clause-leaves g c =
     let opened = stored_of c.args.store.now in
     let disk = g.D.Disk.state c.args.disk.now in
-    lines-leave disk disk (g.C.Clock.coming c.args.clock.now) (g.I.Source.state c.args.input.now).left _ _ opened opened
-    (λ seen. record { count = 0; lines = refl })
+    let input = g.I.Source.state c.args.input.now in
+    let p = err_from_is_err_and c.from_residual.result c.from_residual.ensures.1 in
+    rw (p.1, p.2) (λ told rests settled.
+    lines-leave disk disk (g.C.Clock.coming c.args.clock.now) input input _ _ _ opened opened 0
+    (λ below. omega arith)
+    (λ seen. record { within = omega arith; lines = refl })
+    (λ stop. cc)
     (both_stay disk (OpensPast opened.head opened.history (length opened.history))
-    (g.met.D.Disk.is_disk c.args.disk.now) settled) settled
+    (g.met.D.Disk.is_disk c.args.disk.now) settled) settled)
 
 pub loop-lines-init : goal.loop-lines-init
 loop-lines-init g c =
@@ -54,6 +60,7 @@ loop-lines-init g c =
       knows = λ source ended. absurd (false≢true (rw c.in_ok-lines.ensures.2 at ended));
       faults = refl;
       disk_faults = refl;
+      calls = λ below. omega arith;
       mirror = alone_begins disk Mirror;
       rests = λ told rests. rests;
       leaves = λ told rests settled.
@@ -103,6 +110,9 @@ loop-lines-preserved g c =
       knows = c.in_ok-next.ensures.knows;
       faults = c.in_ok-next.ensures.faults (λ e. cc) ∙ held.faults;
       disk_faults = c.in_ok-apply_line.ensures.disk_faults (λ e. cc) ∙ held.disk_faults;
+      calls = λ below.
+          let one = c.in_ok-apply_line.ensures.calls below in
+          omega (arith, one, held.calls (omega (arith, one, below)), held.grown, grows);
       mirror = alone_joins start disk left Mirror held.mirror c.apply_line.ensures.mirror;
       rests = λ told rests. c.in_ok-apply_line.ensures.rests told (held.rests told rests);
       leaves = λ told rests settled.
@@ -136,18 +146,27 @@ returns-in_err-next-clause-refused g c =
     refusal)
 
 pub returns-in_err-next-clause-leaves : goal.returns-in_err-next-clause-leaves
-returns-in_err-next-clause-leaves g c = λ told rests settled.
+returns-in_err-next-clause-leaves g c =
+    let p = err_from_is_err_and c.from_residual-in_err-next.result c.from_residual-in_err-next.ensures.1 in
     let held = c.loop-lines.invariant in
     let moments = g.C.Clock.coming c.args.clock.now in
     let start = g.I.Source.state c.args.input.now in
+    let input = g.I.Source.state c.loop-lines.input in
+    let rest = g.I.Source.state c.next.new.input in
     let opened = stored_of c.args.store.now in
     let store = stored_of c.loop-lines.store in
-    lines-leave (g.D.Disk.state c.args.disk.now) (g.D.Disk.state c.loop-lines.disk) moments start.left
-    (g.C.Clock.told × g.I.Source.told) _ opened
-    store
-    (λ seen. Progress-made (stored_step moments) opened start.left c.loop-lines.lines
-    (g.I.Source.state c.loop-lines.input) _ store
-    (held.progress told seen.0 seen.1)) (held.leaves told rests settled) (held.settled told rests settled)
+    let before = length store.history - length opened.history in
+    rw (p.1, p.2) (λ told rests settled.
+    lines-leave (g.D.Disk.state c.args.disk.now) (g.D.Disk.state c.loop-lines.disk) moments start rest
+    (g.C.Clock.told × g.I.Source.told) _ _ opened store before held.calls
+    (λ seen. Progress-made (stored_step moments) opened start.left c.loop-lines.lines input before store
+    (held.progress told seen.0 seen.1))
+    (λ stop seen.
+    let same : lines_fault c.in_err-next.field-0.0 ≡ Input = cc in
+    Progress-read (stored_step moments) opened start c.loop-lines.lines input rest before store
+    (held.progress told seen.0 seen.1)
+    (c.in_err-next.ensures.amid (ap Err (input-of_lines c.in_err-next.field-0.0 same)) seen.1))
+    (held.leaves told rests settled) (held.settled told rests settled))
 
 pub returns-in_err-next-clause-unrefused : goal.returns-in_err-next-clause-unrefused
 returns-in_err-next-clause-unrefused g c =
@@ -190,28 +209,49 @@ returns-in_err-apply_line-clause-leaves g c =
     let start = g.D.Disk.state c.args.disk.now in
     let disk = g.D.Disk.state c.loop-lines.disk in
     let left = g.D.Disk.state c.apply_line.new.disk in
-    let input = (g.I.Source.state c.args.input.now).left in
+    let input = g.I.Source.state c.args.input.now in
+    let now = g.I.Source.state c.loop-lines.input in
+    let rest = g.I.Source.state c.next.new.input in
     let opened = stored_of c.args.store.now in
     let store = stored_of c.loop-lines.store in
+    let before = length store.history - length opened.history in
     rw (p.1, p.2) (λ told rests settled.
     let made = λ (seen : g.C.Clock.told × g.I.Source.told).
-    Progress-made (stored_step moments) opened input c.loop-lines.lines (g.I.Source.state c.loop-lines.input) _ store
+    Progress-made (stored_step moments) opened input.left c.loop-lines.lines now before store
     (held.progress told seen.0 seen.1) in
+    let none : ◌≡◌ {A = Result (Unit {0}) Fault} (Err fault) (Err Input) → ⊥ =
+    λ stop. c.in_err-apply_line.ensures.own stop in
     elim (disk-or-not fault) [
       | inl is ↦
           let bad = c.in_err-apply_line.ensures.failed (ap Err is) told (held.rests told rests) in
-          lines-fail start left moments input (g.C.Clock.told × g.I.Source.told) _ opened store made bad.0 (ap Err is)
-          (leaves-more start disk left opened.head store.history bad.0 (length opened.history) held.grown
+          let next = with_operation store bad.0 in
+          let each =
+          leaves-more start disk left opened.head store.history bad.0 (length opened.history) held.grown
           (held.leaves told rests settled)
           (subst (λ (h : HeadValue).
           AlwaysLeavesBoth disk left (OpensPast h (store.history ++ bad.0 ∷ []) (length store.history))) held.head
-          bad.2))
+          bad.3) in
+          let later = bad.3.moments.first.later in
+          lines-fail start left moments input rest (g.C.Clock.told × g.I.Source.told) _ _ opened store before
+          (λ below. omega (arith, later, held.calls (omega (arith, later, below))))
+          made (λ stop. absurd (none stop)) bad.0 (ap Err is)
+          (λ seen.
+          Progress-made (stored_step moments) opened input.left c.next.new.self rest (before + 1) next
+          (Progress-step (stored_step moments) (stored_step-prefix moments) opened input.left c.loop-lines.lines now
+          c.next.new.self rest before store next (held.progress told seen.0 seen.1)
+          (c.in_ok-next.ensures.found (ap Ok c.if-branch.true) seen.1)
+          (line-is moments c.loop-lines.store before c.next.new.self.line _ _ _ (Ok next) c.line.ensures
+          (omega (arith, c.version.ensures, held.opened))
+          (c.now.ensures.moment seen.0 ∙ held.moments seen.0 0 ∙ ap moments (zero-add before)) bad.1)))
+          each
       | inr other ↦
           let same = c.in_err-apply_line.ensures.untouched (λ e. other cc) in
           subst (λ d.
-          LeavesLines start (g.D.Disk.state d) moments input (g.C.Clock.told × g.I.Source.told) opened
-          (◌≡◌ {A = Result (Unit {0}) Fault} (Err fault) (Err Disk))) (sym same)
-          (lines-leave start disk moments input (g.C.Clock.told × g.I.Source.told) _ opened store made
+          LeavesLines start (g.D.Disk.state d) moments input rest (g.C.Clock.told × g.I.Source.told) opened
+          (◌≡◌ {A = Result (Unit {0}) Fault} (Err fault) (Err Disk))
+          (◌≡◌ {A = Result (Unit {0}) Fault} (Err fault) (Err Input))) (sym same)
+          (lines-leave start disk moments input rest (g.C.Clock.told × g.I.Source.told) _ _ opened store before
+          held.calls made (λ stop. absurd (none stop))
           (held.leaves told rests settled)
           (held.settled told rests settled))
     ])
@@ -231,9 +271,11 @@ returns-clause-leaves g c = λ told rests settled.
     let start = g.I.Source.state c.args.input.now in
     let opened = stored_of c.args.store.now in
     let store = stored_of c.loop-lines.store in
-    lines-leave (g.D.Disk.state c.args.disk.now) (g.D.Disk.state c.loop-lines.disk) moments start.left
-    (g.C.Clock.told × g.I.Source.told) _ opened
-    store
+    let before = length store.history - length opened.history in
+    lines-leave (g.D.Disk.state c.args.disk.now) (g.D.Disk.state c.loop-lines.disk) moments start
+    (g.I.Source.state c.next.new.input)
+    (g.C.Clock.told × g.I.Source.told) _ _ opened store before held.calls
     (λ seen. Progress-made (stored_step moments) opened start.left c.loop-lines.lines
-    (g.I.Source.state c.loop-lines.input) _ store
-    (held.progress told seen.0 seen.1)) (held.leaves told rests settled) (held.settled told rests settled)
+    (g.I.Source.state c.loop-lines.input) before store
+    (held.progress told seen.0 seen.1))
+    (λ stop. cc) (held.leaves told rests settled) (held.settled told rests settled)

@@ -1,4 +1,5 @@
-use Rattle.std.proofs.Common.{◌≡◌, ℕ, ◌+◌, ◌-◌, ◌≤◌, false, length}
+use Rattle.std.proofs.Common.{◌≡◌, ℕ, ◌+◌, ◌-◌, ◌*◌, ◌<◌, ◌≤◌, false, length}
+use Rattle.atom_values.specs.Counts.{counter_limit}
 use Rattle.feed_disk.specs.Moments.{LeavesAlone}
 use Rattle.feed_disk.specs.declared.area.Area.TheVariants.{Mirror}
 use Rattle.feed_recovery.specs.Settled.{AlwaysLeavesBoth, IsAtRest, OpensPast, Settled}
@@ -30,6 +31,8 @@ invariant-loop-lines g l =
       knows : g.I.Source.told → KnowsEnd l.lines (g.I.Source.state l.input);
       faults : (g.I.Source.state l.input).faults ≡ input.faults;
       disk_faults : disk.faults ≡ before.faults;
+      calls : disk.clock < counter_limit →
+          before.clock + 4 * (length l.store.history - length old.history) ≤ disk.clock;
       mirror : LeavesAlone before disk Mirror;
       rests : g.D.Disk.told → IsAtRest before → IsAtRest disk;
       leaves : g.D.Disk.told → IsAtRest before →

@@ -34,7 +34,7 @@ returns-in_err-fill-clause-amid g c = λ e k.
     let p = err_from_is_err_and c.from_residual-in_err-fill.result c.from_residual-in_err-fill.ensures.1 in
     let l = c.in_err-fill.ensures.amid (cc (p.1, p.2)) in
     StopsAmid-met (GoesOn-taken c.loop-self.invariant t c.in_ok-take_line.ensures.allowed
-    c.in_ok-take_line.ensures.end) t.spent (l k) k
+    c.in_ok-take_line.ensures.end) t.spent l.0 (l.1 k) k
 
 pub returns-then-not-branch-clause-found : goal.returns-then-not-branch-clause-found
 returns-then-not-branch-clause-found g c = λ e k.
