@@ -31,7 +31,8 @@ measure() {
     }' "$work/took"
 }
 
-seq 100 | sed 's/^/add Advisory number /' | "$top/feed_tool" apply 100 >"$work/short" || exit 1
+"$top/prove" || exit 1
+seq 100 | sed 's/^/add Advisory number /' | "$top/out/feed_tool" apply 100 >"$work/short" || exit 1
 
 # The same document with a summary and a content of 65,529 bytes of HTML in each entry, 152,901 with their escapes.
 awk 'BEGIN {
