@@ -42,11 +42,11 @@ said_unproved() { [ "$(wc -l <"$work/errors")" -eq 1 ] && grep -q "isn't proved"
 # whether the last run said nothing on standard error
 said_nothing() { [ ! -s "$work/errors" ]; }
 
-# how many crates the last run began to prove
-begun() { grep -c ' begins, ' "$work/errors"; }
+# how many crates the last run proved
+proved() { grep -c '^prove: [a-z_]* proved, ' "$work/errors"; }
 
-# whether the last run began to prove no crate but the program's own
-began_the_last_alone() { [ "$(begun)" -eq 1 ] && grep -q 'prove: feed_tool begins' "$work/errors"; }
+# whether the last run proved the program's own crate alone
+proved_the_last_alone() { [ "$(proved)" -eq 1 ] && grep -q '^prove: feed_tool proved, ' "$work/errors"; }
 
 expected=$top/crates/feed_tool/stdout
 : >"$work/nothing"
@@ -106,7 +106,7 @@ right 'a proved run says nothing' said_nothing
 ran env PATH="$without_rt" "$tool" apply 4 </dev/null
 right 'a proved run without rt' ended 0 "$expected"
 ran "$work/one/prove"
-right 'a second proof proves nothing' [ "$(begun)" -eq 0 ]
+right 'a second proof proves nothing' [ "$(proved)" -eq 0 ]
 ln -s "$tool" "$work/linked"
 ran sh -c "cd / && '$work/linked' apply 4 </dev/null"
 right 'a symbolic link' ended 0 "$expected"
@@ -123,7 +123,7 @@ right 'an unproved run after a change' ended 0 "$expected"
 right 'an unproved run after a change says so' said_unproved
 ran sh -c "cd '$work/store' && '$tool' show feed"
 right 'a command that uses files after a change' [ "$status" -eq 0 ]
-right 'its proof is of the changed crate alone' began_the_last_alone
+right 'its proof is of the changed crate alone' proved_the_last_alone
 ran "$tool" apply 4 </dev/null
 right 'a proved run after the change' said_nothing
 
