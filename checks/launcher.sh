@@ -117,7 +117,8 @@ right 'a command that uses files' [ "$status" -eq 0 ]
 right 'a command that uses files says nothing' said_nothing
 
 # a source that changed: unproved runs again, and a command that uses files is proved first
-echo '// A comment.' >>"$work/one/crates/feed_tool/src/main.rt"
+# The comment is a new one at each run, so that no earlier proof has it.
+echo "// A comment of $(date +%s)." >>"$work/one/crates/feed_tool/src/main.rt"
 ran "$tool" apply 4 </dev/null
 right 'an unproved run after a change' ended 0 "$expected"
 right 'an unproved run after a change says so' said_unproved
