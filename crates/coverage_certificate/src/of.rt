@@ -10,7 +10,7 @@ ghost use Rattle.member_rules.specs.Head.{HeadValue};
 ghost use Rattle.member_rules.specs.Shows.{live_count_of};
 ghost use Rattle.member_rules.specs.declared.operation.Op.{Op};
 ghost use Rattle.mirror_walk.specs.Holding.{best_of, chain_of, first_missing, name_of_best, payloads_of};
-ghost use Rattle.mirror_walk.specs.Listing.{live_entries};
+ghost use Rattle.mirror_walk.specs.Listing.{ShowsSome, live_entries};
 ghost use Rattle.mirror_walk.specs.Loaded.{IsLoadedOf};
 ghost use Rattle.mirror_walk.specs.Mirror.{StandsFor, is_spent};
 ghost use Rattle.mirror_walk.specs.Published.{HoldsServed};
@@ -42,8 +42,8 @@ impl Certificate {
     /// Errors:
     ///
     /// - `DiskFault` if the disk's count of faults rose. Then the mirror is spent.
-    /// - `Changed` with a document's index if the disk gave other bytes than there were. Never on a disk whose
-    ///   content contracts see.
+    /// - `Changed` with the index, counted from 0, of the document that shows a live member, if the disk gave
+    ///   other bytes of it than there were. Never on a disk whose content contracts see.
     /// - `NoMemory`.
     pub fn of<D: Disk>(
         alloc: Global,
@@ -66,8 +66,9 @@ impl Certificate {
             → mirror.old.base ≡ head.name.base → HoldsServed head history mirror.old.kept
             → made ≡ served_certificate head (take made.version history)) }
         ensures never { D.told → (index : ℕ) → result ≢ Err (LogFault.Changed index) }
+        // On any disk, the index is that of the document that shows a live member.
         ensures changed { (index : ℕ) → result ≡ Err (LogFault.Changed index)
-            → index < length mirror.old.kept }
+            → ShowsSome mirror.old.kept index }
 
         // No area changes, and of the mirror only the count of calls and the document that was read back
         // last. After `DiskFault` it is spent.
@@ -163,7 +164,7 @@ fn digest_live<D: Disk>(
         IsLoadedOf mirror.old.base (payloads_of mirror.old.kept) mirror.old.kept) }
     ensures never { D.told → (index : ℕ) → result ≢ Err (LogFault.Changed index) }
     ensures changed { (index : ℕ) → result ≡ Err (LogFault.Changed index)
-        → index < length mirror.old.kept }
+        → ShowsSome mirror.old.kept index }
     ensures areas { (a : AreaValue) → LeavesAlone (D.state disk.old) (D.state disk.new) a }
     ensures same { result ≢ Err LogFault.DiskFault → KeepsAllBut mirror.old mirror.new }
     ensures spent { result ≡ Err LogFault.DiskFault → IsSpentBy mirror.old mirror.new }

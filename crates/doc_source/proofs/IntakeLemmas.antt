@@ -2,7 +2,12 @@
 use Rattle.std.proofs.Common.{◌≡◌, ℕ, ◌+◌, ◌-◌, ◌≤◌, List, [], ◌++◌, length, take, drop, refl, sym, ap, ◌∙◌, arith, length-take, length-append, length-drop}
 use Rattle.std.proofs.Math.Seq.{take-add}
 use Rattle.std.proofs.lemmas.List.{append-nil, append_assoc, drop-take, drop-drop}
-use Rattle.doc_source.specs.Intake.{IntakeState, TakesMore}
+use Rattle.std.specs.Prelude.{Result, Ok}
+use Rattle.atom_values.specs.declared.memory.Failed.{Failed}
+use Rattle.feed_disk.specs.Raised.{RisesAtMost}
+use Rattle.doc_source.specs.declared.intake.Filled.{Filled}
+use Rattle.doc_source.specs.declared.intake.Filled.TheVariants.{More}
+use Rattle.doc_source.specs.Intake.{IntakeState, TakesMore, probed}
 use Rattle.doc_source.specs.Outside.{SourceState}
 
 pub consumed : (items : List ℕ) (start end count taken limit : ℕ) →
@@ -20,6 +25,14 @@ consumed items start end count taken limit h =
     ∙ sym (drop-take count (end - (start + count)) (drop start items))
     ∙ ap (λ (n : ℕ). drop count (take n (drop start items))) (sym parts) in
     ap (λ (x : List ℕ). let s : IntakeState = record { ahead = x; taken = taken; limit = limit } in s) ahead
+
+-- the bytes that two calls took, of which the second filled the intake
+pub rises_filled : (start between end before middle after : ℕ) (r : Result Filled Failed) → start ≤ between →
+    between ≤ end → RisesAtMost (between - start) before middle → r ≡ Ok More →
+    RisesAtMost (end - between + probed r) middle after → RisesAtMost (end - start) before after
+rises_filled start between end before middle after r low high one is other =
+    let none : probed r ≡ 0 = ap probed is in
+    omega (arith, low, high, one, other, none)
 
 pub takes_none : (T : Type 0) (s t : IntakeState) (source rest : SourceState) → t ≡ s → (T → rest.left ≡ source.left) →
     TakesMore T s t source rest

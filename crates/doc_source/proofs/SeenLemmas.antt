@@ -7,10 +7,10 @@ use Rattle.std.proofs.lemmas.List.Elements.{All-append}
 use Rattle.std.proofs.lemmas.Slice.Eq.{bytes_eq-Decides}
 use Rattle.atom_values.specs.Ascii.{lf}
 use Rattle.doc_source.specs.Intake.{IntakeState, TakesMore}
-use Rattle.doc_source.specs.Line.{BeginsLine, HasNoLf, IsLine, line_limit}
+use Rattle.doc_source.specs.Line.{BeginsLine, HasNoLf, IsLine}
 use Rattle.doc_source.specs.Outside.{SourceState}
 use Rattle.doc_source.specs.Part.{HasHead, IsLineEnd, IsPart, IsWhole, part_text}
-use Rattle.doc_source.specs.Pile.{BeginsPile, IsBad, IsEnd, IsTooLong, head_at, line_text, pile_head}
+use Rattle.doc_source.specs.Pile.{BeginsPile, IsBad, IsEnd, IsOpen, IsTooLong, head_at, line_text, pile_head}
 use Rattle.doc_source.specs.declared.part.Part.{Part}
 use Rattle.doc_source.proofs.CutLemmas.{front_of}
 use Rattle.doc_source.proofs.PileLemmas.{
@@ -27,7 +27,6 @@ use Rattle.doc_source.proofs.PileLemmas.{
   head_goes_on,
   head_later,
   line_goes_on,
-  line_short,
   no_offer_in_body,
   no_offer_in_head,
   no_offer_in_line,
@@ -199,7 +198,27 @@ head_other zero before source ahead left z s h not =
     ))))
 head_other (suc n) before source ahead left z s h not = absurd (omega (arith, z))
 
+pub head_open : (used : ℕ) (ahead : List ℕ) → used ≡ 0 → length ahead < length pile_head →
+    starts_with nat_eq pile_head ahead ≡ true → IsOpen used ahead
+head_open zero ahead z h is = record {
+  no_offer = no_offer_in_head ahead h;
+  goes_on = head_goes_on ahead (drop (length ahead) pile_head) (sym (starts_to pile_head ahead is));
+}
+head_open (suc n) ahead z h is = absurd (omega (arith, z))
+
 -- within the first line of an offer
+
+pub head_short : (used : ℕ) → length (head_at used) ≤ length pile_head
+head_short zero = omega arith
+head_short (suc n) = omega (arith, ap length (head_later (suc n) (omega arith)))
+
+pub line_open : (used head : ℕ) (ahead : List ℕ) → head ≡ length (head_at used) → HasHead used ahead →
+    HasNoLf (drop head ahead) → BeginsLine (drop head ahead) → IsOpen used ahead
+line_open used head ahead len has no_lf begins =
+    let part = drop head ahead in
+    let begun : IsOpen used (head_at used ++ part) =
+    record { no_offer = no_offer_in_line used part no_lf; goes_on = line_goes_on used part begins } in
+    subst (IsOpen used) (sym (head_split used head ahead len has)) begun
 
 pub line_ends : (used : ℕ) (before : IntakeState) (source : SourceState) (ahead left : List ℕ) →
     Seen used before source ahead left → left ≡ [] → ahead ≡ head_at used →
@@ -230,13 +249,6 @@ line_ends_amid used before source part left s ends no_lf some =
     (bad_at_end used before.limit ahead left at ends s.short (no_offer_in_line used part no_lf)
     (λ e. absurd (omega (arith, some, ap length e, length-append (head_at used) part)))
     (place_behind used (ahead ++ left) (part ++ left) (append_assoc (head_at used) part left)))
-
-pub line_over : (used : ℕ) (before : IntakeState) (source : SourceState) (part left : List ℕ) →
-    Seen used before source (head_at used ++ part) left → HasNoLf part → line_limit < length part →
-    IsBad used before.limit (before.ahead ++ source.left) (used + length (head_at used))
-line_over used before source part left s no_lf over =
-    bad_line_from used before source part left s
-    (λ f. absurd (omega (arith, over, line_short part (fits_line used part no_lf f))))
 
 pub line_unfit : (used : ℕ) (before : IntakeState) (source : SourceState) (part left : List ℕ) →
     Seen used before source (head_at used ++ part) left → HasNoLf part → (BeginsLine part → ⊥) →
@@ -284,6 +296,13 @@ body_too_long used before source part left s full more p h =
     long_seen used before source (part_text used part) left s
     (too_long_at used before.limit (part_text used part) left full more (no_offer_in_body used part p h)
     (body_goes_on used part p h))
+
+pub body_open : (used : ℕ) (part : Part) (text : List ℕ) → text ≡ part_text used part → IsPart part →
+    length part.behind.items ≤ part.count → IsOpen used text
+body_open used part text e p h =
+    let begun : IsOpen used (part_text used part) =
+    record { no_offer = no_offer_in_body used part p h; goes_on = body_goes_on used part p h } in
+    subst (IsOpen used) (sym e) begun
 
 pub body_other : (used : ℕ) (before : IntakeState) (source : SourceState) (part : Part) (more left : List ℕ) →
     Seen used before source (part_text used part ++ more) left → IsPart part →

@@ -1,10 +1,18 @@
 -- The bytes that were taken from a source and aren't used yet.
-use Rattle.std.specs.Prelude.{◌≡◌, ℕ, ◌+◌, List, ◌++◌, length}
+use Rattle.std.specs.Prelude.{◌≡◌, ℕ, ◌+◌, List, ◌++◌, length, Result, Ok}
+use Rattle.atom_values.specs.declared.memory.Failed.{Failed}
+use Rattle.doc_source.specs.declared.intake.Filled.{Filled}
+use Rattle.doc_source.specs.declared.intake.Filled.TheVariants.{Limit}
 use Rattle.doc_source.specs.Outside.{SourceState}
 
 -- how many bytes are asked of a source at a time
 abbrev pub buffer_limit : ℕ
 buffer_limit = 65_536
+
+-- the byte that is taken past the limit, to learn whether the source goes on
+abbrev pub probed : Result Filled Failed → ℕ
+probed (Ok Limit) = 1
+probed _ = 0
 
 -- the bytes ahead, how many bytes were taken from the source in all, and how many may be taken
 pub record IntakeState : Type 0 where

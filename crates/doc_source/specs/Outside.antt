@@ -1,10 +1,11 @@
 -- A source of bytes and a sink of bytes, as contracts see them.
 use Rattle.std.specs.Prelude.{◌≡◌, ℕ, List, ◌++◌}
 
--- the bytes that the source has left, and how many of its calls failed
+-- the bytes that the source has left, how many of its calls failed, and how many bytes it has given
 pub record SourceState : Type 0 where
   pub left : List ℕ
   pub faults : ℕ
+  pub bytes_read : ℕ
 
 -- the bytes that the sink took, and how many of its calls failed
 pub record SinkState : Type 0 where

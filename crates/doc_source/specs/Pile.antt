@@ -65,6 +65,11 @@ pub record BeginsWith (used : ℕ) (bytes : List ℕ) (offer : Offer) : Type 0 w
 abbrev pub HasNoOffer : ℕ → List ℕ → Type 0
 HasNoOffer used bytes = (offer : Offer) → ¬ BeginsWith used bytes offer
 
+-- no offer is whole among the bytes, and they go on to a pile
+pub record IsOpen (used : ℕ) (bytes : List ℕ) : Type 0 where
+  pub no_offer : HasNoOffer used bytes
+  pub goes_on : GoesOn used bytes
+
 -- a reader of a pile: the bytes that it took from its source and didn't use, how many bytes of the pile it used before
 -- them, how many bytes a pile may have, and the refusal that each further call gives
 pub record PileState : Type 0 where
@@ -133,6 +138,12 @@ refusal_after (Err (BadPile at)) = Some (BadPile at)
 refusal_after (Err (TooLong limit)) = Some (TooLong limit)
 refusal_after (Err SourceFault) = None
 refusal_after (Err NoMemory) = Some NoMemory
+
+-- the byte that may be taken past the limit before a refusal, to learn whether the source goes on
+abbrev pub taken_past : {A : Type 0} → Result A PileFault → ℕ
+taken_past (Err (BadPile at)) = 1
+taken_past (Err (TooLong limit)) = 1
+taken_past _ = 0
 
 -- the bytes of the pile that an answer uses: an offer, with the first line of the pile before the first offer
 abbrev pub used_text : ℕ → Result (Option Offer) PileFault → List ℕ

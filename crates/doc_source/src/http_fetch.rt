@@ -4,11 +4,12 @@
 ghost use Rattle.std.specs.Prelude.{◌≡◌, ◌≤◌, [], None, IfOk, IfSome, vec_len};
 ghost use Rattle.doc_source.specs.Pile.{offer_limit};
 
+use crate::document::read_document;
 use crate::fetch::{Fetch, GetFault};
 use crate::target::Target;
 use atom_values::Failed;
 use feed_disk::Disk;
-use http_face::{Conn, ResponseFault, read_response};
+use http_face::Conn;
 use std::alloc::Global;
 use std::io::{ErrorKind, Read, Write};
 use std::net::{Net, OpenStream, TcpStream, ToSocketAddrs};
@@ -30,18 +31,32 @@ struct Link<R: Net> {
     stream: R::Stream,
     begun: Option<u64>,
     faults: u64,
+    bytes_read: u64,
+    reads: u64,
 }
 
 impl<R: Net> Conn for Link<R> {
     ghost told = { ⊥ };
 
-    ghost state = { λ s. record { left = []; sent = []; faults = s.faults; begun = s.begun } };
+    ghost state = { λ s. record {
+      left = [];
+      sent = [];
+      faults = s.faults;
+      begun = s.begun;
+      bytes_read = s.bytes_read;
+      reads = s.reads;
+      before_read = [];
+    } };
 
     fn read(&mut self, into: &mut [u8]) -> Result<usize, Failed> {
+        self.reads = self.reads.saturating_add(1);
         // A read that a signal interrupted took no byte, and is made again.
         for _ in 0..u64::MAX {
             match self.stream.read(into) {
-                Ok(count) => return Ok(count),
+                Ok(count) => {
+                    self.bytes_read = self.bytes_read.saturating_add(count as u64);
+                    return Ok(count);
+                }
                 Err(error) if error.kind() == ErrorKind::Interrupted => {}
                 Err(_) => break,
             }
@@ -114,6 +129,8 @@ impl<'a, R: Net> HttpFetch<'a, R> {
             stream,
             begun: None,
             faults: 0,
+            bytes_read: 0,
+            reads: 0,
         })
     }
 
@@ -128,11 +145,7 @@ impl<'a, R: Net> HttpFetch<'a, R> {
         let Some(mut link) = self.send(target.authority, &request) else {
             return Err(GetFault::Failed);
         };
-        match read_response(alloc, &mut link) {
-            Ok(found) => Ok(found),
-            Err(ResponseFault::NoMemory) => Err(GetFault::NoMemory),
-            Err(ResponseFault::ConnFault | ResponseFault::BadResponse) => Err(GetFault::Failed),
-        }
+        read_document(alloc, &mut link)
     }
 }
 

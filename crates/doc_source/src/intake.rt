@@ -2,7 +2,8 @@
 
 ghost use Rattle.std.specs.Prelude.{◌≡◌, ◌≢◌, ℕ, ◌+◌, ◌-◌, ◌*◌, ◌<◌, ◌≤◌, ◌++◌, [], length, take, drop, IfOk, OnOk, OnErr, Ok};
 ghost use Rattle.atom_values.specs.Counts.{HasCause};
-ghost use Rattle.doc_source.specs.Intake.{buffer_limit, TakesMore};
+ghost use Rattle.feed_disk.specs.Raised.{RisesAtMost, raised};
+ghost use Rattle.doc_source.specs.Intake.{buffer_limit, probed, TakesMore};
 ghost use Rattle.doc_source.specs.declared.intake.Filled.TheVariants.{More, End, Limit};
 
 use crate::outside::Source;
@@ -105,6 +106,8 @@ impl Intake {
         ensures takes { TakesMore (S.told × (result ≢ Ok Limit)) self.old self.new
             (S.state source.old) (S.state source.new) }
         ensures bound { self.new.taken ≤ self.new.limit }
+        ensures read { RisesAtMost (self.new.taken - self.old.taken + probed result)
+            (S.state source.old).bytes_read (S.state source.new).bytes_read }
         ensures more { result ≡ Ok More → length self.old.ahead < length self.new.ahead }
         ensures stays { result ≢ Ok More → self.new ≡ self.old }
         ensures end { result ≡ Ok End → S.told → (S.state source.old).left ≡ [] }
@@ -137,6 +140,8 @@ impl Intake {
         ensures takes { TakesMore (S.told × (result ≢ Ok Limit)) self.old self.new
             (S.state source.old) (S.state source.new) }
         ensures bound { self.new.taken ≤ self.new.limit }
+        ensures read { RisesAtMost (self.new.taken - self.old.taken + probed result)
+            (S.state source.old).bytes_read (S.state source.new).bytes_read }
         ensures more { result ≡ Ok More → 0 < length self.new.ahead }
         ensures empty { result ≢ Ok More → self.old.ahead ≡ [] }
         ensures stays { result ≢ Ok More → self.new ≡ self.old }
@@ -180,6 +185,9 @@ fn read_behind<S: Source>(
         → (S.state source.old).left ≡ take count (drop filled buffer.new) ++ (S.state source.new).left) }
     ensures end { IfOk result (λ count. S.told → count ≡ 0 → 0 < room → (S.state source.old).left ≡ []) }
     ensures err { OnErr result (S.told → (S.state source.new).left ≡ (S.state source.old).left) }
+    ensures read { IfOk result (λ count. (S.state source.new).bytes_read
+        ≡ raised (S.state source.old).bytes_read count) }
+    ensures unread { OnErr result ((S.state source.new).bytes_read ≡ (S.state source.old).bytes_read) }
     ensures counts { HasCause (S.state source.old).faults (S.state source.new).faults result }
 {
     source.read(&mut buffer[filled..filled + room])
@@ -190,6 +198,8 @@ fn probe<S: Source>(source: &mut S) -> Result<Filled, Failed>
     ensures own { result ≢ Ok More }
     ensures end { result ≡ Ok End → S.told → (S.state source.old).left ≡ [] }
     ensures goes_on { result ≡ Ok Limit → S.told → 0 < length (S.state source.old).left }
+    ensures read { RisesAtMost (probed result) (S.state source.old).bytes_read
+        (S.state source.new).bytes_read }
     ensures same { result ≢ Ok Limit → S.told → (S.state source.new).left ≡ (S.state source.old).left }
     ensures counts { HasCause (S.state source.old).faults (S.state source.new).faults result }
 {

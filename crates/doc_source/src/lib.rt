@@ -20,6 +20,7 @@
 //!
 //! [`Fetch::get`] asks for the document of an address. [`HttpFetch`] does so over HTTP: contracts know the
 //! bytes of its request, the limit of 67,108,864 bytes and its count of failures, and nothing of the server.
+//! [`read_document`] reads the response on a connection.
 //!
 //! [`ListSource`], [`ListSink`] and [`PileFetch`] are in memory, for tests.
 //!
@@ -28,6 +29,7 @@
 //! failures.
 #![tactic(auto)]
 
+mod document;
 mod fault;
 mod fetch;
 mod http_fetch;
@@ -42,6 +44,7 @@ mod reader;
 mod target;
 mod write;
 
+pub use document::read_document;
 pub use fault::PileFault;
 pub use fetch::{Fetch, GetFault};
 pub use http_fetch::HttpFetch;

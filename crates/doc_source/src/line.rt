@@ -13,9 +13,6 @@ const MAX_ADDRESS: usize = 1_024;
 /// The most bytes of a document that is offered.
 const MAX_BYTES: u32 = 67_108_864;
 
-/// The most bytes of a line without its LF: an address, a space and eight digits.
-pub(crate) const MAX_LINE: usize = MAX_ADDRESS + 1 + 8;
-
 /// The first line of an offer, as read: the address is the line's first `address_len` bytes, and `count` bytes follow
 /// the line.
 #[derive(Clone, Copy, Debug)]

@@ -2,8 +2,9 @@
 //! them fail.
 
 ghost use Rattle.std.specs.Prelude.{◌≡◌, ◌≢◌, ◌↔◌, ◌+◌, ◌-◌, ◌<◌, ◌≤◌, ◌∷◌, ◌++◌, [], length, take, drop, min, slice_index, All, Err, IfOk, IfSome, OnOk, OnErr, IsErr, IsTrue, map, option_map, vec_len};
-ghost use Rattle.atom_values.specs.Counts.{HasCause, Rose};
+ghost use Rattle.atom_values.specs.Counts.{HasCause, Rose, counted};
 ghost use Rattle.atom_values.specs.ListedCalls.{after_call, next_call_fails};
+ghost use Rattle.feed_disk.specs.Raised.{raised};
 ghost use Rattle.doc_source.specs.Fetch.{answer_of};
 ghost use Rattle.doc_source.specs.Outside.{SourceState, SinkState};
 ghost use Rattle.doc_source.specs.Pile.{offer_limit};
@@ -20,19 +21,22 @@ pub struct ListSource {
     bytes: Bytes,
     at: usize,
     calls: ListedCalls,
+    bytes_read: u64,
     ghost in_range: { at ≤ length bytes },
 }
 
 impl ListSource {
     /// The source before its first call. Calls are numbered from 1.
     pub fn new(bytes: Bytes, failing: Many<u64, MAX_FAILING>) -> ListSource
-        ensures state { ⟦<ListSource as Source>⟧.state result ≡ record { left = bytes; faults = 0 } }
+        ensures state { ⟦<ListSource as Source>⟧.state result
+            ≡ record { left = bytes; faults = 0; bytes_read = 0 } }
         ensures calls { result.calls ≡ record { failing = failing.items; made = 0; faults = 0 } }
     {
         ListSource {
             bytes,
             at: 0,
             calls: ListedCalls::new(failing),
+            bytes_read: 0,
         }
     }
 }
@@ -40,7 +44,11 @@ impl ListSource {
 impl Source for ListSource {
     ghost told = { Unit {0} };
 
-    ghost state = { λ s. record { left = drop s.at s.bytes; faults = s.calls.faults } };
+    ghost state = { λ s. record {
+      left = drop s.at s.bytes;
+      faults = s.calls.faults;
+      bytes_read = s.bytes_read;
+    } };
 
     fn read(&mut self, into: &mut [u8]) -> Result<usize, Failed>
         // It fails exactly the listed calls.
@@ -55,6 +63,8 @@ impl Source for ListSource {
             → count ≡ 0 → 0 < length into.old → drop self.old.at self.old.bytes ≡ []) }
         ensures err { OnErr result (Unit {0}
             → drop self.new.at self.new.bytes ≡ drop self.old.at self.old.bytes) }
+        ensures read { IfOk result (λ count. self.new.bytes_read ≡ raised self.old.bytes_read count) }
+        ensures unread { OnErr result (self.new.bytes_read ≡ self.old.bytes_read) }
         ensures counts { HasCause self.old.calls.faults self.new.calls.faults result }
     {
         if self.calls.next_fails() {
@@ -65,6 +75,7 @@ impl Source for ListSource {
         let (given, _) = left.split_at(count);
         into[..count].copy_from_slice(given);
         self.at += count;
+        self.bytes_read = self.bytes_read.saturating_add(count as u64);
         Ok(count)
     }
 }
@@ -103,9 +114,11 @@ impl Sink for ListSink {
 
     // Out of memory is counted as a failed call, since the trait has no answer for it.
     fn write(&mut self, from: &[u8]) -> Result<usize, Failed>
-        // It fails the listed calls, and others only if memory ran out.
+        // It fails the listed calls, and others only if memory ran out. Each failure counts one fault.
         ensures listed { IsTrue (next_call_fails self.old.calls) → IsErr result }
         ensures calls { OnOk result (self.new.calls ≡ after_call self.old.calls) }
+        ensures failed { OnErr result (self.new.calls
+            ≡ record (after_call self.old.calls) { faults = counted self.old.calls.faults }) }
 
         // The clauses of the trait.
         ensures within { IfOk result (λ count. count ≤ length from.now) }

@@ -2,6 +2,7 @@
 
 ghost use Rattle.std.specs.Prelude.{◌≡◌, ℕ, ◌+◌, ◌≤◌, ◌<◌, ◌++◌, [], length, take, drop, IfOk, OnErr};
 ghost use Rattle.atom_values.specs.Counts.{HasCause};
+ghost use Rattle.feed_disk.specs.Raised.{raised};
 ghost use Rattle.doc_source.specs.Outside.{SourceState, SinkState};
 
 use atom_values::Failed;
@@ -11,7 +12,7 @@ pub trait Source {
     /// Whether contracts can see the bytes that are left.
     ghost told: { Type 0 };
 
-    /// The bytes that are left, and the count of faults.
+    /// The bytes that are left, and the counts of faults and of bytes read. Every source counts the bytes.
     ghost state: { Self → SourceState };
 
     /// Reads bytes into the start of `into` and returns how many. A buffer that isn't empty gets none only at the
@@ -25,6 +26,9 @@ pub trait Source {
         ensures end { IfOk result (λ count. told → count ≡ 0 → 0 < length into.old
             → (state self.old).left ≡ []) }
         ensures err { OnErr result (told → (state self.new).left ≡ (state self.old).left) }
+        ensures read { IfOk result (λ count. (state self.new).bytes_read
+            ≡ raised (state self.old).bytes_read count) }
+        ensures unread { OnErr result ((state self.new).bytes_read ≡ (state self.old).bytes_read) }
         ensures counts { HasCause (state self.old).faults (state self.new).faults result };
 }
 

@@ -3,15 +3,16 @@
 ghost use Rattle.std.specs.Prelude.{◌≡◌, ◌≢◌, ℕ, ◌+◌, ◌-◌, ◌<◌, ◌≤◌, ◌++◌, [], length, take, drop, Ok, Err, None, Some, IfOk, IfErr, IfSome, OnOk, MatchOption};
 ghost use Rattle.std.specs.Option.{ForSome};
 ghost use Rattle.atom_values.specs.Counts.{Rose};
+ghost use Rattle.feed_disk.specs.Raised.{RisesAtMost};
 ghost use Rattle.doc_source.specs.Intake.{TakesMore};
 ghost use Rattle.atom_values.specs.Ascii.{lf};
 ghost use Rattle.doc_source.specs.Line.{HasNoLf, IsFirst};
 ghost use Rattle.doc_source.specs.Part.{IsPart, IsWhole, IsLineEnd, HasHead, Stays, part_of, part_text, with_part};
-ghost use Rattle.doc_source.specs.Pile.{IsAnswer, IsEnd, IsOffer, head_at, offer_text};
+ghost use Rattle.doc_source.specs.Pile.{IsAnswer, IsEnd, IsOffer, IsOpen, head_at, offer_text, taken_past};
 
 use crate::fault::PileFault;
 use crate::intake::{Filled, Intake};
-use crate::line::{MAX_LINE, begins_line, parse_line};
+use crate::line::{begins_line, parse_line};
 use crate::offer::Offer;
 use crate::outside::Source;
 use crate::write::PILE_HEAD;
@@ -45,10 +46,13 @@ pub(crate) fn next_part<S: Source>(
     ensures takes { TakesMore (S.told × Stays result) (with_part used kept intake.old)
         (with_part used (part_of result) intake.new) (S.state source.old) (S.state source.new) }
     ensures bound { intake.new.taken ≤ intake.new.limit }
+    ensures read { RisesAtMost (intake.new.taken - intake.old.taken + taken_past result)
+        (S.state source.old).bytes_read (S.state source.new).bytes_read }
     ensures end { result ≡ Ok None → S.told → IsEnd used intake.old.limit
         ((with_part used kept intake.old).ahead ++ (S.state source.old).left) }
     ensures refused { IfErr result (λ fault. S.told → IsAnswer used intake.old.limit
         ((with_part used kept intake.old).ahead ++ (S.state source.old).left) (Err fault)) }
+    ensures open { result ≡ Err PileFault.SourceFault → IsOpen used intake.new.ahead }
     ensures failed { result ≡ Err PileFault.SourceFault
         → Rose (S.state source.old).faults (S.state source.new).faults }
     ensures unfailed { result ≢ Err PileFault.SourceFault
@@ -76,8 +80,11 @@ fn begin<S: Source>(
     ensures end { result ≡ Ok None → S.told → IsEnd used intake.old.limit
         (intake.old.ahead ++ (S.state source.old).left) }
     ensures bound { intake.new.taken ≤ intake.new.limit }
+    ensures read { RisesAtMost (intake.new.taken - intake.old.taken + taken_past result)
+        (S.state source.old).bytes_read (S.state source.new).bytes_read }
     ensures refused { IfErr result (λ fault. S.told → IsAnswer used intake.old.limit
         (intake.old.ahead ++ (S.state source.old).left) (Err fault)) }
+    ensures open { result ≡ Err PileFault.SourceFault → IsOpen used intake.new.ahead }
     ensures failed { result ≡ Err PileFault.SourceFault
         → Rose (S.state source.old).faults (S.state source.new).faults }
     ensures unfailed { result ≢ Err PileFault.SourceFault
@@ -110,8 +117,11 @@ fn read_head<S: Source>(intake: &mut Intake, source: &mut S, used: u64) -> Resul
     ensures takes { TakesMore (S.told × Stays result) intake.old intake.new
         (S.state source.old) (S.state source.new) }
     ensures bound { intake.new.taken ≤ intake.new.limit }
+    ensures read { RisesAtMost (intake.new.taken - intake.old.taken + taken_past result)
+        (S.state source.old).bytes_read (S.state source.new).bytes_read }
     ensures refused { IfErr result (λ fault. S.told → IsAnswer used intake.old.limit
         (intake.old.ahead ++ (S.state source.old).left) (Err fault)) }
+    ensures open { result ≡ Err PileFault.SourceFault → IsOpen used intake.new.ahead }
     ensures failed { result ≡ Err PileFault.SourceFault
         → Rose (S.state source.old).faults (S.state source.new).faults }
     ensures unfailed { result ≢ Err PileFault.SourceFault
@@ -121,16 +131,16 @@ fn read_head<S: Source>(intake: &mut Intake, source: &mut S, used: u64) -> Resul
         return Ok(0);
     }
     while intake.ahead().len() < PILE_HEAD.len() {
+        if !PILE_HEAD.starts_with(intake.ahead()) {
+            return Err(PileFault::BadPile { at: 0 });
+        }
         match intake.fill(source)? {
             Filled::More => {}
             Filled::End => return Err(PileFault::BadPile { at: 0 }),
             Filled::Limit => {
-                if PILE_HEAD.starts_with(intake.ahead()) {
-                    return Err(PileFault::TooLong {
-                        limit: intake.limit(),
-                    });
-                }
-                return Err(PileFault::BadPile { at: 0 });
+                return Err(PileFault::TooLong {
+                    limit: intake.limit(),
+                });
             }
         }
     }
@@ -159,8 +169,11 @@ fn find_line<S: Source>(
     ensures end { result ≡ Ok None → S.told → IsEnd used intake.old.limit
         (intake.old.ahead ++ (S.state source.old).left) }
     ensures bound { intake.new.taken ≤ intake.new.limit }
+    ensures read { RisesAtMost (intake.new.taken - intake.old.taken + taken_past result)
+        (S.state source.old).bytes_read (S.state source.new).bytes_read }
     ensures refused { IfErr result (λ fault. S.told → IsAnswer used intake.old.limit
         (intake.old.ahead ++ (S.state source.old).left) (Err fault)) }
+    ensures open { result ≡ Err PileFault.SourceFault → IsOpen used intake.new.ahead }
     ensures failed { result ≡ Err PileFault.SourceFault
         → Rose (S.state source.old).faults (S.state source.new).faults }
     ensures unfailed { result ≢ Err PileFault.SourceFault
@@ -173,7 +186,7 @@ fn find_line<S: Source>(
             return Ok(Some(end));
         }
         searched = ahead.len();
-        if searched - head > MAX_LINE {
+        if !begins_line(&ahead[head..]) {
             return Err(bad_offer(used));
         }
         match intake.fill(source)? {
@@ -185,12 +198,9 @@ fn find_line<S: Source>(
                 return Err(bad_offer(used));
             }
             Filled::Limit => {
-                if begins_line(&intake.ahead()[head..]) {
-                    return Err(PileFault::TooLong {
-                        limit: intake.limit(),
-                    });
-                }
-                return Err(bad_offer(used));
+                return Err(PileFault::TooLong {
+                    limit: intake.limit(),
+                });
             }
         }
     }
@@ -229,8 +239,12 @@ impl Part {
         ensures takes { TakesMore (S.told × Stays result) (with_part used (Some self.old) intake.old)
             (with_part used (Some self.new) intake.new) (S.state source.old) (S.state source.new) }
         ensures bound { intake.new.taken ≤ intake.new.limit }
+        ensures read { RisesAtMost (intake.new.taken - intake.old.taken + taken_past result)
+            (S.state source.old).bytes_read (S.state source.new).bytes_read }
         ensures refused { IfErr result (λ fault. S.told → IsAnswer used intake.old.limit
             ((part_text used self.old ++ intake.old.ahead) ++ (S.state source.old).left) (Err fault)) }
+        ensures open { result ≡ Err PileFault.SourceFault
+            → IsOpen used (part_text used self.new ++ intake.new.ahead) }
         ensures failed { result ≡ Err PileFault.SourceFault
             → Rose (S.state source.old).faults (S.state source.new).faults }
         ensures unfailed { result ≢ Err PileFault.SourceFault

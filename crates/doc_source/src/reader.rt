@@ -1,10 +1,11 @@
 //! The reader of a pile.
 
-ghost use Rattle.std.specs.Prelude.{◌≡◌, ◌≢◌, ℕ, ◌+◌, ◌≤◌, ◌++◌, [], length, Ok, Err, None, Some, Option, Result, IfOk, IfSome, OnOk};
+ghost use Rattle.std.specs.Prelude.{◌≡◌, ◌≢◌, ℕ, ◌+◌, ◌-◌, ◌≤◌, ◌++◌, [], length, Ok, Err, None, Some, Option, Result, IfOk, IfSome, OnOk};
 ghost use Rattle.atom_values.specs.Counts.{Rose};
+ghost use Rattle.feed_disk.specs.Raised.{RisesAtMost};
 ghost use Rattle.doc_source.specs.declared.fault.PileFault.{PileFault as PileFaultValue};
 ghost use Rattle.doc_source.specs.declared.offer.Offer.{Offer as OfferValue};
-ghost use Rattle.doc_source.specs.Pile.{IsAnswer, IsOfBytes, IsOffer, refusal_after, unused, used_text};
+ghost use Rattle.doc_source.specs.Pile.{IsAnswer, IsOfBytes, IsOffer, IsOpen, refusal_after, taken_past, unused, used_text};
 
 use crate::fault::PileFault;
 use crate::intake::Intake;
@@ -67,11 +68,15 @@ impl PileReader {
     /// - `TooLong`: the next offer isn't whole within the first `limit` bytes, these bytes are a prefix of some pile,
     ///   and the source has more bytes.
     /// - `BadPile`: in all other cases in which no offer follows and the pile doesn't end. `at` is the offset at which
-    ///   the line or the offer begins that can't be read.
-    /// - `SourceFault`: a call of the source failed. A further call reads on.
+    ///   the line or the offer begins that can't be read. It comes as soon as no pile can go on from what was read.
+    /// - `SourceFault`: a call of the source failed. What was read before is the beginning of a pile's next offer. A
+    ///   further call reads on.
     /// - `NoMemory`: memory ran out.
     ///
-    /// After `TooLong`, `BadPile` or `NoMemory` each further call returns the same error.
+    /// After `TooLong`, `BadPile` or `NoMemory` each further call returns the same error and reads nothing.
+    ///
+    /// At most `limit` bytes of the source are taken. One byte more may be taken before `TooLong` or `BadPile`,
+    /// to learn whether the source goes on.
     pub fn next<S: Source>(&mut self, source: &mut S) -> Result<Option<Offer>, PileFault>
         ensures answer { self.old.refusal ≡ None → S.told
             → IsAnswer self.old.used self.old.limit
@@ -95,8 +100,13 @@ impl PileReader {
         ensures used { self.new.used ≡ self.old.used + length (used_text self.old.used result) }
         ensures limit { self.new.limit ≡ self.old.limit }
         ensures bound { self.new.used + length self.new.ahead ≤ self.new.limit }
+        ensures read { RisesAtMost
+            (self.old.limit - (self.old.used + length self.old.ahead) + taken_past result)
+            (S.state source.old).bytes_read (S.state source.new).bytes_read }
         ensures rules { IfOk result (λ found. IfSome found IsOffer) }
 
+        // Bytes from which no pile goes on are refused before more are asked for.
+        ensures open { result ≡ Err PileFault.SourceFault → IsOpen self.old.used self.new.ahead }
         ensures failed { result ≡ Err PileFault.SourceFault
             → Rose (S.state source.old).faults (S.state source.new).faults }
         ensures unfailed { result ≢ Err PileFault.SourceFault
@@ -125,7 +135,11 @@ impl PileReader {
         ensures used { self.new.used ≡ self.old.used + length (used_text self.old.used result) }
         ensures limit { self.new.limit ≡ self.old.limit }
         ensures bound { self.new.used + length self.new.ahead ≤ self.new.limit }
+        ensures read { RisesAtMost
+            (self.old.limit - (self.old.used + length self.old.ahead) + taken_past result)
+            (S.state source.old).bytes_read (S.state source.new).bytes_read }
         ensures rules { IfOk result (λ found. IfSome found IsOffer) }
+        ensures open { result ≡ Err PileFault.SourceFault → IsOpen self.old.used self.new.ahead }
         ensures failed { result ≡ Err PileFault.SourceFault
             → Rose (S.state source.old).faults (S.state source.new).faults }
         ensures unfailed { result ≢ Err PileFault.SourceFault

@@ -10,7 +10,7 @@ use Rattle.feed_recovery.specs.Opening.{IsSealCount}
 use Rattle.feed_recovery.specs.Prepare.{IsDueSeal, IsPrepareFault, MayCommit, ReadyValue, SealFits, commit_calls}
 use Rattle.feed_recovery.specs.Prepare.{decision_of}
 use Rattle.feed_recovery.specs.Settled.{AlwaysLeavesBoth, IsAtRest, OpensPast}
-use Rattle.feed_recovery.specs.Store.{StandsFor, StoreValue, call_count, is_spent, seal_count}
+use Rattle.feed_recovery.specs.Store.{KeepsStore, StandsFor, StoreValue, call_count, is_spent, seal_count}
 use Rattle.feed_recovery.specs.declared.fault.PrepareFault.{PrepareFault}
 use Rattle.feed_recovery.specs.declared.fault.PrepareFault.TheVariants as prepare
 use Rattle.document_server.specs.Answer.{ComesTo, Gains, Grows, IsReplied, IsSealedBy, OnlyReads, ReadsOrCommits, Steps}
@@ -198,7 +198,12 @@ module _ (old prepared : StoreValue) (members journal seals spare : ℕ)
     gains = gains-roomy new comes.given.adds comes.gains;
   }
   comes-roomy part whole to new (Err Disk) comes = tt
-  comes-roomy part whole to new (Err Changed) comes = comes
+  comes-roomy part whole to new (Err Changed) comes = record {
+    given = comes.given;
+    is_one = to comes.given comes.is_one;
+    reply_is = comes.reply_is;
+    gains = gains-roomy new comes.given.adds comes.gains;
+  }
   comes-roomy part whole to new (Err NoMemory) comes = gains-roomy new None comes
 
   pub leaves-roomy : (told : Type 0) (part whole : Outcome → Type 0) → ((given : Outcome) → part given → whole given)
@@ -246,18 +251,18 @@ pub done-same : (name other : FeedName) (operation left : Op) → name ≡ other
 done-same name other operation left same same' =
     ap (λ (n : FeedName). done_reply n operation) same ∙ ap (done_reply other) same'
 
-module _ (turn : WindowsSealInTurn) (s t : DiskState) (old new : StoreValue) (ready : ReadyValue)
+module _ (turn : WindowsSealInTurn) (old new : StoreValue) (ready : ReadyValue)
     (history : new.history ≡ old.history ++ ready.operation ∷ []) where
-  pub replied-done : StandsFor s old → new.head ≡ old.head → seal_count new ≡ sealed_count new → (reply : Reply)
+  pub replied-done : KeepsStore old → new.head ≡ old.head → seal_count new ≡ sealed_count new → (reply : Reply)
       → reply ≡ done_reply old.head.name ready.operation
       → IsReplied (λ given. given ≡ done old.head.name ready.operation) old new reply
-  replied-done stands head sealed reply is = record {
+  replied-done keeps head sealed reply is = record {
     given = done old.head.name ready.operation;
     is_one = refl;
     reply_is = is;
     gains = record {
       history = history;
-      seals = sealed-by turn old ready.operation (seal_count new) stands.opens.is_journal.is_head stands.opens.count
+      seals = sealed-by turn old ready.operation (seal_count new) keeps.head keeps.seals
           (sealed ∙ windows-same new.head old.head new.history (old.history ++ ready.operation ∷ []) head history);
     };
   }

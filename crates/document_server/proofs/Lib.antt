@@ -2,6 +2,10 @@
 pub mod LeaveLemmas
 -- `answer` and its parts: the rows of the table of replies
 pub mod RowLemmas
+-- `answer`: `answered`, from `over`
+pub mod OverLemmas
+-- `answer`: `changed`
+pub mod ChangedLemmas
 -- `create`, `replace`, `delete` and `change`: an operation that is prepared and committed
 pub mod ChangeLemmas
 -- the parts of `answer`: `steps`

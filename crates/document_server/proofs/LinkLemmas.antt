@@ -1,6 +1,6 @@
 -- A connection that is served on a store.
 use Rattle.std.proofs.Common.{◌≡◌, ◌≢◌, ◌⊎◌, inl, inr, refl, sym, ap, ◌∙◌, ℕ, ◌+◌, ◌≤◌, true, false, List, []}
-use Rattle.std.proofs.Common.{◌++◌, length, subst, zero-add, add_comm, arith}
+use Rattle.std.proofs.Common.{◌++◌, length, subst, zero-add, add_comm, arith, Bool}
 use Rattle.std.specs.Prelude.{Option, Some, None, Result, Ok, Err, IfErr, OnOk, is_ok}
 use Rattle.std.proofs.lemmas.Bool.{cases_eq}
 use Rattle.std.proofs.lemmas.List.{append-nil}
@@ -8,7 +8,7 @@ use Rattle.atom_values.specs.Counts.{HasCause, Rose}
 use Rattle.document_server.specs.Answer.{IsAnswer, IsDone, LeavesAnswered, MayAdd, Steps, added}
 use Rattle.document_server.specs.Reply.{IsOutcome, Outcome, disk_fault}
 use Rattle.document_server.specs.Serving.{IsReplyOn, RepliesOne, ServesOne, exchange_of}
-use Rattle.document_server.specs.Session.{IsSent, IsTurn, fault_reply, unheard}
+use Rattle.document_server.specs.Session.{IsReported, IsSent, IsTurn, fault_reply, unheard}
 use Rattle.document_server.specs.declared.line.Line.{Line}
 use Rattle.document_server.proofs.StepLemmas.{gains-none}
 use Rattle.feed_disk.specs.Disk.{DiskState}
@@ -20,7 +20,7 @@ use Rattle.feed_recovery.specs.Store.{StandsFor, StoreValue, call_count, is_spen
 use Rattle.feed_recovery.specs.Stored.{IsSized}
 use Rattle.http_face.specs.Conn.{ConnState, Reads}
 use Rattle.http_face.specs.Heard.{IsHeard, IsMisheard}
-use Rattle.http_face.specs.Reply.{IsCutOff, reply_bytes}
+use Rattle.http_face.specs.Reply.{HasPhrase, IsCutOff, reply_bytes}
 use Rattle.http_face.specs.Request.{IsRequest, RequestValue}
 use Rattle.http_face.specs.declared.fault.CutOff.{CutOff}
 use Rattle.http_face.specs.declared.fault.RequestFault.{RequestFault}
@@ -112,19 +112,19 @@ none-since None other = refl
 none-since (Some value) other = absurd (other value refl)
 
 -- a turn is the same after its reply was sent
-pub turn-sent : (store : StoreValue) (now : ℕ) (given read back : ConnState) (reply : Reply) (line line' : Line)
-    (turn : _) → IsTurn store now (exchange_of given read (Some reply) line) turn
-    → IsTurn store now (exchange_of given back (Some reply) line') turn
-turn-sent store now given read back reply line line' turn (inl lost) =
+pub turn-sent : (s t : DiskState) (store : StoreValue) (now : ℕ) (given read back : ConnState) (reply : Reply)
+    (line line' : Line) (turn : _) → IsTurn store now (exchange_of s t given read (Some reply) line) turn
+    → IsTurn store now (exchange_of s t given back (Some reply) line') turn
+turn-sent s t store now given read back reply line line' turn (inl lost) =
     let none : Some reply ≡ None = lost.reply in
     absurd cc
-turn-sent store now given read back reply line line' turn (inr (inl refused)) = inr (inl (record {
+turn-sent s t store now given read back reply line line' turn (inr (inl refused)) = inr (inl (record {
   fault = refused.fault;
   misheard = refused.misheard;
   reply = refused.reply;
   is = refused.is;
 }))
-turn-sent store now given read back reply line line' turn (inr (inr (inl answered))) = inr (inr (inl (record {
+turn-sent s t store now given read back reply line line' turn (inr (inr (inl answered))) = inr (inr (inl (record {
   request = answered.request;
   rules = answered.rules;
   heard = answered.heard;
@@ -133,19 +133,19 @@ turn-sent store now given read back reply line line' turn (inr (inr (inl answere
   reply = answered.reply;
   is = answered.is;
 })))
-turn-sent store now given read back reply line line' turn (inr (inr (inr forgotten))) =
+turn-sent s t store now given read back reply line line' turn (inr (inr (inr forgotten))) =
     inr (inr (inr (record { reply = forgotten.reply; is = forgotten.is })))
 
 -- the turn of a connection whose bytes are no request, or that failed
-fault-turn : (store : StoreValue) (now : ℕ) (given read : ConnState) (line : Line) (reason : RequestFault)
-    → (reason ≡ fault.ConnFault → Rose given.faults read.faults)
+fault-turn : (s t : DiskState) (store : StoreValue) (now : ℕ) (given read : ConnState) (line : Line)
+    (reason : RequestFault) → (reason ≡ fault.ConnFault → Rose given.faults read.faults)
     → (reason ≢ fault.ConnFault → reason ≢ fault.NoMemory → IsMisheard given.left reason)
-    → IsTurn store now (exchange_of given read (fault_reply reason) line) unheard
-fault-turn store now given read line fault.ConnFault failed refused =
+    → IsTurn store now (exchange_of s t given read (fault_reply reason) line) unheard
+fault-turn s t store now given read line fault.ConnFault failed refused =
     inl (record { cause = failed refl; reply = refl; is = refl })
-fault-turn store now given read line fault.NoMemory failed refused =
+fault-turn s t store now given read line fault.NoMemory failed refused =
     inr (inr (inr (record { reply = refl; is = inl refl })))
-fault-turn store now given read line reason failed refused = inr (inl (record {
+fault-turn s t store now given read line reason failed refused = inr (inl (record {
   fault = reason;
   misheard = refused (λ e. cc) (λ e. cc);
   reply = refl;
@@ -156,31 +156,36 @@ module _ (s t : DiskState) (moments coming : ℕ → ℕ) (given read : ConnStat
     (old new : StoreValue) where
   -- the reply of an answered request
   answered-on : (request : RequestValue) (now : ℕ) (reply : Reply) (rose : Type 0) → IsRequest request
-      → IsHeard given.left request → now ≡ moments 0 → ((k : ℕ) → coming k ≡ moments (k + 1))
-      → is_spent new ≡ false → IsAnswer (IsOutcome old request now) old new reply rose
-      → IsReplyOn moments coming old given read (Some reply) new
+      → IsHeard given.left request → (clock_told → now ≡ moments 0)
+      → (clock_told → (k : ℕ) → coming k ≡ moments (k + 1)) → is_spent new ≡ false
+      → IsAnswer (IsOutcome old request now) old new reply rose
+      → IsReplyOn s t moments coming clock_told old given read (Some reply) new
   answered-on request now reply rose rules heard moment later unspent (inl replied) = record {
+    now = now;
+    is_now = moment;
     turn = record { adds = replied.given.adds; moments = 1 };
     is_turn = λ line. inr (inr (inl (record {
       request = request;
       rules = rules;
       heard = heard;
       outcome = replied.given;
-      is_outcome = subst (λ (n : ℕ). IsOutcome old request n replied.given) moment replied.is_one;
+      is_outcome = replied.is_one;
       reply = ap Some replied.reply_is;
       is = refl;
     })));
     gains = replied.gains;
-    clock = λ k. later k ∙ ap moments (add_comm k 1);
+    clock = λ told k. later told k ∙ ap moments (add_comm k 1);
   }
   answered-on request now reply rose rules heard moment later unspent (inr (inl forgotten)) = record {
+    now = now;
+    is_now = moment;
     turn = record { adds = None; moments = 1 };
     is_turn = λ line. inr (inr (inr (record {
       reply = ap Some forgotten.0;
       is = inr (request, heard, refl);
     })));
     gains = forgotten.1;
-    clock = λ k. later k ∙ ap moments (add_comm k 1);
+    clock = λ told k. later told k ∙ ap moments (add_comm k 1);
   }
   answered-on request now reply rose rules heard moment later unspent (inr (inr failed)) = absurd cc
 
@@ -190,20 +195,21 @@ module _ (s t : DiskState) (moments coming : ℕ → ℕ) (given read : ConnStat
       → IsAnswer (IsOutcome old request now) old new reply rose
       → LeavesAnswered (IsOutcome old request now) s t old new (reply ≡ disk_fault)
       → (reply ≡ disk_fault → is_spent new ≡ true) → (is_spent new ≡ true → reply ≡ disk_fault)
-      → RepliesOne s t moments coming given read (clock_told × conn_told) old new (Some reply)
+      → RepliesOne s t moments coming given read clock_told conn_told old new (Some reply)
   replies-answered request now reply rose sized rules heard moment later answer left spent only = record {
     sized = sized;
     operations = left.operations;
     at_most_one = may-add-one _ left.operations left.may;
     leaves = left.leaves;
     gained = λ unspent. left.gained (λ is. let e : is_spent new ≡ true = spent is in cc);
-    replied = λ seen unspent. answered-on request now reply rose rules (heard seen.1) (moment seen.0) (later seen.0)
-        unspent answer;
-    failed = λ seen is_failed. record {
+    replied = λ told unspent. answered-on request now reply rose rules (heard told) moment later unspent answer;
+    failed = λ told is_failed. record {
+      now = now;
+      is_now = moment;
       request = request;
       rules = rules;
-      heard = heard seen.1;
-      may = subst (λ (n : ℕ). MayAdd (IsOutcome old request n) left.operations) (moment seen.0) left.may;
+      heard = heard told;
+      may = left.may;
       is = ap Some (only is_failed);
     };
   }
@@ -214,7 +220,7 @@ pub replies-refused : (s : DiskState) (moments : ℕ → ℕ) (given read : Conn
     → (reason ≡ fault.ConnFault → Rose given.faults read.faults)
     → (reason ≢ fault.ConnFault → reason ≢ fault.NoMemory → conn_told → IsMisheard given.left reason)
     → LeavesAnswered (λ _. ⊥) s s store store failed
-    → RepliesOne s s moments moments given read (clock_told × conn_told) store store (fault_reply reason)
+    → RepliesOne s s moments moments given read clock_told conn_told store store (fault_reply reason)
 replies-refused s moments given read clock_told conn_told failed store reason sized unspent worked lost refused left =
     record {
       sized = sized;
@@ -222,94 +228,133 @@ replies-refused s moments given read clock_told conn_told failed store reason si
       at_most_one = may-add-one _ left.operations left.may;
       leaves = left.leaves;
       gained = λ _. left.gained worked;
-      replied = λ seen _. record {
+      replied = λ told _. record {
+        now = moments 0;
+        is_now = λ _. refl;
         turn = unheard;
-        is_turn = λ line. fault-turn store (moments 0) given read line reason lost
-            (λ other other'. refused other other' seen.1);
+        is_turn = λ line. fault-turn s s store (moments 0) given read line reason lost
+            (λ other other'. refused other other' told);
         gains = gains-none store store refl refl;
-        clock = λ k. ap moments (sym (zero-add k));
+        clock = λ _ k. ap moments (sym (zero-add k));
       };
-      failed = λ seen spent. absurd cc;
+      failed = λ told spent. absurd cc;
     }
 
 -- The reply is sent
 
--- no reply was begun, and the connection failed
-pub sent-none : (given back : ConnState) (line : Line) → line.status ≡ 0 → line.whole ≡ false → Reads given back
-    → Rose given.faults back.faults → IsSent (exchange_of given back None line)
-sent-none given back line status cut reads rose = record {
-  status = status;
-  front = [];
-  rest = [];
-  split = refl;
-  sent = reads.sent ∙ sym (append-nil given.sent);
-  whole = λ _. refl;
-  cut = λ _. rose;
-}
+module _ (s t : DiskState) (given back : ConnState) (line : Line) where
+  -- no reply was begun, and the connection failed
+  pub reported-none : line.status ≡ 0 → back.begun ≡ None → Rose given.faults back.faults
+      → IsReported (exchange_of s t given back None line)
+  reported-none status unbegun rose = record { status = status; cause = λ _. rose; unbegun = λ _. unbegun }
 
-pub sent-reply : (told : Type 0) (given begun back : ConnState) (reply : Reply) (line : Line)
-    (result : Result Unit CutOff) → line.status ≡ reply.status → told
-    → begun.sent ≡ given.sent → begun.faults ≡ given.faults
-    → OnOk result (told → back.sent ≡ begun.sent ++ reply_bytes reply)
-    → IfErr result (λ cut. IsCutOff told (reply_bytes reply) cut.sent begun.sent back.sent)
-    → HasCause begun.faults back.faults result
-    → line.whole ≡ is_ok result → IsSent (exchange_of given back (Some reply) line)
-sent-reply told given begun back reply line (Ok done) status tells sent faults whole cut counts is = record {
-  status = status;
-  front = reply_bytes reply;
-  rest = [];
-  split = sym (append-nil (reply_bytes reply));
-  sent = whole tells ∙ ap (λ (b : List ℕ). b ++ reply_bytes reply) sent;
-  whole = λ _. refl;
-  cut = λ e. absurd cc;
-}
-sent-reply told given begun back reply line (Err failure) status tells sent faults whole cut counts is = record {
-  status = status;
-  front = cut.front;
-  rest = cut.back;
-  split = cut.split;
-  sent = cut.sent tells ∙ ap (λ (b : List ℕ). b ++ cut.front) sent;
-  whole = λ e. absurd cc;
-  cut = λ _. subst (λ (n : ℕ). Rose n back.faults) faults counts.failed;
-}
+  pub sent-none : Reads given back → IsSent (exchange_of s t given back None line)
+  sent-none reads = record {
+    front = [];
+    rest = [];
+    split = refl;
+    sent = reads.sent ∙ sym (append-nil given.sent);
+    whole = λ _. refl;
+  }
+
+  -- a status that has a phrase isn't 0
+  phrase-some : (status : ℕ) → HasPhrase status → status ≢ 0
+  phrase-some status phrase is =
+      let none : false ≡ true = subst HasPhrase is phrase in
+      cc
+
+  cut-rose : (result : Result Unit CutOff) (before after : ℕ) (whole : Bool) → whole ≡ is_ok result
+      → HasCause before after result → whole ≡ false → Rose before after
+  cut-rose (Ok done) before after whole is counts cut = absurd cc
+  cut-rose (Err failure) before after whole is counts cut = counts.failed
+
+  pub reported-reply : (begun : ConnState) (reply : Reply) (result : Result Unit CutOff)
+      → line.status ≡ reply.status → HasPhrase reply.status → begun.faults ≡ given.faults
+      → HasCause begun.faults back.faults result → line.whole ≡ is_ok result
+      → IsReported (exchange_of s t given back (Some reply) line)
+  reported-reply begun reply result status phrase faults counts whole =
+      let some : line.status ≢ 0 = λ none. phrase-some reply.status phrase (sym status ∙ none) in
+      record {
+        status = status;
+        cause = elim [
+          | inl none ↦ absurd (some none)
+          | inr cut ↦
+              subst (λ (n : ℕ). Rose n back.faults) faults
+              (cut-rose result begun.faults back.faults line.whole whole counts cut)
+        ];
+        unbegun = λ none. absurd (some none);
+      }
+
+  pub sent-reply : (told : Type 0) (begun : ConnState) (reply : Reply) (result : Result Unit CutOff) → told
+      → begun.sent ≡ given.sent → OnOk result (told → back.sent ≡ begun.sent ++ reply_bytes reply)
+      → IfErr result (λ cut. IsCutOff told (reply_bytes reply) cut.sent begun.sent back.sent)
+      → line.whole ≡ is_ok result → IsSent (exchange_of s t given back (Some reply) line)
+  sent-reply told begun reply (Ok done) tells sent whole cut is = record {
+    front = reply_bytes reply;
+    rest = [];
+    split = sym (append-nil (reply_bytes reply));
+    sent = whole tells ∙ ap (λ (b : List ℕ). b ++ reply_bytes reply) sent;
+    whole = λ _. refl;
+  }
+  sent-reply told begun reply (Err failure) tells sent whole cut is = record {
+    front = cut.front;
+    rest = cut.back;
+    split = cut.split;
+    sent = cut.sent tells ∙ ap (λ (b : List ℕ). b ++ cut.front) sent;
+    whole = λ e. absurd cc;
+  }
 
 -- The connection was served
 
-pub serves-one : (s t : DiskState) (moments coming : ℕ → ℕ) (given read back : ConnState) (seen : Type 0)
-    (old new : StoreValue) (reply : Option Reply) (line : Line)
-    → ((now : ℕ) (turn : _) → IsTurn old now (exchange_of given read reply line) turn
-    → IsTurn old now (exchange_of given back reply line) turn)
-    → RepliesOne s t moments coming given read seen old new reply → new.head ≡ old.head
-    → (is_spent new ≡ true → new.history ≡ old.history) → (seen → IsSent (exchange_of given back reply line))
-    → line.version ≡ length new.history → ServesOne s t moments coming given back seen old new line
-serves-one s t moments coming given read back seen old new reply line turns replies head stays sent version = record {
-  operations = replies.operations;
-  at_most_one = replies.at_most_one;
-  leaves = replies.leaves;
-  gained = replies.gained;
-  reply = reply;
-  served = λ sees unspent. let on = replies.replied sees unspent in record {
-    turn = on.turn;
-    served = record {
-      sized = replies.sized;
-      is_turn = turns (moments 0) on.turn (on.is_turn line);
-      head = head;
-      gains = on.gains;
-      sent = sent sees;
-      version = version;
-    };
-    clock = on.clock;
-  };
-  broken_off = λ sees spent. let on = replies.failed sees spent in record {
-    sized = replies.sized;
-    request = on.request;
-    rules = on.rules;
-    heard = on.heard;
-    pending = replies.operations;
-    may = on.may;
-    history_is = refl;
-    reply = on.is;
-    sent = sent sees;
-    version = version ∙ ap (length {A = Op}) (stays spent);
-  };
-}
+pub serves-one : (s t : DiskState) (moments coming : ℕ → ℕ) (given read back : ConnState)
+    (disk_told clock_told conn_told : Type 0) (old new : StoreValue) (reply : Option Reply) (line : Line)
+    → ((now : ℕ) (turn : _) → IsTurn old now (exchange_of s t given read reply line) turn
+    → IsTurn old now (exchange_of s t given back reply line) turn)
+    → (disk_told → RepliesOne s t moments coming given read clock_told conn_told old new reply)
+    → new.head ≡ old.head → (is_spent new ≡ true → new.history ≡ old.history)
+    → (is_spent new ≡ true → reply ≡ Some disk_fault) → IsReported (exchange_of s t given back reply line)
+    → (conn_told → IsSent (exchange_of s t given back reply line)) → line.version ≡ length new.history
+    → ServesOne s t moments coming given back disk_told clock_told conn_told old new line
+serves-one s t moments coming given read back disk_told clock_told conn_told old new reply line turns replies head stays
+    fault reported sent version = record {
+      reply = reply;
+      reported = reported;
+      failed = fault;
+      sent = sent;
+      stored = λ told.
+          let one = replies told in
+          record {
+            operations = one.operations;
+            at_most_one = one.at_most_one;
+            leaves = one.leaves;
+            gained = one.gained;
+            served = λ tells unspent. let on = one.replied tells unspent in record {
+              now = on.now;
+              is_now = on.is_now;
+              turn = on.turn;
+              served = record {
+                sized = one.sized;
+                is_turn = turns on.now on.turn (on.is_turn line);
+                head = head;
+                gains = on.gains;
+                version = version;
+              };
+              clock = on.clock;
+            };
+            broken_off = λ tells spent. let on = one.failed tells spent in record {
+              now = on.now;
+              is_now = on.is_now;
+              broken_off = record {
+                sized = one.sized;
+                request = on.request;
+                rules = on.rules;
+                heard = on.heard;
+                pending = one.operations;
+                may = on.may;
+                history_is = refl;
+                reply = on.is;
+                version = version ∙ ap (length {A = Op}) (stays spent);
+              };
+            };
+          };
+    }

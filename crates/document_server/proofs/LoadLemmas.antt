@@ -4,13 +4,15 @@ use Rattle.std.proofs.Common.{◌∷◌, ◌++◌, map, length, All, arith, Resu
 use Rattle.std.proofs.lemmas.List.Elements.{All-weaker}
 use Rattle.atom_values.specs.Counts.{counter_limit}
 use Rattle.document_server.specs.Door.{DoorState, SameLinks}
-use Rattle.document_server.specs.Serving.{AreInOrder, CountsFrom, HasSession, LeavesServed, LeavesServing, OpensAt}
+use Rattle.document_server.specs.Serving.{AreInOrder, CountsFrom, HasExchanges, LeavesServed, LeavesServing, OpensAt}
 use Rattle.document_server.specs.Serving.{OpensAfter, Serves, ServesFrom, end_of}
+use Rattle.document_server.specs.Session.{Exchange, IsOneFailed, IsUnfailed}
 use Rattle.document_server.specs.declared.line.Line.{Line}
 use Rattle.document_server.specs.declared.session.End.{End}
 use Rattle.document_server.specs.declared.session.End.TheVariants.{DiskFault, DoorFault, Load, NoMemory as OutOfMemory}
 use Rattle.document_server.proofs.OrderLemmas.{raised-on}
 use Rattle.document_server.proofs.ServingLemmas.{going-begins, going-ends}
+use Rattle.document_server.proofs.SessionLemmas.{links-listened}
 use Rattle.feed_disk.specs.Disk.{DiskState, IsDisk}
 use Rattle.feed_disk.specs.declared.area.Area.{Area}
 use Rattle.feed_disk.specs.declared.area.Area.TheVariants.{Journal, Sealed}
@@ -50,23 +52,23 @@ order-fewer version calls fewer (line ∷ lines) below (follows, order) = (
   order,
 )
 
-session-listened : (start : ℕ) (after : DiskState) (moments : ℕ → ℕ) (door listened rest : DoorState) (opened : Stored)
-    (history : List Op) (unbroken broken : List Line) (failed : Type 0) → SameLinks door listened
-    → HasSession start after moments listened rest opened history unbroken broken failed
-    → HasSession start after moments door rest opened history unbroken broken failed
-session-listened start after moments door listened rest opened history unbroken broken failed same session = record {
-  served = session.served;
-  last = session.last;
-  lines = session.lines;
-  last_line = session.last_line;
-  first = session.first;
-  first_is = session.first_is;
-  session = session.session;
-  given = sym same.left ∙ session.given;
-  back = session.back ∙ ap (λ b. b ++ map (λ e. e.back) (session.served ++ session.last)) same.back;
-  marked = session.marked;
-  documents = session.documents;
-}
+-- the exchanges, from the moment and the door before the load
+exchanges-loaded : (start faults before : ℕ) (after : DiskState) (door listened rest : DoorState) (door_told : Type 0)
+    (lines : List Line) (served last : List Exchange) (failed : Type 0) → faults ≡ before
+    → (door_told → SameLinks door listened)
+    → HasExchanges start faults after listened rest door_told lines served last failed
+    → HasExchanges start before after door rest door_told lines served last failed
+exchanges-loaded start faults before after door listened rest door_told lines served last failed unfailed same all =
+    record {
+      lines_are = all.lines_are;
+      unfailed = subst (λ (n : ℕ). All (IsUnfailed n) served) unfailed all.unfailed;
+      all_served = all.all_served;
+      broken_off = λ fails. subst (λ (n : ℕ). IsOneFailed n after.faults last) unfailed (all.broken_off fails);
+      reported = all.reported;
+      marked = all.marked;
+      linked = λ told. links-listened door listened rest (served ++ last) (same told) (all.linked told);
+      sent = all.sent;
+    }
 
 -- the images that a crash leaves from the load on
 leaves-served : (s m t : DiskState) (head : HeadValue) (operations : List Op) (least : ℕ) (opened : Stored)
@@ -78,6 +80,7 @@ leaves-served : (s m t : DiskState) (head : HeadValue) (operations : List Op) (l
 leaves-served s m t head operations least opened history lines unbroken failed same before first second = record {
   same = same;
   loaded = m.clock;
+  over = second.each.first.later;
   before_lines = before;
   each = record {
     first = leaves_join s m t Journal (λ _ _. Unit {0}) first.moments.first second.each.first;
@@ -102,64 +105,70 @@ leaves-served s m t head operations least opened history lines unbroken failed s
 -- a store that was loaded
 pub record IsLoaded (told : Type 0) (s m : DiskState) (store : StoreValue) : Type 0 where
   pub disk : IsDisk told s
-  pub tells : told
   pub one : OpensInOneWay
-  pub same : (a : Area) → records (m.content a) ≡ records (s.content a)
-  pub stands : StandsFor m store
-  pub moments : (head : HeadValue) (operations : List Op) (least : ℕ) → Settled s head operations least
+  pub same : told → (a : Area) → records (m.content a) ≡ records (s.content a)
+  pub stands : told → StandsFor m store
+  pub moments : told → (head : HeadValue) (operations : List Op) (least : ℕ) → Settled s head operations least
       → AlwaysLeavesBoth s m (OpensPast head operations least)
-  pub rests : AreWhole s → IsAtRest m
+  pub rests : told → AreWhole s → IsAtRest m
   pub number : ℕ
   pub calls : MakesCalls s m 0 (call_count store) number
+  pub unfailed : m.faults ≡ s.faults
 
 -- and then connections were served
-pub serves-loaded : {told : Type 0} (s m t : DiskState) (moments : ℕ → ℕ) (door listened rest : DoorState)
-    (seen : Type 0) (store : StoreValue) (lines : List Line) (failed : Type 0) → IsLoaded told s m store
-    → (seen → SameLinks door listened) → m.clock ≤ t.clock
-    → (CountsFrom s.clock m t store → ServesFrom s.clock m t moments listened rest seen store lines failed)
-    → Serves s t moments door rest seen lines failed
-serves-loaded s m t moments door listened rest seen store lines failed loaded same later serves =
-    let opens = opens-same s.content m.content (stored_of store) loaded.same loaded.stands.opens in
-    let served = serves (λ below.
-    raised-on s.clock m.clock s.clock 0 (call_count store) loaded.number loaded.calls.clock loaded.calls.calls
-    (omega (arith, below, later)) (omega arith)) in
-    record {
-      opened = stored_of store;
-      opens = opens;
-      history = served.history;
-      unbroken = served.unbroken;
-      broken = served.broken;
-      lines_are = served.lines_are;
-      all_unbroken = served.all_unbroken;
-      one_broken = served.one_broken;
-      ordered = λ below.
-          order-fewer (length store.history) (call_count store) 0 lines (omega arith) (served.ordered below);
-      within = λ below.
-          All-weaker (λ (line : Line). (m.clock ≤ s.clock + line.calls) × (s.clock + line.calls ≤ t.clock))
-          (λ (line : Line). s.clock + line.calls ≤ t.clock) (λ line within. within.1) lines (served.within below);
-      crash = λ head operations least settled.
-          leaves-served s m t head operations least (stored_of store) served.history lines served.unbroken failed
-          (settled-head s head operations least loaded.disk loaded.tells loaded.one settled (stored_of store) opens)
-          (λ below.
-          All-weaker (λ (line : Line). (m.clock ≤ s.clock + line.calls) × (s.clock + line.calls ≤ t.clock))
-          (λ (line : Line). m.clock ≤ s.clock + line.calls) (λ line within. within.0) lines (served.within below))
-          (loaded.moments head operations least settled)
-          (served.crash (loaded.rests (settled-whole s head operations least loaded.disk loaded.tells settled)));
-      session = λ see.
-          session-listened s.clock t moments door listened rest (stored_of store) served.history served.unbroken
-          served.broken failed (same see) (served.session see);
-    }
+module _ {told : Type 0} (s m t : DiskState) (moments : ℕ → ℕ) (door listened rest : DoorState)
+    (clock_told door_told : Type 0) (store : StoreValue) (lines : List Line) (failed : Type 0)
+    (loaded : IsLoaded told s m store) (same : door_told → SameLinks door listened) (later : m.clock ≤ t.clock)
+    (serves : CountsFrom s.clock m t store
+    → ServesFrom s.clock m t moments listened rest told clock_told door_told store lines failed) where
+  pub serves-loaded : Serves s t moments door rest told clock_told door_told lines failed
+  serves-loaded =
+      let opens = λ (tells : told).
+      opens-same s.content m.content (stored_of store) (loaded.same tells) (loaded.stands tells).opens in
+      let all = serves (λ below.
+      raised-on s.clock m.clock s.clock 0 (call_count store) loaded.number loaded.calls.clock loaded.calls.calls
+      (omega (arith, below, later)) (omega arith)) in
+      record {
+        opened = stored_of store;
+        opens = opens;
+        served = all.served;
+        last = all.last;
+        exchanges = exchanges-loaded s.clock m.faults s.faults t door listened rest door_told lines all.served
+            all.last failed loaded.unfailed same all.exchanges;
+        ordered = λ below.
+            order-fewer (length store.history) (call_count store) 0 lines (omega arith) (all.ordered below);
+        within = λ below.
+            All-weaker (λ (line : Line). (m.clock ≤ s.clock + line.calls) × (s.clock + line.calls ≤ t.clock))
+            (λ (line : Line). s.clock + line.calls ≤ t.clock) (λ line within. within.1) lines (all.within below);
+        history = all.history;
+        stored = all.stored;
+        crash = λ tells head operations least settled.
+            leaves-served s m t head operations least (stored_of store) (all.history tells) lines
+            (map (λ e. e.line) all.served) failed
+            (settled-head s head operations least loaded.disk tells loaded.one settled (stored_of store)
+            (opens tells))
+            (λ below.
+            All-weaker (λ (line : Line). (m.clock ≤ s.clock + line.calls) × (s.clock + line.calls ≤ t.clock))
+            (λ (line : Line). m.clock ≤ s.clock + line.calls) (λ line within. within.0) lines (all.within below))
+            (loaded.moments tells head operations least settled)
+            (all.crash tells
+            (loaded.rests tells (settled-whole s head operations least loaded.disk tells settled)));
+      }
 
 -- no connection was served
-pub serves-none : {told : Type 0} (s m : DiskState) (moments : ℕ → ℕ) (door listened : DoorState) (seen : Type 0)
-    (store : StoreValue) (lines : List Line) (failed : Type 0) → IsLoaded told s m store → IsDisk told m
-    → (seen → SameLinks door listened) → (IsAtRest m → Settled m store.head store.history (length store.history))
-    → lines ≡ [] → (failed → ⊥) → Serves s m moments door listened seen lines failed
-serves-none s m moments door listened seen store lines failed loaded disk same settled none works =
-    subst (λ (ls : List Line). Serves s m moments door listened seen ls failed) (sym none)
-    (serves-loaded s m m moments door listened listened seen store [] failed loaded same (omega arith) (λ counts.
-    going-ends s.clock m m moments moments listened listened seen store store [] failed
-    (going-begins s.clock m moments listened seen store disk) counts loaded.stands settled works))
+pub serves-none : {told : Type 0} (s m : DiskState) (moments : ℕ → ℕ) (door listened : DoorState)
+    (clock_told door_told : Type 0) (store : StoreValue) (lines : List Line) (failed : Type 0)
+    → IsLoaded told s m store → IsDisk told m → (door_told → SameLinks door listened)
+    → (told → IsAtRest m → Settled m store.head store.history (length store.history)) → lines ≡ [] → (failed → ⊥)
+    → Serves s m moments door listened told clock_told door_told lines failed
+serves-none {told} s m moments door listened clock_told door_told store lines failed loaded disk same settled none
+    works =
+    subst (λ (ls : List Line). Serves s m moments door listened told clock_told door_told ls failed) (sym none)
+    (serves-loaded s m m moments door listened listened clock_told door_told store [] failed loaded same (omega arith)
+    (λ counts.
+    going-ends s.clock m m moments moments listened listened told clock_told door_told store store [] failed
+    (going-begins s.clock m moments listened told clock_told door_told store disk) loaded.stands counts settled
+    works))
 
 -- How it ended
 

@@ -10,8 +10,14 @@ use Rattle.feed_journal.specs.Log.{MakesSome}
 use Rattle.feed_recovery.specs.Prepare.{commit_calls}
 use Rattle.feed_recovery.specs.Store.{StoreValue, call_count}
 use Rattle.document_server.specs.Answer.{Grows}
-use Rattle.document_server.specs.Serving.{AreInOrder, Follows}
+use Rattle.document_server.specs.Serving.{AreInOrder, Follows, version_after}
 use Rattle.document_server.specs.declared.line.Line.{Line}
+
+-- the version after one more line
+pub version-last : (version : ℕ) (lines : List Line) (line : Line)
+    → version_after version (lines ++ line ∷ []) ≡ line.version
+version-last version [] line = refl
+version-last version (first ∷ lines) line = version-last first.version lines line
 
 -- lines in order, the last of which has this version and this number of calls
 abbrev pub LeadTo : ℕ → ℕ → List Line → ℕ → ℕ → Type 0

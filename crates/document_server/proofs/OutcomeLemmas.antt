@@ -4,6 +4,8 @@ use Rattle.std.specs.Prelude.{Some}
 use Rattle.atom_values.specs.Entry.{DraftValue, EntryValue}
 use Rattle.chain_links.specs.declared.address.Address.{Address as FeedAddress}
 use Rattle.chain_links.specs.declared.address.Address.TheVariants as address
+use Rattle.entry_reader.proofs.DraftLemmas.{one_draft}
+use Rattle.entry_reader.proofs.OneRefusalLemmas.{not_refused, one_refusal}
 use Rattle.feed_disk.specs.declared.area.Area.{Area}
 use Rattle.feed_recovery.specs.Prepare.{Fits, IsFull, IsFullArea, next_seal}
 use Rattle.feed_recovery.specs.Store.{StoreValue}
@@ -11,7 +13,7 @@ use Rattle.feed_journal.specs.Log.{LogValue}
 use Rattle.http_face.specs.Request.{RequestValue}
 use Rattle.http_face.specs.declared.request.Verb.{Verb}
 use Rattle.http_face.specs.declared.request.Verb.TheVariants as verb
-use Rattle.document_server.specs.Laws.{IsReadInOneWay, NamesOneAddress}
+use Rattle.document_server.specs.Laws.{NamesOneAddress}
 use Rattle.document_server.specs.Reply.{HasRoomFor, IsAccepted, IsAsked, IsAtAddress, IsMemberShown, IsOfArchive}
 use Rattle.document_server.specs.Reply.{IsOfFeed, IsOfMember, IsOfState, IsOutcome, IsRead, IsSent, Outcome}
 use Rattle.document_server.specs.Reply.{document_reply, entry_refusal, full_reply, rule_reply, unchanged}
@@ -96,18 +98,18 @@ module _ (store : StoreValue) where
       one-accepted operation one other accepted
       (subst (λ (o : Op). IsAccepted store o other) same accepted')
 
-  module _ (request : RequestValue) (reads : IsReadInOneWay request.body) (now : ℕ) where
+  module _ (request : RequestValue) (now : ℕ) where
     one-read : (asked : DraftValue → Ask) → AtMostOne (IsRead store request.body asked now)
     one-read asked one other (inl (at, reason, refused, is)) (inl (at', reason', refused', is')) =
-        let same = reads.refusals at at' reason reason' refused refused' in
+        let same = one_refusal request.body at at' reason reason' refused refused' in
         is ∙ ap (λ (n : ℕ). unchanged (entry_refusal n reason)) same.0
         ∙ ap (λ r. unchanged (entry_refusal at' r)) same.1 ∙ sym is'
     one-read asked one other (inl (at, reason, refused, is)) (inr (draft, is_draft, spells, is')) =
-        absurd (reads.apart draft at reason is_draft spells refused)
+        absurd (not_refused request.body draft at reason spells refused)
     one-read asked one other (inr (draft, is_draft, spells, is)) (inl (at, reason, refused, is')) =
-        absurd (reads.apart draft at reason is_draft spells refused)
+        absurd (not_refused request.body draft at reason spells refused)
     one-read asked one other (inr (draft, is_draft, spells, is)) (inr (draft', is_draft', spells', is')) =
-        let same = reads.drafts draft' draft is_draft' spells' is_draft spells in
+        let same = one_draft request.body draft' draft spells' spells in
         one-asked (asked draft) now one other is
         (subst (λ (d : DraftValue). IsAsked store (asked d) now other) same is')
 

@@ -16,8 +16,8 @@ use Rattle.http_face.specs.declared.reply.Reply.{Reply}
 use Rattle.http_face.specs.declared.request.Verb.{Verb}
 use Rattle.http_face.specs.declared.request.Verb.TheVariants.{Get, Head, Post, Put, Delete, Options, Patch, Other}
 use Rattle.document_server.specs.Answer.{ComesTo, IsOwn, IsReadAs, IsRefusal, ReadsOrCommits, absent_reply}
-use Rattle.document_server.specs.Reply.{IsAsked, IsAtAddress, IsOfArchive, IsOfFeed, IsOfMember, IsOfState, IsOutcome}
-use Rattle.document_server.specs.Reply.{IsSent, Outcome, gone, not_allowed, not_found, unchanged}
+use Rattle.document_server.specs.Reply.{IsAsked, IsAtAddressAs, IsOfArchiveAs, IsOfFeed, IsOfMemberAs, IsOfState}
+use Rattle.document_server.specs.Reply.{IsOutcomeAs, IsSent, Outcome, Shown, gone, not_allowed, not_found, unchanged}
 use Rattle.document_server.specs.declared.failure.Failure.{Failure}
 use Rattle.document_server.specs.declared.failure.Failure.TheVariants.{Disk, Changed, NoMemory}
 use Rattle.member_rules.specs.declared.ask.Ask.{Ask}
@@ -37,27 +37,28 @@ feed-refuses store request now Options other other' = refl
 feed-refuses store request now Patch other other' = refl
 feed-refuses store request now Other other other' = refl
 
-pub archive-refuses : (store : StoreValue) (number : ℕ) (verb : Verb) → verb ≢ Get
-    → IsOfArchive store number verb (unchanged (not_allowed OfArchive))
-archive-refuses store number Get other = absurd (other refl)
-archive-refuses store number Head other = refl
-archive-refuses store number Post other = refl
-archive-refuses store number Put other = refl
-archive-refuses store number Delete other = refl
-archive-refuses store number Options other = refl
-archive-refuses store number Patch other = refl
-archive-refuses store number Other other = refl
+pub archive-refuses : (shown : Outcome → Type 0) (store : StoreValue) (number : ℕ) (verb : Verb) → verb ≢ Get
+    → IsOfArchiveAs shown store number verb (unchanged (not_allowed OfArchive))
+archive-refuses shown store number Get other = absurd (other refl)
+archive-refuses shown store number Head other = refl
+archive-refuses shown store number Post other = refl
+archive-refuses shown store number Put other = refl
+archive-refuses shown store number Delete other = refl
+archive-refuses shown store number Options other = refl
+archive-refuses shown store number Patch other = refl
+archive-refuses shown store number Other other = refl
 
-pub member-refuses : (store : StoreValue) (request : RequestValue) (now number : ℕ) (verb : Verb) → verb ≢ Get
-    → verb ≢ Put → verb ≢ Delete → IsOfMember store request now number verb (unchanged (not_allowed OfMember))
-member-refuses store request now number Get other other' other'' = absurd (other refl)
-member-refuses store request now number Head other other' other'' = refl
-member-refuses store request now number Post other other' other'' = refl
-member-refuses store request now number Put other other' other'' = absurd (other' refl)
-member-refuses store request now number Delete other other' other'' = absurd (other'' refl)
-member-refuses store request now number Options other other' other'' = refl
-member-refuses store request now number Patch other other' other'' = refl
-member-refuses store request now number Other other other' other'' = refl
+pub member-refuses : (shown : Outcome → Type 0) (store : StoreValue) (request : RequestValue) (now number : ℕ)
+    (verb : Verb) → verb ≢ Get → verb ≢ Put → verb ≢ Delete
+    → IsOfMemberAs shown store request now number verb (unchanged (not_allowed OfMember))
+member-refuses shown store request now number Get other other' other'' = absurd (other refl)
+member-refuses shown store request now number Head other other' other'' = refl
+member-refuses shown store request now number Post other other' other'' = refl
+member-refuses shown store request now number Put other other' other'' = absurd (other' refl)
+member-refuses shown store request now number Delete other other' other'' = absurd (other'' refl)
+member-refuses shown store request now number Options other other' other'' = refl
+member-refuses shown store request now number Patch other other' other'' = refl
+member-refuses shown store request now number Other other other' other'' = refl
 
 pub target-as : (base other target left : List ℕ) → base ≡ other → target ≡ left → (address : FeedAddress)
     → IsTarget base address target → IsTarget other address left
@@ -66,26 +67,29 @@ target-as base other target left same same' address named =
     (subst (λ (b : List ℕ). IsTarget b address target) same named)
 
 -- the outcome of a request whose target names a document
-module _ (store : StoreValue) (request : RequestValue) (now : ℕ) (other : request.verb ≢ Other) (address : FeedAddress)
-    (rules : IsAddress address) (target : IsTarget store.head.name.base address request.target) where
-  at-address : (given : Outcome) → IsAtAddress store request now address given → IsOutcome store request now given
+module _ (shown : Shown) (store : StoreValue) (request : RequestValue) (now : ℕ) (other : request.verb ≢ Other)
+    (address : FeedAddress) (rules : IsAddress address)
+    (target : IsTarget store.head.name.base address request.target) where
+  at-address : (given : Outcome) → IsAtAddressAs shown store request now address given
+      → IsOutcomeAs shown store request now given
   at-address given is = inr (other, inr (address, rules, target, is))
 
   pub of-feed : address ≡ Feed → (given : Outcome) → IsOfFeed store request now request.verb given
-      → IsOutcome store request now given
+      → IsOutcomeAs shown store request now given
   of-feed is given row =
-      at-address given (subst (λ (a : FeedAddress). IsAtAddress store request now a given) (sym is) row)
+      at-address given (subst (λ (a : FeedAddress). IsAtAddressAs shown store request now a given) (sym is) row)
 
   pub of-archive : (number : ℕ) → address ≡ Archive number → (verb : Verb) → verb ≡ request.verb → (given : Outcome)
-      → IsOfArchive store number verb given → IsOutcome store request now given
+      → IsOfArchiveAs (shown.archive number) store number verb given → IsOutcomeAs shown store request now given
   of-archive number is verb same given row =
-      at-address given (subst (λ (a : FeedAddress). IsAtAddress store request now a given) (sym is)
-      (subst (λ (v : Verb). IsOfArchive store number v given) same row))
+      at-address given (subst (λ (a : FeedAddress). IsAtAddressAs shown store request now a given) (sym is)
+      (subst (λ (v : Verb). IsOfArchiveAs (shown.archive number) store number v given) same row))
 
   pub of-member : (number : ℕ) → address ≡ Member number → (given : Outcome)
-      → IsOfMember store request now number request.verb given → IsOutcome store request now given
+      → IsOfMemberAs (shown.member number) store request now number request.verb given
+      → IsOutcomeAs shown store request now given
   of-member number is given row =
-      at-address given (subst (λ (a : FeedAddress). IsAtAddress store request now a given) (sym is) row)
+      at-address given (subst (λ (a : FeedAddress). IsAtAddressAs shown store request now a given) (sym is) row)
 
 -- the method that a request has
 pub feed-verb : (store : StoreValue) (request : RequestValue) (now : ℕ) (verb : Verb) → request.verb ≡ verb
@@ -93,11 +97,12 @@ pub feed-verb : (store : StoreValue) (request : RequestValue) (now : ℕ) (verb 
 feed-verb store request now verb same given row =
     subst (λ (v : Verb). IsOfFeed store request now v given) (sym same) row
 
-pub member-verb : (store : StoreValue) (request : RequestValue) (now number : ℕ) (verb : Verb) → request.verb ≡ verb
-    → (given : Outcome) → IsOfMember store request now number verb given
-    → IsOfMember store request now number request.verb given
-member-verb store request now number verb same given row =
-    subst (λ (v : Verb). IsOfMember store request now number v given) (sym same) row
+pub member-verb : (shown : Outcome → Type 0) (store : StoreValue) (request : RequestValue) (now number : ℕ)
+    (verb : Verb) → request.verb ≡ verb → (given : Outcome)
+    → IsOfMemberAs shown store request now number verb given
+    → IsOfMemberAs shown store request now number request.verb given
+member-verb shown store request now number verb same given row =
+    subst (λ (v : Verb). IsOfMemberAs shown store request now number v given) (sym same) row
 
 -- a member by its state
 
@@ -150,7 +155,12 @@ comes-as part whole to old new (Ok reply) comes = record {
   gains = comes.gains;
 }
 comes-as part whole to old new (Err Disk) comes = tt
-comes-as part whole to old new (Err Changed) comes = comes
+comes-as part whole to old new (Err Changed) comes = record {
+  given = comes.given;
+  is_one = to comes.given comes.is_one;
+  reply_is = comes.reply_is;
+  gains = comes.gains;
+}
 comes-as part whole to old new (Err NoMemory) comes = comes
 
 pub commits-as : (told : Type 0) (part whole : Outcome → Type 0) → ((given : Outcome) → part given → whole given)

@@ -1,26 +1,27 @@
 -- The store and its disk after the connections so far, and after one more connection.
-use Rattle.std.proofs.Common.{◌≡◌, ◌≢◌, ◌⊎◌, refl, sym, ap, ◌∙◌, subst, ℕ, ◌+◌, ◌<◌, ◌≤◌, List, [], ◌∷◌}
-use Rattle.std.proofs.Common.{◌++◌, length, All, arith, length-append, true, false}
-use Rattle.std.specs.Prelude.{Option, Some, None}
+use Rattle.std.proofs.Common.{◌≡◌, ◌≢◌, ◌⊎◌, inl, inr, refl, sym, ap, ◌∙◌, subst, ℕ, ◌+◌, ◌<◌, ◌≤◌, List, [], ◌∷◌}
+use Rattle.std.proofs.Common.{◌++◌, length, map, All, arith, append_assoc, length-append, true, false}
+use Rattle.std.specs.Prelude.{Some}
 use Rattle.std.proofs.lemmas.List.{append-nil}
 use Rattle.std.proofs.lemmas.List.Elements.{All-nil, All-push, All-weaker}
-use Rattle.atom_values.specs.Counts.{counter_limit}
+use Rattle.atom_values.specs.Counts.{Rose, counter_limit}
 use Rattle.document_server.specs.Answer.{Grows}
 use Rattle.document_server.specs.Door.{DoorState, SameLinks}
 use Rattle.document_server.specs.Laws.{ShownAreServed}
 use Rattle.document_server.specs.Reply.{disk_fault}
-use Rattle.document_server.specs.Serving.{CountsFrom, HasSession, LeavesServing, OpensAt}
-use Rattle.document_server.specs.Serving.{ServesFrom, ServesOne, exchange_of}
-use Rattle.document_server.specs.Session.{IsMarked}
+use Rattle.document_server.specs.Serving.{CountsFrom, HasHistory, LeavesServing, OpensAt}
+use Rattle.document_server.specs.Serving.{ServesFrom, ServesOne, exchange_of, version_after}
+use Rattle.document_server.specs.Session.{Ends, Exchange, IsBrokenOff, IsFailed, IsMarked, IsServed, IsSession}
+use Rattle.document_server.specs.Session.{IsUnfailed, SendsServed}
 use Rattle.document_server.specs.declared.line.Line.{Line}
 use Rattle.document_server.proofs.DocumentLemmas.{IsOver, sends-later, sends-other, sends-turn}
 use Rattle.document_server.proofs.OpensLemmas.{both-join-at, opens-amid, opens-amid-break, opens-until}
 use Rattle.document_server.proofs.OpensLemmas.{opens-until-break}
 use Rattle.document_server.proofs.OrderLemmas.{IsBetween, LeadTo, clock-on, lead-in-order, lead-more, lead-within}
-use Rattle.document_server.proofs.OrderLemmas.{line-follows}
-use Rattle.document_server.proofs.SessionLemmas.{Exchanged, Exchanges, Passes, exchanged-breaks, exchanged-ends}
+use Rattle.document_server.proofs.OrderLemmas.{line-follows, version-last}
+use Rattle.document_server.proofs.SessionLemmas.{Exchanges, IsAt, Passes, exchanges-break, exchanges-end}
 use Rattle.document_server.proofs.SessionLemmas.{exchanges-more, exchanges-none, exchanges-still}
-use Rattle.document_server.proofs.SessionLemmas.{lines-more, session-more}
+use Rattle.document_server.proofs.SessionLemmas.{lines-more, session-ends, session-more}
 use Rattle.feed_disk.specs.Disk.{DiskState, IsDisk}
 use Rattle.feed_disk.specs.Moments.{LeavesOnlyBoth}
 use Rattle.feed_disk.specs.declared.area.Area.TheVariants.{Journal, Sealed}
@@ -28,18 +29,17 @@ use Rattle.feed_disk.proofs.MomentLemmas.{leaves_begin}
 use Rattle.feed_journal.specs.Log.{MakesSome}
 use Rattle.feed_recovery.specs.Settled.{IsAtRest, NowBoth, OpensPast, Settled}
 use Rattle.feed_recovery.specs.Store.{StandsFor, StoreValue, call_count, is_spent}
-use Rattle.feed_recovery.specs.Stored.{stored_of}
+use Rattle.feed_recovery.specs.Stored.{OpensTo, stored_of}
 use Rattle.http_face.specs.Conn.{ConnState}
-use Rattle.http_face.specs.declared.reply.Reply.{Reply}
 use Rattle.member_rules.specs.Head.{HeadValue, IsHead}
 use Rattle.member_rules.specs.History.{IsLawful}
 use Rattle.member_rules.specs.Laws.{PrefixesAreLawful, ServedStays}
 use Rattle.member_rules.specs.declared.operation.Op.{Op}
 
 -- the effect of a connection that was served on the store and on its disk
-pub record Linked (before after : DiskState) (moments coming : ℕ → ℕ) (given back : ConnState) (seen : Type 0)
-    (old new : StoreValue) (line : Line) : Type 0 where
-  pub serves : ServesOne before after moments coming given back seen old new line
+pub record Linked (before after : DiskState) (moments coming : ℕ → ℕ) (given back : ConnState)
+    (disk_told clock_told conn_told : Type 0) (old new : StoreValue) (line : Line) : Type 0 where
+  pub serves : ServesOne before after moments coming given back disk_told clock_told conn_told old new line
   pub head : new.head ≡ old.head
   pub version : line.version ≡ length new.history
   pub calls : line.calls ≡ call_count new
@@ -47,7 +47,6 @@ pub record Linked (before after : DiskState) (moments coming : ℕ → ℕ) (giv
   pub makes : MakesSome before after (call_count old) (call_count new)
   pub grows : (new.history ≡ old.history) ⊎ Grows before after old new
   pub begun : line.status ≢ 0 → back.begun ≡ Some after.clock
-  pub unbegun : line.status ≡ 0 → back.begun ≡ None
 
 -- the store counts its device calls from this moment
 abbrev pub Counts : ℕ → DiskState → StoreValue → Type 0
@@ -61,61 +60,72 @@ CrashOpens start before opened history lines unbroken c i j =
 
 -- connections were served, none of which was broken off
 pub record Going (start : ℕ) (before after : DiskState) (moments coming : ℕ → ℕ) (door rest : DoorState)
-    (seen : Type 0) (opened store : StoreValue) (lines : List Line) : Type 0 where
+    (disk_told clock_told door_told : Type 0) (opened store : StoreValue) (lines : List Line) : Type 0 where
   pub head : store.head ≡ opened.head
-  pub grown : length opened.history ≤ length store.history
+  pub more : List Op
+  pub extends : store.history ≡ opened.history ++ more
+  pub version : version_after (length opened.history) lines ≡ length store.history
   pub versions : All (λ (line : Line). line.version ≤ length store.history) lines
   pub clock : after.clock < counter_limit → Counts start before opened → Counts start after store
   pub lead : after.clock < counter_limit → Counts start before opened
       → LeadTo (length opened.history) (call_count opened) lines (length store.history) (call_count store)
-  pub crash : IsAtRest before
+  pub served : List Exchange
+  pub lines_are : lines ≡ map (λ e. e.line) served
+  pub unfailed : All (IsUnfailed before.faults) served
+  pub exchanges : Exchanges start before after door rest door_told opened served
+  pub crash : disk_told → IsAtRest before
       → LeavesOnlyBoth before after Journal Sealed (CrashOpens start before opened store.history lines lines)
-  pub session : seen → Exchanged start before after moments coming door rest opened store lines
+  pub over : disk_told → door_told → All (IsOver opened.head store.history) served
+  pub session : disk_told → clock_told → door_told → IsSession (IsAt store coming) opened moments served
 
-pub going-begins : {told : Type 0} (start : ℕ) (disk : DiskState) (moments : ℕ → ℕ) (door : DoorState) (seen : Type 0)
-    (store : StoreValue) → IsDisk told disk
-    → Going start disk disk moments moments door door seen store store []
-going-begins start disk moments door seen store is_disk = record {
+pub going-begins : (start : ℕ) (disk : DiskState) (moments : ℕ → ℕ) (door : DoorState)
+    (disk_told clock_told door_told : Type 0) (store : StoreValue) → IsDisk disk_told disk
+    → Going start disk disk moments moments door door disk_told clock_told door_told store store []
+going-begins start disk moments door disk_told clock_told door_told store is_disk = record {
   head = refl;
-  grown = omega arith;
+  more = [];
+  extends = sym (append-nil store.history);
+  version = refl;
   versions = All-nil (λ (line : Line). line.version ≤ length store.history);
   clock = λ below counted. counted;
   lead = λ below counted. (refl, refl);
-  crash = λ rests. record {
+  served = [];
+  lines_are = refl;
+  unfailed = All-nil (IsUnfailed disk.faults);
+  exchanges = exchanges-none start disk door door_told store;
+  crash = λ told rests. record {
     first = leaves_begin disk Journal (λ _ _. Unit {0});
     second = leaves_begin disk Sealed (λ _ _. Unit {0});
     each = λ below c i j inside may may'. absurd (omega (arith, inside, is_disk.begun Journal c i may));
   };
-  session = λ sees. record {
-    served = [];
-    lines_are = refl;
-    session = (refl, λ k. refl);
-    exchanges = exchanges-none start disk door store;
-  };
+  over = λ told see. All-nil (IsOver store.head store.history);
+  session = λ told clock see. (refl, λ k. refl);
 }
 
 -- a call of the door that gives no connection
 pub going-still : (start : ℕ) (before after : DiskState) (moments coming : ℕ → ℕ) (door rest later : DoorState)
-    (seen : Type 0) (opened store : StoreValue) (lines : List Line)
-    → Going start before after moments coming door rest seen opened store lines → (seen → SameLinks rest later)
-    → Going start before after moments coming door later seen opened store lines
-going-still start before after moments coming door rest later seen opened store lines going same = record {
-  head = going.head;
-  grown = going.grown;
-  versions = going.versions;
-  clock = going.clock;
-  lead = going.lead;
-  crash = going.crash;
-  session = λ see.
-      let session = going.session see in
-      record {
-        served = session.served;
-        lines_are = session.lines_are;
-        session = session.session;
-        exchanges = exchanges-still start before after door rest later opened store.history session.served
-            session.exchanges (same see);
-      };
-}
+    (disk_told clock_told door_told : Type 0) (opened store : StoreValue) (lines : List Line)
+    → Going start before after moments coming door rest disk_told clock_told door_told opened store lines
+    → (door_told → SameLinks rest later)
+    → Going start before after moments coming door later disk_told clock_told door_told opened store lines
+going-still start before after moments coming door rest later disk_told clock_told door_told opened store lines going
+    same = record {
+      head = going.head;
+      more = going.more;
+      extends = going.extends;
+      version = going.version;
+      versions = going.versions;
+      clock = going.clock;
+      lead = going.lead;
+      served = going.served;
+      lines_are = going.lines_are;
+      unfailed = going.unfailed;
+      exchanges = exchanges-still start before after door rest later door_told opened going.served going.exchanges
+          same;
+      crash = going.crash;
+      over = going.over;
+      session = going.session;
+    }
 
 -- The end
 
@@ -164,44 +174,78 @@ leaves-serving start before after opened history lines unbroken failed has count
       whole = whole;
     }
 
+sends-over : (head : HeadValue) (history : List Op) (e : Exchange) → IsOver head history e
+    → SendsServed head history e
+sends-over head history e over = over.sends
+
 -- all connections were served
-pub going-ends : (start : ℕ) (before after : DiskState) (moments coming : ℕ → ℕ) (door rest : DoorState)
-    (seen : Type 0) (opened store : StoreValue) (lines : List Line) (failed : Type 0)
-    → Going start before after moments coming door rest seen opened store lines → CountsFrom start before after opened
-    → StandsFor after store → (IsAtRest before → Settled after store.head store.history (length store.history))
-    → (failed → ⊥) → ServesFrom start before after moments door rest seen opened lines failed
-going-ends start before after moments coming door rest seen opened store lines failed going counts stands settled
-    works =
-    record {
-      history = store.history;
-      unbroken = lines;
-      broken = [];
-      lines_are = sym (append-nil lines);
-      all_unbroken = λ unfailed. refl;
-      one_broken = λ fails. absurd (works fails);
-      ordered = λ below.
-          lead-in-order (length opened.history) (call_count opened) lines (length store.history) (call_count store)
-          (going.lead below (counts below));
-      within = λ below.
-          lines-within start before after opened lines (length store.history) (call_count store) (counts below)
-          (going.clock below (counts below)) (going.lead below (counts below));
-      crash = λ rest.
-          let leaves : Settled after opened.head store.history (length store.history) =
-          subst (λ (h : HeadValue). Settled after h store.history (length store.history)) going.head (settled rest) in
-          leaves-serving start before after opened store.history lines lines failed (length store.history) counts
-          going.grown going.versions (going.crash rest) leaves (λ unfailed. leaves);
-      session = λ see.
-          exchanged-ends start before after moments coming door rest opened store lines failed
-          (going.session see) counts
-          (λ unfailed. stands.opens);
-    }
+module _ (start : ℕ) (before after : DiskState) (moments coming : ℕ → ℕ) (door rest : DoorState)
+    (disk_told clock_told door_told : Type 0) (opened store : StoreValue) (lines : List Line) (failed : Type 0)
+    (going : Going start before after moments coming door rest disk_told clock_told door_told opened store lines)
+    (stands : disk_told → StandsFor after store) where
+  history-ends : disk_told
+      → HasHistory after moments clock_told door_told (stored_of opened) lines going.served [] store.history failed
+  history-ends told = record {
+    more = going.more;
+    extends = going.extends;
+    no_fewer = omega (arith, going.version);
+    no_more = omega (arith, going.version);
+    documents = λ see.
+        subst (All (SendsServed opened.head store.history)) (sym (append-nil going.served))
+        (All-weaker (IsOver opened.head store.history) (SendsServed opened.head store.history)
+        (sends-over opened.head store.history) going.served (going.over told see));
+    session = λ clock see. (
+      opened,
+      refl,
+      session-ends (Ends failed after.content [] store.history) opened moments going.served store coming
+          (λ last now at. (
+            ap (λ (s : StoreValue). s.history) (sym at.0),
+            λ works. subst (λ (s : StoreValue). OpensTo after.content (stored_of s)) (sym at.0) (stands told).opens,
+          )) (going.session told clock see),
+    );
+  }
+
+  pub going-ends : CountsFrom start before after opened
+      → (disk_told → IsAtRest before → Settled after store.head store.history (length store.history))
+      → (failed → ⊥)
+      → ServesFrom start before after moments door rest disk_told clock_told door_told opened lines failed
+  going-ends counts settled works = record {
+    served = going.served;
+    last = [];
+    exchanges = exchanges-end start before after door rest door_told opened lines going.served failed counts
+        going.unfailed going.exchanges going.lines_are works;
+    ordered = λ below.
+        lead-in-order (length opened.history) (call_count opened) lines (length store.history) (call_count store)
+        (going.lead below (counts below));
+    within = λ below.
+        lines-within start before after opened lines (length store.history) (call_count store) (counts below)
+        (going.clock below (counts below)) (going.lead below (counts below));
+    history = λ told. store.history;
+    stored = history-ends;
+    crash = λ told rest.
+        let leaves : Settled after opened.head store.history (length store.history) =
+        subst (λ (h : HeadValue). Settled after h store.history (length store.history)) going.head
+        (settled told rest) in
+        subst (λ (unbroken : List Line). LeavesServing start before after opened.head (length opened.history)
+        store.history lines unbroken failed) going.lines_are
+        (leaves-serving start before after opened store.history lines lines failed (length store.history) counts
+        (omega (arith, ap length going.extends, length-append opened.history going.more)) going.versions
+        (going.crash told rest) leaves (λ unfailed. leaves));
+  }
 
 -- One more connection
 
 module _ (start : ℕ) (before amid after : DiskState) (moments coming later : ℕ → ℕ) (given back : ConnState)
-    (door rest : DoorState) (seen seen_link : Type 0) (opened store new : StoreValue) (lines : List Line) (line : Line)
-    (going : Going start before amid moments coming door rest seen opened store lines)
-    (linked : Linked amid after coming later given back seen_link store new line) where
+    (door rest : DoorState) (disk_told clock_told door_told conn_told : Type 0) (opened store new : StoreValue)
+    (lines : List Line) (line : Line)
+    (going : Going start before amid moments coming door rest disk_told clock_told door_told opened store lines)
+    (linked : Linked amid after coming later given back disk_told clock_told conn_told store new line) where
+  abbrev exchange : Exchange
+  exchange = exchange_of amid after given back linked.serves.reply line
+
+  grown : length opened.history ≤ length store.history
+  grown = omega (arith, ap length going.extends, length-append opened.history going.more)
+
   short : after.clock < counter_limit → amid.clock < counter_limit
   short below = omega (arith, below, linked.later)
 
@@ -231,32 +275,35 @@ module _ (start : ℕ) (before amid after : DiskState) (moments coming later : �
       (lead-within (length opened.history) (call_count opened) lines (length store.history) (call_count store)
       (going.lead (short below) counted))
 
-  marked-on : after.clock < counter_limit → Counts start before opened → (reply : Option Reply)
-      → IsMarked start (exchange_of given back reply line)
-  marked-on below counted reply = record {
-    begun = λ some. linked.begun some ∙ ap (λ (n : ℕ). Some n) (sym (line-calls below counted));
-    unbegun = linked.unbegun;
-  }
+  marked-on : after.clock < counter_limit → Counts start before opened → IsMarked start exchange
+  marked-on below counted = λ some. linked.begun some ∙ ap (λ (n : ℕ). Some n) (sym (line-calls below counted))
 
-  module _ {told : Type 0} (disk : IsDisk told after) (rests : IsAtRest before → IsAtRest amid) where
+  -- the operations that the connection added
+  gains : (more : List Op) × (new.history ≡ store.history ++ more)
+  gains = elim linked.grows [
+    | inl same ↦ ([], same ∙ sym (append-nil store.history))
+    | inr grows ↦ (grows.operation ∷ [], grows.history)
+  ]
+
+  module _ (told : disk_told) (disk : IsDisk disk_told after) (rests : IsAtRest before → IsAtRest amid) where
     -- the images that the connection leaves open to the head that was opened
     past-opened : (i j : List ℕ)
-        → OpensPast store.head (store.history ++ linked.serves.operations) (length store.history) i j
-        → OpensPast opened.head (store.history ++ linked.serves.operations) (length store.history) i j
+        → OpensPast store.head (store.history ++ (linked.serves.stored told).operations) (length store.history) i j
+        → OpensPast opened.head (store.history ++ (linked.serves.stored told).operations) (length store.history) i j
     past-opened i j past =
-        subst (λ (h : HeadValue). OpensPast h (store.history ++ linked.serves.operations) (length store.history) i j)
+        subst (λ (h : HeadValue). OpensPast h (store.history ++ (linked.serves.stored told).operations) (length store.history) i j)
         going.head past
 
-    pub crash-more : length (store.history ++ linked.serves.operations) ≡ line.version → IsAtRest before
+    pub crash-more : length (store.history ++ (linked.serves.stored told).operations) ≡ line.version → IsAtRest before
         → LeavesOnlyBoth before after Journal Sealed
-        (CrashOpens start before opened (store.history ++ linked.serves.operations) (lines ++ line ∷ [])
+        (CrashOpens start before opened (store.history ++ (linked.serves.stored told).operations) (lines ++ line ∷ [])
         (lines ++ line ∷ []))
     crash-more has rest =
-        let operations = linked.serves.operations in
+        let operations = (linked.serves.stored told).operations in
         both-join-at before amid after (CrashOpens start before opened store.history lines lines)
         (λ _. OpensPast store.head (store.history ++ operations) (length store.history))
         (CrashOpens start before opened (store.history ++ operations) (lines ++ line ∷ []) (lines ++ line ∷ [])) disk
-        (going.crash rest) (linked.serves.leaves (rests rest)).moments
+        (going.crash told rest) ((linked.serves.stored told).leaves (rests rest)).moments
         (λ below c i j early at counted.
         let on : start + line.calls ≡ after.clock = line-calls below counted in
         opens-until opened.head store.history operations i j start c (length opened.history) lines line (at counted)
@@ -264,18 +311,18 @@ module _ (start : ℕ) (before amid after : DiskState) (moments coming later : �
         (λ below c i j inside to past counted.
         let on : start + line.calls ≡ after.clock = line-calls below counted in
         opens-amid opened.head store.history operations i j start c (length opened.history) lines line
-        (past-opened i j past) going.grown going.versions (lines-before below counted c inside)
+        (past-opened i j past) grown going.versions (lines-before below counted c inside)
         (omega (arith, to, on)) (omega (arith, has)))
 
     pub crash-break : IsAtRest before
         → LeavesOnlyBoth before after Journal Sealed
-        (CrashOpens start before opened (store.history ++ linked.serves.operations) (lines ++ line ∷ []) lines)
+        (CrashOpens start before opened (store.history ++ (linked.serves.stored told).operations) (lines ++ line ∷ []) lines)
     crash-break rest =
-        let operations = linked.serves.operations in
+        let operations = (linked.serves.stored told).operations in
         both-join-at before amid after (CrashOpens start before opened store.history lines lines)
         (λ _. OpensPast store.head (store.history ++ operations) (length store.history))
         (CrashOpens start before opened (store.history ++ operations) (lines ++ line ∷ []) lines) disk
-        (going.crash rest) (linked.serves.leaves (rests rest)).moments
+        (going.crash told rest) ((linked.serves.stored told).leaves (rests rest)).moments
         (λ below c i j early at counted.
         let on : start + line.calls ≡ after.clock = line-calls below counted in
         opens-until-break opened.head store.history operations i j start c (length opened.history) lines line
@@ -283,7 +330,7 @@ module _ (start : ℕ) (before amid after : DiskState) (moments coming later : �
         (λ below c i j inside to past counted.
         let on : start + line.calls ≡ after.clock = line-calls below counted in
         opens-amid-break opened.head store.history operations i j start c (length opened.history) lines line
-        (past-opened i j past) going.grown going.versions (lines-before below counted c inside)
+        (past-opened i j past) grown going.versions (lines-before below counted c inside)
         (omega (arith, to, on)))
 
   -- a line more, all of whose versions are within a history
@@ -294,66 +341,80 @@ module _ (start : ℕ) (before amid after : DiskState) (moments coming later : �
       (All-weaker (λ (l : Line). l.version ≤ length store.history) (λ (l : Line). l.version ≤ length history)
       (λ l before. omega (arith, before, longer)) lines going.versions) within
 
-  module _ (stays : ServedStays) (prefixes : PrefixesAreLawful) (shown : ShownAreServed) (is_head : IsHead store.head)
-      (lawful : IsLawful store.head store.history) (last : DoorState) (sees : seen → seen_link)
-      (passes : seen → Passes rest last given back) where
+  module _ (stays : ServedStays) (prefixes : PrefixesAreLawful) (last : DoorState) (sees : door_told → conn_told)
+      (passes : door_told → Passes rest last given back) (faults : amid.faults ≡ before.faults) where
     -- the exchanges with that of the connection
-    exchanges-on : (session : Exchanged start before amid moments coming door rest opened store lines) → seen
-        → IsLawful opened.head (store.history ++ linked.serves.operations)
-        → IsOver opened.head (store.history ++ linked.serves.operations)
-        (exchange_of given back linked.serves.reply line)
-        → Exchanges start before after door last opened (store.history ++ linked.serves.operations)
-        (session.served ++ exchange_of given back linked.serves.reply line ∷ [])
-    exchanges-on session see longer over =
-        exchanges-more start before amid after door rest last opened store.history
-        (store.history ++ linked.serves.operations) session.served (exchange_of given back linked.serves.reply line)
-        session.exchanges linked.later (passes see)
-        (λ below counted. marked-on below counted linked.serves.reply)
-        (sends-later stays prefixes opened.head store.history linked.serves.operations longer) over
+    exchanges-on : Exchanges start before after door last door_told opened (going.served ++ exchange ∷ [])
+    exchanges-on =
+        exchanges-more start before amid after door rest last door_told opened going.served exchange going.exchanges
+        linked.later passes linked.serves.reported marked-on (λ told. linked.serves.sent (sees told))
+
+    lines-on : lines ++ line ∷ [] ≡ map (λ e. e.line) (going.served ++ exchange ∷ [])
+    lines-on = lines-more lines going.served exchange going.lines_are
+
+    over-on : (told : disk_told) → door_told
+        → IsLawful opened.head (store.history ++ (linked.serves.stored told).operations)
+        → IsOver opened.head (store.history ++ (linked.serves.stored told).operations) exchange
+        → All (IsOver opened.head (store.history ++ (linked.serves.stored told).operations))
+        (going.served ++ exchange ∷ [])
+    over-on told see longer over =
+        let operations = (linked.serves.stored told).operations in
+        All-push (IsOver opened.head (store.history ++ operations)) going.served exchange
+        (All-weaker (IsOver opened.head store.history) (IsOver opened.head (store.history ++ operations))
+        (sends-later stays prefixes opened.head store.history operations longer) going.served (going.over told see))
+        over
 
     -- the connection was served
-    module _ (unspent : is_spent new ≡ false) (new_lawful : IsLawful new.head new.history) where
-      gained : new.history ≡ store.history ++ linked.serves.operations
-      gained = linked.serves.gained unspent
+    module _ (shown : ShownAreServed) (unspent : is_spent new ≡ false) (still : after.faults ≡ amid.faults)
+        (is_head : disk_told → IsHead store.head) (lawful : disk_told → IsLawful store.head store.history)
+        (new_lawful : disk_told → IsLawful new.head new.history) where
+      gained : (told : disk_told) → new.history ≡ store.history ++ (linked.serves.stored told).operations
+      gained told = (linked.serves.stored told).gained unspent
 
-      longer-lawful : IsLawful opened.head (store.history ++ linked.serves.operations)
-      longer-lawful =
-          subst (λ (h : List Op). IsLawful opened.head h) gained
-          (subst (λ (h : HeadValue). IsLawful h new.history) (linked.head ∙ going.head) new_lawful)
+      longer-lawful : (told : disk_told)
+          → IsLawful opened.head (store.history ++ (linked.serves.stored told).operations)
+      longer-lawful told =
+          subst (λ (h : List Op). IsLawful opened.head h) (gained told)
+          (subst (λ (h : HeadValue). IsLawful h new.history) (linked.head ∙ going.head) (new_lawful told))
 
-      version-is : length (store.history ++ linked.serves.operations) ≡ line.version
-      version-is = ap length (sym gained) ∙ sym linked.version
+      version-is : (told : disk_told)
+          → length (store.history ++ (linked.serves.stored told).operations) ≡ line.version
+      version-is told = ap length (sym (gained told)) ∙ sym linked.version
 
-      exchanged-more : seen → Exchanged start before amid moments coming door rest opened store lines
-          → Exchanged start before after moments later door last opened new (lines ++ line ∷ [])
-      exchanged-more see session =
-          let exchange = exchange_of given back linked.serves.reply line in
-          let on = linked.serves.served (sees see) unspent in
-          record {
-            served = session.served ++ exchange ∷ [];
-            lines_are = lines-more lines session.served exchange session.lines_are;
-            session = session-more opened moments session.served store new coming later exchange on.turn session.session
-                on.served on.clock;
-            exchanges =
-                subst (λ (h : List Op). Exchanges start before after door last opened h
-                (session.served ++ exchange ∷ []))
-                (sym gained)
-                (exchanges-on session see longer-lawful (record {
-                  within = omega (arith, version-is);
-                  sends = sends-turn stays prefixes opened.head store.history linked.serves.operations longer-lawful
-                      shown store (coming 0) is_head lawful exchange on.turn going.head refl (omega (arith, version-is))
-                      on.served.is_turn;
-                }));
-          }
+      over-more : (told : disk_told) → door_told
+          → All (IsOver opened.head new.history) (going.served ++ exchange ∷ [])
+      over-more told see =
+          let operations = (linked.serves.stored told).operations in
+          let on = (linked.serves.stored told).served (sees see) unspent in
+          let has = version-is told in
+          subst (λ (h : List Op). All (IsOver opened.head h) (going.served ++ exchange ∷ [])) (sym (gained told))
+          (over-on told see (longer-lawful told) (record {
+            within = omega (arith, has);
+            sends = sends-turn stays prefixes opened.head store.history operations (longer-lawful told) shown store
+                on.now (is_head told) (lawful told) exchange on.turn going.head refl (omega (arith, has))
+                on.served.is_turn;
+          }))
 
-      pub going-more : {told : Type 0} → IsDisk told after → (IsAtRest before → IsAtRest amid)
-          → Going start before after moments later door last seen opened new (lines ++ line ∷ [])
+      session-on : disk_told → clock_told → door_told
+          → IsSession (IsAt new later) opened moments (going.served ++ exchange ∷ [])
+      session-on told clock see =
+          let on = (linked.serves.stored told).served (sees see) unspent in
+          session-more opened moments going.served store new coming later exchange on.turn
+          (going.session told clock see)
+          (subst (λ (now : ℕ). IsServed store now exchange on.turn new) (on.is_now clock) on.served) (on.clock clock)
+
+      pub going-more : IsDisk disk_told after → (disk_told → IsAtRest before → IsAtRest amid)
+          → Going start before after moments later door last disk_told clock_told door_told opened new
+          (lines ++ line ∷ [])
       going-more disk rests =
           let longer : length store.history ≤ length new.history =
-          omega (arith, ap length gained, length-append store.history linked.serves.operations) in
+          omega (arith, ap length gains.1, length-append store.history gains.0) in
           record {
             head = linked.head ∙ going.head;
-            grown = omega (arith, longer, going.grown);
+            more = going.more ++ gains.0;
+            extends = gains.1 ∙ ap (λ (h : List Op). h ++ gains.0) going.extends
+                ∙ append_assoc opened.history going.more gains.0;
+            version = version-last (length opened.history) lines line ∙ linked.version;
             versions = versions-more new.history longer (omega (arith, linked.version));
             clock = counts-on;
             lead = λ below counted.
@@ -363,57 +424,96 @@ module _ (start : ℕ) (before amid after : DiskState) (moments coming later : �
                 (subst (λ (v : ℕ).
                 LeadTo (length opened.history) (call_count opened) (lines ++ line ∷ []) v line.calls) linked.version
                 (lead-on below counted));
-            crash = λ rest.
+            served = going.served ++ exchange ∷ [];
+            lines_are = lines-on;
+            unfailed = All-push (IsUnfailed before.faults) going.served exchange going.unfailed
+                (record { before = faults; after = still ∙ faults });
+            exchanges = exchanges-on;
+            crash = λ told rest.
                 subst (λ (h : List Op). LeavesOnlyBoth before after Journal Sealed
-                (CrashOpens start before opened h (lines ++ line ∷ []) (lines ++ line ∷ []))) (sym gained)
-                (crash-more disk rests version-is rest);
-            session = λ see. exchanged-more see (going.session see);
+                (CrashOpens start before opened h (lines ++ line ∷ []) (lines ++ line ∷ []))) (sym (gained told))
+                (crash-more told disk (rests told) (version-is told) rest);
+            over = over-more;
+            session = session-on;
           }
 
     -- the disk failed after its request
     module _ (failed : Type 0) (fails : failed) (spent : is_spent new ≡ true) (stayed : new.history ≡ store.history)
-        (pending_lawful : seen → IsLawful opened.head (store.history ++ linked.serves.operations))
+        (rose : Rose amid.faults after.faults)
+        (pending_lawful : (told : disk_told) → door_told
+        → IsLawful opened.head (store.history ++ (linked.serves.stored told).operations))
         (counts : CountsFrom start before after opened) where
       version-was : line.version ≡ length store.history
       version-was = linked.version ∙ ap length stayed
 
-      exchanged-break : seen
-          → HasSession start after moments door last (stored_of opened)
-          (store.history ++ linked.serves.operations) lines
-          (line ∷ []) failed
-      exchanged-break see =
-          let exchange = exchange_of given back linked.serves.reply line in
-          let session = going.session see in
-          let broken = linked.serves.broken_off (sees see) spent in
-          exchanged-breaks start before amid after moments coming door rest last opened store lines failed
-          (store.history ++ linked.serves.operations) exchange session
-          (exchanges-on session see (pending_lawful see) (record {
-            within = omega (arith, version-was, length-append store.history linked.serves.operations);
-            sends = sends-other opened.head (store.history ++ linked.serves.operations) exchange disk_fault broken.reply
-                (λ is. cc);
-          })) counts fails broken
+      exchange-failed : IsFailed before.faults after.faults exchange
+      exchange-failed = record {
+        before = faults;
+        after = refl;
+        rose = subst (λ (n : ℕ). Rose n after.faults) faults rose;
+        reply = linked.serves.failed spent;
+      }
 
-      pub going-breaks : {told : Type 0} → IsDisk told after → (IsAtRest before → IsAtRest amid)
-          → ServesFrom start before after moments door last seen opened (lines ++ line ∷ []) failed
+      history-breaks : (told : disk_told)
+          → HasHistory after moments clock_told door_told (stored_of opened) (lines ++ line ∷ []) going.served
+          (exchange ∷ []) (store.history ++ (linked.serves.stored told).operations) failed
+      history-breaks told =
+          let on = linked.serves.stored told in
+          let history = store.history ++ on.operations in
+          let version = version-last (length opened.history) lines line ∙ version-was in
+          record {
+            more = going.more ++ on.operations;
+            extends = ap (λ (h : List Op). h ++ on.operations) going.extends
+                ∙ append_assoc opened.history going.more on.operations;
+            no_fewer = omega (arith, version, length-append store.history on.operations);
+            no_more = omega (arith, version, length-append store.history on.operations, on.at_most_one);
+            documents = λ see.
+                All-weaker (IsOver opened.head history) (SendsServed opened.head history)
+                (sends-over opened.head history) (going.served ++ exchange ∷ [])
+                (over-on told see (pending_lawful told see) (record {
+                  within = omega (arith, version-was, length-append store.history on.operations);
+                  sends = sends-other opened.head history exchange disk_fault (linked.serves.failed spent)
+                      (λ is. cc);
+                }));
+            session = λ clock see.
+                let broken = on.broken_off (sees see) spent in (
+                  opened,
+                  refl,
+                  session-ends (Ends failed after.content (exchange ∷ []) history) opened moments going.served store
+                      coming
+                      (λ last now at. (
+                        fails,
+                        subst (λ (s : StoreValue). IsBrokenOff s (now 0) exchange history) (sym at.0)
+                            (subst (λ (m : ℕ). IsBrokenOff store m exchange history)
+                            (broken.is_now clock ∙ sym (at.1 0)) broken.broken_off),
+                      )) (going.session told clock see),
+                );
+          }
+
+      pub going-breaks : IsDisk disk_told after → (disk_told → IsAtRest before → IsAtRest amid)
+          → ServesFrom start before after moments door last disk_told clock_told door_told opened
+          (lines ++ line ∷ []) failed
       going-breaks disk rests = record {
-        history = store.history ++ linked.serves.operations;
-        unbroken = lines;
-        broken = line ∷ [];
-        lines_are = refl;
-        all_unbroken = λ works. absurd (works fails);
-        one_broken = λ failing. omega arith;
+        served = going.served;
+        last = exchange ∷ [];
+        exchanges = exchanges-break start before after door last door_told opened (lines ++ line ∷ []) going.served
+            failed counts going.unfailed exchange exchanges-on lines-on fails exchange-failed;
         ordered = λ below.
             lead-in-order (length opened.history) (call_count opened) (lines ++ line ∷ []) line.version line.calls
             (lead-on below (counts below));
         within = λ below.
             lines-within start before after opened (lines ++ line ∷ []) line.version line.calls (counts below)
             (line-calls below (counts below)) (lead-on below (counts below));
-        crash = λ rest.
-            leaves-serving start before after opened (store.history ++ linked.serves.operations)
-            (lines ++ line ∷ []) lines failed (length store.history) counts going.grown
+        history = λ told. store.history ++ (linked.serves.stored told).operations;
+        stored = history-breaks;
+        crash = λ told rest.
+            let on = linked.serves.stored told in
+            subst (λ (unbroken : List Line). LeavesServing start before after opened.head (length opened.history)
+            (store.history ++ on.operations) (lines ++ line ∷ []) unbroken failed) going.lines_are
+            (leaves-serving start before after opened (store.history ++ on.operations) (lines ++ line ∷ []) lines
+            failed (length store.history) counts grown
             (versions-more store.history (omega arith) (omega (arith, version-was)))
-            (crash-break disk rests rest)
-            (λ i j may may'. past-opened disk rests i j ((linked.serves.leaves (rests rest)).now i j may may'))
-            (λ works. absurd (works fails));
-        session = exchanged-break;
+            (crash-break told disk (rests told) rest)
+            (λ i j may may'. past-opened told disk (rests told) i j ((on.leaves (rests told rest)).now i j may may'))
+            (λ works. absurd (works fails)));
       }

@@ -3,19 +3,16 @@ use Rattle.std.proofs.Common.{◌≡◌, refl, sym, ap, ◌∙◌, subst, ℕ, �
 use Rattle.std.proofs.Common.{map, All, arith, append_assoc}
 use Rattle.std.specs.Prelude.{Some}
 use Rattle.std.proofs.lemmas.List.{append-nil, map-append}
-use Rattle.std.proofs.lemmas.List.Elements.{All-nil, All-push, All-weaker}
+use Rattle.std.proofs.lemmas.List.Elements.{All-nil, All-push}
 use Rattle.atom_values.specs.Counts.{counter_limit}
 use Rattle.document_server.specs.Door.{DoorState, Gives, SameLinks, with_back}
-use Rattle.document_server.specs.Serving.{GoesOn, HasSession}
-use Rattle.document_server.specs.Session.{Ends, Exchange, IsBrokenOff, IsMarked, IsServed, IsSession, SendsServed, Turn}
+use Rattle.document_server.specs.Serving.{CountsFrom, GoesOn, HasExchanges, HasLinks}
+use Rattle.document_server.specs.Session.{Exchange, IsMarked, IsOneFailed, IsReported, IsSent, IsServed, IsSession}
+use Rattle.document_server.specs.Session.{IsUnfailed, Turn}
 use Rattle.document_server.specs.declared.line.Line.{Line}
-use Rattle.document_server.proofs.DocumentLemmas.{IsOver}
 use Rattle.feed_disk.specs.Disk.{DiskState}
 use Rattle.feed_recovery.specs.Store.{StoreValue, call_count}
-use Rattle.feed_recovery.specs.Stored.{OpensTo, stored_of}
 use Rattle.http_face.specs.Conn.{ConnState}
-use Rattle.member_rules.specs.Head.{HeadValue}
-use Rattle.member_rules.specs.declared.operation.Op.{Op}
 
 -- the session has come to this store, and to these moments of the clock
 abbrev pub IsAt : StoreValue → (ℕ → ℕ) → StoreValue → (ℕ → ℕ) → Type 0
@@ -94,123 +91,115 @@ pub lines-more : (lines : List Line) (served : List Exchange) (exchange : Exchan
 lines-more lines served exchange so_far =
     ap (λ (l : List Line). l ++ exchange.line ∷ []) so_far ∙ sym (map-push (λ e. e.line) served exchange)
 
--- these are the exchanges that the door gave, and what they sent is served by the history
-pub record Exchanges (start : ℕ) (before after : DiskState) (door rest : DoorState) (opened : StoreValue)
-    (history : List Op) (served : List Exchange) : Type 0 where
-  pub given : door.left ≡ map (λ e. e.given) served ++ rest.left
-  pub back : rest.back ≡ door.back ++ map (λ e. e.back) served
-  pub marked : after.clock < counter_limit → start + call_count opened ≡ before.clock → All (IsMarked start) served
-  pub over : All (IsOver opened.head history) served
+-- connections that the door gave and has back
 
-pub exchanges-none : (start : ℕ) (disk : DiskState) (door : DoorState) (opened : StoreValue)
-    → Exchanges start disk disk door door opened opened.history []
-exchanges-none start disk door opened = record {
-  given = refl;
-  back = sym (append-nil door.back);
-  marked = λ below counted. All-nil (IsMarked start);
-  over = All-nil (IsOver opened.head opened.history);
+pub links-none : (door : DoorState) → HasLinks door door []
+links-none door = record { given = refl; back = sym (append-nil door.back) }
+
+pub links-more : (door rest later : DoorState) (served : List Exchange) (exchange : Exchange)
+    → HasLinks door rest served → Passes rest later exchange.given exchange.back
+    → HasLinks door later (served ++ exchange ∷ [])
+links-more door rest later served exchange so_far passes = record {
+  given = given-more door.left served exchange rest.left later.left so_far.given passes.left;
+  back = back-more door.back served exchange rest.back later.back so_far.back passes.back;
 }
 
-pub exchanges-more : (start : ℕ) (before after behind : DiskState) (door rest later : DoorState) (opened : StoreValue)
-    (history longer : List Op) (served : List Exchange) (exchange : Exchange)
-    → Exchanges start before after door rest opened history served → after.clock ≤ behind.clock
-    → Passes rest later exchange.given exchange.back
+-- a call of the door that gives no connection
+pub links-still : (door rest later : DoorState) (served : List Exchange) → HasLinks door rest served
+    → SameLinks rest later → HasLinks door later served
+links-still door rest later served links same = record {
+  given = links.given ∙ ap (λ (l : List ConnState). map (λ e. e.given) served ++ l) (sym same.left);
+  back = same.back ∙ links.back;
+}
+
+-- the call that opens the door
+pub links-listened : (door listened rest : DoorState) (served : List Exchange) → SameLinks door listened
+    → HasLinks listened rest served → HasLinks door rest served
+links-listened door listened rest served same links = record {
+  given = sym same.left ∙ links.given;
+  back = links.back ∙ ap (λ (b : List ConnState). b ++ map (λ e. e.back) served) same.back;
+}
+
+-- the facts about each exchange that need no disk whose content is seen
+pub record Exchanges (start : ℕ) (before after : DiskState) (door rest : DoorState) (door_told : Type 0)
+    (opened : StoreValue) (exchanges : List Exchange) : Type 0 where
+  pub reported : All IsReported exchanges
+  pub marked : after.clock < counter_limit → start + call_count opened ≡ before.clock
+      → All (IsMarked start) exchanges
+  pub linked : door_told → HasLinks door rest exchanges
+  pub sent : door_told → All IsSent exchanges
+
+pub exchanges-none : (start : ℕ) (disk : DiskState) (door : DoorState) (door_told : Type 0) (opened : StoreValue)
+    → Exchanges start disk disk door door door_told opened []
+exchanges-none start disk door door_told opened = record {
+  reported = All-nil IsReported;
+  marked = λ below counted. All-nil (IsMarked start);
+  linked = λ told. links-none door;
+  sent = λ told. All-nil IsSent;
+}
+
+pub exchanges-more : (start : ℕ) (before after behind : DiskState) (door rest later : DoorState) (door_told : Type 0)
+    (opened : StoreValue) (served : List Exchange) (exchange : Exchange)
+    → Exchanges start before after door rest door_told opened served → after.clock ≤ behind.clock
+    → (door_told → Passes rest later exchange.given exchange.back) → IsReported exchange
     → (behind.clock < counter_limit → start + call_count opened ≡ before.clock → IsMarked start exchange)
-    → ((e : Exchange) → IsOver opened.head history e → IsOver opened.head longer e)
-    → IsOver opened.head longer exchange
-    → Exchanges start before behind door later opened longer (served ++ exchange ∷ [])
-exchanges-more start before after behind door rest later opened history longer served exchange so_far on passes marked
-    stays over = record {
-      given = given-more door.left served exchange rest.left later.left so_far.given passes.left;
-      back = back-more door.back served exchange rest.back later.back so_far.back passes.back;
+    → (door_told → IsSent exchange)
+    → Exchanges start before behind door later door_told opened (served ++ exchange ∷ [])
+exchanges-more start before after behind door rest later door_told opened served exchange so_far on passes reported
+    marked sent = record {
+      reported = All-push IsReported served exchange so_far.reported reported;
       marked = λ below counted.
           All-push (IsMarked start) served exchange (so_far.marked (omega (arith, below, on)) counted)
           (marked below counted);
-      over = All-push (IsOver opened.head longer) served exchange
-          (All-weaker (IsOver opened.head history) (IsOver opened.head longer) stays served so_far.over) over;
+      linked = λ told. links-more door rest later served exchange (so_far.linked told) (passes told);
+      sent = λ told. All-push IsSent served exchange (so_far.sent told) (sent told);
     }
 
--- a call of the door that gives no connection
-pub exchanges-still : (start : ℕ) (before after : DiskState) (door rest later : DoorState) (opened : StoreValue)
-    (history : List Op) (served : List Exchange) → Exchanges start before after door rest opened history served
-    → SameLinks rest later → Exchanges start before after door later opened history served
-exchanges-still start before after door rest later opened history served all same = record {
-  given = all.given ∙ ap (λ (l : List ConnState). map (λ e. e.given) served ++ l) (sym same.left);
-  back = same.back ∙ all.back;
+pub exchanges-still : (start : ℕ) (before after : DiskState) (door rest later : DoorState) (door_told : Type 0)
+    (opened : StoreValue) (served : List Exchange) → Exchanges start before after door rest door_told opened served
+    → (door_told → SameLinks rest later) → Exchanges start before after door later door_told opened served
+exchanges-still start before after door rest later door_told opened served all same = record {
+  reported = all.reported;
   marked = all.marked;
-  over = all.over;
+  linked = λ told. links-still door rest later served (all.linked told) (same told);
+  sent = all.sent;
 }
-
--- the exchanges so far, of which none was broken off
-pub record Exchanged (start : ℕ) (before after : DiskState) (moments coming : ℕ → ℕ) (door rest : DoorState)
-    (opened store : StoreValue) (lines : List Line) : Type 0 where
-  pub served : List Exchange
-  pub lines_are : lines ≡ map (λ e. e.line) served
-  pub session : IsSession (IsAt store coming) opened moments served
-  pub exchanges : Exchanges start before after door rest opened store.history served
 
 -- The end of a session
 
-sends-over : (head : HeadValue) (history : List Op) (e : Exchange) → IsOver head history e
-    → SendsServed head history e
-sends-over head history e over = over.sends
+module _ (start : ℕ) (before after : DiskState) (door rest : DoorState) (door_told : Type 0) (opened : StoreValue)
+    (lines : List Line) (served : List Exchange) (failed : Type 0) (counted : CountsFrom start before after opened)
+    (unfailed : All (IsUnfailed before.faults) served) where
+  -- all connections were served
+  pub exchanges-end : Exchanges start before after door rest door_told opened served
+      → lines ≡ map (λ e. e.line) served → (failed → ⊥)
+      → HasExchanges start before.faults after door rest door_told lines served [] failed
+  exchanges-end all lines_are works =
+      let none : served ++ [] ≡ served = append-nil served in
+      record {
+        lines_are = lines_are ∙ ap (map (λ e. e.line)) (sym none);
+        unfailed = unfailed;
+        all_served = λ _. refl;
+        broken_off = λ fails. absurd (works fails);
+        reported = subst (All IsReported) (sym none) all.reported;
+        marked = λ below. subst (All (IsMarked start)) (sym none) (all.marked below (counted below));
+        linked = λ told. subst (HasLinks door rest) (sym none) (all.linked told);
+        sent = λ told. subst (All IsSent) (sym none) (all.sent told);
+      }
 
--- all connections were served
-pub exchanged-ends : (start : ℕ) (before after : DiskState) (moments coming : ℕ → ℕ) (door rest : DoorState)
-    (opened store : StoreValue) (lines : List Line) (failed : Type 0)
-    → Exchanged start before after moments coming door rest opened store lines
-    → (after.clock < counter_limit → start + call_count opened ≡ before.clock)
-    → (¬ failed → OpensTo after.content (stored_of store))
-    → HasSession start after moments door rest (stored_of opened) store.history lines [] failed
-exchanged-ends start before after moments coming door rest opened store lines failed so_far counted opens =
-    let all = so_far.exchanges in
-    let none : so_far.served ++ [] ≡ so_far.served = append-nil so_far.served in
-    record {
-      served = so_far.served;
-      last = [];
-      lines = so_far.lines_are;
-      last_line = refl;
-      first = opened;
-      first_is = refl;
-      session = session-ends (Ends failed after.content [] store.history) opened moments so_far.served store coming
-          (λ last now at. (
-            ap (λ (s : StoreValue). s.history) (sym at.0),
-            λ works. subst (λ (s : StoreValue). OpensTo after.content (stored_of s)) (sym at.0) (opens works),
-          )) so_far.session;
-      given = subst (λ (es : List Exchange). door.left ≡ map (λ e. e.given) es ++ rest.left) (sym none) all.given;
-      back = subst (λ (es : List Exchange). rest.back ≡ door.back ++ map (λ e. e.back) es) (sym none) all.back;
-      marked = λ below. subst (All (IsMarked start)) (sym none) (all.marked below (counted below));
-      documents = subst (All (SendsServed opened.head store.history)) (sym none)
-          (All-weaker (IsOver opened.head store.history) (SendsServed opened.head store.history)
-          (sends-over opened.head store.history) so_far.served all.over);
-    }
-
--- the last connection was broken off
-pub exchanged-breaks : (start : ℕ) (before after behind : DiskState) (moments coming : ℕ → ℕ)
-    (door rest later : DoorState) (opened store : StoreValue) (lines : List Line) (failed : Type 0) (history : List Op)
-    (exchange : Exchange) (so_far : Exchanged start before after moments coming door rest opened store lines)
-    → Exchanges start before behind door later opened history (so_far.served ++ exchange ∷ [])
-    → (behind.clock < counter_limit → start + call_count opened ≡ before.clock) → failed
-    → IsBrokenOff store (coming 0) exchange history
-    → HasSession start behind moments door later (stored_of opened) history lines (exchange.line ∷ []) failed
-exchanged-breaks start before after behind moments coming door rest later opened store lines failed history exchange
-    so_far all counted fails broken = record {
-      served = so_far.served;
-      last = exchange ∷ [];
-      lines = so_far.lines_are;
-      last_line = refl;
-      first = opened;
-      first_is = refl;
-      session = session-ends
-          (Ends failed behind.content (exchange ∷ []) history) opened moments so_far.served store coming
-          (λ last now at. (
-            fails,
-            subst (λ (s : StoreValue). IsBrokenOff s (now 0) exchange history) (sym at.0)
-                (subst (λ (m : ℕ). IsBrokenOff store m exchange history) (sym (at.1 0)) broken),
-          )) so_far.session;
-      given = all.given;
-      back = all.back;
-      marked = λ below. all.marked below (counted below);
-      documents = All-weaker (IsOver opened.head history) (SendsServed opened.head history)
-          (sends-over opened.head history) (so_far.served ++ exchange ∷ []) all.over;
-    }
+  -- the last connection was broken off
+  pub exchanges-break : (exchange : Exchange)
+      → Exchanges start before after door rest door_told opened (served ++ exchange ∷ [])
+      → lines ≡ map (λ e. e.line) (served ++ exchange ∷ []) → failed
+      → IsOneFailed before.faults after.faults (exchange ∷ [])
+      → HasExchanges start before.faults after door rest door_told lines served (exchange ∷ []) failed
+  exchanges-break exchange all lines_are fails broken = record {
+    lines_are = lines_are;
+    unfailed = unfailed;
+    all_served = λ works. absurd (works fails);
+    broken_off = λ _. broken;
+    reported = all.reported;
+    marked = λ below. all.marked below (counted below);
+    linked = all.linked;
+    sent = all.sent;
+  }

@@ -18,8 +18,8 @@ use Rattle.http_face.specs.Reply.{HasPhrase}
 use Rattle.http_face.specs.Request.{RequestValue}
 use Rattle.http_face.specs.declared.reply.Line7.TheVariants as line
 use Rattle.http_face.specs.declared.reply.Reply.{Reply}
-use Rattle.document_server.specs.Reply.{Outcome, disk_fault, entry_refusal, gone, is_entry_media, line_reply, no_memory}
-use Rattle.document_server.specs.Reply.{not_found}
+use Rattle.document_server.specs.Reply.{Outcome, disk_changed, disk_fault, entry_refusal, gone, is_entry_media}
+use Rattle.document_server.specs.Reply.{line_reply, no_memory, not_found}
 use Rattle.document_server.specs.declared.failure.Failure.{Failure}
 use Rattle.document_server.specs.declared.failure.Failure.TheVariants.{Disk, Changed, NoMemory}
 use Rattle.member_rules.specs.declared.operation.Op.{Op}
@@ -93,7 +93,7 @@ pub record LeavesAnswered (outcomes : Outcome → Type 0) (before after : DiskSt
 abbrev pub ComesTo : (Outcome → Type 0) → StoreValue → StoreValue → Result Reply Failure → Type 0
 ComesTo outcomes old new (Ok reply) = IsReplied outcomes old new reply
 ComesTo outcomes old new (Err Disk) = Unit {0}
-ComesTo outcomes old new (Err Changed) = ⊥
+ComesTo outcomes old new (Err Changed) = IsReplied outcomes old new disk_changed
 ComesTo outcomes old new (Err NoMemory) = Gains old new None
 
 -- the store and the disk after a part of the answer, which fails exactly if a device call failed

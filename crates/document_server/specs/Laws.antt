@@ -1,12 +1,8 @@
 -- Laws that the crates above cite. Each is the contract of a function of laws.rt.
 use Rattle.std.specs.Prelude.{◌≡◌, ℕ, List}
-use Rattle.atom_values.specs.Entry.{DraftValue, IsDraft}
 use Rattle.chain_links.specs.Address.{IsAddress, IsTarget, printed}
 use Rattle.chain_links.specs.declared.address.Address.{Address}
 use Rattle.document_server.specs.Reply.{Outcome, IsOutcome}
-use Rattle.entry_reader.specs.Refusal.{IsRefusedAt}
-use Rattle.entry_reader.specs.Spells.{Spells}
-use Rattle.entry_reader.specs.declared.fault.Why.{Why}
 use Rattle.feed_recovery.specs.Store.{StoreValue}
 use Rattle.http_face.specs.Reply.{body_text}
 use Rattle.http_face.specs.Request.{RequestValue}
@@ -27,22 +23,13 @@ ShownAreServed = (store : StoreValue) (request : RequestValue) (now : ℕ) (give
     → IsHead store.head → IsLawful store.head store.history → IsOutcome store request now given
     → given.reply.media ≡ Feed → IsServedReply store request given.reply
 
--- the bytes are read in one way at most: as one draft, or refused for one reason at one offset
-pub record IsReadInOneWay (body : List ℕ) : Type 0 where
-  pub drafts : (one other : DraftValue) → IsDraft one → Spells body one → IsDraft other → Spells body other
-      → one ≡ other
-  pub refusals : (at place : ℕ) (reason cause : Why) → IsRefusedAt body at reason → IsRefusedAt body place cause
-      → (at ≡ place) × (reason ≡ cause)
-  pub apart : (draft : DraftValue) (at : ℕ) (reason : Why) → IsDraft draft → Spells body draft
-      → ¬ IsRefusedAt body at reason
-
 -- the target names one address at most
 abbrev pub NamesOneAddress : List ℕ → List ℕ → Type 0
 NamesOneAddress base target = (one other : Address) → IsAddress one → IsAddress other → IsTarget base one target
     → IsTarget base other target → one ≡ other
 
--- a request has one outcome at most, if its target and its body are read in one way
+-- a request has one outcome at most, if its target names one address at most
 abbrev pub OneOutcome : Type 0
 OneOutcome = (store : StoreValue) (request : RequestValue) (now : ℕ) (one other : Outcome)
-    → NamesOneAddress store.head.name.base request.target → IsReadInOneWay request.body
-    → IsOutcome store request now one → IsOutcome store request now other → one ≡ other
+    → NamesOneAddress store.head.name.base request.target → IsOutcome store request now one
+    → IsOutcome store request now other → one ≡ other

@@ -1,6 +1,6 @@
 -- The reply to a request on a store, and the operation that the store gains, row by row (RFC 5023, RFC 9110).
-use Rattle.std.specs.Prelude.{◌≡◌, ◌≢◌, ◌⊎◌, ℕ, List, ◌++◌, Option, Some, None, Ok, Err, Bool, true, false, not}
-use Rattle.std.specs.Prelude.{◌==◌}
+use Rattle.std.specs.Prelude.{◌≡◌, ◌≢◌, ◌⊎◌, ℕ, ◌-◌, List, ◌++◌, length, slice_get, Option, Some, None, Ok, Err}
+use Rattle.std.specs.Prelude.{◌==◌, Bool, true, false, not}
 use Rattle.std.specs.Prelude.{codes, decimal, take_while}
 use Rattle.std.specs.Str.{str_eq_ignore_ascii_case}
 use Rattle.atom_values.specs.Entry.{DraftValue, EntryValue, IsDraft}
@@ -18,7 +18,8 @@ use Rattle.entry_reader.specs.declared.fault.Why.{Why}
 use Rattle.entry_reader.specs.declared.fault.Why.TheVariants as why
 use Rattle.feed_disk.specs.declared.area.Area.{Area}
 use Rattle.feed_disk.specs.declared.area.Area.TheVariants.{Journal, Sealed, Mirror}
-use Rattle.feed_recovery.specs.Documents.{IsSealed}
+use Rattle.feed_journal.specs.Log.{payload_lengths}
+use Rattle.feed_recovery.specs.Documents.{IsLiveDocument, IsMemberDocument, IsSealed}
 use Rattle.feed_recovery.specs.Opening.{seal_of}
 use Rattle.feed_recovery.specs.Prepare.{Fits, IsDueSeal, IsFullArea, SealFits, decision_of}
 use Rattle.feed_recovery.specs.Store.{StoreValue}
@@ -217,11 +218,10 @@ IsOfFeed store request now Get given = IsFeedShown store given
 IsOfFeed store request now Post given = IsSent store request (λ draft. ask.Create draft) now given
 IsOfFeed store request now _ given = given ≡ unchanged (not_allowed OfFeed)
 
-abbrev pub IsOfArchive : StoreValue → ℕ → Verb → Outcome → Type 0
-IsOfArchive store number Get given =
-    (IsSealed store number × (given ≡ unchanged (document_reply media.Feed (seal_of store.head store.history number))))
-    ⊎ ((¬ IsSealed store number) × (given ≡ unchanged not_found))
-IsOfArchive store number _ given = given ≡ unchanged (not_allowed OfArchive)
+-- the text of a sealed archive
+abbrev pub IsArchiveShown : StoreValue → ℕ → Outcome → Type 0
+IsArchiveShown store number given =
+    given ≡ unchanged (document_reply media.Feed (seal_of store.head store.history number))
 
 -- the member document of the entry that a live member has
 abbrev pub IsMemberShown : StoreValue → ℕ → Outcome → Type 0
@@ -229,31 +229,100 @@ IsMemberShown store number given =
     (entry : EntryValue) × ((fold_of store.history).live number ≡ Some entry)
     × (given ≡ unchanged (document_reply media.Entry (member_text store.head.name entry)))
 
-abbrev pub IsOfMember : StoreValue → RequestValue → ℕ → ℕ → Verb → Outcome → Type 0
-IsOfMember store request now number Get given =
-    IsOfState (state_of store.history number) (IsMemberShown store number) given
-IsOfMember store request now number Put given =
+-- the outcomes of a GET of a sealed archive and of a live member, by their number: the documents that are read from the
+-- disk
+pub record Shown : Type 1 where
+  pub archive : ℕ → Outcome → Type 0
+  pub member : ℕ → Outcome → Type 0
+
+abbrev pub shown_by : StoreValue → Shown
+shown_by store = record { archive = IsArchiveShown store; member = IsMemberShown store }
+
+-- a request of an archive, of which a GET has these outcomes
+abbrev pub IsOfArchiveAs : (Outcome → Type 0) → StoreValue → ℕ → Verb → Outcome → Type 0
+IsOfArchiveAs shown store number Get given =
+    (IsSealed store number × shown given) ⊎ ((¬ IsSealed store number) × (given ≡ unchanged not_found))
+IsOfArchiveAs shown store number _ given = given ≡ unchanged (not_allowed OfArchive)
+
+abbrev pub IsOfArchive : StoreValue → ℕ → Verb → Outcome → Type 0
+IsOfArchive store number verb given = IsOfArchiveAs (IsArchiveShown store number) store number verb given
+
+-- a request of a member, of which a GET has these outcomes while it is live
+abbrev pub IsOfMemberAs : (Outcome → Type 0) → StoreValue → RequestValue → ℕ → ℕ → Verb → Outcome → Type 0
+IsOfMemberAs shown store request now number Get given = IsOfState (state_of store.history number) shown given
+IsOfMemberAs shown store request now number Put given =
     IsOfState (state_of store.history number)
     (IsSent store request (λ draft. ask.Replace number draft) now) given
-IsOfMember store request now number Delete given =
+IsOfMemberAs shown store request now number Delete given =
     IsOfState (state_of store.history number) (IsAsked store (ask.Delete number) now) given
-IsOfMember store request now number _ given = given ≡ unchanged (not_allowed OfMember)
+IsOfMemberAs shown store request now number _ given = given ≡ unchanged (not_allowed OfMember)
+
+abbrev pub IsOfMember : StoreValue → RequestValue → ℕ → ℕ → Verb → Outcome → Type 0
+IsOfMember store request now number verb given =
+    IsOfMemberAs (IsMemberShown store number) store request now number verb given
+
+abbrev pub IsAtAddressAs : Shown → StoreValue → RequestValue → ℕ → Address → Outcome → Type 0
+IsAtAddressAs shown store request now Feed given = IsOfFeed store request now request.verb given
+IsAtAddressAs shown store request now (Archive number) given =
+    IsOfArchiveAs (shown.archive number) store number request.verb given
+IsAtAddressAs shown store request now (Member number) given =
+    IsOfMemberAs (shown.member number) store request now number request.verb given
 
 abbrev pub IsAtAddress : StoreValue → RequestValue → ℕ → Address → Outcome → Type 0
-IsAtAddress store request now Feed given = IsOfFeed store request now request.verb given
-IsAtAddress store request now (Archive number) given = IsOfArchive store number request.verb given
-IsAtAddress store request now (Member number) given = IsOfMember store request now number request.verb given
+IsAtAddress store request now address given = IsAtAddressAs (shown_by store) store request now address given
 
 -- the target is no address of the feed, or a document's
-abbrev pub IsOfTarget : StoreValue → RequestValue → ℕ → Outcome → Type 0
-IsOfTarget store request now given =
+abbrev pub IsOfTargetAs : Shown → StoreValue → RequestValue → ℕ → Outcome → Type 0
+IsOfTargetAs shown store request now given =
     (((address : Address) → IsAddress address → ¬ IsTarget store.head.name.base address request.target)
     × (given ≡ unchanged not_found))
     ⊎ ((address : Address) × IsAddress address × IsTarget store.head.name.base address request.target
-    × IsAtAddress store request now address given)
+    × IsAtAddressAs shown store request now address given)
+
+abbrev pub IsOutcomeAs : Shown → StoreValue → RequestValue → ℕ → Outcome → Type 0
+IsOutcomeAs shown store request now given =
+    ((request.verb ≡ Other) × (given ≡ unchanged (line_reply 501 line.NotImplemented)))
+    ⊎ ((request.verb ≢ Other) × IsOfTargetAs shown store request now given)
 
 -- the outcome of a request on a store at a moment of the clock, if neither memory nor disk fails
 abbrev pub IsOutcome : StoreValue → RequestValue → ℕ → Outcome → Type 0
-IsOutcome store request now given =
-    ((request.verb ≡ Other) × (given ≡ unchanged (line_reply 501 line.NotImplemented)))
-    ⊎ ((request.verb ≢ Other) × IsOfTarget store request now given)
+IsOutcome store request now given = IsOutcomeAs (shown_by store) store request now given
+
+-- The same over any disk. `told` says whether contracts see the disk's content.
+
+-- the text that a read gave for a sealed archive is as long as the store has its seal, and is its text if that is seen
+pub record IsArchiveRead (told : Type 0) (store : StoreValue) (number : ℕ) (written : List ℕ) : Type 0 where
+  pub long : slice_get (payload_lengths store.seals.extents) (number - 1) ≡ Some (length written)
+  pub seen : told → written ≡ seal_of store.head store.history number
+
+-- the member document that a read gave for a live member is that of the entry that the member has, if that is seen
+pub record IsMemberRead (told : Type 0) (store : StoreValue) (number : ℕ) (written : List ℕ) : Type 0 where
+  pub document : IsMemberDocument store number written
+  pub seen : told → IsLiveDocument store number written
+
+-- a document that a read gave; or the disk gave something else than what the store has on it
+abbrev pub IsShownFrom : Type 0 → Media → (List ℕ → Type 0) → Outcome → Type 0
+IsShownFrom told kind IsGiven given =
+    ((written : List ℕ) × IsGiven written × (given ≡ unchanged (document_reply kind written)))
+    ⊎ ((¬ told) × (given ≡ unchanged disk_changed))
+
+abbrev pub IsArchiveShownOver : Type 0 → StoreValue → ℕ → Outcome → Type 0
+IsArchiveShownOver told store number given = IsShownFrom told media.Feed (IsArchiveRead told store number) given
+
+abbrev pub IsMemberShownOver : Type 0 → StoreValue → ℕ → Outcome → Type 0
+IsMemberShownOver told store number given = IsShownFrom told media.Entry (IsMemberRead told store number) given
+
+abbrev pub shown_over : Type 0 → StoreValue → Shown
+shown_over told store =
+    record { archive = IsArchiveShownOver told store; member = IsMemberShownOver told store }
+
+abbrev pub IsOfArchiveOver : Type 0 → StoreValue → ℕ → Verb → Outcome → Type 0
+IsOfArchiveOver told store number verb given =
+    IsOfArchiveAs (IsArchiveShownOver told store number) store number verb given
+
+abbrev pub IsOfMemberOver : Type 0 → StoreValue → RequestValue → ℕ → ℕ → Verb → Outcome → Type 0
+IsOfMemberOver told store request now number verb given =
+    IsOfMemberAs (IsMemberShownOver told store number) store request now number verb given
+
+abbrev pub IsOutcomeOver : Type 0 → StoreValue → RequestValue → ℕ → Outcome → Type 0
+IsOutcomeOver told store request now given = IsOutcomeAs (shown_over told store) store request now given

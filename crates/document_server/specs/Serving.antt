@@ -1,18 +1,19 @@
 -- The store and its disk after connections were served, and the facts that the lines state of them.
-use Rattle.std.specs.Prelude.{◌≡◌, ℕ, ◌+◌, ◌<◌, ◌≤◌, List, [], ◌∷◌, ◌++◌, length, map, All, Option, Some, true, false}
-use Rattle.std.specs.Prelude.{Result, Ok, Err}
+use Rattle.std.specs.Prelude.{◌≡◌, ◌⊎◌, ℕ, ◌+◌, ◌<◌, ◌≤◌, List, [], ◌∷◌, ◌++◌, length, map, All, Option, Some}
+use Rattle.std.specs.Prelude.{true, false, Result, Ok, Err}
 use Rattle.atom_values.specs.Counts.{counter_limit}
 use Rattle.document_server.specs.Answer.{Gains, MayAdd}
 use Rattle.document_server.specs.Door.{DoorState}
 use Rattle.document_server.specs.Reply.{IsOutcome, disk_fault}
-use Rattle.document_server.specs.Session.{Ends, Exchange, IsBrokenOff, IsMarked, IsServed, IsSession, IsTurn}
-use Rattle.document_server.specs.Session.{SendsServed, Turn}
+use Rattle.document_server.specs.Session.{Ends, Exchange, IsBrokenOff, IsMarked, IsOneFailed, IsReported, IsSent}
+use Rattle.document_server.specs.Session.{IsServed, IsSession, IsTurn, IsUnfailed, SendsServed, Turn}
 use Rattle.document_server.specs.declared.line.Line.{Line}
 use Rattle.document_server.specs.declared.session.End.{End}
-use Rattle.document_server.specs.declared.session.End.TheVariants.{Done}
+use Rattle.document_server.specs.declared.session.End.TheVariants.{Done, DoorFault}
 use Rattle.feed_disk.specs.Disk.{DiskState}
 use Rattle.feed_disk.specs.Moments.{LeavesOnlyBoth}
 use Rattle.feed_disk.specs.declared.area.Area.TheVariants.{Journal, Sealed}
+use Rattle.feed_journal.specs.Log.{IsLog}
 use Rattle.feed_recovery.specs.Settled.{AlwaysLeavesBoth, IsAtRest, NowBoth, OpensPast, Settled}
 use Rattle.feed_recovery.specs.Store.{StoreValue, call_count, is_spent}
 use Rattle.feed_recovery.specs.Stored.{IsSized, OpensTo, Stored, stored_of}
@@ -40,6 +41,11 @@ pub record Follows (version calls : ℕ) (line : Line) : Type 0 where
 abbrev pub AreInOrder : ℕ → ℕ → List Line → Type 0
 AreInOrder version calls [] = Unit {0}
 AreInOrder version calls (line ∷ lines) = Follows version calls line × AreInOrder line.version line.calls lines
+
+-- the version of the last line, or this one if there is none
+abbrev pub version_after : ℕ → List Line → ℕ
+version_after version [] = version
+version_after version (line ∷ lines) = version_after line.version lines
 
 -- Crashes
 
@@ -72,6 +78,7 @@ pub record LeavesServed (before after : DiskState) (head : HeadValue) (operation
   pub same : opened.head ≡ head
   -- the moment of the last device call of the load, which comes before each line
   pub loaded : ℕ
+  pub over : loaded ≤ after.clock
   pub before_lines : after.clock < counter_limit → All (λ (line : Line). loaded ≤ before.clock + line.calls) lines
   pub each : LeavesOnlyBoth before after Journal Sealed (λ c journal sealed.
       (c ≤ loaded → OpensPast head operations least journal sealed)
@@ -82,79 +89,123 @@ pub record LeavesServed (before after : DiskState) (head : HeadValue) (operation
 
 -- The session
 
--- The lines are those of a session over the connections that the door gave, each of which was given back.
-pub record HasSession (start : ℕ) (after : DiskState) (moments : ℕ → ℕ) (door rest : DoorState) (opened : Stored)
-    (history : List Op) (unbroken broken : List Line) (failed : Type 0) : Type 0 where
+-- the door gave these connections, in order, and has each of them back
+pub record HasLinks (door rest : DoorState) (exchanges : List Exchange) : Type 0 where
+  pub given : door.left ≡ map (λ e. e.given) exchanges ++ rest.left
+  pub back : rest.back ≡ door.back ++ map (λ e. e.back) exchanges
+
+-- Connections were served one after the other, with these lines. `last` has the one that a failed device call broke
+-- off, if one did, and `served` those before it. The disk's count of faults was `faults` before them. The lines count
+-- device calls from the moment `start`.
+pub record HasExchanges (start faults : ℕ) (after : DiskState) (door rest : DoorState) (door_told : Type 0)
+    (lines : List Line) (served last : List Exchange) (failed : Type 0) : Type 0 where
+  pub lines_are : lines ≡ map (λ e. e.line) (served ++ last)
+  pub unfailed : All (IsUnfailed faults) served
+  pub all_served : ¬ failed → last ≡ []
+  pub broken_off : failed → IsOneFailed faults after.faults last
+  pub reported : All IsReported (served ++ last)
+  pub marked : after.clock < counter_limit → All (IsMarked start) (served ++ last)
+  pub linked : door_told → HasLinks door rest (served ++ last)
+  pub sent : door_told → All IsSent (served ++ last)
+
+-- the exchanges are those of a session from a store of this value
+abbrev pub IsSessionFrom : DiskState → (ℕ → ℕ) → Stored → List Exchange → List Exchange → List Op → Type 0 → Type 0
+IsSessionFrom after moments opened served last history failed =
+    (first : StoreValue) × (stored_of first ≡ opened)
+    × IsSession (Ends failed after.content last history) first moments served
+
+-- The history is the one that was opened and the operations that were added. Its length is the version of the last
+-- line, or at most one more if that connection was broken off.
+pub record HasHistory (after : DiskState) (moments : ℕ → ℕ) (clock_told door_told : Type 0) (opened : Stored)
+    (lines : List Line) (served last : List Exchange) (history : List Op) (failed : Type 0) : Type 0 where
+  pub more : List Op
+  pub extends : history ≡ opened.history ++ more
+  pub no_fewer : version_after (length opened.history) lines ≤ length history
+  pub no_more : length history ≤ version_after (length opened.history) lines + length last
+  pub documents : door_told → All (SendsServed opened.head history) (served ++ last)
+  pub session : clock_told → door_told → IsSessionFrom after moments opened served last history failed
+
+-- A store was loaded, and connections were served on it. The history, and all that follows from it, is stated if
+-- contracts see the disk.
+pub record Serves (before after : DiskState) (moments : ℕ → ℕ) (door rest : DoorState)
+    (disk_told clock_told door_told : Type 0) (lines : List Line) (failed : Type 0) : Type 0 where
+  pub opened : Stored
+  pub opens : disk_told → OpensTo before.content opened
   pub served : List Exchange
   pub last : List Exchange
-  pub lines : unbroken ≡ map (λ e. e.line) served
-  pub last_line : broken ≡ map (λ e. e.line) last
-  pub first : StoreValue
-  pub first_is : stored_of first ≡ opened
-  pub session : IsSession (Ends failed after.content last history) first moments served
-  pub given : door.left ≡ map (λ e. e.given) (served ++ last) ++ rest.left
-  pub back : rest.back ≡ door.back ++ map (λ e. e.back) (served ++ last)
-  pub marked : after.clock < counter_limit → All (IsMarked start) (served ++ last)
-  pub documents : All (SendsServed opened.head history) (served ++ last)
-
--- Connections were served on a store that the disk opened to. The history is that store's with the operations that were
--- accepted, in order. `unbroken` are the lines but that of a connection that was broken off.
-pub record Serves (before after : DiskState) (moments : ℕ → ℕ) (door rest : DoorState) (seen : Type 0)
-    (lines : List Line) (failed : Type 0) : Type 0 where
-  pub opened : Stored
-  pub opens : OpensTo before.content opened
-  pub history : List Op
-  pub unbroken : List Line
-  pub broken : List Line
-  pub lines_are : lines ≡ unbroken ++ broken
-  pub all_unbroken : ¬ failed → broken ≡ []
-  pub one_broken : failed → length broken ≡ 1
+  pub exchanges : HasExchanges before.clock before.faults after door rest door_told lines served last failed
   pub ordered : after.clock < counter_limit → AreInOrder (length opened.history) 0 lines
   pub within : after.clock < counter_limit → All (λ (line : Line). before.clock + line.calls ≤ after.clock) lines
-  pub crash : (head : HeadValue) (operations : List Op) (least : ℕ) → Settled before head operations least
-      → LeavesServed before after head operations least opened history lines unbroken failed
-  pub session : seen → HasSession before.clock after moments door rest opened history unbroken broken failed
+  pub history : disk_told → List Op
+  pub stored : (told : disk_told)
+      → HasHistory after moments clock_told door_told opened lines served last (history told) failed
+  pub crash : (told : disk_told) (head : HeadValue) (operations : List Op) (least : ℕ)
+      → Settled before head operations least
+      → LeavesServed before after head operations least opened (history told) lines (map (λ e. e.line) served) failed
 
 -- Connections were served on a store that was loaded before, which has made its device calls since the moment `start`.
-pub record ServesFrom (start : ℕ) (before after : DiskState) (moments : ℕ → ℕ) (door rest : DoorState) (seen : Type 0)
-    (store : StoreValue) (lines : List Line) (failed : Type 0) : Type 0 where
-  pub history : List Op
-  pub unbroken : List Line
-  pub broken : List Line
-  pub lines_are : lines ≡ unbroken ++ broken
-  pub all_unbroken : ¬ failed → broken ≡ []
-  pub one_broken : failed → length broken ≡ 1
+pub record ServesFrom (start : ℕ) (before after : DiskState) (moments : ℕ → ℕ) (door rest : DoorState)
+    (disk_told clock_told door_told : Type 0) (store : StoreValue) (lines : List Line) (failed : Type 0)
+    : Type 0 where
+  pub served : List Exchange
+  pub last : List Exchange
+  pub exchanges : HasExchanges start before.faults after door rest door_told lines served last failed
   pub ordered : after.clock < counter_limit → AreInOrder (length store.history) (call_count store) lines
   pub within : after.clock < counter_limit
       → All (λ (line : Line). (before.clock ≤ start + line.calls) × (start + line.calls ≤ after.clock)) lines
-  pub crash : IsAtRest before
-      → LeavesServing start before after store.head (length store.history) history lines unbroken failed
-  pub session : seen → HasSession start after moments door rest (stored_of store) history unbroken broken failed
+  pub history : disk_told → List Op
+  pub stored : (told : disk_told)
+      → HasHistory after moments clock_told door_told (stored_of store) lines served last (history told) failed
+  pub crash : (told : disk_told) → IsAtRest before
+      → LeavesServing start before after store.head (length store.history) (history told) lines
+      (map (λ e. e.line) served) failed
+
+-- How a session of at most this many connections ends: as done if it served them all or the door has no more, and by a
+-- failed call of the door only before it served them all.
+pub record IsEndOf (requests : ℕ) (door_told : Type 0) (rest : DoorState) (lines : List Line) (end : End)
+    : Type 0 where
+  pub done : end ≡ Done → (length lines ≡ requests) ⊎ (door_told → rest.left ≡ [])
+  pub early : end ≡ DoorFault → length lines < requests
 
 -- the store has made its device calls since this moment, unless the clock is at the greatest u64
 abbrev pub CountsFrom : ℕ → DiskState → DiskState → StoreValue → Type 0
 CountsFrom start before after store = after.clock < counter_limit → start + call_count store ≡ before.clock
 
+-- the sizes of the two logs are those of their payloads
+abbrev pub AreLogs : StoreValue → Type 0
+AreLogs store = IsLog store.journal × IsLog store.seals
+
 -- One connection
 
-abbrev pub exchange_of : ConnState → ConnState → Option Reply → Line → Exchange
-exchange_of given back reply line = record { given = given; back = back; reply = reply; line = line }
+abbrev pub exchange_of : DiskState → DiskState → ConnState → ConnState → Option Reply → Line → Exchange
+exchange_of before after given back reply line = record {
+  given = given;
+  back = back;
+  faults_before = before.faults;
+  faults_after = after.faults;
+  reply = reply;
+  line = line;
+}
 
 -- the clock's moments after a turn
 abbrev pub GoesOn : (ℕ → ℕ) → (ℕ → ℕ) → ℕ → Type 0
 GoesOn moments coming taken = (k : ℕ) → coming k ≡ moments (taken + k)
 
--- A connection has this reply, which isn't sent yet. `read` is the connection after its request.
-pub record IsReplyOn (moments coming : ℕ → ℕ) (store : StoreValue) (given read : ConnState) (reply : Option Reply)
-    (next : StoreValue) : Type 0 where
+-- A connection has this reply at a moment, which isn't sent yet. `read` is the connection after its request.
+pub record IsReplyOn (before after : DiskState) (moments coming : ℕ → ℕ) (clock_told : Type 0) (store : StoreValue)
+    (given read : ConnState) (reply : Option Reply) (next : StoreValue) : Type 0 where
+  pub now : ℕ
+  pub is_now : clock_told → now ≡ moments 0
   pub turn : Turn
-  pub is_turn : (line : Line) → IsTurn store (moments 0) (exchange_of given read reply line) turn
+  pub is_turn : (line : Line) → IsTurn store now (exchange_of before after given read reply line) turn
   pub gains : Gains store next turn.adds
-  pub clock : GoesOn moments coming turn.moments
+  pub clock : clock_told → GoesOn moments coming turn.moments
 
 -- the disk failed after the request of a connection, which may have added these operations
-pub record IsFaultOn (store : StoreValue) (now : ℕ) (given : ConnState) (operations : List Op) (reply : Option Reply)
-    : Type 0 where
+pub record IsFaultOn (moments : ℕ → ℕ) (clock_told : Type 0) (store : StoreValue) (given : ConnState)
+    (operations : List Op) (reply : Option Reply) : Type 0 where
+  pub now : ℕ
+  pub is_now : clock_told → now ≡ moments 0
   pub request : RequestValue
   pub rules : IsRequest request
   pub heard : IsHeard given.left request
@@ -163,35 +214,54 @@ pub record IsFaultOn (store : StoreValue) (now : ℕ) (given : ConnState) (opera
 
 -- The request of a connection was read and answered, or the disk failed after it. `operations` are those that the
 -- request may have added.
-pub record RepliesOne (before after : DiskState) (moments coming : ℕ → ℕ) (given read : ConnState) (seen : Type 0)
-    (old new : StoreValue) (reply : Option Reply) : Type 0 where
+pub record RepliesOne (before after : DiskState) (moments coming : ℕ → ℕ) (given read : ConnState)
+    (clock_told conn_told : Type 0) (old new : StoreValue) (reply : Option Reply) : Type 0 where
   pub sized : IsSized old
   pub operations : List Op
   pub at_most_one : length operations ≤ 1
   pub leaves : IsAtRest before
       → AlwaysLeavesBoth before after (OpensPast old.head (old.history ++ operations) (length old.history))
   pub gained : is_spent new ≡ false → new.history ≡ old.history ++ operations
-  pub replied : seen → is_spent new ≡ false → IsReplyOn moments coming old given read reply new
-  pub failed : seen → is_spent new ≡ true → IsFaultOn old (moments 0) given operations reply
+  pub replied : conn_told → is_spent new ≡ false
+      → IsReplyOn before after moments coming clock_told old given read reply new
+  pub failed : conn_told → is_spent new ≡ true → IsFaultOn moments clock_told old given operations reply
 
--- the connection was served
-pub record IsServedOn (moments coming : ℕ → ℕ) (store : StoreValue) (exchange : Exchange) (next : StoreValue)
-    : Type 0 where
+-- the connection was served at a moment
+pub record IsServedOn (moments coming : ℕ → ℕ) (clock_told : Type 0) (store : StoreValue) (exchange : Exchange)
+    (next : StoreValue) : Type 0 where
+  pub now : ℕ
+  pub is_now : clock_told → now ≡ moments 0
   pub turn : Turn
-  pub served : IsServed store (moments 0) exchange turn next
-  pub clock : GoesOn moments coming turn.moments
+  pub served : IsServed store now exchange turn next
+  pub clock : clock_told → GoesOn moments coming turn.moments
 
--- A connection was served on a store, or the disk failed after its request. `operations` are those that its request
--- may have added.
-pub record ServesOne (before after : DiskState) (moments coming : ℕ → ℕ) (given back : ConnState) (seen : Type 0)
-    (old new : StoreValue) (line : Line) : Type 0 where
+-- the connection was broken off at a moment
+pub record IsBrokenOffOn (moments : ℕ → ℕ) (clock_told : Type 0) (store : StoreValue) (exchange : Exchange)
+    (history : List Op) : Type 0 where
+  pub now : ℕ
+  pub is_now : clock_told → now ≡ moments 0
+  pub broken_off : IsBrokenOff store now exchange history
+
+-- The store and the disk after a connection was served, or after the disk failed. `operations` are those that its
+-- request may have added.
+pub record StoresOne (before after : DiskState) (moments coming : ℕ → ℕ) (clock_told conn_told : Type 0)
+    (old new : StoreValue) (exchange : Exchange) : Type 0 where
   pub operations : List Op
   pub at_most_one : length operations ≤ 1
   pub leaves : IsAtRest before
       → AlwaysLeavesBoth before after (OpensPast old.head (old.history ++ operations) (length old.history))
   pub gained : is_spent new ≡ false → new.history ≡ old.history ++ operations
+  pub served : conn_told → is_spent new ≡ false → IsServedOn moments coming clock_told old exchange new
+  pub broken_off : conn_told → is_spent new ≡ true
+      → IsBrokenOffOn moments clock_told old exchange (old.history ++ operations)
+
+-- a connection was served on a store, or the disk failed after its request
+pub record ServesOne (before after : DiskState) (moments coming : ℕ → ℕ) (given back : ConnState)
+    (disk_told clock_told conn_told : Type 0) (old new : StoreValue) (line : Line) : Type 0 where
   pub reply : Option Reply
-  pub served : seen → is_spent new ≡ false
-      → IsServedOn moments coming old (exchange_of given back reply line) new
-  pub broken_off : seen → is_spent new ≡ true
-      → IsBrokenOff old (moments 0) (exchange_of given back reply line) (old.history ++ operations)
+  pub reported : IsReported (exchange_of before after given back reply line)
+  pub failed : is_spent new ≡ true → reply ≡ Some disk_fault
+  pub sent : conn_told → IsSent (exchange_of before after given back reply line)
+  pub stored : disk_told
+      → StoresOne before after moments coming clock_told conn_told old new
+      (exchange_of before after given back reply line)

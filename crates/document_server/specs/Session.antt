@@ -38,11 +38,13 @@ fault_reply fault.TwoLengths = Some (line_reply 400 line.TwoLengths)
 fault_reply (fault.BodyTooLarge length) = Some (line_reply 413 line.BodyTooLarge)
 fault_reply fault.NoMemory = Some no_memory
 
--- a connection that was served: as the door gave it, as it was given back, the reply that was begun on it, if one was,
--- and its line
+-- a connection that was served: as the door gave it and as it was given back, with the disk's count of faults at both
+-- times, the reply that was begun on it, if one was, and its line
 pub record Exchange : Type 0 where
   pub given : ConnState
   pub back : ConnState
+  pub faults_before : ℕ
+  pub faults_after : ℕ
   pub reply : Option Reply
   pub line : Line
 
@@ -98,16 +100,39 @@ abbrev pub bytes_of : Option Reply → List ℕ
 bytes_of None = []
 bytes_of (Some reply) = reply_bytes reply
 
--- The line has the status of the reply. The bytes of the reply were sent, or a prefix of them if a call of the
--- connection failed.
-pub record IsSent (exchange : Exchange) : Type 0 where
+-- The line has the status of the reply. It has status 0, or says that the reply isn't whole, only if a call of the
+-- connection failed since the door gave it. With status 0 no reply was begun.
+pub record IsReported (exchange : Exchange) : Type 0 where
   pub status : exchange.line.status ≡ status_of exchange.reply
+  pub cause : (exchange.line.status ≡ 0) ⊎ (exchange.line.whole ≡ false)
+      → Rose exchange.given.faults exchange.back.faults
+  pub unbegun : exchange.line.status ≡ 0 → exchange.back.begun ≡ None
+
+-- the bytes of the reply were sent, or a prefix of them if the line says that it isn't whole
+pub record IsSent (exchange : Exchange) : Type 0 where
   pub front : List ℕ
   pub rest : List ℕ
   pub split : bytes_of exchange.reply ≡ front ++ rest
   pub sent : exchange.back.sent ≡ exchange.given.sent ++ front
   pub whole : exchange.line.whole ≡ true → rest ≡ []
-  pub cut : exchange.line.whole ≡ false → Rose exchange.given.faults exchange.back.faults
+
+-- no device call failed while the connection was served
+pub record IsUnfailed (faults : ℕ) (exchange : Exchange) : Type 0 where
+  pub before : exchange.faults_before ≡ faults
+  pub after : exchange.faults_after ≡ faults
+
+-- a device call failed while the connection was served, and the reply is 500 `disk`
+pub record IsFailed (faults later : ℕ) (exchange : Exchange) : Type 0 where
+  pub before : exchange.faults_before ≡ faults
+  pub after : exchange.faults_after ≡ later
+  pub rose : Rose faults later
+  pub reply : exchange.reply ≡ Some disk_fault
+
+-- the same of the one exchange of a list
+abbrev pub IsOneFailed : ℕ → ℕ → List Exchange → Type 0
+IsOneFailed faults later [] = ⊥
+IsOneFailed faults later (exchange ∷ []) = IsFailed faults later exchange
+IsOneFailed faults later (exchange ∷ other ∷ more) = ⊥
 
 -- a connection is served on a store, which becomes the next
 pub record IsServed (store : StoreValue) (now : ℕ) (exchange : Exchange) (turn : Turn) (next : StoreValue)
@@ -116,7 +141,6 @@ pub record IsServed (store : StoreValue) (now : ℕ) (exchange : Exchange) (turn
   pub is_turn : IsTurn store now exchange turn
   pub head : next.head ≡ store.head
   pub gains : Gains store next turn.adds
-  pub sent : IsSent exchange
   pub version : exchange.line.version ≡ length next.history
 
 -- Connections are served one after the other from a store on, each at the next moment of the clock if its request was
@@ -138,7 +162,6 @@ pub record IsBrokenOff (store : StoreValue) (now : ℕ) (exchange : Exchange) (h
   pub may : MayAdd (IsOutcome store request now) pending
   pub history_is : history ≡ store.history ++ pending
   pub reply : exchange.reply ≡ Some disk_fault
-  pub sent : IsSent exchange
   pub version : exchange.line.version ≡ length store.history
 
 -- how a session ends: all connections were served, and the content opens to the last store, or one was broken off
@@ -150,9 +173,8 @@ Ends failed content (exchange ∷ []) history last moments =
 Ends failed content (exchange ∷ other ∷ more) history last moments = ⊥
 
 -- If a reply was begun, it was begun when the disk had made the line's device calls, counted from `start`.
-pub record IsMarked (start : ℕ) (exchange : Exchange) : Type 0 where
-  pub begun : exchange.line.status ≢ 0 → exchange.back.begun ≡ Some (start + exchange.line.calls)
-  pub unbegun : exchange.line.status ≡ 0 → exchange.back.begun ≡ None
+abbrev pub IsMarked : ℕ → Exchange → Type 0
+IsMarked start exchange = exchange.line.status ≢ 0 → exchange.back.begun ≡ Some (start + exchange.line.calls)
 
 -- the feed document of a reply is what the feed serves at the address that the request names
 pub record IsServedDocument (head : HeadValue) (history : List Op) (exchange : Exchange) (reply : Reply) : Type 0 where

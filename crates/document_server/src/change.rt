@@ -58,7 +58,7 @@ pub(crate) fn create<D: Disk>(
 ) -> Result<Reply, Failure>
     requires unspent { is_spent store.old ≡ false }
     requires stands { D.told → StandsFor (D.state disk.old) store.old }
-    ensures answered { D.told → ComesTo
+    ensures answered { ComesTo
         (IsSent store.old request.now (λ draft. Create draft) now) store.old store.new result }
     ensures own { IfOk result IsOwn }
     ensures steps { Steps D.told (D.state disk.old) (D.state disk.new) store.old store.new
@@ -86,7 +86,7 @@ pub(crate) fn replace<D: Disk>(
 ) -> Result<Reply, Failure>
     requires unspent { is_spent store.old ≡ false }
     requires stands { D.told → StandsFor (D.state disk.old) store.old }
-    ensures answered { D.told → ComesTo
+    ensures answered { ComesTo
         (IsOfState (state_of store.old.history number)
         (IsSent store.old request.now (λ draft. Replace number draft) now)) store.old store.new result }
     ensures own { IfOk result IsOwn }
@@ -118,7 +118,7 @@ pub(crate) fn delete<D: Disk>(
 ) -> Result<Reply, Failure>
     requires unspent { is_spent store.old ≡ false }
     requires stands { D.told → StandsFor (D.state disk.old) store.old }
-    ensures answered { D.told → ComesTo
+    ensures answered { ComesTo
         (IsOfState (state_of store.old.history number) (IsAsked store.old (Delete number) now))
         store.old store.new result }
     ensures own { IfOk result IsOwn }
@@ -146,7 +146,7 @@ fn change<D: Disk>(
 ) -> Result<Reply, Failure>
     requires unspent { is_spent store.old ≡ false }
     requires stands { D.told → StandsFor (D.state disk.old) store.old }
-    ensures answered { D.told → ComesTo (IsAsked store.old ask now) store.old store.new result }
+    ensures answered { ComesTo (IsAsked store.old ask now) store.old store.new result }
     ensures own { IfOk result IsOwn }
     ensures steps { Steps D.told (D.state disk.old) (D.state disk.new) store.old store.new
         (result ≡ Err Failure.Disk) }
@@ -172,7 +172,7 @@ fn commit<D: Disk>(
     requires prepared { MayCommit store.old ready }
     requires room { HasRoom store.old }
     requires stands { D.told → StandsFor (D.state disk.old) store.old }
-    ensures answered { D.told → ComesTo (λ given. given ≡ done store.old.head.name ready.operation)
+    ensures answered { ComesTo (λ given. given ≡ done store.old.head.name ready.operation)
         store.old store.new result }
     ensures own { IfOk result IsOwn }
     ensures steps { Steps D.told (D.state disk.old) (D.state disk.new) store.old store.new

@@ -2,7 +2,8 @@ ghost use Rattle.std.specs.Prelude.{◌≡◌, ◌≢◌, ◌⊎◌, ◌≤◌, 
 ghost use Rattle.atom_values.specs.Counts.{Rose};
 ghost use Rattle.document_server.specs.Answer.{Acknowledges, ComesTo, Grows, IsAnswer, IsDone, IsOwn, LeavesAnswered};
 ghost use Rattle.document_server.specs.Answer.{OnlyReads, ReadsOrCommits, Steps};
-ghost use Rattle.document_server.specs.Reply.{IsOfArchive, IsOfFeed, IsOfMember, IsOutcome, disk_fault, no_memory};
+ghost use Rattle.document_server.specs.Reply.{IsOfArchiveOver, IsOfFeed, IsOfMember, IsOfMemberOver, IsOutcome};
+ghost use Rattle.document_server.specs.Reply.{IsOutcomeOver, disk_changed, disk_fault, no_memory};
 ghost use Rattle.feed_disk.specs.Moments.{LeavesAlone};
 ghost use Rattle.feed_disk.specs.declared.area.Area.TheVariants.{Mirror};
 ghost use Rattle.feed_journal.specs.Log.{MakesSome};
@@ -43,9 +44,13 @@ pub fn answer<D: Disk>(
     requires unspent { is_spent store.old ≡ false }
     requires stands { D.told → StandsFor (D.state disk.old) store.old }
     // The reply is that of the table, and the store gains the operation that the reply acknowledges and its seal; or
-    // memory ran out, or the disk failed.
+    // memory ran out, or the disk failed. With any disk, a document that was read from it has the length or the
+    // timestamps that the store has for it, and only such a GET may have `changed`.
     ensures answered { D.told → IsAnswer (IsOutcome store.old request.now now) store.old store.new result
         (Rose (D.state disk.old).faults (D.state disk.new).faults) }
+    ensures over { IsAnswer (IsOutcomeOver D.told store.old request.now now) store.old store.new result
+        (Rose (D.state disk.old).faults (D.state disk.new).faults) }
+    ensures changed { result ≡ disk_changed → (request.now.verb ≡ Get) × (¬ D.told) }
     ensures memory { result.status ≡ 503 → result ≡ no_memory }
     // The status line of the reply has a phrase.
     ensures status { HasPhrase result.status }
@@ -94,7 +99,7 @@ fn reply_of<D: Disk>(
 ) -> Result<Reply, Failure>
     requires unspent { is_spent store.old ≡ false }
     requires stands { D.told → StandsFor (D.state disk.old) store.old }
-    ensures answered { D.told → ComesTo (IsOutcome store.old request.now now) store.old store.new result }
+    ensures answered { ComesTo (IsOutcomeOver D.told store.old request.now now) store.old store.new result }
     ensures own { IfOk result IsOwn }
     ensures steps { Steps D.told (D.state disk.old) (D.state disk.new) store.old store.new
         (result ≡ Err Failure.Disk) }
@@ -128,7 +133,7 @@ fn of_feed<D: Disk>(
 ) -> Result<Reply, Failure>
     requires unspent { is_spent store.old ≡ false }
     requires stands { D.told → StandsFor (D.state disk.old) store.old }
-    ensures answered { D.told → ComesTo (IsOfFeed store.old request.now now request.now.verb)
+    ensures answered { ComesTo (IsOfFeed store.old request.now now request.now.verb)
         store.old store.new result }
     ensures own { IfOk result IsOwn }
     ensures steps { Steps D.told (D.state disk.old) (D.state disk.new) store.old store.new
@@ -156,7 +161,7 @@ fn of_archive<D: Disk>(
 ) -> Result<Reply, Failure>
     requires unspent { is_spent store.old ≡ false }
     requires stands { D.told → StandsFor (D.state disk.old) store.old }
-    ensures answered { D.told → ComesTo (IsOfArchive store.old number verb) store.old store.new result }
+    ensures answered { ComesTo (IsOfArchiveOver D.told store.old number verb) store.old store.new result }
     ensures own { IfOk result IsOwn }
     ensures steps { Steps D.told (D.state disk.old) (D.state disk.new) store.old store.new
         (result ≡ Err Failure.Disk) }
@@ -180,7 +185,7 @@ fn of_member<D: Disk>(
 ) -> Result<Reply, Failure>
     requires unspent { is_spent store.old ≡ false }
     requires stands { D.told → StandsFor (D.state disk.old) store.old }
-    ensures answered { D.told → ComesTo (IsOfMember store.old request.now now number request.now.verb)
+    ensures answered { ComesTo (IsOfMemberOver D.told store.old request.now now number request.now.verb)
         store.old store.new result }
     ensures own { IfOk result IsOwn }
     ensures steps { Steps D.told (D.state disk.old) (D.state disk.new) store.old store.new

@@ -1,6 +1,6 @@
 ghost use Rattle.std.specs.Prelude.{◌≡◌, false, Err, IfErr, IfOk};
 ghost use Rattle.document_server.specs.Answer.{ComesTo, IsOwn, OnlyReads, Steps};
-ghost use Rattle.document_server.specs.Reply.{IsFeedShown, IsMemberShown, IsOfArchive, IsOfState};
+ghost use Rattle.document_server.specs.Reply.{IsFeedShown, IsMemberShownOver, IsOfArchiveOver, IsOfState};
 ghost use Rattle.feed_recovery.specs.Store.{StandsFor, is_spent};
 ghost use Rattle.http_face.specs.declared.request.Verb.TheVariants.{Get};
 ghost use Rattle.member_rules.specs.Fold.{state_of};
@@ -30,7 +30,7 @@ pub(crate) fn show_archive<D: Disk>(
 ) -> Result<Reply, Failure>
     requires unspent { is_spent store.old ≡ false }
     requires stands { D.told → StandsFor (D.state disk.old) store.old }
-    ensures answered { D.told → ComesTo (IsOfArchive store.old number Get) store.old store.new result }
+    ensures answered { ComesTo (IsOfArchiveOver D.told store.old number Get) store.old store.new result }
     ensures own { IfOk result IsOwn }
     ensures steps { Steps D.told (D.state disk.old) (D.state disk.new) store.old store.new
         (result ≡ Err Failure.Disk) }
@@ -53,8 +53,8 @@ pub(crate) fn show_member<D: Disk>(
 ) -> Result<Reply, Failure>
     requires unspent { is_spent store.old ≡ false }
     requires stands { D.told → StandsFor (D.state disk.old) store.old }
-    ensures answered { D.told → ComesTo
-        (IsOfState (state_of store.old.history number) (IsMemberShown store.old number))
+    ensures answered { ComesTo
+        (IsOfState (state_of store.old.history number) (IsMemberShownOver D.told store.old number))
         store.old store.new result }
     ensures own { IfOk result IsOwn }
     ensures steps { Steps D.told (D.state disk.old) (D.state disk.new) store.old store.new

@@ -7,7 +7,7 @@ pub fn shown_are_served()
     ensures { ShownAreServed }
 {}
 
-/// A request has one outcome at most, if its target and its body are read in one way.
+/// A request has one outcome at most, if its target names one address at most.
 pub fn requests_have_one_outcome()
     ensures { OneOutcome }
 {}

@@ -1,8 +1,10 @@
-ghost use Rattle.std.specs.Prelude.{◌≡◌, ◌≢◌, ◌⊎◌, ◌+◌, ◌<◌, ◌≤◌, ◌++◌, ℕ, List, [], ◌∷◌, length, true, false, None, Some};
-ghost use Rattle.std.specs.Prelude.{Ok, Err, IfErr, IfSome, IsSome, OnOk};
-ghost use Rattle.atom_values.specs.Counts.{Rose, counter_limit};
+ghost use Rattle.std.specs.Prelude.{◌≡◌, ◌≢◌, ◌⊎◌, ◌≤◌, ℕ, List, [], length, true, false, None, Some};
+ghost use Rattle.std.specs.Prelude.{Ok, Err, IfErr, IfSome, IsSome};
+ghost use Rattle.atom_values.specs.Counts.{Rose};
 ghost use Rattle.document_server.specs.Answer.{Grows, Steps};
-ghost use Rattle.document_server.specs.Serving.{CountsFrom, RepliesOne, Serves, ServesFrom, ServesOne, end_of};
+ghost use Rattle.document_server.specs.Reply.{disk_fault};
+ghost use Rattle.document_server.specs.Serving.{AreLogs, CountsFrom, IsEndOf, RepliesOne, Serves, ServesFrom};
+ghost use Rattle.document_server.specs.Serving.{ServesOne, end_of};
 ghost use Rattle.document_server.specs.Session.{connection_limit, fault_reply};
 ghost use Rattle.feed_disk.specs.Moments.{LeavesAlone};
 ghost use Rattle.feed_disk.specs.declared.area.Area.TheVariants.{Journal, Sealed, Mirror};
@@ -71,14 +73,14 @@ pub fn serve<D: Disk, C: Clock, L: Door>(
 ) -> ServeEnd
     requires some { 1 ≤ requests }
     requires few { requests ≤ connection_limit }
-    // The session over the connections that the door gave, and what a crash leaves.
-    ensures serves { D.told → ((fault : Fault) → result.end ≢ End.Load fault)
+    // The session over the connections that the door gave, and what a crash leaves. Each part names the
+    // objects that contracts have to see for it.
+    ensures serves { ((fault : Fault) → result.end ≢ End.Load fault)
         → Serves (D.state disk.old) (D.state disk.new) (C.coming clock.old) (L.state door.old)
         (L.state door.new)
-        (C.told × L.told) result.lines.items (result.end ≡ End.DiskFault) }
+        D.told C.told L.told result.lines.items (result.end ≡ End.DiskFault) }
     ensures most { length result.lines.items ≤ requests }
-    ensures done { result.end ≡ End.Done
-        → (length result.lines.items ≡ requests) ⊎ (L.told → (L.state door.new).left ≡ []) }
+    ensures ends { IsEndOf requests L.told (L.state door.new) result.lines.items result.end }
     ensures returned { L.told → (L.state door.new).out ≡ (L.state door.old).out }
 
     // The door gives all connections of the session while it listens at the address.
@@ -128,13 +130,12 @@ fn serve_into<D: Disk, C: Clock, L: Door>(
     requires empty { lines.old.items ≡ [] }
     requires some { 1 ≤ requests }
     requires few { requests ≤ connection_limit }
-    ensures serves { D.told → ((fault : Fault) → result ≢ Err (End.Load fault))
+    ensures serves { ((fault : Fault) → result ≢ Err (End.Load fault))
         → Serves (D.state disk.old) (D.state disk.new) (C.coming clock.old) (L.state door.old)
         (L.state door.new)
-        (C.told × L.told) lines.new.items (end_of result ≡ End.DiskFault) }
+        D.told C.told L.told lines.new.items (end_of result ≡ End.DiskFault) }
     ensures most { length lines.new.items ≤ requests }
-    ensures done { OnOk result
-        ((length lines.new.items ≡ requests) ⊎ (L.told → (L.state door.new).left ≡ [])) }
+    ensures ends { IsEndOf requests L.told (L.state door.new) lines.new.items (end_of result) }
     ensures returned { L.told → (L.state door.new).out ≡ (L.state door.old).out }
     ensures address { L.only_at door.old listen.now → L.only_at door.new listen.now }
 
@@ -148,7 +149,6 @@ fn serve_into<D: Disk, C: Clock, L: Door>(
         → LeavesStores (D.state disk.old) (D.state disk.new) }
     ensures unopened { (result ≡ Err End.NoMemory) ⊎ ((fault : Fault) × (result ≡ Err (End.Load fault)))
         → (lines.new.items ≡ []) × (door.new ≡ door.old) }
-    ensures own { result ≢ Err End.Done }
     ensures mirror { LeavesAlone (D.state disk.old) (D.state disk.new) Mirror }
 
     ensures disk_fault { (result ≡ Err End.DiskFault) ⊎ (result ≡ Err (End.Load Fault.DiskFault))
@@ -164,6 +164,9 @@ fn serve_into<D: Disk, C: Clock, L: Door>(
     stores_open_in_one_way();
     begun_images_are_whole();
     let mut store = Store::load(alloc, disk)?;
+    // The result isn't used. The contract of `calls` states the rules of the logs, and the proofs need them:
+    // the sizes of the logs are those of their payloads, and the history has room for one more operation.
+    let _ = store.calls();
     if let Err(NoMemory) = lines.reserve(requests as usize) {
         drop(store);
         return Err(End::NoMemory);
@@ -188,19 +191,18 @@ fn serve_links<D: Disk, C: Clock, L: Door>(
     lines: &mut Many<Line, MAX_CONNECTIONS>,
 ) -> Result<(), End>
     requires unspent { is_spent store.old ≡ false }
+    requires logs { AreLogs store.old }
     requires stands { D.told → StandsFor (D.state disk.old) store.old }
     requires settled { D.told → IsAtRest (D.state disk.old)
         → Settled (D.state disk.old) store.old.head store.old.history (length store.old.history) }
     requires empty { lines.old.items ≡ [] }
     requires few { requests ≤ connection_limit }
     requires room { requests ≤ lines.old.spare }
-    ensures serves { D.told → (start : ℕ)
-        → CountsFrom start (D.state disk.old) (D.state disk.new) store.old
+    ensures serves { (start : ℕ) → CountsFrom start (D.state disk.old) (D.state disk.new) store.old
         → ServesFrom start (D.state disk.old) (D.state disk.new) (C.coming clock.old) (L.state door.old)
-        (L.state door.new) (C.told × L.told) store.old lines.new.items (end_of result ≡ End.DiskFault) }
+        (L.state door.new) D.told C.told L.told store.old lines.new.items (end_of result ≡ End.DiskFault) }
     ensures most { length lines.new.items ≤ requests }
-    ensures done { OnOk result
-        ((length lines.new.items ≡ requests) ⊎ (L.told → (L.state door.new).left ≡ [])) }
+    ensures ends { IsEndOf requests L.told (L.state door.new) lines.new.items (end_of result) }
     ensures returned { L.told → (L.state door.new).out ≡ (L.state door.old).out }
     ensures address { (at : List ℕ) → L.listens door.old at → L.only_at door.old at → L.only_at door.new at }
     ensures own { IfErr result (λ end. (end ≡ End.DiskFault) ⊎ (end ≡ End.DoorFault)) }
@@ -223,9 +225,6 @@ fn serve_links<D: Disk, C: Clock, L: Door>(
         let Some(mut link) = door.next()? else {
             return Ok(());
         };
-        // The result isn't used. The contract of `calls` states the rules of the logs, which bound the history. The
-        // proof needs them here: the history has room for one more operation.
-        let _ = store.calls();
         let line = serve_link(alloc, store, disk, clock, &mut link);
         door.back(link);
         match lines.push(line) {
@@ -249,12 +248,13 @@ fn serve_link<D: Disk, C: Clock, K: Conn>(
     link: &mut K,
 ) -> Line
     requires unspent { is_spent store.old ≡ false }
+    requires logs { AreLogs store.old }
     requires stands { D.told → StandsFor (D.state disk.old) store.old }
     requires unbegun { (K.state link.old).begun ≡ None }
-    ensures serves { D.told → ServesOne (D.state disk.old) (D.state disk.new) (C.coming clock.old)
-        (C.coming clock.new)
-        (K.state link.old) (K.state link.new) (C.told × K.told) store.old store.new result }
+    ensures serves { ServesOne (D.state disk.old) (D.state disk.new) (C.coming clock.old) (C.coming clock.new)
+        (K.state link.old) (K.state link.new) D.told C.told K.told store.old store.new result }
     ensures head { store.new.head ≡ store.old.head }
+    ensures logs { AreLogs store.new }
     ensures stays { is_spent store.new ≡ true → store.new.history ≡ store.old.history }
     ensures version { result.version ≡ length store.new.history }
     ensures calls { result.calls ≡ call_count store.new }
@@ -264,7 +264,6 @@ fn serve_link<D: Disk, C: Clock, K: Conn>(
         ⊎ Grows (D.state disk.old) (D.state disk.new) store.old store.new }
     // The connection keeps the disk's clock as the mark of the reply, if one was begun.
     ensures begun { result.status ≢ 0 → (K.state link.new).begun ≡ Some (D.state disk.new).clock }
-    ensures unbegun { result.status ≡ 0 → (K.state link.new).begun ≡ None }
 
     ensures stands { is_spent store.new ≡ false → D.told → StandsFor (D.state disk.new) store.new }
     ensures rests { is_spent store.new ≡ false → D.told → IsAtRest (D.state disk.old)
@@ -294,10 +293,12 @@ fn reply_to<D: Disk, C: Clock, K: Conn>(
     link: &mut K,
 ) -> Option<Reply>
     requires unspent { is_spent store.old ≡ false }
+    requires logs { AreLogs store.old }
     requires stands { D.told → StandsFor (D.state disk.old) store.old }
     ensures replies { D.told → RepliesOne (D.state disk.old) (D.state disk.new)
-        (C.coming clock.old) (C.coming clock.new) (K.state link.old) (K.state link.new) (C.told × K.told)
+        (C.coming clock.old) (C.coming clock.new) (K.state link.old) (K.state link.new) C.told K.told
         store.old store.new result }
+    ensures spent { is_spent store.new ≡ true → result ≡ Some disk_fault }
     ensures steps { Steps D.told (D.state disk.old) (D.state disk.new) store.old store.new
         (is_spent store.new ≡ true) }
     ensures grows { (store.new.history ≡ store.old.history)
@@ -310,9 +311,6 @@ fn reply_to<D: Disk, C: Clock, K: Conn>(
 {
     // Its contract is a law that the proof uses.
     begun_images_are_whole();
-    // The result isn't used. The contract of `calls` states that the sizes of the logs are those of their payloads,
-    // and the proof needs that here.
-    let _ = store.calls();
     match read_request(alloc, link) {
         Ok(request) => Some(answer(alloc, store, disk, &request, clock.now())),
         Err(fault) => fault_reply(fault),
@@ -321,12 +319,13 @@ fn reply_to<D: Disk, C: Clock, K: Conn>(
 
 /// The line of a connection, as the store is when its reply was begun.
 fn line_of(store: &Store, status: u16, whole: bool) -> Line
-    ensures { result ≡ record {
+    ensures is { result ≡ record {
       status = status;
       version = length store.now.history;
       calls = call_count store.now;
       whole = whole;
     } }
+    ensures logs { AreLogs store.now }
 {
     Line {
         status,

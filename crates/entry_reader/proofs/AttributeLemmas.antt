@@ -1,6 +1,6 @@
 -- An attribute, part by part: a qualified name, `=` and a quoted value.
 use Rattle.std.proofs.Common.{◌≡◌, ℕ, List, [], ◌∷◌, ◌++◌, IsTrue, refl, sym, ap, subst, ◌∙◌, inl, inr, ⊎_elim}
-use Rattle.std.proofs.Common.{true, false, not, ◌||◌, ◌==◌, nat_eq, eqb-true, codes, append_assoc, length, ◌<◌, arith}
+use Rattle.std.proofs.Common.{true, false, not, ◌||◌, ◌==◌, nat_eq, eqb-true, codes, append_assoc, length, arith}
 use Rattle.std.specs.Prelude.{Err}
 use Rattle.std.proofs.lemmas.List.{length-append}
 use Rattle.entry_reader.specs.declared.cursor.Lapse.TheVariants.{Cut}
@@ -10,7 +10,7 @@ use Rattle.atom_values.specs.Ascii.{colon}
 use Rattle.atom_values.specs.Space.{is_space}
 use Rattle.entry_reader.specs.Characters.{AreSpaces, continues_name}
 use Rattle.entry_reader.specs.Tokens.{IsQuote}
-use Rattle.entry_reader.specs.Reading.{quoted_behind, sign_behind, attribute_parts, Reads}
+use Rattle.entry_reader.specs.Reading.{quoted_behind, sign_behind, Reads}
 use Rattle.entry_reader.specs.Reading.{seq, whole_qname, equals_sign, one_quote, first_is_no}
 use Rattle.entry_reader.proofs.PartLemmas.{IsPart, Joins, ended_reads, joins_lives, seq_part, same_part}
 use Rattle.entry_reader.proofs.DeclarationLemmas.{quote_joins, equals_joins}
@@ -149,15 +149,3 @@ name_ended name text e end =
     let inner = length-append r.4.0 (codes "=") in
     omega arith)
     (joins_lives (attribute_sign name)) text e end
-
--- an attribute has a byte at least
-pub attribute_some : (v : List ℕ × List ℕ) (s rest : List ℕ) → attribute_parts v s rest → 0 < length s
-attribute_some v s rest p =
-    let r = p.5 in
-    let whole = ap length p.3 in
-    let parts = length-append p.1 p.2 in
-    let total = ap length (r.3 ∙ ap (λ xs. xs ++ r.2) r.4.4) in
-    let outer = length-append (r.4.0 ++ codes "=" ++ r.4.1) r.2 in
-    let middle = length-append (r.4.0 ++ codes "=") r.4.1 in
-    let inner = length-append r.4.0 (codes "=") in
-    omega arith

@@ -75,7 +75,7 @@ all_after : (xs ys : List Seen) → All IsFaultless (xs ++ ys) → All IsFaultle
 all_after [] ys all = all
 all_after (x ∷ xs) ys all = all_after xs ys (All-tail IsFaultless x (xs ++ ys) all)
 
-no_fault : (all : List Seen) (at : ℕ) (why : Why) → All IsFaultless all → IsFirstFault all at why → ⊥
+pub no_fault : (all : List Seen) (at : ℕ) (why : Why) → All IsFaultless all → IsFirstFault all at why → ⊥
 no_fault all at why none f =
     All-head IsFaultless f.first f.later
     (all_after f.before (f.first ∷ f.later) (subst (All IsFaultless) f.split none)) why f.fault.0

@@ -26,7 +26,8 @@ use Rattle.entry_reader.specs.Reading.{AreCharacters, AreRead, AreSpelled, IsAlo
 use Rattle.entry_reader.specs.Scopes.{AreScopesOf}
 use Rattle.entry_reader.specs.Progress.{Point, IsAtText, IsBehindXml, IsLed, IsNameOfOpen, IsPlaceOf, IsStageOf}
 use Rattle.entry_reader.specs.Progress.{later_stage, pending}
-use Rattle.entry_reader.proofs.SuffixLemmas.{begins_more, line_xml, section_xml, xml_joined}
+use Rattle.entry_reader.proofs.SuffixLemmas.{begins_more, line_xml, section_xml}
+use Rattle.entry_reader.proofs.XmlLemmas.{xml_append}
 use Rattle.entry_reader.proofs.ProgressLemmas.{names_closed, no_pending}
 use Rattle.entry_reader.proofs.NameLemmas.{split_at_colon, split_nowhere}
 use Rattle.std.proofs.Common.{Option, Some, None, ◌==◌}
@@ -60,7 +61,7 @@ spelled_more (character read) text rest tail xml is behind end line s = (
           no_reference = plain.1.no_reference;
           no_line_end = plain.1.no_line_end;
           no_section_end = ap (begins (codes "]]>")) (sym (append_assoc text rest tail))
-              ∙ begins_more (codes "]]>") (text ++ rest) tail end (xml_joined text rest xml is) behind
+              ∙ begins_more (codes "]]>") (text ++ rest) tail end (xml_append text rest xml is) behind
               plain.1.no_section_end;
         },
       ))
@@ -80,7 +81,7 @@ texts_xml : (ls : List Lexeme) (after : List ℕ) → AreSpelled ls after → Is
 texts_xml [] after are xml = xml
 texts_xml (l ∷ ls) after are xml =
     subst IsXmlText (sym (append_assoc l.text (lexemes_text ls) after))
-    (xml_joined l.text (lexemes_text ls ++ after) are.0.0 (texts_xml ls after are.1 xml))
+    (xml_append l.text (lexemes_text ls ++ after) are.0.0 (texts_xml ls after are.1 xml))
 
 -- characters outside the root add nothing
 said_outside : (s : Stage) (read : List ℕ) → (IsInside s → ⊥) → said_in s read ≡ []

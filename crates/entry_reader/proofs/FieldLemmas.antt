@@ -2,7 +2,7 @@
 use Rattle.std.proofs.Common.{◌≡◌, ◌≤◌, ℕ, List, [], ◌∷◌, ◌++◌, length, map, filter, Bool, true, false, cond, Option}
 use Rattle.std.proofs.Common.{Some, None}
 use Rattle.std.proofs.Common.{option_map, refl, sym, ap, subst, ◌∙◌, arith, ⊎_elim, bytes_eq, codes}
-use Rattle.std.specs.Prelude.{is_some}
+use Rattle.std.specs.Prelude.{if◌then◌else◌, is_some}
 use Rattle.std.specs.Option.{option_or}
 use Rattle.std.proofs.lemmas.Bool.{cases_Bool, cond-true, cond-false, and_parts, and_from, both_ways}
 use Rattle.std.proofs.lemmas.Bool.{false_from_ne_true}
@@ -77,6 +77,14 @@ none_first (x ∷ xs) is = absurd (both_ways true is refl)
 first_push : (xs : List Child) (c : Child) → is_some (first_of (xs ++ c ∷ [])) ≡ true
 first_push [] c = refl
 first_push (x ∷ xs) c = refl
+
+-- the refusals of the children so far and of one more, as they are read
+pub refusal_read : (old inner one all : Option (ℕ × Why)) (taken : Bool) (has : Option (List ℕ)) (at : ℕ)
+    (first : Option ℕ) → taken ≡ is_some has → inner ≡ option_map (λ place. (place, NotAnEntry)) first →
+    one ≡ (if taken then Some (at, Twice) else inner) → all ≡ option_or old one →
+    all ≡ option_or old (slot_refusal (is_some has) at first)
+refusal_read old inner one all taken has at first is_taken is_inner is_one is_all =
+    is_all ∙ ap (option_or old) (is_one ∙ (λ i. if is_taken i then Some (at, Twice) else is_inner i))
 
 or_none : (r s : Option (ℕ × Why)) → option_or r s ≡ None → (r ≡ None) × (s ≡ None)
 or_none None s e = (refl, e)

@@ -32,7 +32,8 @@ use Rattle.entry_reader.specs.Progress.{IsAt, IsBehindXml, IsNameOfOpen, IsStage
 use Rattle.entry_reader.proofs.BeginLemmas.{begins_from, begins_split}
 use Rattle.entry_reader.proofs.EventLemmas.{same_name}
 use Rattle.entry_reader.proofs.PartLemmas.{splits, same_front}
-use Rattle.entry_reader.proofs.SuffixLemmas.{begins_more, text_from, text_parts, xml_joined, xml_suffix}
+use Rattle.entry_reader.proofs.SuffixLemmas.{begins_more}
+use Rattle.entry_reader.proofs.XmlLemmas.{xml_append, xml_from, xml_parts, xml_rest}
 
 -- the name of an attribute, as it is written, is a name without a prefix
 pub name_matches : (a : QName) (name : List ℕ) → IsQName a → IsName name →
@@ -111,7 +112,7 @@ attribute_here name (r ∷ raws) raw rest value is none same val (a ∷ read) zi
 -- the mark is XML text
 mark_xml : IsXmlText mark
 unfolding lib.Utf8.encode
-mark_xml = text_from mark (is_utf8-from_IsUtf8 mark (IsUtf8-encode 0xFEFF refl))
+mark_xml = xml_from mark (is_utf8-from_IsUtf8 mark (IsUtf8-encode 0xFEFF refl))
     (ap (list_all is_xml_char) (chars-encodes (0xFEFF ∷ []) refl))
 
 -- the text after the mark
@@ -127,7 +128,7 @@ behind_mark t tail xml behind =
     (ap (λ k. k ++ tail) split ∙ append_assoc mark (drop (length mark) t) tail) in
     let here : mark_of t ≡ mark = cond-true (begins mark t) mark [] is in
     let there : mark_of (t ++ tail) ≡ mark = cond-true (begins mark (t ++ tail)) mark [] whole in
-    let rest = xml_suffix mark (drop (length mark) t) mark_xml (subst IsXmlText split xml) in
+    let rest = xml_rest mark (drop (length mark) t) mark_xml (subst IsXmlText split xml) in
     let far : drop (length mark) (t ++ tail) ≡ drop (length mark) t ++ tail =
     append_cancel_left mark (drop (length mark) (t ++ tail)) (drop (length mark) t ++ tail)
     (sym (begins_split mark (t ++ tail) whole) ∙ ap (λ k. k ++ tail) split
@@ -156,7 +157,7 @@ behind_longest bytes n utf8 longest front back more some e xml =
     let t = take n bytes in
     let tail = drop n bytes in
     let whole : t ++ tail ≡ bytes = take-append-drop n bytes in
-    let p = text_parts t longest.is_text in
+    let p = xml_parts t longest.is_text in
     let u = IsUtf8-from_is_utf8 t p.0 in
     let low = longest.before_end in
     let bound = IsCharBoundary-from_take bytes n utf8 (omega arith) u in
@@ -165,12 +166,12 @@ behind_longest bytes n utf8 longest front back more some e xml =
     let total = ap length whole in
     let sizes = length-append t tail in
     let longer : (m : List ℕ) → front ≡ tail ++ m → ⊥ = λ m same.
-    let q = text_parts (tail ++ m) (subst IsXmlText same xml) in
+    let q = xml_parts (tail ++ m) (subst IsXmlText same xml) in
     let all = and_parts (list_all is_xml_char (chars tail)) (list_all is_xml_char (chars m))
     (sym (ap (list_all is_xml_char) (chars-append tail m rest)
     ∙ list_all-append is_xml_char (chars tail) (chars m)) ∙ q.1) in
-    let tail_xml = text_from tail (is_utf8-from_IsUtf8 tail rest) all.0 in
-    IsXmlText-refused bytes n longest (subst IsXmlText whole (xml_joined t tail longest.is_text tail_xml)) in
+    let tail_xml = xml_from tail (is_utf8-from_IsUtf8 tail rest) all.0 in
+    IsXmlText-refused bytes n longest (subst IsXmlText whole (xml_append t tail longest.is_text tail_xml)) in
     let shorter : (m : List ℕ) → tail ≡ front ++ m → 0 < length front → ⊥ = λ m same size.
     let parts = length-append front m in
     let tail_long = ap length same in
@@ -182,7 +183,7 @@ behind_longest bytes n utf8 longest front back more some e xml =
     let cut = same_front (take k bytes) (drop k bytes) (t ++ front) m (take-append-drop k bytes ∙ joined)
     (let size = length-take k bytes in omega arith) in
     longest.longest k (omega arith) within
-    (subst IsXmlText (sym cut.0) (xml_joined t front longest.is_text xml)) in
+    (subst IsXmlText (sym cut.0) (xml_append t front longest.is_text xml)) in
     let at : (f : List ℕ) → front ≡ f → front ≡ [] = λ f. elim f as (λ f. front ≡ f → front ≡ []) [
       | [] ↦ λ same. same
       | b ∷ bs ↦ λ same.

@@ -116,3 +116,5 @@ pub mod ItemLemmas
 pub mod SoFarLemmas
 -- is_draft, control: which control elements say that an entry is a draft
 pub mod ControlLemmas
+-- bytes_are_read_in_one_way: the clauses `refusals` and `apart`
+pub mod OneRefusalLemmas

@@ -47,7 +47,7 @@ one_list s (k ∷ ks) (l ∷ ls) x y e =
     λ i. record { token = one.0 i; text = one.1 i } ∷ more i
 
 -- a document isn't stuck at a token
-never_stuck : (s : Stage) (ls ks : List Lexeme) (rest : List ℕ) → CanAllStand depth_limit s ls [] →
+pub never_stuck : (s : Stage) (ls ks : List Lexeme) (rest : List ℕ) → CanAllStand depth_limit s ls [] →
     last_stage s ls ≡ epilog → CanAllStand depth_limit s ks rest → lexemes_text ls ≡ lexemes_text ks ++ rest →
     (Begins depth_limit (last_stage s ks) rest → ⊥) → (rest ≡ [] → last_stage s ks ≡ epilog → ⊥) → ⊥
 never_stuck s [] [] rest x end y e none more = more (sym e) end
@@ -86,7 +86,7 @@ marked bytes =
     (λ none. subst G (sym (cond-false (begins mark bytes) mark [] none)) refl)
     (cases_Bool (begins mark bytes))
 
-behind_mark : (bytes text : List ℕ) → bytes ≡ mark_of bytes ++ text → text ≡ drop (length (mark_of bytes)) bytes
+pub behind_mark : (bytes text : List ℕ) → bytes ≡ mark_of bytes ++ text → text ≡ drop (length (mark_of bytes)) bytes
 behind_mark bytes text e =
     append_cancel_left (mark_of bytes) text (drop (length (mark_of bytes)) bytes) (sym e ∙ marked bytes)
 
@@ -103,7 +103,7 @@ one_document bytes r p c k x y =
     let content : c ≡ k = cc in
     (root, content)
 
-foreign_never : (text : List ℕ) (ls : List Lexeme) → text ≡ lexemes_text ls → CanAllStand depth_limit start ls [] →
+pub foreign_never : (text : List ℕ) (ls : List Lexeme) → text ≡ lexemes_text ls → CanAllStand depth_limit start ls [] →
     last_stage start ls ≡ epilog → Starts foreign_declaration text → ⊥
 foreign_never text [] e stand end foreign = let bad : start ≡ epilog = end in cc
 foreign_never text (l ∷ ls) e stand end foreign =
@@ -152,6 +152,19 @@ document_of bytes to root told utf8 path text stage =
       },
     )
 
+-- the declaration of another encoding begins the text after the mark
+pub foreign_starts : (bytes : List ℕ) → IsForeign bytes →
+    Starts foreign_declaration (drop (length (mark_of bytes)) bytes)
+foreign_starts bytes f = (
+  tt,
+  f.rest,
+  record {
+    front = f.text;
+    split = sym (behind_mark bytes (f.text ++ f.rest) (f.split ∙ append_assoc (mark_of bytes) f.text f.rest));
+    spelled = (f.encoding, f.declared, f.foreign);
+  },
+)
+
 -- a refusal of a token, in the words of the whole document
 pub token_refused : (bytes : List ℕ) (at : ℕ) (why : Why) → IsTrue (is_utf8 bytes) →
     IsRefusal (length bytes) (first_point bytes) at why → IsRefusedAt bytes at why
@@ -159,16 +172,7 @@ token_refused bytes at why utf8 r =
     let text = drop (length (mark_of bytes)) bytes in
     ⊎_elim
     (λ s.
-    let native : IsForeign bytes → ⊥ = λ f.
-    s.1 refl (
-      tt,
-      f.rest,
-      record {
-        front = f.text;
-        split = sym (behind_mark bytes (f.text ++ f.rest) (f.split ∙ append_assoc (mark_of bytes) f.text f.rest));
-        spelled = (f.encoding, f.declared, f.foreign);
-      },
-    ) in
+    let native : IsForeign bytes → ⊥ = λ f. s.1 refl (foreign_starts bytes f) in
     inr (inl ((utf8, native), (text, marked bytes, s.0))))
     (λ f.
     let found = f.1.2 in

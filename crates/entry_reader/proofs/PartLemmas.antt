@@ -73,23 +73,6 @@ leads_leads l m = record {
   ends = λ e. m.ends (l.ends e);
 }
 
-pub same_leads : {A : Type 0} (S Q : A → List ℕ → List ℕ → Type 0) (text : List ℕ) →
-    ((v : A) (s rest : List ℕ) → Q v s rest → S v s rest) → ((v : A) (s rest : List ℕ) → S v s rest → Q v s rest) →
-    Leads S text Q text
-same_leads S Q text to from = record {
-  forth = λ v more rest found. record {
-    front = found.front;
-    split = found.split;
-    spelled = to v found.front rest found.spelled;
-  };
-  back = λ v more rest none found. record {
-    front = found.front;
-    split = found.split;
-    spelled = from v found.front rest found.spelled;
-  };
-  ends = λ e. e;
-}
-
 pub found_whole : {A : Type 0} (Q : A → List ℕ → List ℕ → Type 0) (text : List ℕ) (v : A) (rest : List ℕ) →
     IsFound Q text v rest → IsFound Q (text ++ []) v rest
 found_whole Q text v rest found =

@@ -2,15 +2,10 @@
 use Rattle.std.proofs.Common.{◌≡◌, ◌≢◌, ℕ, ◌<◌, true, List, [], ◌∷◌, ◌++◌, length, refl, sym, ap, subst}
 use Rattle.std.proofs.Common.{◌∙◌, ⊎_elim, codes, arith, append_assoc}
 use Rattle.std.specs.Prelude.{chars, if◌then◌else◌}
-use Rattle.std.specs.List.{list_all}
-use Rattle.std.specs.Str.{IsUtf8}
 use Rattle.std.proofs.Math.Utf8.{encode, encodes}
-use Rattle.std.proofs.lemmas.Bool.{and_parts}
-use Rattle.std.proofs.lemmas.List.{append-nil, length-append, take_at, drop_at}
-use Rattle.std.proofs.lemmas.List.Folds.{list_all-append}
-use Rattle.std.proofs.lemmas.Str.{encode_ascii, encodes-chars, IsUtf8-from_is_utf8, is_utf8-from_IsUtf8, IsUtf8-drop}
-use Rattle.std.proofs.lemmas.Str.{IsCharBoundary-from_take, chars-append}
-use Rattle.atom_values.specs.XmlText.{IsXmlText, is_xml_char}
+use Rattle.std.proofs.lemmas.List.{append-nil}
+use Rattle.std.proofs.lemmas.Str.{encode_ascii, encodes-chars, IsUtf8-from_is_utf8}
+use Rattle.atom_values.specs.XmlText.{IsXmlText}
 use Rattle.entry_reader.specs.Characters.{begins_name, name_text}
 use Rattle.entry_reader.specs.Tokens.{Token, IsSpelled, IsPlain}
 use Rattle.entry_reader.specs.Tokens.Token.{declaration, character, referred, section, comment, instruction, opening}
@@ -18,23 +13,7 @@ use Rattle.entry_reader.specs.Tokens.Token.{closing}
 use Rattle.entry_reader.proofs.ValueLemmas.{reference_first}
 use Rattle.entry_reader.proofs.BehindNameLemmas.{qname_first}
 use Rattle.entry_reader.proofs.CharacterLemmas.{char_head}
-use Rattle.entry_reader.proofs.XmlLemmas.{printable_xml, xml_append, xml_before, xml_behind, xml_parts, xml_from}
-
--- a suffix of XML text after XML text is XML text
-pub xml_rest : (s t : List ℕ) → IsXmlText s → IsXmlText (s ++ t) → IsXmlText t
-xml_rest s t is_s is =
-    let p = xml_parts (s ++ t) is in
-    let u = IsUtf8-from_is_utf8 (s ++ t) p.0 in
-    let us = IsUtf8-from_is_utf8 s (xml_parts s is_s).0 in
-    let n = length s in
-    let U : List ℕ → Type 0 = IsUtf8 in
-    let boundary = IsCharBoundary-from_take (s ++ t) n u (omega (arith, length-append s t))
-    (subst U (sym (take_at s t n refl)) us) in
-    let back : IsUtf8 t = subst U (drop_at s t n refl) (IsUtf8-drop (s ++ t) n u boundary) in
-    xml_from t (is_utf8-from_IsUtf8 t back)
-    (and_parts (list_all is_xml_char (chars s)) (list_all is_xml_char (chars t))
-    (sym (list_all-append is_xml_char (chars s) (chars t))
-    ∙ sym (ap (list_all is_xml_char) (chars-append s t us)) ∙ p.1)).1
+use Rattle.entry_reader.proofs.XmlLemmas.{printable_xml, xml_append, xml_before, xml_behind, xml_parts, xml_rest}
 
 -- a front that ends with `>`
 pub xml_front : (text front u after : List ℕ) → text ≡ front ++ after → front ≡ u ++ codes ">" → IsXmlText text →

@@ -29,8 +29,8 @@ use Rattle.entry_reader.specs.Reading.{IsSilentAt, ReadsToken, ReadsSaid, ReadsB
 use Rattle.entry_reader.proofs.BeginLemmas.{begins_split, begins_from}
 use Rattle.entry_reader.proofs.ReferencePartLemmas.{a_reference}
 use Rattle.entry_reader.proofs.CharacterLemmas.{lex_run, lex_bracket, spaces_xml}
-use Rattle.entry_reader.proofs.TokenFirstLemmas.{token_begins, xml_rest, heads_of}
-use Rattle.entry_reader.proofs.XmlLemmas.{printable_xml, printable_reference, xml_nil, xml_before}
+use Rattle.entry_reader.proofs.TokenFirstLemmas.{token_begins, heads_of}
+use Rattle.entry_reader.proofs.XmlLemmas.{printable_xml, printable_reference, xml_nil, xml_before, xml_rest}
 
 -- one token is read
 pub one_read : (place : Context) (before front after : List ℕ) (token : Token) → before ≡ front ++ after →

@@ -13,8 +13,9 @@ use Rattle.std.proofs.lemmas.Bool.{le-ltb}
 use Rattle.std.proofs.lemmas.List.Folds.{list_all-append}
 use Rattle.std.proofs.lemmas.Str.{IsUtf8-append, IsUtf8-from_is_utf8, is_utf8-from_IsUtf8, chars-append, chars-IsAscii}
 use Rattle.std.proofs.lemmas.Str.{IsUtf8-from_ascii, IsUtf8-nil, chars-nil, IsUtf8-past_char, encode_ascii}
-use Rattle.std.proofs.lemmas.Str.{chars_past_char, IsUtf8-take, IsCharBoundary-before_ascii}
-use Rattle.std.proofs.lemmas.List.{take_at, length-append}
+use Rattle.std.proofs.lemmas.Str.{chars_past_char, IsUtf8-take, IsUtf8-drop, IsCharBoundary-before_ascii}
+use Rattle.std.proofs.lemmas.Str.{IsCharBoundary-from_take}
+use Rattle.std.proofs.lemmas.List.{take_at, drop_at, length-append}
 use Rattle.std.proofs.Common.{get_or}
 use Rattle.std.proofs.Math.Seq.{get_or-append_seam}
 use Rattle.std.specs.Str.{IsUtf8}
@@ -45,7 +46,7 @@ xml_append s t is_s is_t =
 abbrev pub printable : ℕ → Bool
 printable b = nat_le 32 b && nat_lt b 127
 
-ascii_one : (b : ℕ) → b < 128 → IsAscii (b ∷ [])
+pub ascii_one : (b : ℕ) → b < 128 → IsAscii (b ∷ [])
 ascii_one b low zero = low
 ascii_one b low (suc i) = omega arith
 
@@ -166,3 +167,19 @@ xml_before b s t low is =
     (sym (list_all-append is_xml_char (chars s) (chars (b ∷ t)))
     ∙ sym (ap (list_all is_xml_char) (chars-append s (b ∷ t) front))
     ∙ p.1)).0
+
+-- a suffix of XML text after XML text is XML text
+pub xml_rest : (s t : List ℕ) → IsXmlText s → IsXmlText (s ++ t) → IsXmlText t
+xml_rest s t is_s is =
+    let p = xml_parts (s ++ t) is in
+    let u = IsUtf8-from_is_utf8 (s ++ t) p.0 in
+    let us = IsUtf8-from_is_utf8 s (xml_parts s is_s).0 in
+    let n = length s in
+    let U : List ℕ → Type 0 = IsUtf8 in
+    let boundary = IsCharBoundary-from_take (s ++ t) n u (omega (arith, length-append s t))
+    (subst U (sym (take_at s t n refl)) us) in
+    let back : IsUtf8 t = subst U (drop_at s t n refl) (IsUtf8-drop (s ++ t) n u boundary) in
+    xml_from t (is_utf8-from_IsUtf8 t back)
+    (and_parts (list_all is_xml_char (chars s)) (list_all is_xml_char (chars t))
+    (sym (list_all-append is_xml_char (chars s) (chars t))
+    ∙ sym (ap (list_all is_xml_char) (chars-append s t us)) ∙ p.1)).1

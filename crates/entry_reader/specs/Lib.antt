@@ -10,3 +10,4 @@ pub mod Reading
 pub mod Scopes
 pub mod Progress
 pub mod Parts
+pub mod Laws

@@ -9,7 +9,7 @@ ghost use Rattle.entry_reader.specs.Reading.{equals_sign, IsCutBefore, IsFirstPl
 use atom_values::is_space;
 
 /// Why no token is read.
-#[derive(Clone, Copy, Debug, PartialEq, Eq)]
+#[derive(Clone, Copy)]
 pub(crate) enum Lapse {
     /// No continuation of the text begins with a token that is allowed there.
     Broken,

@@ -14,7 +14,7 @@ use crate::cursor::{Cursor, Lapse};
 const ENCODINGS: [&[u8]; 2] = [b"utf-8", b"us-ascii"];
 
 /// The encoding that a declaration names.
-#[derive(Clone, Copy, Debug, PartialEq, Eq)]
+#[derive(Clone, Copy)]
 pub(crate) enum Encoding {
     /// None, or one whose texts are UTF-8.
     Utf8,

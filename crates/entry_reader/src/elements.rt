@@ -30,7 +30,7 @@ use std::alloc::Global;
 const MARK: &[u8] = b"\xEF\xBB\xBF";
 
 /// An element, as its tag states it.
-#[derive(Debug, Drop)]
+#[derive(Drop)]
 pub(crate) struct Element<'a> {
     /// The offset of the tag's `<` in the input.
     pub(crate) at: usize,
@@ -79,7 +79,7 @@ impl Element<'_> {
 }
 
 /// Characters of an element's content.
-#[derive(Clone, Copy, Debug)]
+#[derive(Clone, Copy)]
 pub(crate) enum Said<'a> {
     /// As they are written, without a reference.
     Written(&'a [u8]),
@@ -88,7 +88,7 @@ pub(crate) enum Said<'a> {
 }
 
 /// A part of a document's tree, in document order.
-#[derive(Debug, Drop)]
+#[derive(Drop)]
 pub(crate) enum Event<'a> {
     Begin(Element<'a>),
     End,
@@ -96,7 +96,7 @@ pub(crate) enum Event<'a> {
 }
 
 /// The text of an element, and the first element in it.
-#[derive(Debug, Drop)]
+#[derive(Drop)]
 pub(crate) struct Content {
     /// The element's own characters.
     pub(crate) text: Vec<u8>,
@@ -152,7 +152,7 @@ fn depth_after(event: &Event<'_>, depth: usize) -> Option<usize>
 }
 
 /// How far a document is read.
-#[derive(Clone, Copy, Debug, PartialEq, Eq)]
+#[derive(Clone, Copy, PartialEq, Eq)]
 enum Stage {
     /// Nothing is read.
     Start,

@@ -21,7 +21,7 @@ use crate::elements::{Element, Elements, Event, broken};
 use crate::fault::{EarlyEnd, EntryFault, Why};
 use crate::person::person;
 use crate::rules::Ruled;
-use crate::text::{attribute_text, copied_text, inner_fault, kind, text};
+use crate::text::{attribute_text, copied_text, inner_fault, kind, text, two_texts};
 use atom_values::{
     AtomText, Category, Draft, Link, ListFault, MAX_CATEGORIES, MAX_LINKS, MAX_PERSONS, Many,
     NoMemory, Person, Stamp, Text, TextKind, is_xml_char,
@@ -133,7 +133,10 @@ fn entry<'a>(
         return Err(refused(root, Why::NotAnEntry));
     }
     let parts = read_parts(alloc, elements)?;
-    elements.drain()?;
+    if let Err(fault) = elements.drain() {
+        drop(parts);
+        return Err(EarlyEnd::Fault(fault));
+    }
     match parts.draft() {
         Some(draft) => Ok(draft),
         None => Err(refused(root, Why::Missing)),
@@ -365,6 +368,7 @@ impl Parts {
             return Err(refused(child, Why::Missing));
         };
         if self.links.len() == MAX_LINKS as usize {
+            drop(link);
             return Err(refused(child, Why::TooMany));
         }
         if let Err(fault) = self.links.push(link) {
@@ -396,6 +400,7 @@ impl Parts {
             return Err(refused(child, Why::Missing));
         };
         if self.categories.len() == MAX_CATEGORIES as usize {
+            drop(category);
             return Err(refused(child, Why::TooMany));
         }
         if let Err(fault) = self.categories.push(category) {
@@ -412,13 +417,16 @@ fn link_of(alloc: Global, element: &Element<'_>) -> Result<Option<Link>, NoMemor
     let Some(href) = attribute_text(alloc, element, b"href")? else {
         return Ok(None);
     };
+    let rel = relation(alloc, element)?;
+    let (media, hreflang) = two_texts(alloc, element, b"type", b"hreflang")?;
+    let (title, length) = two_texts(alloc, element, b"title", b"length")?;
     Ok(Some(Link {
         href,
-        rel: relation(alloc, element)?,
-        media: attribute_text(alloc, element, b"type")?,
-        hreflang: attribute_text(alloc, element, b"hreflang")?,
-        title: attribute_text(alloc, element, b"title")?,
-        length: attribute_text(alloc, element, b"length")?,
+        rel,
+        media,
+        hreflang,
+        title,
+        length,
     }))
 }
 

@@ -70,7 +70,7 @@ impl From<NoMemory> for EntryFault {
 }
 
 /// Why the reading of a part ends early.
-#[derive(Clone, Copy, Debug, PartialEq, Eq)]
+#[derive(Clone, Copy)]
 pub(crate) enum EarlyEnd {
     /// An element is refused. A fault of a later token comes before it, so the tokens are read on.
     Refused { at: usize, why: Why },

@@ -13,6 +13,9 @@
 //! Any prefixes, quotes, references, CDATA sections, comments and instructions are read. Foreign markup is
 //! skipped. Document types, encodings other than UTF-8, and content that isn't text or HTML are refused.
 //!
+//! The law [`bytes_are_read_in_one_way`] states that bytes spell one draft at most or have one refusal at most, and
+//! not both.
+//!
 //! Stands on `atom_values`.
 #![tactic(auto)]
 
@@ -21,6 +24,7 @@ mod declaration;
 mod elements;
 mod entry;
 mod fault;
+mod laws;
 mod person;
 mod reference;
 mod rules;
@@ -32,3 +36,4 @@ mod value;
 
 pub use entry::{MAX_DEPTH, MAX_ENTRY, read_entry};
 pub use fault::{EntryFault, Why};
+pub use laws::bytes_are_read_in_one_way;

@@ -23,7 +23,7 @@ struct Fields {
 }
 
 /// A child of a person.
-#[derive(Clone, Copy, Debug)]
+#[derive(Clone, Copy)]
 enum Field {
     Name,
     Uri,

@@ -4,23 +4,16 @@
 //! rules of its type. `read_entry` promises the rules of the draft that it returns, and `show_rules` makes them
 //! known to its proof. Nothing here changes a value or has an effect when it runs.
 
-use atom_values::{AtomText, Category, Draft, Link, Many, Person, Stamp, Text};
+use atom_values::{AtomText, Category, Copies, Draft, Link, Many, Person, Stamp, Text};
 
-/// A value whose type keeps rules.
-pub(crate) trait Ruled {
-    // The rules that the type keeps.
-    ghost rules: { Self → Type 0 };
-
+/// A value whose type keeps rules, which `Copies` names. A copy would state them too, but takes memory.
+pub(crate) trait Ruled: Copies {
     /// States that this value keeps the rules of its type. It changes nothing.
     fn show_rules(&self)
-        ensures { rules self.now };
+        ensures { Self.rules self.now };
 }
 
 impl<T: Ruled> Ruled for Option<T> {
-    ghost use Rattle.std.specs.Prelude.{IfSome};
-
-    ghost rules = { λ value. IfSome value T.rules };
-
     fn show_rules(&self) {
         if let Some(value) = self {
             value.show_rules();
@@ -28,11 +21,7 @@ impl<T: Ruled> Ruled for Option<T> {
     }
 }
 
-impl<T: Ruled, const MAX: u32> Ruled for Many<T, MAX> {
-    ghost use Rattle.atom_values.specs.Listed.{IsListOf};
-
-    ghost rules = { λ many. IsListOf MAX T.rules many.items };
-
+impl<T: Ruled + Drop, const MAX: u32> Ruled for Many<T, MAX> {
     fn show_rules(&self) {
         for item in self.as_slice() {
             item.show_rules();
@@ -41,40 +30,24 @@ impl<T: Ruled, const MAX: u32> Ruled for Many<T, MAX> {
 }
 
 impl Ruled for AtomText {
-    ghost use Rattle.atom_values.specs.XmlText.{IsAtomText};
-
-    ghost rules = { IsAtomText };
-
     fn show_rules(&self) {
         let _bytes = self.bytes();
     }
 }
 
 impl Ruled for Stamp {
-    ghost use Rattle.atom_values.specs.Stamp.{IsStamp};
-
-    ghost rules = { IsStamp };
-
     fn show_rules(&self) {
         let _millis = self.millis();
     }
 }
 
 impl Ruled for Text {
-    ghost use Rattle.atom_values.specs.Entry.{IsText};
-
-    ghost rules = { IsText };
-
     fn show_rules(&self) {
         self.value.show_rules();
     }
 }
 
 impl Ruled for Person {
-    ghost use Rattle.atom_values.specs.Person.{IsPerson};
-
-    ghost rules = { IsPerson };
-
     fn show_rules(&self) {
         self.name.show_rules();
         self.uri.show_rules();
@@ -83,10 +56,6 @@ impl Ruled for Person {
 }
 
 impl Ruled for Link {
-    ghost use Rattle.atom_values.specs.Link.{IsLink};
-
-    ghost rules = { IsLink };
-
     fn show_rules(&self) {
         self.href.show_rules();
         self.rel.show_rules();
@@ -98,10 +67,6 @@ impl Ruled for Link {
 }
 
 impl Ruled for Category {
-    ghost use Rattle.atom_values.specs.Category.{IsCategory};
-
-    ghost rules = { IsCategory };
-
     fn show_rules(&self) {
         self.term.show_rules();
         self.scheme.show_rules();
@@ -110,10 +75,6 @@ impl Ruled for Category {
 }
 
 impl Ruled for Draft {
-    ghost use Rattle.atom_values.specs.Entry.{IsDraft};
-
-    ghost rules = { IsDraft };
-
     fn show_rules(&self) {
         self.id.show_rules();
         self.title.show_rules();

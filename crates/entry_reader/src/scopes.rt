@@ -25,7 +25,7 @@ const XMLNS: &[u8] = b"xmlns";
 const XML: &[u8] = b"xml";
 
 /// The namespace of an element, as far as a reader tells namespaces apart.
-#[derive(Clone, Copy, Debug, PartialEq, Eq, PartialOrd, Ord)]
+#[derive(Clone, Copy, PartialEq, Eq)]
 pub(crate) enum Namespace {
     Atom,
     App,

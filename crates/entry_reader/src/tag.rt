@@ -12,14 +12,14 @@ use std::alloc::Global;
 use std::collections::BTreeSet;
 
 /// An attribute of a tag. Its value is as it is written between the quotes, and its references are checked.
-#[derive(Clone, Copy, Debug)]
+#[derive(Clone, Copy)]
 pub(crate) struct Attribute<'a> {
     pub(crate) name: &'a [u8],
     pub(crate) written: &'a [u8],
 }
 
 /// How a tag ends.
-#[derive(Clone, Copy, Debug, PartialEq, Eq)]
+#[derive(Clone, Copy, PartialEq, Eq)]
 pub(crate) enum TagEnd {
     /// `>`: content and an end tag follow.
     Open,
@@ -32,7 +32,7 @@ pub(crate) enum TagEnd {
 }
 
 /// A tag, with its name as it is written. No two of its attributes have the same name.
-#[derive(Debug, Drop)]
+#[derive(Drop)]
 pub(crate) struct Tag<'a> {
     pub(crate) name: &'a [u8],
     pub(crate) attributes: Vec<Attribute<'a>>,

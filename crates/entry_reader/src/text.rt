@@ -52,6 +52,24 @@ pub(crate) fn attribute_text(
     }
 }
 
+/// The texts of two optional attributes. The caller has one exit for both if memory runs out.
+pub(crate) fn two_texts(
+    alloc: Global,
+    element: &Element<'_>,
+    first: &[u8],
+    second: &[u8],
+) -> Result<(Option<AtomText>, Option<AtomText>), NoMemory>
+    requires first { IsName first.now }
+    requires second { IsName second.now }
+    ensures { IfOk result (λ both. IsAttributeFound first.now element.now both.0
+        × IsAttributeFound second.now element.now both.1) }
+{
+    Ok((
+        attribute_text(alloc, element, first)?,
+        attribute_text(alloc, element, second)?,
+    ))
+}
+
 /// The kind that a text construct's `type` states (RFC 4287 section 3.1.1), or why the element is refused.
 /// `unknown` is the reason for a type that isn't listed there.
 pub(crate) fn kind(

@@ -12,7 +12,7 @@ use atom_values::is_space;
 use std::alloc::Global;
 
 /// A token of a document.
-#[derive(Debug, Drop)]
+#[derive(Drop)]
 pub(crate) enum Token<'a> {
     Declaration(Encoding),
     /// White space outside the root, a comment or an instruction.
@@ -29,7 +29,7 @@ pub(crate) enum Token<'a> {
 }
 
 /// Where a token is read.
-#[derive(Clone, Copy, Debug)]
+#[derive(Clone, Copy)]
 pub(crate) enum Context<'a> {
     /// At the beginning of the text, where a declaration is allowed.
     Start,

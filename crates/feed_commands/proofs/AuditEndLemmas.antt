@@ -38,6 +38,7 @@ use Rattle.feed_commands.specs.AuditEnds.{JudgesPile, certificate_fault}
 use Rattle.feed_commands.specs.AuditedPile.{RefusesPile, StopsAmidPile}
 use Rattle.feed_commands.specs.CertificatePart.{IsLongPart, ReadsPart}
 use Rattle.feed_commands.specs.Fault.{IsRefusal, fault_answer, refusal_answer}
+use Rattle.feed_commands.specs.Mirror.{StopsAmidOffers}
 use Rattle.feed_commands.specs.Run.{IsDone}
 use Rattle.feed_commands.specs.Status.{code_of}
 use Rattle.feed_commands.proofs.OneAuditedLemmas.{begins-once}
@@ -157,21 +158,14 @@ module _ (input : List ℕ) (c : CertificateValue) (pile : List ℕ) (room : ℕ
 pub pile-stops : (before mid after : SourceState) (c : CertificateValue) (room : ℕ)
     → BeginsCertified before.left c mid.left → room ≡ pile_room c → StopsAmidPile room mid after
     → StopsInPile before after
-pile-stops before mid after c room begins same stops =
-    let text = certificate_text c in
-    record {
-      read = text ++ stops.read;
-      from = begins.whole ∙ ap (λ (t : List ℕ). text ++ t) stops.from ∙ sym (append_assoc text stops.read after.left);
-      within = omega (arith, length-append text stops.read, stops.within, same, begins.within);
-      certificate = c;
-      pile = mid.left;
-      begins = begins;
-      offers = stops.offers;
-      used = stops.used;
-      bytes = stops.bytes;
-      whole = stops.whole;
-      few = stops.few;
-    }
+pile-stops before mid after c room begins same stops = record {
+  certificate = c;
+  pile = mid.left;
+  begins = begins;
+  offers = stops.offers;
+  stops = subst (λ (n : ℕ). StopsAmidOffers n mid.left after.left stops.offers) same stops.stops;
+  few = stops.few;
+}
 
 -- the exit status
 

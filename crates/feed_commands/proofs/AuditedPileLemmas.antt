@@ -1,12 +1,12 @@
 -- `audit`: the offers of a pile, one after another.
 use Rattle.std.proofs.Common.{◌≡◌, ℕ, ◌+◌, ◌<◌, ◌≤◌, List, [], ◌∷◌, ◌++◌, Option, None, Some, Result, Ok, Err, length}
 use Rattle.std.proofs.Common.{refl, sym}
-use Rattle.std.proofs.Common.{ap, subst, ◌∙◌, arith, append_assoc, length-append}
+use Rattle.std.proofs.Common.{ap, subst, ◌∙◌, arith, length-append}
 use Rattle.std.specs.Prelude.{All}
 use Rattle.std.proofs.lemmas.List.Elements.{All-append, All-cons, All-nil}
-use Rattle.doc_source.specs.Laws.{HasRead, read_text}
+use Rattle.doc_source.specs.Laws.{HasRead}
 use Rattle.doc_source.specs.Outside.{SourceState}
-use Rattle.doc_source.specs.Pile.{IsAnswer as IsPileAnswer, IsOffer, PileState, unused, used_text}
+use Rattle.doc_source.specs.Pile.{IsAnswer as IsPileAnswer, IsOffer, IsOpen, PileState, unused, used_text}
 use Rattle.doc_source.specs.declared.fault.PileFault.{PileFault}
 use Rattle.doc_source.specs.declared.fault.PileFault.TheVariants as piles
 use Rattle.doc_source.specs.declared.offer.Offer.{Offer}
@@ -16,6 +16,7 @@ use Rattle.feed_commands.specs.Audit.{audited_limit}
 use Rattle.feed_commands.specs.AuditedPile.{HasOneMore, RefusesPile, StopsAmidPile}
 use Rattle.feed_commands.specs.Fault.{IsRefusal}
 use Rattle.feed_commands.specs.Mirror.{ReadsToWithin, pile_fault}
+use Rattle.feed_commands.proofs.AmidLemmas.{stops-amid}
 
 -- a reader between two offers of a pile; `told` is whether contracts can see the pile
 pub record IsReading (told : Type 0) (limit : ℕ) (first now : SourceState) (reader : PileState) (offers : List Offer)
@@ -109,29 +110,13 @@ module _ (told : Type 0) (limit : ℕ) (first now : SourceState) (reader : PileS
   -- a call of the input failed
   pub reading-stops : (after : PileState) (rest : SourceState) → told → after.limit ≡ reader.limit
       → after.used + length after.ahead ≤ after.limit → after.used ≡ reader.used
-      → unused reader now ≡ unused after rest → StopsAmidPile limit first rest
-  reading-stops after rest t limit_is bound used same =
-      let has = h.read t in
-      let front = read_text offers in
-      record {
-        read = front ++ after.ahead;
-        from = has.whole ∙ ap (λ (bytes : List ℕ). front ++ bytes) same
-            ∙ sym (append_assoc front after.ahead rest.left);
-        within = omega (
-          arith,
-          length-append front after.ahead,
-          has.counted,
-          bound,
-          used,
-          limit_is,
-          h.limit_is,
-        );
-        offers = offers;
-        used = reader.used;
-        bytes = unused reader now;
-        whole = has;
-        few = h.few;
-      }
+      → unused reader now ≡ unused after rest → IsOpen reader.used after.ahead → StopsAmidPile limit first rest
+  reading-stops after rest t limit_is bound used same going = record {
+    offers = offers;
+    stops = stops-amid limit first.left rest.left offers reader.used (unused reader now) after.ahead (h.read t) same
+        (omega (arith, bound, used, limit_is, h.limit_is)) going;
+    few = h.few;
+  }
 
 -- the fault of the input is that of a failed call
 pub pile-input : (fault : PileFault) → pile_fault fault ≡ Input → fault ≡ piles.SourceFault

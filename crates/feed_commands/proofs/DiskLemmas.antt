@@ -2,10 +2,20 @@
 use Rattle.std.proofs.Common.{ℕ, inl, inr, ⊎_elim, refl}
 use Rattle.doc_source.specs.Outside.{SourceState}
 use Rattle.feed_disk.specs.Disk.{DiskState, IsDisk}
-use Rattle.feed_recovery.specs.Settled.{AlwaysLeavesBoth, IsUnused, LeavesStores, OpensPast}
+use Rattle.feed_disk.specs.declared.area.Area.TheVariants.{Journal, Sealed}
+use Rattle.feed_disk.proofs.MomentLemmas.{alone_begins}
+use Rattle.feed_recovery.specs.Settled.{AlwaysLeavesBoth, IsUnused, KeepsPayloads, LeavesStores, OpensPast}
+use Rattle.feed_recovery.proofs.LoadedLemmas.{alone-payloads}
 use Rattle.atom_writer.specs.declared.doc.FeedName.{FeedName}
 use Rattle.feed_recovery.proofs.PastLemmas.{both_stay}
 use Rattle.feed_commands.specs.Crash.{AppliesSafely, LeavesApplied, MakesStoreAt}
+
+-- a disk on which no call is made
+pub leaves-none : {T : Type 0} (s : DiskState) → IsDisk T s → LeavesStores s s
+leaves-none s is = λ head operations least settled. both_stay s (OpensPast head operations least) is settled
+
+pub keeps-none : (s : DiskState) → KeepsPayloads s s
+keeps-none s = alone-payloads s s (alone_begins s Journal) (alone_begins s Sealed)
 
 -- no store is made, and no command that made one is done
 pub makes-none : {T : Type 0} (s : DiskState) (name : FeedName) (window capacity : ℕ) (told : Type 0) (moment : ℕ)
@@ -25,6 +35,7 @@ makes-none s name window capacity told moment done is never = record {
     settled = λ d. absurd (never d);
     opens = λ d. absurd (never d);
   };
+  stores = leaves-none s is;
 }
 
 -- a statement on the ends at which all is done holds if there are fewer of them
@@ -39,11 +50,8 @@ makes-weaker before after name window capacity told moment done less h m = recor
     settled = λ l. m.makes.settled (h l);
     opens = λ l. m.makes.opens (h l);
   };
+  stores = m.stores;
 }
-
--- a disk on which no call is made
-pub leaves-none : {T : Type 0} (s : DiskState) → IsDisk T s → LeavesStores s s
-leaves-none s is = λ head operations least settled. both_stay s (OpensPast head operations least) is settled
 
 -- a store that isn't loaded, of which nothing is written
 pub applies-none : {T : Type 0} (s : DiskState) (moments : ℕ → ℕ) (input rest : SourceState)
@@ -70,6 +78,8 @@ applies-weaker before after moments input rest told failed stopped later more fe
       made = l.made;
       history = l.history;
       lines = record {
+        more = l.lines.more;
+        grows = l.lines.grows;
         one_more = l.lines.one_more;
         first = l.lines.first;
         read = λ f. l.lines.read (stops f);

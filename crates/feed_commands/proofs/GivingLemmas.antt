@@ -1,5 +1,5 @@
 -- `mirror` from a pile: a mirror between two offers, with the disk on which it takes them.
-use Rattle.std.proofs.Common.{◌≡◌, ◌≢◌, ℕ, ◌+◌, ◌≤◌, List, [], ◌∷◌, ◌++◌, Bool, Some, None}
+use Rattle.std.proofs.Common.{◌≡◌, ◌≢◌, ◌⊎◌, inl, inr, ℕ, ◌+◌, ◌≤◌, List, [], ◌∷◌, ◌++◌, Bool, Some, None}
 use Rattle.std.proofs.Common.{Result, Ok, Err}
 use Rattle.std.proofs.Common.{IsOk, length, refl, sym, subst, ◌∙◌, arith}
 use Rattle.std.proofs.lemmas.List.Elements.{All-nil}
@@ -7,6 +7,8 @@ use Rattle.std.proofs.lemmas.Bool.{false≢true}
 use Rattle.doc_source.specs.Laws.{HasRead}
 use Rattle.doc_source.specs.Outside.{SourceState}
 use Rattle.doc_source.specs.Pile.{IsAnswer as IsPileAnswer, IsOffer, PileState, unused, used_text}
+use Rattle.doc_source.specs.declared.fault.PileFault.{PileFault}
+use Rattle.doc_source.specs.declared.fault.PileFault.TheVariants as piles
 use Rattle.doc_source.specs.declared.offer.Offer.{Offer}
 use Rattle.feed_disk.specs.Disk.{DiskState}
 use Rattle.feed_disk.specs.Moments.{AlwaysLeaves, LeavesAlone}
@@ -23,7 +25,7 @@ use Rattle.mirror_walk.specs.declared.answer.Offered.TheVariants.{Full as NoRoom
 use Rattle.feed_commands.specs.declared.fault.Fault.{Fault}
 use Rattle.feed_commands.specs.declared.fault.Fault.TheVariants.{BadStore, Disk, Full, Input, NoMemory, Refused}
 use Rattle.feed_commands.specs.Fault.{fault_answer}
-use Rattle.feed_commands.specs.Mirror.{IsMirrored, ReadsOffers, ReadsTo, pile_limit}
+use Rattle.feed_commands.specs.Mirror.{IsMirrored, ReadsOffers, ReadsTo, pile_fault, pile_limit}
 use Rattle.feed_commands.specs.MirrorEnds.{GivesOffers}
 use Rattle.feed_commands.specs.MirrorFaults.{full_fault}
 use Rattle.feed_commands.specs.Report.{HasAdded, IsReportable, no_counts}
@@ -51,6 +53,18 @@ pub not-ok : {T E : Type 0} (result : Result T E) (fault : E) → result ≡ Err
 not-ok (Ok value) fault is ok = cc
 not-ok (Err other) fault is ok = false≢true ok
 
+-- the offers came to no end of the pile, and no device call failed
+pub unended : {whole failed : Type 0} {A : Type 0} → ¬ whole → ¬ failed → whole ⊎ failed → A
+unended part well (inl w) = absurd (part w)
+unended part well (inr f) = absurd (well f)
+
+-- the fault of a pile isn't that of the disk
+pub pile-no_disk : (fault : PileFault) → pile_fault fault ≡ Disk → ⊥
+pile-no_disk (piles.BadPile at) e = cc
+pile-no_disk (piles.TooLong limit) e = cc
+pile-no_disk piles.SourceFault e = cc
+pile-no_disk piles.NoMemory e = cc
+
 module _ (input_told disk_told : Type 0) (detailed : Bool) (first : MirrorValue) (s : DiskState)
     (input : SourceState) where
   pub giving-start : (reader : PileState) (report : Report) → BegunAreWhole
@@ -76,7 +90,7 @@ module _ (input_told disk_told : Type 0) (detailed : Bool) (first : MirrorValue)
   pub giving-ends : (now : DiskState) (source : SourceState) (reader : PileState) (mirror : MirrorValue)
       (report : Report) (failed whole : Type 0) → BegunAreWhole
       → (h : IsGiving input_told disk_told detailed first s now input source reader mirror report)
-      → (whole → input_told → ReadsTo input.left h.offers (Ok None))
+      → (whole ⊎ failed → input_told → ReadsTo input.left h.offers (Ok None))
       → GivesOffers first.capacity first.base first.kept input.left input_told disk_told s now failed whole
   giving-ends now source reader mirror report failed whole law h all =
       gives-of disk_told first.capacity first.base first.kept s input.left input_told h.offers now
@@ -154,9 +168,11 @@ module _ (input_told disk_told : Type 0) (detailed : Bool) (first : MirrorValue)
         → AlwaysLeaves now later MirrorArea (IsOfferStep mirror offer.address offer.bytes))
         → GivesOffers first.capacity first.base first.kept input.left input_told disk_told s later failed whole
     giving-failed later failed whole is part moments =
-        gives-failed disk_told first.capacity first.base first.kept s input.left input_told
-        (h.offers ++ offer ∷ []) later
+        gives-failed disk_told first.capacity first.base first.kept s input.left input_told h.offers offer later
         mirror.kept failed whole is part reads-next
+        (has-answered input_told detailed first.capacity first.base first.kept input.left h.offers reader source
+        mirror.kept report
+        h.amid)
         (taking-images disk_told first.capacity first.base first.kept s h.offers offer mirror now later h.same.base
         h.same.capacity
         (has-answered input_told detailed first.capacity first.base first.kept input.left h.offers reader source
@@ -196,29 +212,31 @@ module _ (input_told disk_told : Type 0) (detailed : Bool) (first : MirrorValue)
 
     -- and a fault ended the offers
     pub giving-fault : (later : DiskState) (fault : Fault) (failed whole : Type 0) → MayEndOffer fault
-        → (fault ≡ Disk → failed) → ¬ whole → BegunAreWhole
+        → (fault ≡ Disk → failed) → (failed → fault ≡ Disk) → ¬ whole → BegunAreWhole
         → (disk_told → IsAtRest now mirror.kept
         → AlwaysLeaves now later MirrorArea (IsOfferStep mirror offer.address offer.bytes))
         → (fault ≢ Disk
         → GivesOffers first.capacity first.base first.kept input.left input_told disk_told s now failed whole
         → GivesOffers first.capacity first.base first.kept input.left input_told disk_told s later failed whole)
         → GivesOffers first.capacity first.base first.kept input.left input_told disk_told s later failed whole
-    giving-fault later Disk failed whole may is part law moments same =
+    giving-fault later Disk failed whole may is back part law moments same =
         giving-failed later failed whole (is refl) part moments
-    giving-fault later NoMemory failed whole may is part law moments same =
-        same (λ e. cc) (giving-ends now source reader mirror report failed whole law h (λ w. absurd (part w)))
-    giving-fault later (Full area size needed most) failed whole may is part law moments same =
-        same (λ e. cc) (giving-ends now source reader mirror report failed whole law h (λ w. absurd (part w)))
-    giving-fault later Input failed whole may is part law moments same = absurd may
-    giving-fault later (BadStore bad) failed whole may is part law moments same = absurd may
-    giving-fault later (Refused refusal) failed whole may is part law moments same = absurd may
+    giving-fault later NoMemory failed whole may is back part law moments same =
+        same (λ e. cc) (giving-ends now source reader mirror report failed whole law h
+        (unended part (λ f. let e = back f in cc)))
+    giving-fault later (Full area size needed most) failed whole may is back part law moments same =
+        same (λ e. cc) (giving-ends now source reader mirror report failed whole law h
+        (unended part (λ f. let e = back f in cc)))
+    giving-fault later Input failed whole may is back part law moments same = absurd may
+    giving-fault later (BadStore bad) failed whole may is back part law moments same = absurd may
+    giving-fault later (Refused refusal) failed whole may is back part law moments same = absurd may
 
 -- no offer was given
 pub gives-none : (input_told disk_told : Type 0) (first : MirrorValue) (s : DiskState) (input : List ℕ)
     (failed whole : Type 0) → BegunAreWhole → IsUsable disk_told s first
-    → IsLoadedOf first.base (payloads_of first.kept) first.kept → ¬ whole
+    → IsLoadedOf first.base (payloads_of first.kept) first.kept → ¬ whole → ¬ failed
     → GivesOffers first.capacity first.base first.kept input input_told disk_told s s failed whole
-gives-none input_told disk_told first s input failed whole law usable loaded part =
+gives-none input_told disk_told first s input failed whole law usable loaded part well =
     let payloads = λ (told : disk_told). (usable.stands told).payloads in
     gives-of disk_told first.capacity first.base first.kept s input input_told [] s first.kept failed whole law
     (λ _. record {
@@ -227,5 +245,5 @@ gives-none input_told disk_told first s input failed whole law usable loaded par
       read = record { are = All-nil IsOffer; whole = refl; counted = refl };
       within = omega (arith);
     })
-    (λ w. absurd (part w)) (record { answers = []; answered = refl })
+    (unended part well) (record { answers = []; answered = refl })
     (taking-start disk_told first.capacity first.base first.kept s law loaded payloads) payloads

@@ -32,6 +32,8 @@ pub mod ListingLemmas
 pub mod LoadedLemmas
 -- serves `run`, `applied`: a crash within the lines of `apply`
 pub mod MomentsLemmas
+-- serves `run`, `first_fault`: a pile of which a part was read
+pub mod AmidLemmas
 -- serves `run`, `answered`: the offers of a pile, one after another
 pub mod OffersLemmas
 -- serves `commands_have_one_answer`: a walk of `mirror --fetch` has one answer

@@ -2,7 +2,7 @@
 use Rattle.std.proofs.Common.{◌≡◌, ◌≢◌, ◌⊎◌, inl, inr, ⊎_elim, ℕ, List, ◌++◌, Bool, Option, Err, Result, IsOk}
 use Rattle.std.proofs.Common.{refl, sym, ap, subst}
 use Rattle.std.proofs.Common.{◌∙◌, map, arith, true, false}
-use Rattle.doc_source.specs.Outside.{SinkState}
+use Rattle.doc_source.specs.Outside.{SinkState, SourceState}
 use Rattle.doc_source.specs.declared.offer.Offer.{Offer}
 use Rattle.feed_disk.specs.Disk.{DiskState}
 use Rattle.feed_disk.specs.declared.area.Area.{Area}
@@ -14,7 +14,7 @@ use Rattle.mirror_walk.specs.Holding.{KeptValue}
 use Rattle.mirror_walk.specs.Listing.{outcome_of}
 use Rattle.mirror_walk.specs.Loaded.{IsLoadedOf}
 use Rattle.mirror_walk.specs.Offers.{AreServed}
-use Rattle.mirror_walk.specs.Walk.{IsServedBy}
+use Rattle.mirror_walk.specs.Walk.{IsServedBy, WalkEnding}
 use Rattle.mirror_walk.specs.declared.answer.Outcome.{Outcome}
 use Rattle.mirror_walk.specs.declared.answer.Outcome.TheVariants.{Complete, Missing}
 use Rattle.mirror_walk.specs.declared.mirror_fault.MirrorFault.{MirrorFault}
@@ -31,23 +31,24 @@ use Rattle.feed_commands.specs.declared.fault.Fault.TheVariants.{NoMemory, Input
 use Rattle.feed_commands.specs.declared.status.Status.{Status}
 use Rattle.feed_commands.specs.declared.status.Status.TheVariants as ends
 use Rattle.feed_commands.specs.Answer.{Answer, Prints}
-use Rattle.feed_commands.specs.FetchEnds.{EndsFetched, IsWalkEnd, IsWalkRefusal, IsWalkedReport, MayEndFetched}
+use Rattle.feed_commands.specs.FetchEnds.{EndsFetched, EndsWalkBy, IsWalkEnd, IsWalkRefusal, IsWalkedReport, MayEndFetched}
 use Rattle.feed_commands.specs.Mirror.{IsMirrored, IsReport, offering}
 use Rattle.feed_commands.specs.MirrorCrash.{IsAfterLoad, LeavesFetched, LeavesMirror, LeavesMirrored}
-use Rattle.feed_commands.specs.MirrorEnds.{IsLater, IsPileEnd, IsPileRefusal, IsPileReport, MayEndMirror}
+use Rattle.feed_commands.specs.MirrorEnds.{GivesOf, IsLater, IsPileEnd, IsPileRefusal, IsPileReport, MayEndMirror}
 use Rattle.feed_commands.specs.MirrorFaults.{IsBadMirror, IsHeldIn, IsReportRefusal, mirror_fault, report_answer}
-use Rattle.feed_commands.specs.Mirroring.{HoldsServed}
+use Rattle.feed_commands.specs.Mirroring.{EndsWalkAt, HoldsServed}
 use Rattle.feed_commands.specs.Outside.{Outside}
 use Rattle.feed_commands.specs.Report.{EndsReport, status_of}
 use Rattle.feed_commands.specs.Run.{EndsWith, IsAnswer, IsDone}
 use Rattle.feed_commands.specs.Served.{EndsServed, IsPileOf, IsReported}
 use Rattle.feed_commands.specs.Status.{code_of}
 use Rattle.feed_commands.specs.Walked.{IsFetched, IsWalkReport}
-use Rattle.feed_commands.proofs.LoadedLemmas.{fetched-weaker, leaves-weaker, mirrored-weaker}
+use Rattle.feed_commands.proofs.LoadedLemmas.{ending-weaker, fetched-weaker, leaves-weaker, mirrored-weaker}
 use Rattle.feed_commands.proofs.OneFetchedLemmas.{fetched-once}
 use Rattle.feed_commands.proofs.OneMirroredLemmas.{mirrored-once}
 use Rattle.feed_commands.proofs.ReportFaultLemmas.{report-no_done}
 use Rattle.feed_commands.proofs.ServedReportLemmas.{served-report}
+use Rattle.feed_commands.proofs.TakingLemmas.{held-weaker}
 use Rattle.feed_commands.proofs.WalkEndLemmas.{refusal-over}
 use Rattle.feed_commands.proofs.WalkedReportLemmas.{walked-report}
 
@@ -269,20 +270,42 @@ module _ (before after : DiskState) (ended : ℕ) where
       (mirrored-weaker capacity base input before after (result ≡ Err (Other Disk)) (ended ≡ code_of ends.DiskFault)
       (IsOk result) (IsReported ended) failed reported) leaves
 
+  -- the offers that were given, by the exit status
+  pub pile-gave : (capacity : ℕ) (base : List ℕ) (content : Area → List ℕ) (input rest : SourceState)
+      (result : Result Printed ReportFault)
+      → GivesOf capacity base content input rest (result ≡ Err (Other Disk)) (IsOk result)
+      → (result ≡ Err (Other Disk) → ended ≡ code_of ends.DiskFault)
+      → (ended ≡ code_of ends.DiskFault → result ≡ Err (Other Disk)) → (IsReported ended → IsOk result)
+      → GivesOf capacity base content input rest (ended ≡ code_of ends.DiskFault) (IsReported ended)
+  pile-gave capacity base content input rest result (inl same) failed fails reported = inl same
+  pile-gave capacity base content input rest result (inr given) failed fails reported = inr
+      (held-weaker capacity base content input.left (result ≡ Err (Other Disk)) (ended ≡ code_of ends.DiskFault)
+      (IsOk result) (IsReported ended) failed (λ e. elim e [ inl is ↦ inl (reported is) | inr is ↦ inr (fails is) ])
+      reported given)
+
+  -- the end of a walk, by the exit status
+  pub walk-ending : (result : Result Printed ReportFault) → (IsReported ended → IsOk result)
+      → (ended ≡ code_of ends.FetchFault → result ≡ Err Fetch)
+      → (ended ≡ code_of ends.DiskFault → result ≡ Err (Other Disk))
+      → (ending : WalkEnding) → EndsWalkBy result ending → EndsWalkAt ended ending
+  walk-ending result reported source device =
+      ending-weaker (IsOk result) (IsReported ended) (result ≡ Err Fetch) (ended ≡ code_of ends.FetchFault)
+      (result ≡ Err (Other Disk)) (ended ≡ code_of ends.DiskFault) reported source device
+
   pub walk-left : (capacity : ℕ) (base : List ℕ) (answers : List ℕ → Option (List ℕ))
       (result : Result Printed ReportFault)
       → LeavesMirror before after (IsLater result)
-      (LeavesFetched capacity base answers before after (result ≡ Err (Other Disk)) (IsOk result))
+      (LeavesFetched capacity base answers before after (result ≡ Err (Other Disk)) (EndsWalkBy result))
       → (IsAfterLoad ended → IsLater result) → (result ≡ Err (Other Disk) → ended ≡ code_of ends.DiskFault)
-      → (IsReported ended → IsOk result)
+      → ((ending : WalkEnding) → EndsWalkBy result ending → EndsWalkAt ended ending)
       → LeavesMirror before after (IsAfterLoad ended)
-      (LeavesFetched capacity base answers before after (ended ≡ code_of ends.DiskFault) (IsReported ended))
-  walk-left capacity base answers result leaves later failed reported =
+      (LeavesFetched capacity base answers before after (ended ≡ code_of ends.DiskFault) (EndsWalkAt ended))
+  walk-left capacity base answers result leaves later failed ending =
       leaves-weaker before after (IsLater result) (IsAfterLoad ended)
-      (LeavesFetched capacity base answers before after (result ≡ Err (Other Disk)) (IsOk result))
-      (LeavesFetched capacity base answers before after (ended ≡ code_of ends.DiskFault) (IsReported ended)) later
+      (LeavesFetched capacity base answers before after (result ≡ Err (Other Disk)) (EndsWalkBy result))
+      (LeavesFetched capacity base answers before after (ended ≡ code_of ends.DiskFault) (EndsWalkAt ended)) later
       (fetched-weaker capacity base answers before after (result ≡ Err (Other Disk)) (ended ≡ code_of ends.DiskFault)
-      (IsOk result) (IsReported ended) failed reported) leaves
+      (EndsWalkBy result) (EndsWalkAt ended) failed ending) leaves
 
 -- the status of the failed disk
 pub disk-code : (fault : ReportFault) (ended : ℕ) → ended ≡ code_of (report_answer fault).status

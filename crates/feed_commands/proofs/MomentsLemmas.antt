@@ -28,7 +28,7 @@ operation-calls s t (Some seal) before after makes below = omega (arith, makes.c
 -- The lines that were applied so far
 
 module _ (s t : DiskState) (moments : ℕ → ℕ) (input rest : SourceState) (seen failed stopped : Type 0)
-    (opened made : Stored) (count : ℕ)
+    (opened made : Stored) (count : ℕ) (grown : (more : List Op) × (made.history ≡ opened.history ++ more))
     (calls : t.clock < counter_limit → s.clock + 4 * (length made.history - length opened.history) ≤ t.clock)
     (lines : seen → IsMadeByFirst (stored_step moments) opened input.left count made)
     (read : stopped → seen → IsMadeByRead (stored_step moments) opened input rest made) where
@@ -39,6 +39,8 @@ module _ (s t : DiskState) (moments : ℕ → ℕ) (input rest : SourceState) (s
     made = made;
     history = made.history;
     lines = record {
+      more = grown.0;
+      grows = grown.1;
       one_more = inl refl;
       first = λ told. record { count = count; makes = lines told; adds = inl refl };
       read = read;
@@ -57,6 +59,8 @@ module _ (s t : DiskState) (moments : ℕ → ℕ) (input rest : SourceState) (s
     made = made;
     history = made.history ++ operation ∷ [];
     lines = record {
+      more = grown.0;
+      grows = grown.1;
       one_more = inr (operation, refl);
       first = λ told. record {
         count = count;
@@ -89,6 +93,8 @@ loaded-leaves s m t moments input rest seen head operations least lines_failed l
       made = second.made;
       history = second.history;
       lines = record {
+        more = second.lines.more;
+        grows = second.lines.grows;
         one_more = second.lines.one_more;
         first = second.lines.first;
         read = λ stop. second.lines.read (stops stop);

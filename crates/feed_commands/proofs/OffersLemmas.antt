@@ -5,9 +5,9 @@ use Rattle.std.proofs.Common.{Err, length, map, refl, sym, ap, ap₂, subst, ◌
 use Rattle.std.proofs.lemmas.List.{map-append}
 use Rattle.std.proofs.lemmas.List.Elements.{All-nil}
 use Rattle.std.proofs.lemmas.List.Sums.{fold-append}
-use Rattle.doc_source.specs.Laws.{HasRead, read_text}
+use Rattle.doc_source.specs.Laws.{HasRead}
 use Rattle.doc_source.specs.Outside.{SourceState}
-use Rattle.doc_source.specs.Pile.{IsAnswer as IsPileAnswer, IsOffer, PileState, head_at, offer_text, unused}
+use Rattle.doc_source.specs.Pile.{IsAnswer as IsPileAnswer, IsOffer, IsOpen, PileState, head_at, offer_text, unused}
 use Rattle.doc_source.specs.Pile.{used_text}
 use Rattle.doc_source.specs.declared.fault.PileFault.{PileFault}
 use Rattle.doc_source.specs.declared.fault.PileFault.TheVariants as piles
@@ -25,13 +25,14 @@ use Rattle.feed_commands.specs.declared.fault.Fault.TheVariants.{Input}
 use Rattle.feed_commands.specs.Answer.{Answer}
 use Rattle.feed_commands.specs.Fault.{IsRefusal, fault_answer}
 use Rattle.feed_commands.specs.Mirror.{HasAnswered, IsMirrored, ReadsOffers, ReadsTo, ReadsWithinPile, offering, pile_fault}
-use Rattle.feed_commands.specs.Mirror.{pile_limit}
+use Rattle.feed_commands.specs.Mirror.{StopsAmidOffers, pile_limit}
 use Rattle.feed_commands.specs.MirrorFaults.{full_fault}
 use Rattle.feed_commands.specs.Report.{AreAnsweredWithin, EndsReport, HasAdded, IsReportable, Reports, counted}
 use Rattle.feed_commands.specs.Report.{counts_of}
 use Rattle.feed_commands.specs.Report.{ending_in, no_counts, refused_line, refused_line_in, refused_lines}
 use Rattle.feed_commands.specs.Report.{refused_lines_in, report_of, total}
 use Rattle.feed_commands.proofs.AnswersLemmas.{answers-push}
+use Rattle.feed_commands.proofs.AmidLemmas.{stops-amid}
 
 -- one more offer
 
@@ -251,31 +252,16 @@ module _ (told : Type 0) (detailed : Bool) (capacity : ℕ) (base : List ℕ) (s
 
   pub within-fault : (after : PileState) (before rest : SourceState) → told → before.left ≡ pile
       → after.limit ≡ reader.limit → after.used + length after.ahead ≤ after.limit
-      → after.used ≡ reader.used → unused reader source ≡ unused after rest
+      → after.used ≡ reader.used → unused reader source ≡ unused after rest → IsOpen reader.used after.ahead
       → ReadsWithinPile capacity base start before rest
-  within-fault after before rest t is limit bound used same =
-      let has = h.read t in
-      let front = read_text offers in
-      record {
-        read = front ++ after.ahead;
-        from = is ∙ has.whole ∙ ap (λ (bytes : List ℕ). front ++ bytes) same
-            ∙ sym (append_assoc front after.ahead rest.left);
-        within = omega (
-          arith,
-          length-append front after.ahead,
-          has.counted,
-          bound,
-          used,
-          limit,
-          h.limit,
-        );
-        offers = offers;
-        used = reader.used;
-        bytes = unused reader source;
-        whole = subst (λ (bytes : List ℕ). HasRead bytes offers reader.used (unused reader source)) (sym is) has;
-        left = kept;
-        has = has-answered;
-      }
+  within-fault after before rest t is limit bound used same going = record {
+    offers = offers;
+    stops = subst (λ (bytes : List ℕ). StopsAmidOffers pile_limit bytes rest.left offers) (sym is)
+        (stops-amid pile_limit pile rest.left offers reader.used (unused reader source) after.ahead (h.read t) same
+        (omega (arith, bound, used, limit, h.limit)) going);
+    left = kept;
+    has = has-answered;
+  }
 
 -- the fault of the input is that of a failed call
 pub input-of_pile : (fault : PileFault) → pile_fault fault ≡ Input → fault ≡ piles.SourceFault

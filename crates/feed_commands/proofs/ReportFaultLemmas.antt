@@ -1,7 +1,9 @@
 -- The exit statuses of the faults by which a mirror makes no report.
-use Rattle.std.proofs.Common.{◌≡◌, inl, inr, ℕ, refl, arith}
+use Rattle.std.proofs.Common.{◌≡◌, inl, inr, ℕ, Result, Err, refl, arith}
 use Rattle.feed_commands.specs.declared.commands.report_fault.ReportFault.{ReportFault}
 use Rattle.feed_commands.specs.declared.commands.report_fault.ReportFault.TheVariants.{Fetch, OtherBase, Other}
+use Rattle.feed_commands.specs.declared.commands.printed.Printed.{Printed}
+use Rattle.feed_commands.specs.declared.fault.Fault.{Fault}
 use Rattle.feed_commands.specs.declared.fault.Fault.TheVariants.{NoMemory, Input, Disk, BadStore, Full, Refused}
 use Rattle.feed_commands.specs.declared.fault.Refusal.TheVariants as why
 use Rattle.feed_commands.specs.FetchEnds.{MayEndFetched, MayEndWalkReport}
@@ -25,6 +27,15 @@ disk-of (Other (BadStore bad)) e = absurd (omega (arith, e))
 disk-of (Other (Full area size needed capacity)) e = absurd (omega (arith, e))
 disk-of (Other (Refused refusal)) e =
     absurd (refusal_code (λ n. n ≡ 4 → ⊥) (λ f. omega (arith, f)) (λ f. omega (arith, f)) refusal e)
+
+pub other-disk : (fault : Fault) → ◌≡◌ {A = Result Printed ReportFault} (Err (Other fault)) (Err (Other Disk))
+    → ◌≡◌ {A = Result Printed Fault} (Err fault) (Err Disk)
+other-disk NoMemory e = cc
+other-disk Input e = cc
+other-disk Disk e = refl
+other-disk (BadStore bad) e = cc
+other-disk (Full area size needed capacity) e = cc
+other-disk (Refused refusal) e = cc
 
 pub input-of : (fault : ReportFault) → code_of (report_answer fault).status ≡ 9 → fault ≡ Other Input
 input-of Fetch e = absurd (omega (arith, e))

@@ -1,9 +1,10 @@
 -- `mirror`: the documents held after an answer, and the images that a crash leaves while documents are taken.
-use Rattle.std.proofs.Common.{◌≡◌, inl, inr, ℕ, List, [], ◌∷◌, ◌++◌, None, Ok, Err, refl, sym, ap, subst, ◌∙◌, map, append-nil, append_assoc}
+use Rattle.std.proofs.Common.{◌≡◌, ◌⊎◌, inl, inr, ℕ, List, [], ◌∷◌, ◌++◌, None, Ok, Err, refl, sym, ap, subst, ◌∙◌, map, append-nil, append_assoc}
 use Rattle.std.proofs.lemmas.List.{map-append}
 use Rattle.doc_source.specs.declared.offer.Offer.{Offer}
 use Rattle.feed_disk.specs.Disk.{DiskState}
 use Rattle.feed_disk.specs.Moments.{AlwaysLeaves, LeavesAlone}
+use Rattle.feed_disk.specs.declared.area.Area.{Area}
 use Rattle.feed_disk.specs.declared.area.Area.TheVariants.{Mirror as MirrorArea}
 use Rattle.feed_disk.proofs.MomentLemmas.{alone_leaves, always_begins, always_joins, always_weaker}
 use Rattle.feed_journal.specs.Laws.{BegunAreWhole}
@@ -20,7 +21,8 @@ use Rattle.mirror_walk.proofs.StepLemmas.{rest-loads}
 use Rattle.mirror_walk.proofs.TakenLemmas.{kept-text, loaded-more, taken-next}
 use Rattle.feed_commands.specs.Mirror.{HasAnswered, ReadsOffers, ReadsTo, offering}
 use Rattle.feed_commands.specs.MirrorCrash.{IsPileStep}
-use Rattle.feed_commands.specs.MirrorEnds.{GivesOffers}
+use Rattle.feed_commands.specs.MirrorEnds.{AreAllAnswered, FailsAtLast, GivesOffers, HasGiven}
+use Rattle.feed_commands.specs.MirrorFaults.{IsHeldIn}
 use Rattle.feed_commands.specs.Report.{AreAnsweredWithin}
 use Rattle.feed_commands.proofs.AnswersLemmas.{answers-push}
 
@@ -66,6 +68,51 @@ pub record IsTaking (told : Type 0) (capacity : ℕ) (base : List ℕ) (start : 
   pub loaded : IsLoadedOf base (payloads_of kept) kept
   pub images : told → IsAtRest s start → AlwaysLeaves s now MirrorArea (IsPileStep capacity base start offers)
   pub rests : told → IsAtRest s start → IsAtRest now kept
+
+-- what a failed call or a report says of the offers holds of fewer of them
+pub given-weaker : (input : List ℕ) (told failed more whole less : Type 0) (answered offers : List Offer)
+    → (failed → more) → (less ⊎ more → whole ⊎ failed) → (less → whole)
+    → AreAllAnswered input told failed whole answered offers ⊎ FailsAtLast failed whole answered offers
+    → AreAllAnswered input told more less answered offers ⊎ FailsAtLast more less answered offers
+given-weaker input told failed more whole less answered offers to back from (inl all) =
+    inl record { same = all.same; all = λ e. all.all (back e) }
+given-weaker input told failed more whole less answered offers to back from (inr last) =
+    inr record { is = to last.is; part = λ l. last.part (from l); last = last.last; one_more = last.one_more }
+
+-- the offers that were given to the mirror that the area loads to
+pub gives-held : (capacity : ℕ) (base : List ℕ) (kept : List KeptValue) (content : Area → List ℕ) (input : List ℕ)
+    (input_told disk_told : Type 0) (before after : DiskState) (failed more whole less : Type 0)
+    → IsHeldIn base content kept → input_told → (failed → more) → (less ⊎ more → whole ⊎ failed) → (less → whole)
+    → GivesOffers capacity base kept input input_told disk_told before after failed whole
+    → HasGiven capacity base content input more less
+gives-held capacity base kept content input input_told disk_told before after failed more whole less loaded reads to
+    back from h = record {
+      kept = kept;
+      loaded = loaded;
+      offers = h.offers;
+      read = h.read reads;
+      answered = h.answered;
+      left = h.left;
+      has = h.has;
+      given = elim (given-weaker input input_told failed more whole less h.answered h.offers to back from h.given) [
+        | inl all ↦ inl record { same = all.same; all = λ e seen. all.all e reads }
+        | inr last ↦ inr last
+      ];
+    }
+
+pub held-weaker : (capacity : ℕ) (base : List ℕ) (content : Area → List ℕ) (input : List ℕ)
+    (failed more whole less : Type 0) → (failed → more) → (less ⊎ more → whole ⊎ failed) → (less → whole)
+    → HasGiven capacity base content input failed whole → HasGiven capacity base content input more less
+held-weaker capacity base content input failed more whole less to back from h = record {
+  kept = h.kept;
+  loaded = h.loaded;
+  offers = h.offers;
+  read = h.read;
+  answered = h.answered;
+  left = h.left;
+  has = h.has;
+  given = given-weaker input (Unit {0}) failed more whole less h.answered h.offers to back from h.given;
+}
 
 module _ (told : Type 0) (capacity : ℕ) (base : List ℕ) (start : List KeptValue) (s : DiskState) where
   pub taking-start : BegunAreWhole → IsLoadedOf base (payloads_of start) start
@@ -163,49 +210,54 @@ module _ (told : Type 0) (capacity : ℕ) (base : List ℕ) (start : List KeptVa
   -- the offers that were given, as far as they were answered
   pub gives-of : (input : List ℕ) (input_told : Type 0) (offers : List Offer) (t : DiskState) (kept : List KeptValue)
       (failed whole : Type 0) → BegunAreWhole → (input_told → ReadsOffers input offers)
-      → (whole → input_told → ReadsTo input offers (Ok None)) → HasAnswered capacity base start offers kept →
+      → (whole ⊎ failed → input_told → ReadsTo input offers (Ok None)) → HasAnswered capacity base start offers kept →
       IsTaking told capacity base start offers s t kept
       → (told → records (t.content MirrorArea) ≡ payloads_of kept)
       → GivesOffers capacity base start input input_told told s t failed whole
   gives-of input input_told offers t kept failed whole law read all has h payloads = record {
     offers = offers;
     read = read;
-    all = all;
     images = h.images;
+    answered = offers;
     left = kept;
-    has = λ none. has;
+    has = has;
+    given = inl record { same = refl; all = all };
     now = λ none seen rest. rest-loads law base kept h.loaded t (payloads seen) (h.rests seen rest);
   }
 
   -- the last offer failed on the disk
-  pub gives-failed : (input : List ℕ) (input_told : Type 0) (offers : List Offer) (t : DiskState)
-      (kept : List KeptValue) (failed whole : Type 0) → failed → ¬ whole → (input_told → ReadsOffers input offers)
-      → (told → IsAtRest s start → AlwaysLeaves s t MirrorArea (IsPileStep capacity base start offers))
+  pub gives-failed : (input : List ℕ) (input_told : Type 0) (answered : List Offer) (last : Offer) (t : DiskState)
+      (kept : List KeptValue) (failed whole : Type 0) → failed → ¬ whole
+      → (input_told → ReadsOffers input (answered ++ last ∷ [])) → HasAnswered capacity base start answered kept
+      → (told → IsAtRest s start
+      → AlwaysLeaves s t MirrorArea (IsPileStep capacity base start (answered ++ last ∷ [])))
       → GivesOffers capacity base start input input_told told s t failed whole
-  gives-failed input input_told offers t kept failed whole is part read images = record {
-    offers = offers;
+  gives-failed input input_told answered last t kept failed whole is part read has images = record {
+    offers = answered ++ last ∷ [];
     read = read;
-    all = λ w. absurd (part w);
     images = images;
+    answered = answered;
     left = kept;
-    has = λ none. absurd (none is);
+    has = has;
+    given = inr record { is = is; part = part; last = last; one_more = refl };
     now = λ none. absurd (none is);
   }
 
   -- and then the area was left alone
   pub gives-later : (input : List ℕ) (input_told : Type 0) (m t : DiskState) (failed more whole less : Type 0)
-      → (failed → more) → (less → whole) → LeavesAlone m t MirrorArea
+      → (failed → more) → (less ⊎ more → whole ⊎ failed) → (less → whole) → LeavesAlone m t MirrorArea
       → GivesOffers capacity base start input input_told told s m failed whole
       → GivesOffers capacity base start input input_told told s t more less
-  gives-later input input_told m t failed more whole less to from run h = record {
+  gives-later input input_told m t failed more whole less to back from run h = record {
     offers = h.offers;
     read = h.read;
-    all = λ l. h.all (from l);
+    answered = h.answered;
+    has = h.has;
+    given = given-weaker input input_told failed more whole less h.answered h.offers to back from h.given;
     images = λ seen rest.
         let images = h.images seen rest in
         always_joins s m t MirrorArea (IsPileStep capacity base start h.offers) images
         (alone_leaves m t MirrorArea (IsPileStep capacity base start h.offers) images.now run);
     left = h.left;
-    has = λ none. h.has (λ f. none (to f));
     now = λ none seen rest image may. h.now (λ f. none (to f)) seen rest image (run.now image may);
   }

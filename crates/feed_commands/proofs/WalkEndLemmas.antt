@@ -1,5 +1,5 @@
 -- `mirror --fetch`: how a walk of the mirror ended, and its report.
-use Rattle.std.proofs.Common.{◌≡◌, ◌≢◌, inr, ℕ, List, [], ◌∷◌, ◌++◌, Bool, false, Option, Some, None}
+use Rattle.std.proofs.Common.{◌≡◌, ◌≢◌, inl, inr, ℕ, List, [], ◌∷◌, ◌++◌, Bool, false, Option, Some, None}
 use Rattle.std.proofs.Common.{Result, Ok, Err, refl, sym, ap}
 use Rattle.std.proofs.Common.{ap₂, subst, ◌∙◌}
 use Rattle.chain_links.specs.Address.{printed}
@@ -16,7 +16,7 @@ use Rattle.mirror_walk.specs.Holding.{KeptValue, first_missing, payloads_of}
 use Rattle.mirror_walk.specs.Listing.{outcome_of}
 use Rattle.mirror_walk.specs.Loaded.{IsLoadedOf}
 use Rattle.mirror_walk.specs.Mirror.{IsAtRest}
-use Rattle.mirror_walk.specs.Walk.{HasRefusal, HasWalked, IsWalkStep, WalkEnding, WalkSetting, Walks}
+use Rattle.mirror_walk.specs.Walk.{HasRefusal, HasWalked, IsWalkResult, IsWalkStep, WalkEnding, WalkSetting, Walks}
 use Rattle.mirror_walk.specs.Walk.WalkEnding.{nothing_wanted, not_there, refused, fetch_failed, filled, cut_short}
 use Rattle.mirror_walk.specs.declared.answer.Accepted.{Accepted}
 use Rattle.mirror_walk.specs.declared.walk.Refusal.{Refusal}
@@ -27,13 +27,15 @@ use Rattle.mirror_walk.proofs.StepLemmas.{rest-loads}
 use Rattle.mirror_walk.proofs.WalkServedLemmas.{walks-loaded}
 use Rattle.feed_commands.specs.declared.commands.report.Counts.{Counts}
 use Rattle.feed_commands.specs.declared.commands.report.Report.{Report}
+use Rattle.feed_commands.specs.declared.commands.report_fault.ReportFault.{ReportFault}
+use Rattle.feed_commands.specs.declared.commands.report_fault.ReportFault.TheVariants.{Fetch, Other}
 use Rattle.feed_commands.specs.Answer.{Answer}
-use Rattle.feed_commands.specs.FetchEnds.{AsksOfMirror, GoesWalk}
+use Rattle.feed_commands.specs.FetchEnds.{AsksOfMirror, EndsWalkBy, GoesWalk}
 use Rattle.feed_commands.specs.MirrorFaults.{IsReportRefusal, report_answer, walk_fault}
 use Rattle.feed_commands.specs.Report.{EndsReport, ending_in, status_of, walk_counts, walk_line_in, walk_report}
 use Rattle.feed_commands.specs.Walked.{IsFetched, IsOver, IsWalkReport, walk_setting}
 use Rattle.feed_commands.proofs.AnswersLemmas.{full-capacity}
-use Rattle.feed_commands.proofs.TakingLemmas.{loaded-after}
+use Rattle.feed_commands.proofs.GivingLemmas.{not-ok}
 
 -- the capacity of a walk that ended at a document without room is the mirror's
 pub filled-capacity : (setting : WalkSetting) (asked : List Address) (accepted : List Accepted)
@@ -58,34 +60,70 @@ refusal-over asked fetch_failed refusal has = absurd has
 refusal-over asked (filled size needed capacity) refusal has = absurd has
 refusal-over asked cut_short refusal has = absurd has
 
+-- and one with a fault, by the fault
+pub fault-ends : {T : Type 0} (asked : List Address) (accepted : List Accepted) (left : List KeptValue)
+    (ending : WalkEnding) (fault : WalkFault) (result : Result T ReportFault)
+    → IsWalkResult asked accepted left ending (Err fault) → result ≡ Err (walk_fault fault) → EndsWalkBy result ending
+fault-ends asked accepted left ending faults.FetchFault result is same = record {
+  over = λ whole. absurd (not-ok result _ same whole);
+  at_source = λ e. is;
+  at_device = λ e. let other = sym same ∙ e in cc;
+}
+fault-ends asked accepted left ending (faults.Full size needed most) result is same = record {
+  over = λ whole. absurd (not-ok result _ same whole);
+  at_source = λ e. let other = sym same ∙ e in cc;
+  at_device = λ e. let other = sym same ∙ e in cc;
+}
+fault-ends asked accepted left ending faults.DiskFault result is same = record {
+  over = λ whole. absurd (not-ok result _ same whole);
+  at_source = λ e. let other = sym same ∙ e in cc;
+  at_device = λ e. inl is;
+}
+fault-ends asked accepted left ending faults.NoMemory result is same = record {
+  over = λ whole. absurd (not-ok result _ same whole);
+  at_source = λ e. let other = sym same ∙ e in cc;
+  at_device = λ e. inl is;
+}
+
+-- after the walk's end no call of the source is made
+pub over-ends : {T : Type 0} (ending : WalkEnding) (result : Result T ReportFault) → IsOver ending
+    → (result ≡ Err Fetch → ⊥) → EndsWalkBy result ending
+over-ends ending result over never = record {
+  over = λ whole. over;
+  at_source = λ e. absurd (never e);
+  at_device = λ e. inr over;
+}
+
 module _ (capacity : ℕ) (base : List ℕ) (kept now : List KeptValue) (before after : FetchState)
     (result : Result Walked WalkFault)
     (went : HasWalked (walk_setting capacity base before.answers) kept now before.asked after.asked result) where
-  pub walk-asks : AsksOfMirror capacity base kept before after
-  walk-asks = record {
+  pub walk-asks : (IsEnding : WalkEnding → Type 0) → IsEnding went.ending
+      → AsksOfMirror capacity base kept before after IsEnding
+  walk-asks IsEnding ends = record {
     asked = went.asked;
     accepted = went.accepted;
     left = went.held;
     ending = went.ending;
     walks = went.walks;
+    ends = ends;
     addresses = went.addresses;
   }
 
   -- the disk of the walk
-  pub walk-goes : (s m t : DiskState) (failed whole : Type 0) → BegunAreWhole
+  pub walk-goes : (s m t : DiskState) (failed : Type 0) (IsEnding : WalkEnding → Type 0) → BegunAreWhole
       → IsLoadedOf base (payloads_of kept) kept
       → (IsAtRest s kept → AlwaysLeaves s m MirrorArea (IsWalkStep (walk_setting capacity base before.answers) kept))
-      → (result ≡ Err faults.DiskFault → failed) → (whole → IsOver went.ending)
+      → (result ≡ Err faults.DiskFault → failed) → IsEnding went.ending
       → (result ≢ Err faults.DiskFault → records (m.content MirrorArea) ≡ payloads_of now)
       → (result ≢ Err faults.DiskFault → IsAtRest s kept → IsAtRest m now) → LeavesAlone m t MirrorArea
-      → GoesWalk capacity base kept before.answers s t failed whole
-  walk-goes s m t failed whole law loaded moments fails over payloads rests later = record {
+      → GoesWalk capacity base kept before.answers s t failed IsEnding
+  walk-goes s m t failed IsEnding law loaded moments fails ends payloads rests later = record {
     asked = went.asked;
     accepted = went.accepted;
     left = went.held;
     ending = went.ending;
     walks = went.walks;
-    over = over;
+    ends = ends;
     images = λ rest.
         let images = moments rest in
         always_joins s m t MirrorArea (IsWalkStep (walk_setting capacity base before.answers) kept) images

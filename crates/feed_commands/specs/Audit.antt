@@ -14,7 +14,6 @@ use Rattle.coverage_auditor.specs.declared.verdict.Verdict.TheVariants.{WrongDoc
 use Rattle.coverage_auditor.specs.declared.verdict.Verdict.TheVariants.{NotTheFirst, LiveDiffers}
 use Rattle.coverage_certificate.specs.Certificate.{CertificateValue, IsCertificate}
 use Rattle.coverage_certificate.specs.Text.{IsFirstBadLine, certificate_text, end_line, text_of_lines}
-use Rattle.doc_source.specs.Laws.{HasRead}
 use Rattle.doc_source.specs.Outside.{SourceState}
 use Rattle.doc_source.specs.declared.fault.PileFault.TheVariants as piles
 use Rattle.doc_source.specs.declared.offer.Offer.{Offer}
@@ -26,7 +25,7 @@ use Rattle.feed_commands.specs.declared.status.Status.TheVariants.{Done, Rejecte
 use Rattle.feed_commands.specs.declared.status.Status.TheVariants.{BadInput}
 use Rattle.feed_commands.specs.Answer.{Answer}
 use Rattle.feed_commands.specs.Fault.{refusal_answer}
-use Rattle.feed_commands.specs.Mirror.{ReadsOffersWithin, ReadsToWithin}
+use Rattle.feed_commands.specs.Mirror.{ReadsOffersWithin, ReadsToWithin, StopsAmidOffers}
 use Rattle.feed_commands.specs.Served.{IsPileOf}
 use Rattle.feed_commands.specs.Status.{code_of}
 
@@ -186,18 +185,13 @@ pub record StopsInCertificate (before after : SourceState) : Type 0 where
   pub within : length read ≤ audit_limit
   pub no_end : HasNoEnd read
 
--- after a certificate and some offers were read
+-- amid the pile after a certificate, before more offers were read than may be audited
 pub record StopsInPile (before after : SourceState) : Type 0 where
-  pub read : List ℕ
-  pub from : before.left ≡ read ++ after.left
-  pub within : length read ≤ audit_limit
   pub certificate : CertificateValue
   pub pile : List ℕ
   pub begins : BeginsCertified before.left certificate pile
   pub offers : List Offer
-  pub used : ℕ
-  pub bytes : List ℕ
-  pub whole : HasRead pile offers used bytes
+  pub stops : StopsAmidOffers (pile_room certificate) pile after.left offers
   pub few : length offers ≤ audited_limit
 
 -- nothing that was read is refused

@@ -1,6 +1,5 @@
 -- `audit`: the offers of a pile, and why a pile isn't audited.
 use Rattle.std.specs.Prelude.{◌≡◌, ℕ, ◌≤◌, List, [], ◌∷◌, ◌++◌, Option, Result, Err, length}
-use Rattle.doc_source.specs.Laws.{HasRead}
 use Rattle.doc_source.specs.Outside.{SourceState}
 use Rattle.doc_source.specs.declared.fault.PileFault.{PileFault}
 use Rattle.doc_source.specs.declared.fault.PileFault.TheVariants as piles
@@ -9,7 +8,7 @@ use Rattle.feed_commands.specs.declared.fault.Fault.{Fault}
 use Rattle.feed_commands.specs.declared.fault.Fault.TheVariants.{Refused}
 use Rattle.feed_commands.specs.declared.fault.Refusal.TheVariants.{BadPile, TooLong, TooManyOffers}
 use Rattle.feed_commands.specs.Audit.{audited_limit}
-use Rattle.feed_commands.specs.Mirror.{ReadsOffersWithin, ReadsToWithin}
+use Rattle.feed_commands.specs.Mirror.{ReadsOffersWithin, ReadsToWithin, StopsAmidOffers}
 
 -- no more offers than may be audited are read within the limit, and then the reader gives this answer
 pub record EndsPile (limit : ℕ) (pile : List ℕ) (last : Result (Option Offer) PileFault) : Type 0 where
@@ -31,13 +30,8 @@ RefusesPile limit pile (Refused TooLong) = EndsPile limit pile (Err (piles.TooLo
 RefusesPile limit pile (Refused TooManyOffers) = HasOneMore limit pile
 RefusesPile limit pile _ = ⊥
 
--- some offers of the pile were read before a call failed
+-- a call failed amid the pile, and no more offers than may be audited were read before it
 pub record StopsAmidPile (limit : ℕ) (before after : SourceState) : Type 0 where
-  pub read : List ℕ
-  pub from : before.left ≡ read ++ after.left
-  pub within : length read ≤ limit
   pub offers : List Offer
-  pub used : ℕ
-  pub bytes : List ℕ
-  pub whole : HasRead before.left offers used bytes
+  pub stops : StopsAmidOffers limit before.left after.left offers
   pub few : length offers ≤ audited_limit

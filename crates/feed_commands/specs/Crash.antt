@@ -7,7 +7,7 @@ use Rattle.doc_source.specs.Outside.{SourceState}
 use Rattle.feed_disk.specs.Disk.{DiskState}
 use Rattle.feed_disk.specs.Moments.{LeavesOnlyBoth}
 use Rattle.feed_disk.specs.declared.area.Area.TheVariants.{Journal, Sealed}
-use Rattle.feed_recovery.specs.Settled.{AlwaysLeavesBoth, IsInit, NowBoth, OpensPast, Settled, Unused}
+use Rattle.feed_recovery.specs.Settled.{AlwaysLeavesBoth, IsInit, LeavesStores, NowBoth, OpensPast, Settled, Unused}
 use Rattle.feed_recovery.specs.Stored.{OpensTo, Stored}
 use Rattle.feed_commands.specs.declared.fault.Fault.{Fault}
 use Rattle.feed_commands.specs.declared.fault.Fault.TheVariants.{Input, Full, Refused}
@@ -19,15 +19,16 @@ use Rattle.member_rules.specs.Head.{HeadValue}
 use Rattle.member_rules.specs.declared.operation.Op.{Op}
 use Rattle.tool_words.specs.Words.{IsCommandOf}
 use Rattle.tool_words.specs.declared.command.Command.{Command}
-use Rattle.tool_words.specs.declared.command.Command.TheVariants.{Apply, Serve}
+use Rattle.tool_words.specs.declared.command.Command.TheVariants.{Apply, Init, Serve}
 
--- whether the command adds no operation to a store: all but `serve`, and `apply` without a window
+-- whether the command adds nothing to a store, and makes none: all but `init`, `serve`, and `apply` without a window
 abbrev pub AddsNothing : Command → Type 0
+AddsNothing (Init name window capacity) = ⊥
 AddsNothing (Apply None) = ⊥
 AddsNothing (Serve listen requests) = ⊥
 AddsNothing _ = Unit {0}
 
--- the words are those of a command that adds no operation to a store, or of none
+-- the words are those of a command that adds nothing to a store and makes none, or of no command
 abbrev pub AddsNoOperation : List (List ℕ) → Type 0
 AddsNoOperation words = (command : Command) → IsCommandOf words command → AddsNothing command
 
@@ -47,12 +48,14 @@ pub record MakesStore (before after : DiskState) (head : HeadValue) (done : Type
   pub settled : done → Unused before → Settled after head [] 0
   pub opens : done → OpensTo after.content (record { head = head; history = []; seals = 0 })
 
--- the store is made at this moment of the clock
+-- The store is made at this moment of the clock. Of a store that is there already a crash leaves what it could leave
+-- before.
 pub record MakesStoreAt (before after : DiskState) (name : FeedName) (window capacity : ℕ) (told : Type 0)
     (moment : ℕ) (done : Type 0) : Type 0 where
   pub now : ℕ
   pub is_moment : told → now ≡ moment
   pub makes : MakesStore before after (head_at name window capacity now) done
+  pub stores : LeavesStores before after
 
 -- the history that lines made, or that history with one operation more, whose device calls didn't all work
 abbrev pub IsWithOneMore : List Op → List Op → Type 0
@@ -68,10 +71,13 @@ pub record AddsFirstLines (step : Step Stored) (opened : Stored) (input : List �
       (history ≡ made.history)
       ⊎ ((next : Stored) × IsMadeByFirst step opened input (count + 1) next × (history ≡ next.history))
 
--- The lines of the input made this store, and this is its history, with the operation of the next line if that failed
--- on the disk. If a call on the input failed (`stopped`), these are all lines that ended before it.
+-- The lines of the input made this store, whose history is the opened one with more operations or none. `history` is
+-- that, with the operation of the next line if that failed on the disk. If a call on the input failed (`stopped`),
+-- these are all lines that ended before it.
 pub record AreMadeByLines (moments : ℕ → ℕ) (input rest : SourceState) (told stopped : Type 0) (opened made : Stored)
     (history : List Op) : Type 0 where
+  pub more : List Op
+  pub grows : made.history ≡ opened.history ++ more
   pub one_more : IsWithOneMore made.history history
   pub first : told → AddsFirstLines (stored_step moments) opened input.left made history
   pub read : stopped → told → IsMadeByRead (stored_step moments) opened input rest made

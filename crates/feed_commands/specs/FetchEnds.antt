@@ -1,5 +1,5 @@
 -- How `mirror --fetch` ends.
-use Rattle.std.specs.Prelude.{◌≡◌, ◌⊎◌, ℕ, List, ◌++◌, Bool, Option, map}
+use Rattle.std.specs.Prelude.{◌≡◌, ◌⊎◌, ℕ, List, ◌++◌, Bool, Option, map, Result, Err, IsOk}
 use Rattle.chain_links.specs.Address.{printed}
 use Rattle.chain_links.specs.declared.address.Address.{Address}
 use Rattle.doc_source.specs.Fetch.{FetchState}
@@ -23,7 +23,7 @@ use Rattle.feed_commands.specs.Answer.{Answer}
 use Rattle.feed_commands.specs.MirrorFaults.{IsBadMirror, IsHeldIn}
 use Rattle.feed_commands.specs.Served.{EndsServed}
 use Rattle.feed_commands.specs.Status.{code_of}
-use Rattle.feed_commands.specs.Walked.{IsFetched, IsOver, IsWalkReport, walk_setting}
+use Rattle.feed_commands.specs.Walked.{EndsWalk, IsFetched, IsOver, IsWalkReport, walk_setting}
 
 -- the exit statuses of `mirror --fetch`
 abbrev pub MayEndFetched : ℕ → Type 0
@@ -61,40 +61,46 @@ abbrev pub IsWalkRefusal : Bool → ℕ → List ℕ → (Area → List ℕ) →
 IsWalkRefusal report capacity base content answers given =
     IsWalkEnd report capacity base content answers given ⊎ IsBadMirror base content given
 
--- the addresses that were asked are those of a walk of a mirror that held `kept`
-pub record AsksOfMirror (capacity : ℕ) (base : List ℕ) (kept : List KeptValue) (before after : FetchState) : Type 0
-  where
-    pub asked : List Address
-    pub accepted : List Accepted
-    pub left : List KeptValue
-    pub ending : WalkEnding
-    pub walks : WalksFromFeed (walk_setting capacity base before.answers) kept asked accepted left ending
-    pub addresses : after.asked ≡ before.asked ++ map (printed base) asked
+-- the end of a walk, by the report or the fault that it led to
+abbrev pub EndsWalkBy : {T : Type 0} → Result T ReportFault → WalkEnding → Type 0
+EndsWalkBy result = EndsWalk (IsOk result) (result ≡ Err Fetch) (result ≡ Err (Other Disk))
+
+-- The addresses that were asked are those of a walk of a mirror that held `kept`. `IsEnding` holds of the walk's end.
+pub record AsksOfMirror (capacity : ℕ) (base : List ℕ) (kept : List KeptValue) (before after : FetchState)
+    (IsEnding : WalkEnding → Type 0) : Type 0 where
+  pub asked : List Address
+  pub accepted : List Accepted
+  pub left : List KeptValue
+  pub ending : WalkEnding
+  pub walks : WalksFromFeed (walk_setting capacity base before.answers) kept asked accepted left ending
+  pub ends : IsEnding ending
+  pub addresses : after.asked ≡ before.asked ++ map (printed base) asked
 
 -- The walk of a mirror that held `kept`, up to its end or to a fault. While it goes on, a crash leaves of a disk at
 -- rest the documents held after the first few that it takes.
 pub record GoesWalk (capacity : ℕ) (base : List ℕ) (kept : List KeptValue) (answers : List ℕ → Option (List ℕ))
-    (before after : DiskState) (failed whole : Type 0) : Type 0 where
+    (before after : DiskState) (failed : Type 0) (IsEnding : WalkEnding → Type 0) : Type 0 where
   pub asked : List Address
   pub accepted : List Accepted
   pub left : List KeptValue
   pub ending : WalkEnding
   pub walks : WalksFromFeed (walk_setting capacity base answers) kept asked accepted left ending
-  pub over : whole → IsOver ending
+  pub ends : IsEnding ending
   pub images : IsAtRest before kept
       → AlwaysLeaves before after MirrorArea (IsWalkStep (walk_setting capacity base answers) kept)
   pub now : ¬ failed → IsAtRest before kept → NowOnly after MirrorArea (LoadsTo base left)
 
 -- the mirror is the one that the area loads to
 pub record AsksInWalk (capacity : ℕ) (base : List ℕ) (content : Area → List ℕ) (before after : FetchState)
-    : Type 0 where
+    (IsEnding : WalkEnding → Type 0) : Type 0 where
   pub kept : List KeptValue
   pub loaded : IsHeldIn base content kept
-  pub asks : AsksOfMirror capacity base kept before after
+  pub asks : AsksOfMirror capacity base kept before after IsEnding
 
 -- the mirror wasn't loaded and nothing was asked, or the addresses are those of its walk
-abbrev pub AsksOf : ℕ → List ℕ → (Area → List ℕ) → FetchState → FetchState → Type 0
-AsksOf capacity base content before after = (after ≡ before) ⊎ AsksInWalk capacity base content before after
+abbrev pub AsksOf : ℕ → List ℕ → (Area → List ℕ) → FetchState → FetchState → (WalkEnding → Type 0) → Type 0
+AsksOf capacity base content before after IsEnding =
+    (after ≡ before) ⊎ AsksInWalk capacity base content before after IsEnding
 
 -- The program ended with the report, or else the certificate, of a walk over documents that one feed served: nothing is
 -- refused, and the mirror shows as much of the feed as it held and fetched.

@@ -2,7 +2,7 @@
 use Rattle.std.specs.Prelude.{◌≡◌, ◌⊎◌, ℕ, ◌≤◌, List, [], ◌∷◌, ◌++◌, Bool, Option, None, Result, Ok, Err, length, map}
 use Rattle.doc_source.specs.Laws.{HasRead}
 use Rattle.doc_source.specs.Outside.{SourceState}
-use Rattle.doc_source.specs.Pile.{IsAnswer}
+use Rattle.doc_source.specs.Pile.{IsAnswer, IsOpen}
 use Rattle.doc_source.specs.declared.fault.PileFault.{PileFault}
 use Rattle.doc_source.specs.declared.fault.PileFault.TheVariants as piles
 use Rattle.doc_source.specs.declared.offer.Offer.{Offer}
@@ -110,15 +110,22 @@ IsMirrored report capacity base kept input given =
     IsReport report capacity base kept input given ⊎ IsFilled capacity base kept input given
     ⊎ IsBadPile capacity base kept input given ⊎ IsLongPile capacity base kept input given
 
--- the bytes that were read before a call failed are within the limit, and the offers among them fitted
+-- A call on the source of a pile failed. The bytes of the pile that were read before it lie within the limit. They are
+-- these offers and the beginning of a pile's next offer, which isn't whole: the offers are all that were read, and what
+-- was read is no bad pile.
+pub record StopsAmidOffers (limit : ℕ) (pile rest : List ℕ) (offers : List Offer) : Type 0 where
+  pub read : List ℕ
+  pub from : pile ≡ read ++ rest
+  pub within : length read ≤ limit
+  pub used : ℕ
+  pub ahead : List ℕ
+  pub whole : HasRead read offers used ahead
+  pub is_open : IsOpen used ahead
+
+-- a call on the input failed amid a pile, and there was room for each offer that was read before it
 pub record ReadsWithinPile (capacity : ℕ) (base : List ℕ) (kept : List KeptValue) (before after : SourceState)
     : Type 0 where
-  pub read : List ℕ
-  pub from : before.left ≡ read ++ after.left
-  pub within : length read ≤ pile_limit
   pub offers : List Offer
-  pub used : ℕ
-  pub bytes : List ℕ
-  pub whole : HasRead before.left offers used bytes
+  pub stops : StopsAmidOffers pile_limit before.left after.left offers
   pub left : List KeptValue
   pub has : HasAnswered capacity base kept offers left

@@ -1,9 +1,10 @@
 -- The images that a crash within `mirror`, or after it, leaves of the mirror's area.
-use Rattle.std.specs.Prelude.{◌≡◌, ◌⊎◌, ℕ, List, ◌++◌, Option, None, Ok}
+use Rattle.std.specs.Prelude.{◌≡◌, ◌⊎◌, ℕ, ◌≤◌, List, ◌++◌, Option, None, Ok}
+use Rattle.atom_values.specs.Counts.{Rose}
 use Rattle.chain_links.specs.declared.address.Address.{Address}
 use Rattle.doc_source.specs.declared.offer.Offer.{Offer}
 use Rattle.feed_disk.specs.Disk.{DiskState}
-use Rattle.feed_disk.specs.Moments.{AlwaysLeaves, NowOnly}
+use Rattle.feed_disk.specs.Moments.{AlwaysLeaves, LeavesOnly, NowOnly}
 use Rattle.feed_disk.specs.declared.area.Area.TheVariants.{Mirror}
 use Rattle.feed_journal.specs.Records.{StandsFor}
 use Rattle.mirror_walk.specs.Holding.{KeptValue}
@@ -15,7 +16,7 @@ use Rattle.feed_commands.specs.Mirror.{HasAnswered, ReadsOffers, ReadsTo}
 use Rattle.feed_commands.specs.MirrorFaults.{IsHeldIn}
 use Rattle.feed_commands.specs.Served.{IsReported}
 use Rattle.feed_commands.specs.Status.{code_of}
-use Rattle.feed_commands.specs.Walked.{IsOver, walk_setting}
+use Rattle.feed_commands.specs.Walked.{walk_setting}
 
 -- a whole image that loads to the documents of a mirror that held `kept`, after the first few of these offers
 pub record IsPileStep (capacity : ℕ) (base : List ℕ) (kept : List KeptValue) (offers : List Offer) (image : List ℕ)
@@ -27,11 +28,15 @@ pub record IsPileStep (capacity : ℕ) (base : List ℕ) (kept : List KeptValue)
   pub has : HasAnswered capacity base kept first held
   pub loads : LoadsTo base held image
 
--- The images of the area while a mirror is loaded and takes documents: each has the payloads of one that was there
--- before, or is a step of the taking.
-abbrev pub LeavesSteps : DiskState → DiskState → (List ℕ → Type 0) → Type 0
-LeavesSteps before after IsStep =
-    AlwaysLeaves before after Mirror (λ image. StandsFor (before.image_now Mirror) image ⊎ IsStep image)
+-- The images of the area while a mirror is loaded and takes documents. `loaded` is the moment of the load's last
+-- device call. An image of a moment up to it has the payloads of one that was there before. An image of a later moment
+-- is a step of the taking, and so is each image of now.
+pub record LeavesSteps (before after : DiskState) (IsStep : List ℕ → Type 0) : Type 0 where
+  pub loaded : ℕ
+  pub over : loaded ≤ after.clock
+  pub moments : LeavesOnly before after Mirror (λ c image.
+      ((c ≤ loaded) × StandsFor (before.image_now Mirror) image) ⊎ (Rose loaded c × IsStep image))
+  pub now : NowOnly after Mirror IsStep
 
 -- The mirror was loaded and took documents of a pile. A crash leaves those that it held before, with those that it
 -- takes of the first few offers. If no device call failed, it leaves all of them at the end. At a report these are all
@@ -48,9 +53,9 @@ pub record LeavesMirrored (capacity : ℕ) (base input : List ℕ) (before after
   pub has : ¬ failed → HasAnswered capacity base kept offers left
   pub now : ¬ failed → NowOnly after Mirror (LoadsTo base left)
 
--- The same of a mirror that took documents of a source. At a report its walk has come to an end.
+-- The same of a mirror that took documents of a source: those of its walk.
 pub record LeavesFetched (capacity : ℕ) (base : List ℕ) (answers : List ℕ → Option (List ℕ)) (before after : DiskState)
-    (failed reported : Type 0) : Type 0 where
+    (failed : Type 0) (IsEnding : WalkEnding → Type 0) : Type 0 where
   pub kept : List KeptValue
   pub loaded : IsHeldIn base before.content kept
   pub images : LeavesSteps before after (IsWalkStep (walk_setting capacity base answers) kept)
@@ -60,7 +65,7 @@ pub record LeavesFetched (capacity : ℕ) (base : List ℕ) (answers : List ℕ 
   pub left : List KeptValue
   pub ending : WalkEnding
   pub walks : WalksFromFeed (walk_setting capacity base answers) kept asked accepted left ending
-  pub over : reported → IsOver ending
+  pub ends : IsEnding ending
   pub now : ¬ failed → NowOnly after Mirror (LoadsTo base left)
 
 -- A crash of a mirror that isn't loaded leaves what it could leave before. `later` says that the mirror was loaded.

@@ -1,5 +1,6 @@
 -- How `mirror` ends, and the steps before its end.
-use Rattle.std.specs.Prelude.{◌≡◌, ◌⊎◌, ℕ, List, Bool, None, Result, Ok, Err}
+use Rattle.std.specs.Prelude.{◌≡◌, ◌⊎◌, ℕ, List, [], ◌∷◌, ◌++◌, Bool, None, Result, Ok, Err}
+use Rattle.doc_source.specs.Outside.{SourceState}
 use Rattle.doc_source.specs.declared.offer.Offer.{Offer}
 use Rattle.feed_disk.specs.Disk.{DiskState}
 use Rattle.feed_disk.specs.Moments.{AlwaysLeaves, NowOnly}
@@ -64,18 +65,52 @@ abbrev pub IsPileRefusal : Bool → ℕ → List ℕ → (Area → List ℕ) →
 IsPileRefusal report capacity base content input given =
     IsPileEnd report capacity base content input given ⊎ IsBadMirror base content given
 
+-- The mirror answered all offers that it was given. If there is a report (`whole`) or a device call failed, these are
+-- all offers of the pile, which was read to its end.
+pub record AreAllAnswered (input : List ℕ) (told failed whole : Type 0) (answered offers : List Offer) : Type 0 where
+  pub same : offers ≡ answered
+  pub all : whole ⊎ failed → told → ReadsTo input offers (Ok None)
+
+-- a device call failed while the last offer was taken
+pub record FailsAtLast (failed whole : Type 0) (answered offers : List Offer) : Type 0 where
+  pub is : failed
+  pub part : ¬ whole
+  pub last : Offer
+  pub one_more : offers ≡ answered ++ last ∷ []
+
 -- The offers of a pile that were given to a mirror, up to the end of the pile or to a fault. While they are, a crash
--- leaves of a disk at rest the documents held after the first few of them.
+-- leaves of a disk at rest the documents held after the first few of them. It answered all of them but the last, if a
+-- device call failed as that was taken, and had room for each that it answered.
 pub record GivesOffers (capacity : ℕ) (base : List ℕ) (kept : List KeptValue) (input : List ℕ)
     (input_told disk_told : Type 0) (before after : DiskState) (failed whole : Type 0) : Type 0 where
   pub offers : List Offer
   pub read : input_told → ReadsOffers input offers
-  pub all : whole → input_told → ReadsTo input offers (Ok None)
   pub images : disk_told → IsAtRest before kept
       → AlwaysLeaves before after MirrorArea (IsPileStep capacity base kept offers)
+  pub answered : List Offer
   pub left : List KeptValue
-  pub has : ¬ failed → HasAnswered capacity base kept offers left
+  pub has : HasAnswered capacity base kept answered left
+  pub given : AreAllAnswered input input_told failed whole answered offers
+      ⊎ FailsAtLast failed whole answered offers
   pub now : ¬ failed → disk_told → IsAtRest before kept → NowOnly after MirrorArea (LoadsTo base left)
+
+-- the area loads to the documents of a mirror, and these offers of the pile were given to it
+pub record HasGiven (capacity : ℕ) (base : List ℕ) (content : Area → List ℕ) (input : List ℕ) (failed whole : Type 0)
+    : Type 0 where
+  pub kept : List KeptValue
+  pub loaded : IsHeldIn base content kept
+  pub offers : List Offer
+  pub read : ReadsOffers input offers
+  pub answered : List Offer
+  pub left : List KeptValue
+  pub has : HasAnswered capacity base kept answered left
+  pub given : AreAllAnswered input (Unit {0}) failed whole answered offers
+      ⊎ FailsAtLast failed whole answered offers
+
+-- the mirror wasn't loaded and nothing was read, or these offers were given to it
+abbrev pub GivesOf : ℕ → List ℕ → (Area → List ℕ) → SourceState → SourceState → Type 0 → Type 0 → Type 0
+GivesOf capacity base content before after failed whole =
+    (after ≡ before) ⊎ HasGiven capacity base content before.left failed whole
 
 -- a fault that comes only after the mirror was loaded
 abbrev pub IsLaterFault : ReportFault → Type 0

@@ -4,7 +4,7 @@ use Rattle.std.specs.Prelude.{Result, Ok, Err}
 use Rattle.atom_values.specs.Counts.{Rose}
 use Rattle.atom_values.specs.declared.memory.Failed.{Failed}
 use Rattle.document_server.specs.Door.{DoorState}
-use Rattle.document_server.specs.Serving.{Serves}
+use Rattle.document_server.specs.Serving.{IsEndOf, Serves}
 use Rattle.document_server.specs.declared.line.Line.{Line}
 use Rattle.document_server.specs.declared.session.End.{End}
 use Rattle.document_server.specs.declared.session.End.TheVariants as session
@@ -86,9 +86,9 @@ pub record EndsServing (requests : ℕ) (before after : DiskState) (moments : �
       ⊎ ((end ≡ session.Done) × (ended ≡ code_of ends.OutputFault))
   pub prints : output_told → Prints output taken (session_text lines (end_fault end))
   pub most : length lines ≤ requests
-  pub serves : IsOpened end → disk_told
-      → Serves before after moments door rest (clock_told × door_told) lines (end ≡ session.DiskFault)
-  pub done : end ≡ session.Done → (length lines ≡ requests) ⊎ (door_told → rest.left ≡ [])
+  pub serves : IsOpened end
+      → Serves before after moments door rest disk_told clock_told door_told lines (end ≡ session.DiskFault)
+  pub ends : IsEndOf requests door_told rest lines end
   pub unopened : ¬ IsOpened end → ServesNothing before after door rest disk_told lines
   pub refused : (fault : LoadFault) → end ≡ session.Load fault → disk_told
       → IsLoadFault (records (before.content Journal)) (records (before.content Sealed)) fault

@@ -23,6 +23,13 @@ IsOver fetch_failed = ⊥
 IsOver (filled size needed capacity) = ⊥
 IsOver cut_short = ⊥
 
+-- How a walk ended. If there is a report, it ended without a fault. If a call of the source failed, the walk ended with
+-- that call. If a device call failed, the walk was cut short, or the call came after its end.
+pub record EndsWalk (reported source_failed device_failed : Type 0) (ending : WalkEnding) : Type 0 where
+  pub over : reported → IsOver ending
+  pub at_source : source_failed → ending ≡ fetch_failed
+  pub at_device : device_failed → (ending ≡ cut_short) ⊎ IsOver ending
+
 -- the answer is the report, or else the certificate, of a mirror that held `kept` before its walk
 pub record IsWalkReport (report : Bool) (capacity : ℕ) (base : List ℕ) (kept : List KeptValue)
     (answers : List ℕ → Option (List ℕ)) (given : Answer) : Type 0 where

@@ -7,7 +7,7 @@ ghost use Rattle.feed_commands.specs.declared.status.Status.TheVariants as statu
 ghost use Rattle.feed_commands.specs.Answer.{Answer, Prints};
 ghost use Rattle.feed_commands.specs.Audit.{EndsAuditing};
 ghost use Rattle.doc_source.specs.Fetch.{FetchState};
-ghost use Rattle.feed_recovery.specs.Settled.{LeavesStores};
+ghost use Rattle.feed_recovery.specs.Settled.{KeepsPayloads};
 ghost use Rattle.feed_recovery.specs.Stored.{OpensTo, Stored};
 ghost use Rattle.feed_commands.specs.Crash.{AddsNoOperation, AddsNothing, AppliesSafely, EndsAfterLoad, IsStatusAfterLoad};
 ghost use Rattle.feed_commands.specs.Crash.{MakesStoreAt, OpensToApplied};
@@ -141,12 +141,13 @@ pub fn run<D: Disk, C: Clock, L: Door, F: Fetch, I: Source, O: Sink>(
         (I.state input.old) (I.state input.new) (O.state output.old) (O.state output.new)
         result.status given.status }
 
-    // A crash within the command, or after it: the commands that add no operation, and words that name none, leave
-    // what a crash could leave of a store before. `init` leaves an unused disk as it is or with the new store. `apply`
-    // leaves the history before, with some of the lines' operations, and with all of them at its end. Its lines are
-    // those that were read. `mirror` alone reaches the mirror's area.
+    // A crash within the command, or after it: the commands that add nothing to a store, and words that name
+    // none, leave the payloads that a crash could leave before. `init` leaves an unused disk as it is or with
+    // the new store, and of a store what a crash could leave before. `apply` leaves the history before, with
+    // some of the lines' operations, and with all of them at its end. Its lines are those that were read.
+    // `mirror` alone reaches the mirror's area.
     ensures safe { AddsNoOperation (map string_bytes words.now) → D.told
-        → LeavesStores (D.state disk.old) (D.state disk.new) }
+        → KeepsPayloads (D.state disk.old) (D.state disk.new) }
     ensures made { (name : FeedName) (window capacity : ℕ)
         → IsCommandOf (map string_bytes words.now) (Init name window capacity) → D.told
         → MakesStoreAt (D.state disk.old) (D.state disk.new) name window capacity C.told
@@ -184,13 +185,16 @@ pub fn run<D: Disk, C: Clock, L: Door, F: Fetch, I: Source, O: Sink>(
     ensures no_hidden_door_fault { result.status ≢ code_of status.DoorFault
         → (L.state door.new).faults ≡ (L.state door.old).faults }
 
-    // `mirror`: what a crash leaves of its area, and the report or the certificate of documents that one feed served.
+    // `mirror`: the offers that were given to it, what a crash leaves of its area, and the report or the
+    // certificate of documents that one feed served.
     ensures mirrors { (base : List ℕ) (report : Bool) (capacity : ℕ)
         → IsCommandOf (map string_bytes words.now) (MirrorOf base false report capacity) → D.told → I.told
-        → EndsMirroring report capacity base (D.state disk.old) (D.state disk.new) (I.state input.old).left
-        O.told (O.state output.old) (O.state output.new) result.status }
+        → EndsMirroring report capacity base (D.state disk.old) (D.state disk.new)
+        (I.state input.old) (I.state input.new) O.told
+        (O.state output.old) (O.state output.new) result.status }
 
-    // `mirror --fetch`: the addresses that it asks, and the same. No other command uses the source.
+    // `mirror --fetch`: the addresses that it asks, how its walk ended, and the same. No other command uses
+    // the source.
     ensures fetches { (base : List ℕ) (report : Bool) (capacity : ℕ)
         → IsCommandOf (map string_bytes words.now) (MirrorOf base true report capacity) → D.told → F.told
         → EndsFetching report capacity base (D.state disk.old) (D.state disk.new) (F.state fetch.old)
@@ -310,7 +314,7 @@ fn answer<D: Disk, C: Clock, I: Source>(
         → IsUnrefusedBy command (C.coming clock.old) (D.state disk.old).content
         (I.state input.old) (I.state input.new) }
     ensures faults { result ≢ Err Fault.Input → (I.state input.new).faults ≡ (I.state input.old).faults }
-    ensures safe { AddsNothing command → D.told → LeavesStores (D.state disk.old) (D.state disk.new) }
+    ensures safe { AddsNothing command → D.told → KeepsPayloads (D.state disk.old) (D.state disk.new) }
     ensures made { (name : FeedName) (window capacity : ℕ) → command ≡ Init name window capacity → D.told
         → MakesStoreAt (D.state disk.old) (D.state disk.new) name window capacity C.told
         (C.coming clock.old 0)

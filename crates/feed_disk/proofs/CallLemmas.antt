@@ -8,7 +8,7 @@ use Rattle.feed_disk.specs.Disk.{written, TornFrom, Passes, PassesBy, CountsCall
 use Rattle.feed_disk.specs.AreaRecord.{AreaRecordValue, call_of, content_of, synced_of, newest_of, is_within}
 use Rattle.feed_disk.specs.AreaRecord.{is_written, IsBetween, MayLeave, MayLeaveWithin, MayLeaveAt, UpTo, ComesAfter}
 use Rattle.feed_disk.specs.DiskLaw.{length-written, length-synced, length-content, content_may_be}
-use Rattle.feed_disk.specs.Memory.{MemoryValue, record_of, changed, MayLeaveBy, KeepsCounts, state_of}
+use Rattle.feed_disk.specs.Memory.{MemoryValue, record_of, changed, MayLeaveBy, KeepsCounts, state_of, starving}
 use Rattle.feed_disk.specs.declared.area.Area.{Area}
 use Rattle.feed_disk.specs.declared.area.Area.TheVariants.{Journal, Sealed, Mirror}
 use Rattle.feed_disk.specs.declared.areas.Areas.{Areas}
@@ -269,11 +269,12 @@ module _ (m b n : MemoryValue) (made : b.calls.made ≡ counted m.calls.made) (s
       ∙ ap (λ (areas : Areas). changed areas area (change b.calls.made)) same
       ∙ ap (λ (call : ℕ). changed m.areas area (change call)) (sym (ap (λ (v : MemoryValue). v.calls.made) is))
 
-  pub made_failed : n ≡ record b { calls = record b.calls { faults = counted b.calls.faults } }
+  pub made_failed : n ≡ starving (record b { calls = record b.calls { faults = counted b.calls.faults } })
       → n.calls.made ≡ counted m.calls.made
   made_failed is = ap (λ (v : MemoryValue). v.calls.made) is ∙ made
 
-  pub areas_failed : n ≡ record b { calls = record b.calls { faults = counted b.calls.faults } } → n.areas ≡ m.areas
+  pub areas_failed : n ≡ starving (record b { calls = record b.calls { faults = counted b.calls.faults } })
+      → n.areas ≡ m.areas
   areas_failed is = ap (λ (v : MemoryValue). v.areas) is ∙ same
 
 -- the counters after a call, for the clause `counts`

@@ -24,11 +24,12 @@ abbrev pub changed : Areas → Area → Change → Areas
 changed areas area change =
     with_record areas area (record (record_of areas area) { changes = change ∷ (record_of areas area).changes })
 
--- the areas, the device calls, and the number of bytes that reads have returned
+-- the areas, the device calls, the number of bytes that reads have returned, and how many calls found no memory
 pub record MemoryValue : Type 0 where
   pub areas : Areas
   pub calls : ListedCallsValue
   pub bytes_read : ℕ
+  pub starved : ℕ
 
 -- an area with these synced bytes
 abbrev pub fresh : List ℕ → AreaRecordValue
@@ -40,6 +41,7 @@ fresh_disk journal sealed mirror failing = record {
   areas = record { journal = fresh journal; sealed = fresh sealed; mirror = fresh mirror };
   calls = record { failing = failing; made = 0; faults = 0 };
   bytes_read = 0;
+  starved = 0;
 }
 
 -- A crash at a moment that has begun may leave this image. At the last moment it may be an image of now.
@@ -72,6 +74,10 @@ failed m areas = record m {
   areas = areas;
   calls = record m.calls { made = counted m.calls.made; faults = counted m.calls.faults };
 }
+
+-- the disk after a call that found no memory
+abbrev pub starving : MemoryValue → MemoryValue
+starving m = record m { starved = counted m.starved }
 
 -- the clock has counted each change, and the counters are numbers of 64 bits
 pub record KeepsCounts (areas : Areas) (calls : ListedCallsValue) : Type 0 where

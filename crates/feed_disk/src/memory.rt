@@ -24,6 +24,8 @@ pub struct MemoryDisk {
     calls: ListedCalls,
     /// The bytes that reads have returned. Only contracts read it.
     bytes_read: u64,
+    /// How many calls found no memory.
+    starved: u64,
 }
 
 impl Model for MemoryDisk {
@@ -31,7 +33,12 @@ impl Model for MemoryDisk {
 
     ghost Value = { MemoryValue };
 
-    ghost view = { λ m. record { areas = m.areas; calls = m.calls; bytes_read = m.bytes_read } };
+    ghost view = { λ m. record {
+      areas = m.areas;
+      calls = m.calls;
+      bytes_read = m.bytes_read;
+      starved = m.starved;
+    } };
 
     ghost invariant = { λ m. KeepsCounts m.areas m.calls };
 }
@@ -60,7 +67,15 @@ impl MemoryDisk {
             },
             calls: ListedCalls::new(failing),
             bytes_read: 0,
+            starved: 0,
         }
+    }
+
+    /// Returns how many writes and syncs found no memory. The count stays at the greatest `u64`.
+    pub fn starved(&self) -> u64
+        ensures { result ≡ self.now.starved }
+    {
+        self.starved
     }
 
     /// Returns the disk that a crash within a call leaves. The choice says what unsynced bytes and sizes
@@ -103,7 +118,7 @@ impl MemoryDisk {
 impl Disk for MemoryDisk {
     ghost use Rattle.std.specs.Prelude.{◌∷◌};
     ghost use Rattle.feed_disk.specs.DiskLaw.{memory_is_disk};
-    ghost use Rattle.feed_disk.specs.Memory.{MemoryValue, state_of, FailsNext, worked, failed, changed};
+    ghost use Rattle.feed_disk.specs.Memory.{MemoryValue, state_of, FailsNext, worked, failed, starving, changed};
     ghost use Rattle.feed_disk.specs.declared.change.Change.TheVariants.{Write, FailedWrite, Sync};
 
     ghost told = { Unit {0} };
@@ -155,14 +170,15 @@ impl Disk for MemoryDisk {
     /// runs out.
     ///
     /// A listed call leaves the content, and its range and its new size are uncertain as if it had worked. A
-    /// call that runs out of memory changes neither the content nor what is certain.
+    /// call that runs out of memory, listed or not, changes neither the content nor what is certain.
+    /// `starved` counts it.
     fn write(&mut self, area: Area, at: u64, from: &[u8]) -> Result<(), Failed>
         requires { Unit {0} → at ≤ length ((state_of self.old).content area) }
         ensures listed { FailsNext self.old → IsErr result }
         ensures ok { OnOk result (self.new
             ≡ worked self.old
             (changed self.old.areas area (Write (counted self.old.calls.made) at from.now))) }
-        ensures err { OnErr result ((self.new ≡ failed self.old self.old.areas)
+        ensures err { OnErr result ((self.new ≡ starving (failed self.old self.old.areas))
             ⊎ (FailsNext self.old
             × (self.new ≡ failed self.old
             (changed self.old.areas area (FailedWrite (counted self.old.calls.made) at from.now))))) }
@@ -188,13 +204,14 @@ impl Disk for MemoryDisk {
         }
     }
 
-    /// Syncs an area. It fails if the call is listed, and otherwise only if memory runs out. Then nothing
-    /// more is certain than before.
+    /// Syncs an area. It fails if the call is listed, and otherwise only if memory runs out, which `starved`
+    /// counts. Then nothing more is certain than before.
     fn sync(&mut self, area: Area) -> Result<(), Failed>
         ensures listed { FailsNext self.old → IsErr result }
         ensures ok { OnOk result (self.new
             ≡ worked self.old (changed self.old.areas area (Sync (counted self.old.calls.made)))) }
-        ensures err { OnErr result (self.new ≡ failed self.old self.old.areas) }
+        ensures err { OnErr result ((self.new ≡ starving (failed self.old self.old.areas))
+            ⊎ (FailsNext self.old × (self.new ≡ failed self.old self.old.areas))) }
         ensures content { OnOk result (Unit {0}
             → (state_of self.new).content area ≡ (state_of self.old).content area) }
         ensures certain { OnOk result (Unit {0} → (i : List ℕ)
@@ -243,7 +260,7 @@ fn copy_from(content: &[u8], at: usize, into: &mut [u8]) -> usize
 impl MemoryDisk {
     ghost use Rattle.std.specs.Prelude.{◌∷◌};
     ghost use Rattle.feed_disk.specs.AreaRecord.{content_of, ComesAfter};
-    ghost use Rattle.feed_disk.specs.Memory.{record_of, changed, FailsNext, KeepsCounts, worked, failed};
+    ghost use Rattle.feed_disk.specs.Memory.{record_of, changed, FailsNext, KeepsCounts, worked, failed, starving};
     ghost use Rattle.feed_disk.specs.declared.change.Change.TheVariants.{Write, FailedWrite, Sync};
 
     /// Counts a device call and returns whether it fails.
@@ -261,10 +278,11 @@ impl MemoryDisk {
 
     /// Counts the failure of a call that ran out of memory.
     fn fail(&mut self) -> Failed
-        ensures { self.new ≡ record self.old {
+        ensures { self.new ≡ starving (record self.old {
           calls = record self.old.calls { faults = counted self.old.calls.faults };
-        } }
+        }) }
     {
+        self.starved = self.starved.saturating_add(1);
         self.calls.count_failure();
         Failed
     }
@@ -294,18 +312,21 @@ impl MemoryDisk {
         self.areas.sync(area, call)
     }
 
-    /// Records a listed write, or nothing if memory runs out.
+    /// Records a listed write, or counts that there was no memory for the record.
     fn record_failed_write(&mut self, area: Area, at: usize, from: &[u8])
         requires offset { let old = record_of self.old.areas area in
             at ≤ length (content_of old.first old.changes) }
         requires later { ComesAfter self.old.calls.made (record_of self.old.areas area).changes }
-        ensures { (self.new ≡ self.old)
+        ensures { (self.new ≡ starving self.old)
             ⊎ (self.new ≡ record self.old {
               areas = changed self.old.areas area (FailedWrite self.old.calls.made at from.now);
             }) }
     {
         let call = self.calls.made();
         // A failed write that finds no memory is one that wrote nothing.
-        let _ = self.areas.fail_write(self.alloc, area, call, at, from);
+        let recorded = self.areas.fail_write(self.alloc, area, call, at, from);
+        if recorded.is_err() {
+            self.starved = self.starved.saturating_add(1);
+        }
     }
 }

@@ -216,7 +216,7 @@ mirrors-show law head history disks held all mirror kept there =
 -- The headline
 
 life-grows-from : ArchivesStay → LawOfTheMirror → (head : HeadValue) (mirrors : ℕ) (first rest : List Event)
-    (last : LifeValue) → IsLifeOf head mirrors (first ++ rest) last → KeepsAll head mirrors first last
+    (last : LifeValue) → IsLifeOf head mirrors (first ++ rest) last → KeepsAll head mirrors first rest last
 life-grows-from stay law head mirrors first rest last life =
     let begun = life.begun in
     let nothing : List (List KeptValue) = map (λ _. []) begun.mirrors in
@@ -236,6 +236,7 @@ life-grows-from stay law head mirrors first rest last life =
       history = split.past;
       held = split.holding;
       lives = split.lives;
+      lived = split.on;
       more = more;
       left = ends.left;
       lives_on = lives_on;
@@ -253,7 +254,7 @@ life-grows-from stay law head mirrors first rest last life =
 -- for each way to cut the events in two
 pub life-keeps : ArchivesStay → LawOfTheMirror → (head : HeadValue) (mirrors : ℕ) (events : List Event)
     (last : LifeValue) → IsLifeOf head mirrors events last → (first rest : List Event) → events ≡ first ++ rest
-    → KeepsAll head mirrors first last
+    → KeepsAll head mirrors first rest last
 life-keeps stay law head mirrors events last life first rest cut =
     life-grows-from stay law head mirrors first rest last
     (subst (λ (l : List Event). IsLifeOf head mirrors l last) cut life)

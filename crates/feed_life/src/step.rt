@@ -36,7 +36,7 @@ pub fn life(alloc: Global, head: &Head, mirrors: u32, events: &[Event]) -> Resul
     requires { mirrors ≤ mirror_limit }
     ensures lived { IfOk result (IsLifeOf head.now mirrors events.now) }
     ensures headline { IfOk result (λ life. (first rest : List EventValue) → events.now ≡ first ++ rest
-        → KeepsAll head.now mirrors first life) }
+        → KeepsAll head.now mirrors first rest life) }
 {
     // Laws, which do nothing.
     archives_stay();

@@ -1,5 +1,5 @@
 -- The seal of an archive that a store reads.
-use Rattle.std.proofs.Common.{◌≡◌, ⊎_elim, ℕ, ◌-◌, ◌≤◌, List, Some, length, sym, ◌∙◌, arith}
+use Rattle.std.proofs.Common.{◌≡◌, ⊎_elim, ℕ, ◌-◌, ◌≤◌, List, Some, sym, ◌∙◌, arith}
 use Rattle.std.specs.Prelude.{slice_get}
 use Rattle.feed_journal.specs.Records.{records}
 use Rattle.feed_recovery.proofs.FaultLemmas.{some_same}

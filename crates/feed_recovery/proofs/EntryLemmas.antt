@@ -1,14 +1,15 @@
 -- The entry that an operation's bytes set.
 use Rattle.std.proofs.Common.{◌≡◌, ◌⊎◌, inl, inr, ⊎_elim, ℕ, zero, suc, ◌-◌, ◌≤◌, List, Some, Ok, Err, Result, sym, ◌∙◌}
 use Rattle.std.proofs.Common.{ap, ℤ, Global, Vec, length, subst, arith}
-use Rattle.std.specs.Prelude.{slice_get, slice_index_or, option_map, IfOk}
+use Rattle.std.specs.Prelude.{slice_get, slice_index_or, option_map, IfOk, OnOk}
 use Rattle.std.proofs.lemmas.Option.{slice_get_within, slice_get-map, get_or_from_slice_get}
 use Rattle.atom_values.specs.Entry.{EntryValue, IsEntry}
 use Rattle.atom_writer.specs.Pieced.{text_of}
 use Rattle.atom_writer.proofs.PiecedLemmas.{one_reading}
 use Rattle.atom_writer.specs.Members.{member_text}
+use Rattle.feed_journal.specs.Log.{payload_lengths}
 use Rattle.feed_recovery.proofs.FaultLemmas.{some_same}
-use Rattle.feed_recovery.specs.Documents.{IsDocumentOf, IsLiveDocument, IsMemberDocument, IsVersion}
+use Rattle.feed_recovery.specs.Documents.{IsDocumentOf, IsLiveDocument, IsMemberDocument}
 use Rattle.feed_recovery.specs.Documents.{Sets}
 use Rattle.feed_recovery.specs.Store.{StoreValue}
 use Rattle.feed_recovery.specs.declared.fault.MemberFault.{MemberFault}
@@ -19,7 +20,6 @@ use Rattle.member_rules.specs.Coding.{operations}
 use Rattle.member_rules.specs.Fold.{fold_of, state_of}
 use Rattle.member_rules.specs.Head.{HeadValue, IsHead}
 use Rattle.member_rules.specs.History.{IsLawful}
-use Rattle.member_rules.specs.Laws.{IsSetBy}
 use Rattle.member_rules.specs.Operation.{IsOperation, moment_of}
 use Rattle.member_rules.specs.declared.codec.CodecFault.{CodecFault}
 use Rattle.member_rules.specs.declared.codec.CodecFault.TheVariants.{BadField, NoMemory}
@@ -126,25 +126,34 @@ set_edited history version operation entry there (inr changed) =
 
 -- the document of the bytes that a disk gave, with the timestamps that the history has for the member
 pub document_version : (store : StoreValue) (number version : ℕ) (edited updated : ℤ) (operation : Op)
-    (payload : List ℕ) → state_of store.history number ≡ Live updated version
+    (payload : List ℕ) → slice_get (payload_lengths store.journal.extents) version ≡ Some (length payload)
+    → state_of store.history number ≡ Live updated version
     → operation ≡ slice_index_or store.history (version - 1) operation → edited ≡ moment_of operation
     → (result : Result (Vec ℕ Global) MemberFault)
     → IfOk result (λ written. IsDocumentOf store.head.name payload number edited updated written.items)
     → IfOk result (λ written. IsMemberDocument store number written.items)
-document_version store number version edited updated operation payload state there dated (Err fault) made = tt
-document_version store number version edited updated operation payload state there dated (Ok written) made =
+document_version store number version edited updated operation payload long state there dated (Err fault) made = tt
+document_version store number version edited updated operation payload long state there dated (Ok written) made =
     let set = version-is store.history number updated version state in
     record {
       stored = set.entry;
       live = set.live;
-      entry = made.entry;
-      is_entry = made.is_entry;
-      version = record {
-        named = made.version.named;
-        edited_is = made.version.edited_is ∙ dated ∙ set_edited store.history version operation set.entry there set.set_by;
-        updated_is = made.version.updated_is ∙ sym set.dated;
+      since = version;
+      is_since = record { updated = updated; state = state };
+      payload = payload;
+      long = long;
+      document = record {
+        entry = made.entry;
+        is_entry = made.is_entry;
+        version = record {
+          named = made.version.named;
+          edited_is = made.version.edited_is ∙ dated
+              ∙ set_edited store.history version operation set.entry there set.set_by;
+          updated_is = made.version.updated_is ∙ sym set.dated;
+        };
+        sets = made.sets;
+        text = made.text;
       };
-      text = made.text;
     }
 
 module _ (store : StoreValue) (is_head : IsHead store.head) (number version : ℕ) (edited updated : ℤ)
@@ -161,6 +170,11 @@ module _ (store : StoreValue) (is_head : IsHead store.head) (number version : �
       made.sets (live_sets store.head store.history is_head is.lawful number version set.entry set.live set.counted
       set.set_by payloads payload is found) in
       record { entry = set.entry; live = set.live; text = made.text ∙ ap (member_text store.head.name) same }
+
+-- a fact that doesn't depend on the result
+pub on-ok : {A E : Type 0} (P : Type 0) (result : Result A E) → P → OnOk result P
+on-ok P (Err fault) given = tt
+on-ok P (Ok found) given = given
 
 -- a premise on all goes into what is said of a result
 pub inward : {A E : Type 0} (premise : Type 0) (P : A → Type 0) (result : Result A E) → (premise → IfOk result P)

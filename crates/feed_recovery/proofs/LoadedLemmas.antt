@@ -11,7 +11,8 @@ use Rattle.feed_journal.specs.Records.{records, Begins, IsWhole, StandsFor as Im
 use Rattle.feed_journal.proofs.CallLemmas.{calls_then}
 use Rattle.feed_recovery.specs.Loading.{OnlyReads}
 use Rattle.feed_recovery.specs.Opening.{AreSeals, IsJournal, Opens}
-use Rattle.feed_recovery.specs.Settled.{AlwaysLeavesBoth, AreWhole, IsAtRest, OpensPast, Settled}
+use Rattle.feed_recovery.specs.Settled.{AlwaysLeavesBoth, AreWhole, IsAtRest, KeepsPayloads, LeavesStores, OpensPast}
+use Rattle.feed_recovery.specs.Settled.{Settled}
 use Rattle.feed_recovery.proofs.BothLemmas.{both_always}
 use Rattle.member_rules.specs.Head.{HeadValue}
 use Rattle.member_rules.specs.declared.operation.Op.{Op}
@@ -76,6 +77,30 @@ settled_stays s t head history least disk first second settled =
     (OpensPast head history least) disk first second
     (past_as head history least (s.image_now Journal) (s.image_now Sealed) settled)
 
+-- so a disk that was settled stays so
+pub payloads-leave : {told : Type 0} (s t : DiskState) → IsDisk told s → KeepsPayloads s t → LeavesStores s t
+payloads-leave s t disk kept = λ head history least settled.
+    settled_stays s t head history least disk kept.journal kept.sealed settled
+
+-- calls that only read keep the payloads, and so do they after others that do
+pub alone-payloads : (s t : DiskState) → LeavesAlone s t Journal → LeavesAlone s t Sealed → KeepsPayloads s t
+alone-payloads s t first second =
+    record { journal = alone_stands s t Journal first; sealed = alone_stands s t Sealed second }
+
+pub payloads-then-alone : (s m t : DiskState) → KeepsPayloads s m → LeavesAlone m t Journal → LeavesAlone m t Sealed
+    → KeepsPayloads s t
+payloads-then-alone s m t kept first second = record {
+  journal = stands_before s m t Journal kept.journal first;
+  sealed = stands_before s m t Sealed kept.sealed second;
+}
+
+pub alone-then-payloads : (s m t : DiskState) → LeavesAlone s m Journal → LeavesAlone s m Sealed → KeepsPayloads m t
+    → KeepsPayloads s t
+alone-then-payloads s m t first second kept = record {
+  journal = stands_after s m t Journal first kept.journal;
+  sealed = stands_after s m t Sealed second kept.sealed;
+}
+
 -- each image of an area begins with the payloads that are read, after a run that leaves the area alone too
 pub begins_still : (s t : DiskState) (a : Area) → LeavesAlone s t a → NowOnly s a (Begins (records (s.content a)))
     → NowOnly t a (Begins (records (t.content a)))
@@ -110,6 +135,10 @@ module _ (s m t u : DiskState) (first : (a : Area) → a ≢ Journal → LeavesA
       → AlwaysLeaves s u Sealed (ImageStandsFor (s.image_now Sealed))
   sealed_stands reads run = stands_before s t u Sealed
       (stands_after s m t Sealed (first Sealed sealed_journal) run) (reads.areas Sealed)
+
+  pub both-payloads : OnlyReads t u → AlwaysLeaves s m Journal (ImageStandsFor (s.image_now Journal))
+      → AlwaysLeaves m t Sealed (ImageStandsFor (m.image_now Sealed)) → KeepsPayloads s u
+  both-payloads reads run run' = record { journal = journal_stands reads run; sealed = sealed_stands reads run' }
 
   module _ (same : records (m.content Journal) ≡ records (s.content Journal))
       (same' : records (t.content Sealed) ≡ records (m.content Sealed)) where

@@ -1,5 +1,5 @@
 -- The refusals of the steps of a load, over any disk.
-use Rattle.std.proofs.Common.{◌≡◌, ◌⊎◌, inl, inr, false, ℕ, ◌+◌, ◌<◌, ◌≤◌, List, [], length, refl, sym, ◌∙◌, ap, subst, arith}
+use Rattle.std.proofs.Common.{◌≡◌, inl, inr, false, ℕ, ◌+◌, ◌<◌, List, [], length, refl, sym, ◌∙◌, subst, arith}
 use Rattle.feed_disk.specs.declared.area.Area.TheVariants.{Journal}
 use Rattle.feed_journal.specs.Log.{LogValue, IsLog}
 use Rattle.feed_journal.specs.declared.extent.Extent.{Extent}

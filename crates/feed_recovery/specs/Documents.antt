@@ -1,9 +1,11 @@
 -- The archives and members that a store returns.
-use Rattle.std.specs.Prelude.{◌≡◌, ◌⊎◌, ℕ, ◌≤◌, List, ℤ, Some}
+use Rattle.std.specs.Prelude.{◌≡◌, ◌⊎◌, ℕ, ◌≤◌, List, ℤ, Some, length, slice_get}
 use Rattle.atom_values.specs.Entry.{EntryValue, IsEntry}
 use Rattle.atom_writer.specs.Members.{member_text}
 use Rattle.atom_writer.specs.Pieced.{text_of}
 use Rattle.atom_writer.specs.declared.doc.FeedName.{FeedName}
+use Rattle.feed_disk.specs.Raised.{raised}
+use Rattle.feed_journal.specs.Log.{payload_lengths}
 use Rattle.feed_recovery.specs.Store.{StoreValue}
 use Rattle.feed_recovery.specs.declared.fault.MemberFault.{MemberFault}
 use Rattle.feed_recovery.specs.declared.fault.MemberFault.TheVariants.{NotFound, Deleted, DiskFault, Changed, NoMemory}
@@ -33,16 +35,6 @@ pub record IsVersion (entry : EntryValue) (number : ℕ) (edited updated : ℤ) 
   pub edited_is : entry.edited ≡ edited
   pub updated_is : entry.updated ≡ updated
 
--- The bytes are the member document of an entry of this member. The entry has the `edited` and the `updated` of the
--- entry that the member has, so it isn't another version.
-pub record IsMemberDocument (store : StoreValue) (number : ℕ) (written : List ℕ) : Type 0 where
-  pub stored : EntryValue
-  pub live : (fold_of store.history).live number ≡ Some stored
-  pub entry : EntryValue
-  pub is_entry : IsEntry entry
-  pub version : IsVersion entry number stored.edited stored.updated
-  pub text : written ≡ member_text store.head.name entry
-
 -- the bytes are the member document of the entry that the member has
 pub record IsLiveDocument (store : StoreValue) (number : ℕ) (written : List ℕ) : Type 0 where
   pub entry : EntryValue
@@ -70,6 +62,26 @@ pub record IsDocumentOf (name : FeedName) (payload : List ℕ) (number : ℕ) (e
   pub version : IsVersion entry number edited updated
   pub sets : Sets payload entry
   pub text : written ≡ member_text name entry
+
+-- The bytes are the member document of an entry that a payload sets. The payload is as long as the journal has it for
+-- the operation that set the member's entry. The entry is of this member, and has the `edited` and the `updated` of the
+-- entry that the member has, so it isn't another version.
+pub record IsMemberDocument (store : StoreValue) (number : ℕ) (written : List ℕ) : Type 0 where
+  pub stored : EntryValue
+  pub live : (fold_of store.history).live number ≡ Some stored
+  pub since : ℕ
+  pub is_since : IsLiveSince store.history number since
+  pub payload : List ℕ
+  pub long : slice_get (payload_lengths store.journal.extents) since ≡ Some (length payload)
+  pub document : IsDocumentOf store.head.name payload number stored.edited stored.updated written
+
+-- a read gave all bytes that the journal has for the operation that set the member's entry
+pub record ReadsMember (store : StoreValue) (number before after : ℕ) : Type 0 where
+  pub since : ℕ
+  pub is_since : IsLiveSince store.history number since
+  pub count : ℕ
+  pub long : slice_get (payload_lengths store.journal.extents) since ≡ Some count
+  pub given : after ≡ raised before count
 
 -- why the entry of operation `version` isn't read
 abbrev pub IsEntryFault : ℕ → MemberFault → Type 0

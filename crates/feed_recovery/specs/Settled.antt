@@ -1,9 +1,9 @@
 -- The images that a crash may leave of a store.
 use Rattle.std.specs.Prelude.{◌≡◌, ◌≢◌, ◌⊎◌, ℕ, ◌≤◌, List, [], length, take}
 use Rattle.feed_disk.specs.Disk.{DiskState}
-use Rattle.feed_disk.specs.Moments.{LeavesOnlyBoth, NowOnly}
+use Rattle.feed_disk.specs.Moments.{AlwaysLeaves, LeavesOnlyBoth, NowOnly}
 use Rattle.feed_disk.specs.declared.area.Area.TheVariants.{Journal, Sealed}
-use Rattle.feed_journal.specs.Records.{records, Begins, IsWhole}
+use Rattle.feed_journal.specs.Records.{records, Begins, IsWhole, StandsFor}
 use Rattle.feed_recovery.specs.Opening.{Opens}
 use Rattle.member_rules.specs.Head.{HeadValue}
 use Rattle.member_rules.specs.declared.operation.Op.{Op}
@@ -37,6 +37,12 @@ abbrev pub LeavesStores : DiskState → DiskState → Type 0
 LeavesStores before after =
     (head : HeadValue) (operations : List Op) (least : ℕ) → Settled before head operations least
     → AlwaysLeavesBoth before after (OpensPast head operations least)
+
+-- Of both areas a crash leaves the payloads of an image that it could leave before, and a whole image if that one was.
+-- This asks nothing of the images before: they may be any bytes.
+pub record KeepsPayloads (before after : DiskState) : Type 0 where
+  pub journal : AlwaysLeaves before after Journal (StandsFor (before.image_now Journal))
+  pub sealed : AlwaysLeaves before after Sealed (StandsFor (before.image_now Sealed))
 
 -- both areas are whole as they are read
 pub record AreWhole (disk : DiskState) : Type 0 where

@@ -9,7 +9,7 @@ ghost use Rattle.feed_recovery.specs.Commit.{IsSealing, MakesSealCalls};
 ghost use Rattle.feed_recovery.specs.Settled.{AlwaysLeavesBoth, IsAtRest, KeepsSeals, OpensPast, Settled};
 ghost use Rattle.feed_recovery.specs.Documents.{sealed_count};
 ghost use Rattle.feed_recovery.specs.Prepare.{Fits, HasRoom, IsDueSeal, MayCommit, SealFits, commit_calls};
-ghost use Rattle.feed_recovery.specs.Store.{StandsFor, call_count, is_spent, seal_count};
+ghost use Rattle.feed_recovery.specs.Store.{KeepsStore, StandsFor, call_count, is_spent, seal_count};
 ghost use Rattle.atom_writer.specs.Pieced.{text_of};
 ghost use Rattle.member_rules.specs.Coding.{operations};
 ghost use Rattle.member_rules.specs.History.{IsLawful};
@@ -66,6 +66,8 @@ impl Store {
         ensures most { MakesUpTo (D.state disk.old) (D.state disk.new)
             (call_count self.old) (call_count self.new) (commit_calls ready.seal) }
         ensures cause { HasCause (D.state disk.old).faults (D.state disk.new).faults result }
+        // A caller that has no told disk knows the rules of the store from here.
+        ensures rules { KeepsStore self.old }
     {
         // Laws, which do nothing.
         begun_images_are_whole();
@@ -101,6 +103,7 @@ impl Store {
         ensures most { OnErr result (MakesUpTo (D.state disk.old) (D.state disk.new)
             self.old.seals.calls self.new.seals.calls 4) }
         ensures cause { HasCause (D.state disk.old).faults (D.state disk.new).faults result }
+        ensures rules { KeepsStore self.old }
     {
         begun_images_are_whole();
         sealed_windows_are_full();

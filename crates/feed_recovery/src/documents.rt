@@ -3,13 +3,14 @@ ghost use Rattle.atom_values.specs.Counts.{Rose};
 ghost use Rattle.atom_values.specs.Entry.{EntryValue, IsEntry};
 ghost use Rattle.atom_writer.specs.Pieces.{text};
 ghost use Rattle.feed_disk.specs.Moments.{LeavesAlone};
+ghost use Rattle.feed_disk.specs.Raised.{raised};
 ghost use Rattle.feed_disk.specs.declared.area.Area.{Area as AreaValue};
 ghost use Rattle.feed_disk.specs.declared.area.Area.TheVariants.{Journal};
-ghost use Rattle.feed_journal.specs.Log.{MakesCalls, MakesSome};
+ghost use Rattle.feed_journal.specs.Log.{MakesCalls, MakesSome, payload_lengths};
 ghost use Rattle.feed_journal.specs.Records.{records};
 ghost use Rattle.feed_recovery.specs.Documents.{IsDocumentOf, IsEntryFault, IsLiveDocument, IsLiveSince};
-ghost use Rattle.feed_recovery.specs.Documents.{IsMemberDocument, IsMemberFault, IsSealed, IsVersion, Sets};
-ghost use Rattle.feed_recovery.specs.Documents.{sealed_count};
+ghost use Rattle.feed_recovery.specs.Documents.{IsMemberDocument, IsMemberFault, IsSealed, IsVersion, ReadsMember};
+ghost use Rattle.feed_recovery.specs.Documents.{Sets, sealed_count};
 ghost use Rattle.feed_recovery.specs.Opening.{seal_of};
 ghost use Rattle.feed_recovery.specs.Store.{StandsFor, call_count, is_spent};
 ghost use Rattle.member_rules.specs.Documents as documents;
@@ -68,6 +69,12 @@ impl Store {
         ensures never { D.told → (index : ℕ) → result ≢ Err (ArchiveFault.Changed index) }
         ensures changed { (index : ℕ) → result ≡ Err (ArchiveFault.Changed index) → index ≡ number - 1 }
 
+        // With any disk, the text has the length that the store has for the seal, and a read gave all its bytes.
+        ensures length { IfOk result (λ written. slice_get (payload_lengths self.old.seals.extents) (number - 1)
+            ≡ Some (length written.items)) }
+        ensures read { IfOk result (λ written. (D.state disk.new).bytes_read
+            ≡ raised (D.state disk.old).bytes_read (length written.items)) }
+
         // No area changes, and of the store only the count of calls. After `DiskFault` it is spent.
         ensures areas { (a : AreaValue) → LeavesAlone (D.state disk.old) (D.state disk.new) a }
         ensures same { result ≢ Err ArchiveFault.DiskFault → self.new ≡ record self.old {
@@ -118,8 +125,11 @@ impl Store {
         requires unspent { is_spent self.old ≡ false }
         requires stands { D.told → StandsFor (D.state disk.old) self.old }
         ensures document { IfOk result (λ written. D.told → IsLiveDocument self.old number written.items) }
-        // With any disk, its entry has the number, the `edited` and the `updated` of the member's entry.
+        // With any disk, its entry has the number, the `edited` and the `updated` of the member's entry. A read gave
+        // as many bytes as the store has for the operation that set that one.
         ensures entry { IfOk result (λ written. IsMemberDocument self.old number written.items) }
+        ensures read { OnOk result (ReadsMember self.old number
+            (D.state disk.old).bytes_read (D.state disk.new).bytes_read) }
         ensures live { OnOk result ((version : ℕ) × IsLiveSince self.old.history number version) }
         ensures refused { IfErr result (IsMemberFault self.old number) }
         ensures never { D.told → (index : ℕ) → result ≢ Err (MemberFault.Changed index) }
@@ -174,6 +184,10 @@ impl Store {
         requires stands { D.told → StandsFor (D.state disk.old) self.old }
         ensures payload { IfOk result (λ payload. D.told
             → slice_get (records ((D.state disk.old).content Journal)) version ≡ Some payload.items) }
+        ensures length { IfOk result (λ payload. slice_get (payload_lengths self.old.journal.extents) version
+            ≡ Some (length payload.items)) }
+        ensures read { IfOk result (λ payload. (D.state disk.new).bytes_read
+            ≡ raised (D.state disk.old).bytes_read (length payload.items)) }
         ensures refused { IfErr result (IsEntryFault version) }
         ensures never { D.told → (index : ℕ) → result ≢ Err (MemberFault.Changed index) }
         ensures areas { (a : AreaValue) → LeavesAlone (D.state disk.old) (D.state disk.new) a }

@@ -12,7 +12,8 @@ ghost use Rattle.feed_recovery.specs.Loading.{FailsBy, IsReadable, OnlyReads, Wo
 ghost use Rattle.feed_recovery.specs.Opening.{AreSeals, IsJournal, IsSealCount, Opens, journal_of, seal_of};
 ghost use Rattle.feed_recovery.specs.Refused.{IsNoHead, IsRefusal, IsShort, IsShortOrBad, Refuses, RefusesHistory};
 ghost use Rattle.feed_recovery.specs.Refused.{RefusesRecord, RefusesSeal, RefusesSeals};
-ghost use Rattle.feed_recovery.specs.Settled.{AlwaysLeavesBoth, AreWhole, IsAtRest, OpensPast, Settled};
+ghost use Rattle.feed_recovery.specs.Settled.{AlwaysLeavesBoth, AreWhole, IsAtRest, KeepsPayloads, OpensPast};
+ghost use Rattle.feed_recovery.specs.Settled.{Settled};
 ghost use Rattle.feed_recovery.specs.Store.{StandsFor, call_count, is_spent, least_frame};
 ghost use Rattle.member_rules.specs.Coding.{heads, operations};
 ghost use Rattle.member_rules.specs.Head.{HeadValue, IsHead};
@@ -56,8 +57,10 @@ impl Store {
         ensures same { OnOk result (D.told → (a : AreaValue)
             → records ((D.state disk.new).content a) ≡ records ((D.state disk.old).content a)) }
 
-        // A crash leaves what it could leave before. After `Ok` it leaves the store that was loaded, with its
-        // whole history, whatever wasn't synced before. The content of a settled disk is whole.
+        // A crash leaves what it could leave before, on a disk that isn't settled too. After `Ok` it leaves the
+        // store that was loaded, with its whole history, whatever wasn't synced before. The content of a settled
+        // disk is whole.
+        ensures payloads { D.told → KeepsPayloads (D.state disk.old) (D.state disk.new) }
         ensures moments { D.told → (head : HeadValue) (operations : List Operation) (least : ℕ)
             → Settled (D.state disk.old) head operations least
             → AlwaysLeavesBoth (D.state disk.old) (D.state disk.new) (OpensPast head operations least) }

@@ -46,7 +46,11 @@ fn main(rt: HostRuntime) -> ExitCode {
             &mut clock,
             &mut door,
             &mut fetch,
-            &mut InputSource { reader, faults: 0 },
+            &mut InputSource {
+                reader,
+                faults: 0,
+                bytes_read: 0,
+            },
             &mut output,
         ),
         (Err(error), _, _) | (_, Err(error), _) => {

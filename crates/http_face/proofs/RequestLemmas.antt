@@ -10,7 +10,9 @@ use Rattle.http_face.specs.declared.fault.RequestFault.{RequestFault}
 use Rattle.http_face.specs.declared.fault.RequestFault.TheVariants.{ConnFault, NoMemory}
 use Rattle.http_face.specs.Heard.{BeginsWithHead, IsHeard, IsMisheard, head_limit, field_limit, verb_of, body_of, first_of, values_of, fields_of}
 use Rattle.http_face.specs.Request.{RequestValue}
+use Rattle.http_face.specs.Settled.{IsUnsettled, EndsWithinBody}
 use Rattle.http_face.proofs.HeadLemmas.{field_count}
+use Rattle.http_face.proofs.SettledLemmas.{unsettled_body}
 
 module _ (left bytes rest : List ℕ) (headers : List HeaderSpan) (spans : RequestSpans) (h : RequestHead) where
   abbrev parts : List (List ℕ × List ℕ)
@@ -65,3 +67,12 @@ module _ (left bytes rest : List ℕ) (headers : List HeaderSpan) (spans : Reque
   result_refused told (Ok request) e short within at few refused = tt
   result_refused told (Err fault) e short within at few refused = λ conn memory seen.
       inl (h, all_behind, begins (e seen) short within at few, body_is (e seen) at ∙ refused conn memory seen)
+
+  pub ends_unsettled : left ≡ bytes ++ rest → length bytes ≤ head_limit → IsRequestWithin bytes headers spans →
+      IsRequestAt bytes headers spans h → spans.headers ≤ field_limit →
+      EndsWithinBody (span_bytes bytes spans.method) parts all_behind → IsUnsettled left
+  ends_unsettled e short within at few early =
+      unsettled_body left h all_behind (begins e short within at few)
+      (λ all. ap (λ (m : List ℕ). body_of m (fields_of h) all all_behind) (sym at.method)
+      ∙ ap (λ (fs : List (List ℕ × List ℕ)). body_of (span_bytes bytes spans.method) fs all all_behind) (sym at.fields)
+      ∙ early all)

@@ -1,8 +1,9 @@
 //! The body of a request.
 
-ghost use Rattle.std.specs.Prelude.{◌≡◌, ◌≢◌, ◌+◌, ◌≤◌, ◌++◌, length, Ok, Err, IfOk, IfErr, OnOk};
+ghost use Rattle.std.specs.Prelude.{◌≡◌, ◌≢◌, ◌+◌, ◌<◌, ◌≤◌, ◌++◌, length, Ok, Err, IfOk, IfErr, OnOk};
 ghost use Rattle.atom_values.specs.Counts.{Rose};
-ghost use Rattle.http_face.specs.Conn.{Reads, TakesAtMost};
+ghost use Rattle.feed_disk.specs.Raised.{RisesAtMost};
+ghost use Rattle.http_face.specs.Conn.{LastReadAfter, Reads, TakesAtMost};
 ghost use Rattle.http_face.specs.Heard.{head_limit, sized_body};
 ghost use Rattle.http_face.specs.Request.{body_limit};
 
@@ -31,6 +32,9 @@ pub(crate) fn read_body<C: Conn>(
         → C.told → sized_body size (before + length (ahead.now ++ (C.state conn.old).left))
         (ahead.now ++ (C.state conn.old).left) ≡ Err fault) }
     ensures most { C.told → TakesAtMost size (C.state conn.old) (C.state conn.new) }
+    ensures read { RisesAtMost size (C.state conn.old).bytes_read (C.state conn.new).bytes_read }
+    ensures needed { C.told → LastReadAfter (λ taken. length ahead.now + length taken < size)
+        (C.state conn.old) (C.state conn.new) }
     ensures reads { Reads (C.state conn.old) (C.state conn.new) }
     ensures failed { result ≡ Err RequestFault.ConnFault → Rose (C.state conn.old).faults
         (C.state conn.new).faults }
@@ -59,6 +63,9 @@ fn read_into<C: Conn>(
         (ahead.now ++ (C.state conn.old).left) ≡ Err fault) }
     ensures own { result ≢ Err RequestFault.NoMemory }
     ensures most { C.told → TakesAtMost (length body.old) (C.state conn.old) (C.state conn.new) }
+    ensures read { RisesAtMost (length body.old) (C.state conn.old).bytes_read (C.state conn.new).bytes_read }
+    ensures needed { C.told → LastReadAfter (λ taken. length ahead.now + length taken < length body.old)
+        (C.state conn.old) (C.state conn.new) }
     ensures reads { Reads (C.state conn.old) (C.state conn.new) }
     ensures failed { result ≡ Err RequestFault.ConnFault → Rose (C.state conn.old).faults
         (C.state conn.new).faults }

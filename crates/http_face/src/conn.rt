@@ -1,5 +1,6 @@
 ghost use Rattle.std.specs.Prelude.{◌≡◌, ◌≤◌, ◌<◌, ◌++◌, None, Some, [], length, take, IfOk, OnErr, IsSome};
-ghost use Rattle.atom_values.specs.Counts.{HasCause};
+ghost use Rattle.atom_values.specs.Counts.{HasCause, counted};
+ghost use Rattle.feed_disk.specs.Raised.{raised};
 ghost use Rattle.http_face.specs.Conn.{ConnState, Reads, Writes};
 
 use atom_values::Failed;
@@ -13,7 +14,8 @@ pub trait Conn {
     /// Whether contracts can see the bytes that are left and those that were sent.
     ghost told: { Type 0 };
 
-    /// The bytes, the count of faults, and whether the reply was begun.
+    /// The bytes, the counts of faults, reads and bytes read, and whether the reply was begun. Every connection
+    /// counts its reads.
     ghost state: { Self → ConnState };
 
     /// Reads bytes into the start of `into` and returns how many. If `into` isn't empty, it returns 0 only at the end
@@ -25,6 +27,11 @@ pub trait Conn {
         ensures end { IfOk result (λ count. told → count ≡ 0 → 0 < length into.old
             → (state self.old).left ≡ []) }
         ensures err { OnErr result (told → (state self.new).left ≡ (state self.old).left) }
+        ensures read { IfOk result (λ count. (state self.new).bytes_read
+            ≡ raised (state self.old).bytes_read count) }
+        ensures unread { OnErr result ((state self.new).bytes_read ≡ (state self.old).bytes_read) }
+        ensures called { (state self.new).reads ≡ counted (state self.old).reads }
+        ensures before { told → (state self.new).before_read ≡ (state self.old).left }
         ensures reads { Reads (state self.old) (state self.new) }
         ensures counts { HasCause (state self.old).faults (state self.new).faults result };
 

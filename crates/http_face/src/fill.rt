@@ -1,8 +1,9 @@
 //! Reads into a buffer after the bytes that it has.
 
 ghost use Rattle.std.specs.Prelude.{◌≡◌, ◌+◌, ◌-◌, ◌≤◌, ◌<◌, ◌++◌, [], length, take, IfOk, OnErr};
-ghost use Rattle.atom_values.specs.Counts.{HasCause};
-ghost use Rattle.http_face.specs.Conn.{Reads, TakesAtMost};
+ghost use Rattle.atom_values.specs.Counts.{HasCause, counted};
+ghost use Rattle.feed_disk.specs.Raised.{RisesAtMost, raised};
+ghost use Rattle.http_face.specs.Conn.{LastReadAfter, Reads, TakesAtMost};
 
 use crate::conn::Conn;
 use atom_values::Failed;
@@ -20,6 +21,10 @@ pub(crate) fn read_behind<C: Conn>(
     ensures end { IfOk result (λ count. C.told → count ≡ 0 → (C.state conn.old).left ≡ []) }
     ensures most { IfOk result (λ count. C.told → TakesAtMost count (C.state conn.old) (C.state conn.new)) }
     ensures err { OnErr result (C.told → (C.state conn.new).left ≡ (C.state conn.old).left) }
+    ensures read { IfOk result (λ count. (C.state conn.new).bytes_read
+        ≡ raised (C.state conn.old).bytes_read count) }
+    ensures unread { OnErr result ((C.state conn.new).bytes_read ≡ (C.state conn.old).bytes_read) }
+    ensures before { C.told → (C.state conn.new).before_read ≡ (C.state conn.old).left }
     ensures reads { Reads (C.state conn.old) (C.state conn.new) }
     ensures counts { HasCause (C.state conn.old).faults (C.state conn.new).faults result }
 {
@@ -39,6 +44,10 @@ pub(crate) fn fill_up<C: Conn>(
         ≡ take full buffer.new ++ (C.state conn.new).left) }
     ensures end { IfOk result (λ full. C.told → full < length buffer.old → (C.state conn.new).left ≡ []) }
     ensures most { C.told → TakesAtMost (length buffer.old - filled) (C.state conn.old) (C.state conn.new) }
+    ensures read { RisesAtMost (length buffer.old - filled) (C.state conn.old).bytes_read
+        (C.state conn.new).bytes_read }
+    ensures needed { C.told → LastReadAfter (λ before. filled + length before < length buffer.old)
+        (C.state conn.old) (C.state conn.new) }
     ensures reads { Reads (C.state conn.old) (C.state conn.new) }
     ensures counts { HasCause (C.state conn.old).faults (C.state conn.new).faults result }
 {

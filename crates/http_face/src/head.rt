@@ -1,10 +1,12 @@
 //! The head of a request.
 
-ghost use Rattle.std.specs.Prelude.{◌≡◌, ◌≢◌, ◌≤◌, ◌++◌, ℕ, List, length, take, Err, IfOk, IfErr, IfSome, IsNone};
+ghost use Rattle.std.specs.Prelude.{◌≡◌, ◌≢◌, ◌<◌, ◌≤◌, ◌++◌, ℕ, List, length, take, Err, IfOk, IfErr, IfSome, IsNone, OnOk};
 ghost use Rattle.atom_values.specs.Counts.{Rose};
-ghost use Rattle.httparse.specs.Spans.{IsRequestWithin, IsRequestOf};
-ghost use Rattle.http_face.specs.Conn.{Reads, TakesAtMost};
+ghost use Rattle.feed_disk.specs.Raised.{RisesAtMost};
+ghost use Rattle.httparse.specs.Spans.{IsRequestWithin, IsRequestOf, RequestOverflows};
+ghost use Rattle.http_face.specs.Conn.{LastReadAfter, Reads, TakesAtMost};
 ghost use Rattle.http_face.specs.Heard.{head_limit, field_limit, HasNoHead, IsHeadFault};
+ghost use Rattle.http_face.specs.Settled.{IsUnsettled};
 
 use crate::conn::Conn;
 use crate::fault::RequestFault;
@@ -50,6 +52,8 @@ pub(crate) fn read_head<C: Conn>(
     ensures refused { IfErr result (λ fault. fault ≢ RequestFault.ConnFault → fault ≢ RequestFault.NoMemory
         → C.told → HasNoHead (C.state conn.old).left × IsHeadFault (C.state conn.old).left fault) }
     ensures most { C.told → TakesAtMost head_limit (C.state conn.old) (C.state conn.new) }
+    ensures read { RisesAtMost head_limit (C.state conn.old).bytes_read (C.state conn.new).bytes_read }
+    ensures needed { C.told → LastReadAfter IsUnsettled (C.state conn.old) (C.state conn.new) }
     ensures reads { Reads (C.state conn.old) (C.state conn.new) }
     ensures failed { result ≡ Err RequestFault.ConnFault → Rose (C.state conn.old).faults
         (C.state conn.new).faults }
@@ -84,6 +88,8 @@ fn parse(
     ensures complete { IfOk result (λ found. IfSome found (IsRequestOf bytes.now headers.new)) }
     ensures few { IfOk result (λ found. IfSome found (λ spans. spans.headers ≤ field_limit)) }
     ensures unfinished { IfOk result (λ found. IsNone found → HasNoHead bytes.now) }
+    ensures unsettled { IfOk result (λ found. IsNone found → length bytes.now < head_limit
+        → IsUnsettled bytes.now) }
     ensures refused { IfErr result (λ fault. fault ≢ RequestFault.NoMemory → (more : List ℕ)
         → HasNoHead (bytes.now ++ more) × IsHeadFault (bytes.now ++ more) fault) }
     ensures own { IfErr result (λ fault. fault ≢ RequestFault.ConnFault) }
@@ -109,6 +115,8 @@ fn parse(
 fn parse_many(alloc: Global, bytes: &[u8]) -> Result<Option<RequestSpans>, RequestFault>
     requires short { length bytes.now ≤ head_limit }
     ensures none { IfOk result IsNone }
+    ensures unsettled { OnOk result (RequestOverflows field_limit bytes.now → length bytes.now < head_limit
+        → IsUnsettled bytes.now) }
     ensures refused { IfErr result (λ fault. fault ≢ RequestFault.NoMemory → (more : List ℕ)
         → HasNoHead (bytes.now ++ more) × IsHeadFault (bytes.now ++ more) fault) }
     ensures own { IfErr result (λ fault. fault ≢ RequestFault.ConnFault) }

@@ -2,9 +2,11 @@ ghost use Rattle.std.specs.Prelude.{◌≡◌, ◌≢◌, ◌≤◌, ◌⊎◌, 
 ghost use Rattle.atom_values.specs.Counts.{Rose};
 ghost use Rattle.httparse.specs.Spans.{IsWithin, IsHeaderWithin, span_bytes, header_bytes};
 ghost use Rattle.std.specs.Prelude.{codes};
-ghost use Rattle.http_face.specs.Conn.{Reads, TakesAtMost};
+ghost use Rattle.feed_disk.specs.Raised.{RisesAtMost};
+ghost use Rattle.http_face.specs.Conn.{LastReadAfter, Reads, TakesAtMost};
 ghost use Rattle.http_face.specs.Heard.{IsHeard, IsMisheard, head_limit, field_limit, verb_of, has_body, body_of, first_of, values_of};
 ghost use Rattle.http_face.specs.Request.{RequestValue, IsRequest, body_limit};
+ghost use Rattle.http_face.specs.Settled.{IsUnsettled, EndsWithinBody};
 
 use crate::body::read_body;
 use crate::conn::Conn;
@@ -107,8 +109,9 @@ impl Copies for Request {
     }
 }
 
-/// Returns the request that the bytes of a connection begin with. It reads at most 81,920 bytes, and may read bytes
-/// after the request.
+/// Returns the request that the bytes of a connection begin with. It reads at most 81,920 bytes, and may read
+/// bytes after the request. It doesn't read again once the bytes decide the result, so a client may wait for
+/// its reply with the connection open. The one exception: a target that isn't UTF-8 is refused only at its end.
 ///
 /// - If the bytes begin with no head: `BadHead`, `HeadTooLarge` or `EndedEarly`. If two of them fit, either may come.
 /// - If they begin with the head of a POST or PUT, the first that fits of `NoLength`, `TwoLengths`, `BadHead` (the
@@ -125,6 +128,8 @@ pub fn read_request<C: Conn>(alloc: Global, conn: &mut C) -> Result<Request, Req
     ensures refused { IfErr result (λ fault. fault ≢ RequestFault.ConnFault → fault ≢ RequestFault.NoMemory
         → C.told → IsMisheard (C.state conn.old).left fault) }
     ensures most { C.told → TakesAtMost 81_920 (C.state conn.old) (C.state conn.new) }
+    ensures read { RisesAtMost 81_920 (C.state conn.old).bytes_read (C.state conn.new).bytes_read }
+    ensures needed { C.told → LastReadAfter IsUnsettled (C.state conn.old) (C.state conn.new) }
     ensures reads { Reads (C.state conn.old) (C.state conn.new) }
     ensures failed { result ≡ Err RequestFault.ConnFault → Rose (C.state conn.old).faults
         (C.state conn.new).faults }
@@ -150,6 +155,8 @@ fn read_within<C: Conn>(
     ensures refused { IfErr result (λ fault. fault ≢ RequestFault.ConnFault → fault ≢ RequestFault.NoMemory
         → C.told → IsMisheard (C.state conn.old).left fault) }
     ensures most { C.told → TakesAtMost 81_920 (C.state conn.old) (C.state conn.new) }
+    ensures read { RisesAtMost 81_920 (C.state conn.old).bytes_read (C.state conn.new).bytes_read }
+    ensures needed { C.told → LastReadAfter IsUnsettled (C.state conn.old) (C.state conn.new) }
     ensures reads { Reads (C.state conn.old) (C.state conn.new) }
     ensures failed { result ≡ Err RequestFault.ConnFault → Rose (C.state conn.old).faults
         (C.state conn.new).faults }
@@ -194,6 +201,10 @@ fn request_of<C: Conn>(
         (length (bytes.now ++ (C.state conn.old).left)) (drop head.len bytes.now ++ (C.state conn.old).left)
         ≡ Err fault) }
     ensures most { C.told → TakesAtMost body_limit (C.state conn.old) (C.state conn.new) }
+    ensures read { RisesAtMost body_limit (C.state conn.old).bytes_read (C.state conn.new).bytes_read }
+    ensures needed { C.told → LastReadAfter (λ taken. EndsWithinBody (span_bytes bytes.now head.method)
+        (map (header_bytes bytes.now) headers.now) (drop head.len bytes.now ++ taken))
+        (C.state conn.old) (C.state conn.new) }
     ensures reads { Reads (C.state conn.old) (C.state conn.new) }
     ensures failed { result ≡ Err RequestFault.ConnFault → Rose (C.state conn.old).faults
         (C.state conn.new).faults }

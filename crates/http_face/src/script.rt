@@ -1,9 +1,10 @@
 //! A connection in memory, for tests. Contracts can see its content, and listed calls of it fail.
 
 ghost use Rattle.std.specs.Prelude.{◌≡◌, ◌↔◌, ◌≤◌, ◌<◌, ◌++◌, [], None, Some, length, take, drop, IfOk, OnOk, OnErr, IsErr, IsTrue, IsSome};
-ghost use Rattle.atom_values.specs.Counts.{HasCause};
+ghost use Rattle.atom_values.specs.Counts.{HasCause, counted};
 ghost use Rattle.atom_values.specs.ListedCalls.{after_call, next_call_fails};
-ghost use Rattle.http_face.specs.Conn.{ConnState, Reads, Writes};
+ghost use Rattle.feed_disk.specs.Raised.{raised};
+ghost use Rattle.http_face.specs.Conn.{Reads, Writes};
 
 use crate::conn::Conn;
 use atom_values::{Bytes, Failed, ListedCalls, MAX_FAILING, Many};
@@ -19,6 +20,10 @@ pub struct ScriptConn {
     sent: Vec<u8>,
     calls: ListedCalls,
     begun: Option<u64>,
+    bytes_read: u64,
+    reads: u64,
+    // `at` when the last read began.
+    read_at: usize,
     ghost in_range: { at ≤ length bytes },
 }
 
@@ -27,7 +32,15 @@ impl ScriptConn {
     /// and those in `failing` fail.
     pub fn new(alloc: Global, bytes: Bytes, failing: Many<u64, MAX_FAILING>) -> ScriptConn
         ensures { ⟦<ScriptConn as Conn>⟧.state result
-            ≡ record { left = bytes; sent = []; faults = 0; begun = None } }
+            ≡ record {
+              left = bytes;
+              sent = [];
+              faults = 0;
+              begun = None;
+              bytes_read = 0;
+              reads = 0;
+              before_read = bytes;
+            } }
     {
         ScriptConn {
             bytes,
@@ -35,6 +48,9 @@ impl ScriptConn {
             sent: Vec::new(alloc),
             calls: ListedCalls::new(failing),
             begun: None,
+            bytes_read: 0,
+            reads: 0,
+            read_at: 0,
         }
     }
 
@@ -51,6 +67,13 @@ impl ScriptConn {
     {
         self.begun
     }
+
+    /// How many calls of `read` were made, failed ones too. The count stays at the greatest `u64`.
+    pub fn reads(&self) -> u64
+        ensures { result ≡ (⟦<ScriptConn as Conn>⟧.state self.now).reads }
+    {
+        self.reads
+    }
 }
 
 impl Conn for ScriptConn {
@@ -61,6 +84,9 @@ impl Conn for ScriptConn {
       sent = s.sent.items;
       faults = s.calls.faults;
       begun = s.begun;
+      bytes_read = s.bytes_read;
+      reads = s.reads;
+      before_read = drop s.read_at s.bytes;
     } };
 
     fn read(&mut self, into: &mut [u8]) -> Result<usize, Failed>
@@ -76,21 +102,17 @@ impl Conn for ScriptConn {
             → count ≡ 0 → 0 < length into.old → drop self.old.at self.old.bytes ≡ []) }
         ensures err { OnErr result (Unit {0}
             → drop self.new.at self.new.bytes ≡ drop self.old.at self.old.bytes) }
-        ensures reads { Reads
-            (record {
-              left = drop self.old.at self.old.bytes;
-              sent = self.old.sent.items;
-              faults = self.old.calls.faults;
-              begun = self.old.begun;
-            })
-            (record {
-              left = drop self.new.at self.new.bytes;
-              sent = self.new.sent.items;
-              faults = self.new.calls.faults;
-              begun = self.new.begun;
-            }) }
+        ensures read { IfOk result (λ count. self.new.bytes_read ≡ raised self.old.bytes_read count) }
+        ensures unread { OnErr result (self.new.bytes_read ≡ self.old.bytes_read) }
+        ensures called { self.new.reads ≡ counted self.old.reads }
+        ensures before { Unit {0}
+            → drop self.new.read_at self.new.bytes ≡ drop self.old.at self.old.bytes }
+        ensures reads { Reads (⟦<ScriptConn as Conn>⟧.state self.old)
+            (⟦<ScriptConn as Conn>⟧.state self.new) }
         ensures counts { HasCause self.old.calls.faults self.new.calls.faults result }
     {
+        self.reads = self.reads.saturating_add(1);
+        self.read_at = self.at;
         if self.calls.next_fails() {
             return Err(Failed);
         }
@@ -99,6 +121,7 @@ impl Conn for ScriptConn {
         let (given, _) = left.split_at(count);
         into[..count].copy_from_slice(given);
         self.at += count;
+        self.bytes_read = self.bytes_read.saturating_add(count as u64);
         Ok(count)
     }
 
@@ -110,9 +133,11 @@ impl Conn for ScriptConn {
     fn write(&mut self, from: &[u8]) -> Result<usize, Failed>
         requires { IsSome self.old.begun }
 
-        // It fails the listed calls, and others only if memory ran out.
+        // It fails the listed calls, and others only if memory ran out. Each failure counts one fault.
         ensures listed { IsTrue (next_call_fails self.old.calls) → IsErr result }
         ensures calls { OnOk result (self.new.calls ≡ after_call self.old.calls) }
+        ensures failed { OnErr result (self.new.calls
+            ≡ record (after_call self.old.calls) { faults = counted self.old.calls.faults }) }
 
         // The clauses of the trait.
         ensures within { IfOk result (λ count. count ≤ length from.now) }
@@ -120,19 +145,8 @@ impl Conn for ScriptConn {
         ensures bytes { IfOk result (λ count. Unit {0}
             → self.new.sent.items ≡ self.old.sent.items ++ take count from.now) }
         ensures err { OnErr result (Unit {0} → self.new.sent.items ≡ self.old.sent.items) }
-        ensures writes { Writes
-            (record {
-              left = drop self.old.at self.old.bytes;
-              sent = self.old.sent.items;
-              faults = self.old.calls.faults;
-              begun = self.old.begun;
-            })
-            (record {
-              left = drop self.new.at self.new.bytes;
-              sent = self.new.sent.items;
-              faults = self.new.calls.faults;
-              begun = self.new.begun;
-            }) }
+        ensures writes { Writes (⟦<ScriptConn as Conn>⟧.state self.old)
+            (⟦<ScriptConn as Conn>⟧.state self.new) }
         ensures counts { HasCause self.old.calls.faults self.new.calls.faults result }
     {
         if self.calls.next_fails() {

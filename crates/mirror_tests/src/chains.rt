@@ -14,10 +14,10 @@ use std::alloc::Global;
 use std::process::Abort;
 
 /// An offered document, the answer to it, and the outcome afterwards.
-type Step = (Given, &'static str, &'static str);
+pub type Step = (Given, &'static str, &'static str);
 
 /// Documents come in any order, and some of them twice.
-static MIXED: [Step; 8] = [
+pub static MIXED: [Step; 8] = [
     (Version(13), "Taken", "Missing Archive(3)"),
     (Archive(3), "Taken", "Missing Archive(2)"),
     (Archive(1), "Taken", "Missing Archive(2)"),
@@ -98,7 +98,7 @@ fn a_mirror_is_complete_once_no_document_is_missing(rt: HostRuntime) {
 }
 
 /// The archives come before any subscription document.
-static OLDEST_FIRST: [Step; 4] = [
+pub static OLDEST_FIRST: [Step; 4] = [
     (Archive(1), "Taken", "Missing Feed"),
     (Archive(2), "Taken", "Missing Feed"),
     (Archive(3), "Taken", "Missing Feed"),
@@ -107,7 +107,7 @@ static OLDEST_FIRST: [Step; 4] = [
 ];
 
 /// Then come documents of a feed with another fifth letter.
-static CHANGED: [Step; 3] = [
+pub static CHANGED: [Step; 3] = [
     (Archive(1), "Known", "Complete 5 5"),
     (
         Archive(2),

@@ -1,7 +1,8 @@
 //! Documents that are asked for by their addresses.
 
 use atom_values::{Bytes, Many};
-use doc_source::{Fetch, GetFault, HttpFetch, Offer, PileFetch};
+use doc_source::{Fetch, GetFault, HttpFetch, Offer, PileFetch, read_document};
+use http_face::ScriptConn;
 use std::alloc::Global;
 use std::net::{Net, OpenListener, TcpListener};
 use std::process::Abort;
@@ -103,4 +104,39 @@ fn a_get_at_a_closed_port_fails(rt: HostRuntime) {
     );
     assert_eq!(rt; fetch.faults(), 1);
     drop(fetch);
+}
+
+/// What a server sends, the call that fails (0: none), and the document.
+static SENT: [(&[u8], u64, Result<Option<&[u8]>, GetFault>); 6] = [
+    (
+        b"HTTP/1.0 200 OK\r\nContent-Length: 3\r\n\r\nabc",
+        0,
+        Ok(Some(b"abc")),
+    ),
+    (b"HTTP/1.0 404 Not Found\r\n\r\n", 0, Ok(None)),
+    (b"HTTP/1.0 410 Gone\r\n\r\n", 0, Ok(None)),
+    (
+        b"HTTP/1.0 500 Internal Server Error\r\n\r\n",
+        0,
+        Err(GetFault::Failed),
+    ),
+    (b"no response", 0, Err(GetFault::Failed)),
+    (b"HTTP/1.0 404 Not Found\r\n\r\n", 1, Err(GetFault::Failed)),
+];
+
+#[test]
+fn only_a_server_that_says_so_has_no_document(rt: HostRuntime) {
+    for (bytes, failing, want) in SENT {
+        let mut calls = Many::new(rt.alloc());
+        calls.push(failing).expect(&rt, "memory");
+        let bytes = Bytes::of(rt.alloc(), bytes).expect(&rt, "memory");
+        let mut conn = ScriptConn::new(rt.alloc(), bytes, calls);
+        let is_right = match read_document(rt.alloc(), &mut conn) {
+            Ok(Some(document)) => want == Ok(Some(document.as_slice())),
+            Ok(None) => want == Ok(None),
+            Err(fault) => want == Err(fault),
+        };
+        assert!(rt; is_right);
+        drop(conn);
+    }
 }

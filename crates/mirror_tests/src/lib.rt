@@ -20,6 +20,8 @@ mod feeds;
 #[cfg(test)]
 mod fetches;
 #[cfg(test)]
+mod held;
+#[cfg(test)]
 mod logs;
 #[cfg(test)]
 mod mirrors;

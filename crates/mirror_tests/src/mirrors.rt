@@ -57,7 +57,7 @@ pub fn refusal_text(rt: &impl Abort, alloc: Global, refusal: &Offered) -> String
 }
 
 /// The answer's name and its fields.
-fn answer_text(rt: &impl Abort, alloc: Global, answer: &Result<Accepted, Offered>) -> String {
+pub fn answer_text(rt: &impl Abort, alloc: Global, answer: &Result<Accepted, Offered>) -> String {
     match answer {
         Ok(accepted) => format!(in alloc; "{accepted:?}").expect(rt, "memory"),
         Err(refusal) => refusal_text(rt, alloc, refusal),

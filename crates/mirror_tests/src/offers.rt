@@ -20,7 +20,11 @@ impl Source for Trickle {
 
     ghost told = { ⊥ };
 
-    ghost state = { λ s. record { left = []; faults = (⟦<ListSource as Source>⟧.state s.inner).faults } };
+    ghost state = { λ s. record {
+      left = [];
+      faults = (⟦<ListSource as Source>⟧.state s.inner).faults;
+      bytes_read = (⟦<ListSource as Source>⟧.state s.inner).bytes_read;
+    } };
 
     fn read(&mut self, into: &mut [u8]) -> Result<usize, Failed> {
         let room = into.len().min(self.most);

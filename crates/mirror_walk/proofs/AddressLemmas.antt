@@ -38,7 +38,7 @@ address-wrong base address document other =
     other ((bytes_eq-Decides document.name.base base).0 parts.0)
     ((bytes_eq-Decides address (own_text document)).0 parts.1)))
 
-bytes_cases : (one other : List ℕ) → (one ≡ other) ⊎ (one ≢ other)
+pub bytes_cases : (one other : List ℕ) → (one ≡ other) ⊎ (one ≢ other)
 bytes_cases one other = go (bytes_eq one other) refl
   where
     go : (b : Bool) → bytes_eq one other ≡ b → (one ≡ other) ⊎ (one ≢ other)

@@ -12,6 +12,10 @@ pub mod VisitLemmas
 pub mod VisitAnswerLemmas
 -- serves `Mirror::visit_all`
 pub mod VisitsLemmas
+-- serves `Mirror::visit_all`: what the source answered so far
+pub mod GivenLemmas
+-- serves `Mirror::walk` and its callers: the walk by what the source answered
+pub mod GivenWalkLemmas
 -- serves `Mirror::walk`, `served`, and its callers: what is held after a walk
 pub mod WalkServedLemmas
 -- serves `served_documents_show_the_fold`: the documents that one feed serves
@@ -64,8 +68,12 @@ pub mod WithinLemmas
 pub mod StepLemmas
 -- serves `Mirror::load`: its steps, one after another
 pub mod ReadingLemmas
+-- serves `Mirror::load`: the clause `refusal`
+pub mod RefusedLemmas
 -- serves `Mirror::load`: the first document
 pub mod FirstLemmas
+-- serves `Held::offer`
+pub mod HeldOfferLemmas
 -- serves `Mirror::offer`: what the checks found
 pub mod CheckedLemmas
 -- serves `Mirror::entry`: the documents that are read back

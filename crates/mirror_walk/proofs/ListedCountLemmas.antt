@@ -131,18 +131,17 @@ count-of_map live m n ordered agrees between =
 abbrev pub HasLive : {P : Type 0} → List DocValue → BTreeMap ℕ P → Type 0
 HasLive documents live = (number : ℕ) → is_some (get nat_cmp live number) ≡ is_some (live_of documents number)
 
-listed : (kept : List KeptValue) (place : Option EntryPlace) (entry : Option EntryValue)
-    → ListsEntry kept place entry
-    → is_some place ≡ is_some entry
-listed kept None None h = refl
-listed kept None (Some entry) h = absurd h
-listed kept (Some place) None h = absurd h
-listed kept (Some place) (Some entry) h = refl
+listed : (kept : List KeptValue) (documents : List DocValue) (number : ℕ) (place : Option EntryPlace)
+    (entry : Option EntryValue) → ListsEntry kept documents number place entry → is_some place ≡ is_some entry
+listed kept documents number None None h = refl
+listed kept documents number None (Some entry) h = absurd h
+listed kept documents number (Some place) None h = absurd h
+listed kept documents number (Some place) (Some entry) h = refl
 
 pub entries-live : (kept : List KeptValue) (documents : List DocValue) (live : BTreeMap ℕ EntryPlace)
     → HasEntries kept documents live → HasLive documents live
 entries-live kept documents live entries number =
-    listed kept (get nat_cmp live number) (live_of documents number) (entries number)
+    listed kept documents number (get nat_cmp live number) (live_of documents number) (entries number)
 
 some_from : {A : Type 0} (o : Option A) → is_some o ≡ true → IsSome o
 some_from None e = absurd (false≢true e)

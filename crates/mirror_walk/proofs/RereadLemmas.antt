@@ -1,11 +1,11 @@
 -- The documents that a mirror reads back.
-use Rattle.std.proofs.Common.{◌≡◌, ◌≢◌, ◌⊎◌, inl, inr, ℕ, ◌<◌, List, Option, Some, None, Result, Ok, Err}
-use Rattle.std.proofs.Common.{length, false}
+use Rattle.std.proofs.Common.{◌≡◌, ◌≢◌, ◌⊎◌, inl, inr, ℕ, List, Option, Some, None, Result, Ok, Err}
+use Rattle.std.proofs.Common.{false}
 use Rattle.std.proofs.Common.{refl, sym, ap, subst, ◌∙◌}
 use Rattle.std.proofs.Common.{◌==◌}
 use Rattle.std.specs.List.{find}
 use Rattle.std.specs.Prelude.{IfSome, IsSome, MatchOption, slice_get}
-use Rattle.std.proofs.lemmas.Option.{MatchOption-at_some, slice_get_within}
+use Rattle.std.proofs.lemmas.Option.{MatchOption-at_some}
 use Rattle.atom_values.specs.Entry.{EntryValue}
 use Rattle.atom_writer.specs.Doc.{DocValue, IsDoc}
 use Rattle.atom_writer.specs.Pieces.{text}
@@ -150,7 +150,3 @@ entry-same last item one other first second =
     let found : Some (KeptItem one) ≡ Some (KeptItem other) =
     sym first.entry_is ∙ ap (λ (r : Reread). slice_get r.document.items item) reread ∙ second.entry_is in
     cc
-
-pub place-within : (kept : List KeptValue) (number : ℕ) (place : EntryPlace) → IsLiveAt kept number place
-    → place.document < length kept
-place-within kept number place live = slice_get_within kept place.document live.held.document live.held.there

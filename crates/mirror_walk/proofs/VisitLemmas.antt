@@ -1,25 +1,20 @@
 -- One step of a walk, and how steps join.
-use Rattle.std.proofs.Common.{◌≡◌, inl, inr, ℕ, ◌-◌, ◌<◌, ◌≤◌, List, [], ◌∷◌, ◌++◌, Option, Some, None}
+use Rattle.std.proofs.Common.{◌≡◌, inl, inr, ℕ, ◌-◌, ◌<◌, ◌≤◌, List, Option, Some, None}
 use Rattle.std.proofs.Common.{IsSome, Ok, refl, sym, ap, subst, ◌∙◌, arith, option_map}
 use Rattle.chain_links.specs.Address.{IsAddress, printed}
 use Rattle.chain_links.specs.declared.address.Address.{Address}
 use Rattle.chain_links.specs.declared.address.Address.TheVariants.{Feed, Archive, Member}
 use Rattle.feed_disk.specs.Disk.{DiskState}
-use Rattle.feed_disk.specs.Moments.{AlwaysLeaves, LeavesOnly}
-use Rattle.feed_disk.specs.declared.area.Area.TheVariants.{Mirror as MirrorArea}
-use Rattle.feed_disk.proofs.MomentLemmas.{alone_begins, alone_joins, leaves_join, leaves_weaker}
+use Rattle.feed_disk.proofs.MomentLemmas.{alone_begins, alone_joins}
 use Rattle.mirror_walk.specs.declared.answer.Accepted.{Accepted}
-use Rattle.mirror_walk.specs.declared.answer.Accepted.TheVariants.{Taken}
 use Rattle.mirror_walk.specs.Accept.{AnswersDocument}
 use Rattle.mirror_walk.specs.Holding.{KeptValue, best_of, first_missing, gap_from}
 use Rattle.mirror_walk.specs.Mirror.{MirrorValue}
-use Rattle.mirror_walk.specs.Visit.{IsAcceptedAt, IsNextOf, IsVisitStep, KeepsSetting, StaysSound, asks_left}
-use Rattle.mirror_walk.specs.Walk.{IsWalkStep, WalkSetting}
-use Rattle.mirror_walk.specs.Walk.WalkEnding.{cut_short}
+use Rattle.mirror_walk.specs.Visit.{IsNextOf, KeepsSetting, StaysSound, asks_left}
+use Rattle.mirror_walk.specs.Walk.{IsAnswered, setting_by}
 use Rattle.mirror_walk.proofs.GapLemmas.{gap-found}
 use Rattle.mirror_walk.proofs.NewLemmas.{IsFilled, archive-accepted, feed-accepted}
 use Rattle.mirror_walk.proofs.WalkLemmas.{next-gap}
-use Rattle.mirror_walk.proofs.WalkRunLemmas.{Reaches, reaches-more, walks-before}
 use Rattle.mirror_walk.proofs.RoomLemmas.{within-accepted}
 
 -- how visits join
@@ -44,45 +39,6 @@ sound-joins told s m t one two three first second = record {
   rests = λ tells rest. second.rests tells (first.rests tells rest);
   most = omega (arith, first.most, second.most);
 }
-
--- images
-
--- an image of a visit is one of the walk
-pub step-of_walk : (setting : WalkSetting) (kept now : List KeptValue) (asked : List Address)
-    (accepted : List Accepted)
-    (address : Address) → Reaches setting kept (Some Feed) asked accepted now (Some address)
-    → (image : List ℕ)
-    → IsVisitStep setting now address image → IsWalkStep setting kept image
-step-of_walk setting kept now asked accepted address so_far image (inl loads) = record {
-  asked = asked;
-  accepted = accepted;
-  left = now;
-  walks = walks-before setting now asked accepted kept (Some Feed) (Some address) cut_short so_far tt;
-  loads = loads;
-}
-step-of_walk setting kept now asked accepted address so_far image (inr taken) = record {
-  asked = asked ++ address ∷ [];
-  accepted = accepted ++ Taken ∷ [];
-  left = taken.after;
-  walks = walks-before setting taken.after (asked ++ address ∷ []) (accepted ++ Taken ∷ []) kept (Some Feed)
-      (first_missing taken.after) cut_short
-      (reaches-more setting now asked accepted kept taken.after (Some Feed) address Taken so_far taken.taken)
-      tt;
-  loads = taken.loads;
-}
-
-module _ (s m t : DiskState) (setting : WalkSetting) (kept now : List KeptValue) (asked : List Address)
-    (accepted : List Accepted) (address : Address)
-    (so_far : Reaches setting kept (Some Feed) asked accepted now (Some address)) where
-  pub moments-more : LeavesOnly s m MirrorArea (λ _. IsWalkStep setting kept)
-      → AlwaysLeaves m t MirrorArea (IsVisitStep setting now address)
-      → AlwaysLeaves s t MirrorArea (IsWalkStep setting kept)
-  moments-more run visit = record {
-    moments = leaves_join s m t MirrorArea (λ _. IsWalkStep setting kept) run
-        (leaves_weaker m t MirrorArea (λ _. IsVisitStep setting now address) (λ _. IsWalkStep setting kept)
-        (λ c i rose step. step-of_walk setting kept now asked accepted address so_far i step) visit.moments);
-    now = λ i may. step-of_walk setting kept now asked accepted address so_far i (visit.now i may);
-  }
 
 -- the number of addresses left falls with each accepted document
 
@@ -132,10 +88,10 @@ archive-on kept left best number accepted one filled = record { best = rw filled
     of next is is_address = gaps (gap_from kept (number - 1)) refl next
         (ap (option_map Archive) (sym filled.gap) ∙ sym (missing-best left best filled.best) ∙ is)
 
-pub goes-on : (mirror : MirrorValue) (address : Address) (left : List KeptValue) (answer : Accepted)
-    → IsNextOf mirror.kept address → IsAddress address → IsAcceptedAt mirror address left answer
-    → GoesOn address left
-goes-on mirror address left answer (inl feed) is accepted =
+pub goes-on : (mirror : MirrorValue) (answers : List ℕ → Option (List ℕ)) (address : Address)
+    (left : List KeptValue) (answer : Accepted) → IsNextOf mirror.kept address → IsAddress address
+    → IsAnswered (setting_by mirror answers) mirror.kept address (Ok answer) left → GoesOn address left
+goes-on mirror answers address left answer (inl feed) is accepted =
     let document = within-accepted mirror.capacity mirror.base mirror.kept (printed mirror.base address)
     accepted.bytes
     answer left accepted.answered in
@@ -144,7 +100,7 @@ goes-on mirror address left answer (inl feed) is accepted =
     (Ok answer) left) feed document in
     subst (λ (a : Address). GoesOn a left) (sym feed) (feed-on left (best_of left) refl
     (feed-accepted mirror.base mirror.kept accepted.bytes answer left at_feed))
-goes-on mirror address left answer (inr (next, some)) is accepted = of (best_of mirror.kept) refl some
+goes-on mirror answers address left answer (inr (next, some)) is accepted = of (best_of mirror.kept) refl some
   where
     of : (best : Option KeptValue) → best_of mirror.kept ≡ best → IsSome best → GoesOn address left
     of None e some = absurd (cc)

@@ -6,10 +6,6 @@ use Rattle.std.proofs.lemmas.List.{map-append}
 use Rattle.chain_links.specs.Address.{printed}
 use Rattle.chain_links.specs.declared.address.Address.{Address}
 use Rattle.chain_links.specs.declared.address.Address.TheVariants.{Feed}
-use Rattle.doc_source.specs.Fetch.{FetchState}
-use Rattle.feed_disk.specs.Disk.{DiskState}
-use Rattle.feed_disk.specs.Moments.{AlwaysLeaves, LeavesOnly}
-use Rattle.feed_disk.specs.declared.area.Area.TheVariants.{Mirror as MirrorArea}
 use Rattle.mirror_walk.specs.declared.answer.Accepted.{Accepted}
 use Rattle.mirror_walk.specs.declared.answer.Accepted.TheVariants.{Taken, Known, Stale}
 use Rattle.mirror_walk.specs.declared.answer.Offered.{Offered}
@@ -21,13 +17,9 @@ use Rattle.mirror_walk.specs.declared.walk.Visits.{Visits}
 use Rattle.mirror_walk.specs.declared.walk.WalkFault.{WalkFault}
 use Rattle.mirror_walk.specs.declared.walk.WalkFault.TheVariants as faults
 use Rattle.mirror_walk.specs.Holding.{KeptValue, first_missing}
-use Rattle.mirror_walk.specs.Mirror.{MirrorValue}
-use Rattle.mirror_walk.specs.Visit.{HasAsked, HasVisited, IsVisit, IsVisitStep, IsVisitsResult, KeepsSetting}
-use Rattle.mirror_walk.specs.Visit.{counted_answer, tally_of}
-use Rattle.mirror_walk.specs.Walk.{EndsAt, HasRefusal, IsAnswered, IsWalkStep, WalkEnding, WalkSetting}
-use Rattle.mirror_walk.specs.Walk.{setting_of}
+use Rattle.mirror_walk.specs.Visit.{HasAsked, HasVisited, IsVisit, IsVisitsResult, counted_answer, tally_of}
+use Rattle.mirror_walk.specs.Walk.{EndsAt, HasRefusal, IsAnswered, WalkEnding, WalkSetting}
 use Rattle.std.specs.Prelude.{IsErrAnd}
-use Rattle.mirror_walk.proofs.VisitLemmas.{moments-more}
 use Rattle.mirror_walk.specs.Walk.WalkEnding.{nothing_wanted, not_there, refused, fetch_failed, filled}
 use Rattle.mirror_walk.specs.Walk.WalkEnding.{cut_short}
 use Rattle.mirror_walk.proofs.WalkRunLemmas.{Reaches, reaches-more, tally-more, walks-at, walks-before}
@@ -66,7 +58,7 @@ counted-sums tally Taken = (refl, omega arith)
 counted-sums tally Known = (refl, omega arith)
 counted-sums tally Stale = (refl, omega arith)
 
-pub visits-begin : (setting : WalkSetting) (kept : List KeptValue) (before : List (List ℕ))
+unfoldable pub visits-begin : (setting : WalkSetting) (kept : List KeptValue) (before : List (List ℕ))
     → IsSoFar setting kept kept Feed before before (tally_of [] [])
 visits-begin setting kept before = record {
   asked = [];
@@ -79,11 +71,11 @@ visits-begin setting kept before = record {
 module _ (setting : WalkSetting) (kept now : List KeptValue) (address : Address)
     (before after : List (List ℕ))
     (tally : Tally) (so_far : IsSoFar setting kept now address before after tally) where
-  abbrev longer : List Address
+  abbrev pub longer : List Address
   longer = so_far.asked ++ address ∷ []
 
   -- the addresses after one more
-  addresses-more : (later : List (List ℕ)) → later ≡ after ++ printed setting.base address ∷ []
+  pub addresses-more : (later : List (List ℕ)) → later ≡ after ++ printed setting.base address ∷ []
       → later ≡ before ++ map (printed setting.base) longer
   addresses-more later e =
       e
@@ -102,7 +94,7 @@ module _ (setting : WalkSetting) (kept now : List KeptValue) (address : Address)
       held)
       (later : List (List ℕ)) (is : later ≡ after ++ printed setting.base address ∷ []) where
     -- one more accepted document
-    pub visits-more : (next : Address) → first_missing held ≡ Some next
+    unfoldable pub visits-more : (next : Address) → first_missing held ≡ Some next
         → IsSoFar setting kept held next before later (counted_answer (one_asked tally) answer)
     visits-more next e = record {
       asked = longer;
@@ -216,40 +208,13 @@ module _ (setting : WalkSetting) (kept now : List KeptValue) (address : Address)
     result = refl;
   }
 
--- a visit after others has the setting of the walk
-module _ (s m : DiskState) (one two : MirrorValue) (before between : FetchState)
-    (keeps : KeepsSetting s m one two)
-    (same : between.answers ≡ before.answers) where
-  same-setting : setting_of two between ≡ setting_of one before
-  same-setting = let base = keeps.base in let capacity = keeps.capacity in cc
-
-  pub visit-as : (address : Address) (left : List KeptValue) (result : Result Visit WalkFault)
-      → IsVisit (setting_of two between) two.kept address left result
-      → IsVisit (setting_of one before) two.kept address left result
-  visit-as address left result visit =
-      subst (λ (setting : WalkSetting). IsVisit setting two.kept address left result) same-setting visit
-
-  pub asked-as : (after : List (List ℕ)) (address : Address) (result : Result Visit WalkFault)
-      → HasAsked between.asked after (printed two.base address) result
-      → HasAsked between.asked after (printed one.base address) result
-  asked-as after address result asked =
-      subst (λ (b : List ℕ). HasAsked between.asked after (printed b address) result) keeps.base asked
-
-  -- `Mirror::visit_all`: the clause `moments`
-  pub moments-as : (t : DiskState) (address : Address) (tally : Tally)
-      → IsSoFar (setting_of one before) one.kept two.kept address before.asked between.asked tally
-      → LeavesOnly s m MirrorArea (λ _. IsWalkStep (setting_of one before) one.kept)
-      → AlwaysLeaves m t MirrorArea (IsVisitStep (setting_of two between) two.kept address)
-      → AlwaysLeaves s t MirrorArea (IsWalkStep (setting_of one before) one.kept)
-  moments-as t address tally so_far run visit =
-      moments-more s m t (setting_of one before) one.kept two.kept so_far.asked so_far.accepted address
-      so_far.reaches
-      run (subst (λ (setting : WalkSetting). AlwaysLeaves m t MirrorArea
-      (IsVisitStep setting two.kept address))
-      same-setting visit)
-
 -- a fault that is passed on
 pub err-of : {T : Type 0} (result : Result T WalkFault) (fault : WalkFault)
     → IsErrAnd result (λ given. given ≡ fault) → result ≡ Err fault
 err-of (Ok value) fault is = absurd is
 err-of (Err given) fault is = ap (λ (f : WalkFault). Err f) is
+
+-- the same fault of another result
+pub err-again : {T U : Type 0} (one other : WalkFault) → (let result : Result T WalkFault = Err one in result)
+    ≡ Err other → (let result : Result U WalkFault = Err one in result) ≡ Err other
+err-again one other e = let is : one ≡ other = cc in ap (λ (f : WalkFault). Err f) is

@@ -12,6 +12,7 @@ use Rattle.mirror_walk.specs.declared.held.EntryPlace.{EntryPlace}
 use Rattle.mirror_walk.specs.declared.mark.ItemMark.{ItemMark}
 use Rattle.mirror_walk.specs.declared.mark.ItemMark.TheVariants.{Live, Gone}
 use Rattle.mirror_walk.specs.Holding.{KeptValue, archive_at, best_of, chain_of, first_missing, gap_from}
+use Rattle.mirror_walk.specs.Listing.{IsShownIn}
 
 -- the index is that of a document among those taken
 pub record IsPlaceOf (kept : List KeptValue) (at : ℕ) (found : Option KeptValue) : Type 0 where
@@ -44,16 +45,18 @@ pub record HasEntryAt (kept : List KeptValue) (place : EntryPlace) (entry : Entr
   pub there : slice_get kept place.document ≡ Some document
   pub item : slice_get document.document.items place.item ≡ Some (KeptItem entry)
 
-abbrev pub ListsEntry : List KeptValue → Option EntryPlace → Option EntryValue → Type 0
-ListsEntry kept None None = Unit {0}
-ListsEntry kept None (Some entry) = ⊥
-ListsEntry kept (Some place) None = ⊥
-ListsEntry kept (Some place) (Some entry) = HasEntryAt kept place entry
+-- a member's entry among some of the documents has its place in the document that shows it
+abbrev pub ListsEntry : List KeptValue → List DocValue → ℕ → Option EntryPlace → Option EntryValue → Type 0
+ListsEntry kept documents number None None = Unit {0}
+ListsEntry kept documents number None (Some entry) = ⊥
+ListsEntry kept documents number (Some place) None = ⊥
+ListsEntry kept documents number (Some place) (Some entry) =
+    HasEntryAt kept place entry × IsShownIn kept documents number place.document
 
 -- the map has the places of the live entries of some of the documents
 abbrev pub HasEntries : List KeptValue → List DocValue → BTreeMap ℕ EntryPlace → Type 0
 HasEntries kept documents live =
-    (number : ℕ) → ListsEntry kept (get nat_cmp live number) (live_of documents number)
+    (number : ℕ) → ListsEntry kept documents number (get nat_cmp live number) (live_of documents number)
 
 -- each key is a member's number
 abbrev pub AreMembers : {P : Type 0} → BTreeMap ℕ P → Type 0

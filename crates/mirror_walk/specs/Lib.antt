@@ -9,6 +9,7 @@ pub mod Laws
 pub mod Held
 pub mod Loaded
 pub mod Loading
+pub mod Refused
 pub mod Mirror
 pub mod Taking
 pub mod Rereading

@@ -1,10 +1,11 @@
 -- The outcome of a mirror, and its live entries in order of number.
 use Rattle.std.specs.Prelude.{◌≡◌, ℕ, zero, suc, ◌<◌, List, [], ◌∷◌, ◌++◌, Option, Some, None, Bool, true}
-use Rattle.std.specs.Prelude.{false}
+use Rattle.std.specs.Prelude.{false, slice_get}
 use Rattle.atom_values.specs.Entry.{EntryValue}
+use Rattle.atom_writer.specs.Doc.{DocValue}
 use Rattle.chain_links.specs.Address.{IsAddress}
 use Rattle.chain_links.specs.declared.address.Address.{Address}
-use Rattle.member_rules.specs.Shows.{greatest_member, live_of, live_count_of}
+use Rattle.member_rules.specs.Shows.{Shows, greatest_member, live_of, live_count_of}
 use Rattle.mirror_walk.specs.declared.answer.Outcome.{Outcome}
 use Rattle.mirror_walk.specs.declared.answer.Outcome.TheVariants.{Complete, Missing}
 use Rattle.mirror_walk.specs.Holding.{KeptValue, best_of, chain_of, first_missing}
@@ -12,6 +13,23 @@ use Rattle.mirror_walk.specs.Holding.{KeptValue, best_of, chain_of, first_missin
 -- the live entries, by the members' numbers
 abbrev pub live_at : List KeptValue → ℕ → Option EntryValue
 live_at kept number = live_of (chain_of kept) number
+
+-- The document that shows the member among these, newest first, is the held one of this index: it has the
+-- member's entry, and no newer one has any item of the member.
+pub record IsShownIn (kept : List KeptValue) (documents : List DocValue) (number index : ℕ) : Type 0 where
+  pub entry : EntryValue
+  pub shows : Shows documents number entry
+  pub held : KeptValue
+  pub there : slice_get kept index ≡ Some held
+  pub same : held.document ≡ shows.document
+
+-- the payload of this index is the held document that shows the member, in the chain of the best one
+abbrev pub IsShownAt : List KeptValue → ℕ → ℕ → Type 0
+IsShownAt kept number index = IsShownIn kept (chain_of kept) number index
+
+-- the payload of this index is the held document that shows some live member
+abbrev pub ShowsSome : List KeptValue → ℕ → Type 0
+ShowsSome kept index = (number : ℕ) × IsShownAt kept number index
 
 -- these entries, and one more after them if there is one
 abbrev pub with_entry : List EntryValue → Option EntryValue → List EntryValue

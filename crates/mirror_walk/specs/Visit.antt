@@ -1,6 +1,6 @@
 -- One step of a walk: an address is asked, and the document found there is offered to the mirror.
 use Rattle.std.specs.Prelude.{◌≡◌, ◌≢◌, ◌⊎◌, ℕ, ◌+◌, ◌≤◌, min, List, [], ◌∷◌, ◌++◌, length, map, Some, Result}
-use Rattle.std.specs.Prelude.{Ok, Err, IsSome, count_by, false}
+use Rattle.std.specs.Prelude.{Ok, Err, IsSome, Option, count_by, false}
 use Rattle.atom_values.specs.Counts.{Rose}
 use Rattle.atom_writer.specs.Doc.{archive_limit}
 use Rattle.chain_links.specs.Address.{printed}
@@ -9,7 +9,8 @@ use Rattle.chain_links.specs.declared.address.Address.TheVariants.{Feed, Archive
 use Rattle.doc_source.specs.declared.fetch.GetFault.{GetFault}
 use Rattle.doc_source.specs.declared.fetch.GetFault.TheVariants as gets
 use Rattle.feed_disk.specs.Disk.{DiskState}
-use Rattle.feed_disk.specs.Moments.{LeavesAlone}
+use Rattle.feed_disk.specs.Moments.{AlwaysLeaves, LeavesAlone}
+use Rattle.doc_source.specs.Fetch.{FetchState}
 use Rattle.feed_disk.specs.declared.area.Area.{Area}
 use Rattle.feed_disk.specs.declared.area.Area.TheVariants.{Mirror as MirrorArea}
 use Rattle.mirror_walk.specs.declared.answer.Accepted.{Accepted}
@@ -21,11 +22,11 @@ use Rattle.mirror_walk.specs.declared.walk.Visits.{Visits}
 use Rattle.mirror_walk.specs.declared.walk.Visit.TheVariants as visits
 use Rattle.mirror_walk.specs.declared.walk.WalkFault.{WalkFault}
 use Rattle.mirror_walk.specs.declared.walk.WalkFault.TheVariants as faults
-use Rattle.mirror_walk.specs.Accept.{Answer, IsAnswerWithin}
+use Rattle.mirror_walk.specs.Accept.{Answer}
 use Rattle.mirror_walk.specs.Holding.{KeptValue, best_of, first_missing}
 use Rattle.mirror_walk.specs.Mirror.{IsAtRest, LoadsTo, MirrorValue, StandsFor, TakesFew, is_spent}
-use Rattle.mirror_walk.specs.Walk.{EndsAt, HasRefusal, IsAnswered, WalkEnding, WalkSetting, WalksFromFeed}
-use Rattle.mirror_walk.specs.Walk.{is_known, is_stale, is_taken}
+use Rattle.mirror_walk.specs.Walk.{EndsAt, Exchange, HasRefusal, IsAnswered, IsWalkStep, WalkEnding, WalkSetting}
+use Rattle.mirror_walk.specs.Walk.{WalksFromFeed, is_known, is_stale, is_taken, setting_by}
 use Rattle.mirror_walk.specs.Walk.WalkEnding.{not_there, refused, fetch_failed, filled, cut_short}
 
 -- the walk's visit for a mirror's answer to a document that was found
@@ -54,20 +55,6 @@ IsVisit setting kept address left (Err (faults.Full size needed capacity)) =
     (left ≡ kept) × EndsAt setting kept address (filled size needed capacity)
 IsVisit setting kept address left (Err faults.DiskFault) = Unit {0}
 IsVisit setting kept address left (Err faults.NoMemory) = left ≡ kept
-
--- some bytes were offered under the address, and accepted
-pub record IsAcceptedAt (mirror : MirrorValue) (address : Address) (left : List KeptValue) (answer : Accepted)
-    : Type 0 where
-  pub bytes : List ℕ
-  pub answered : IsAnswerWithin mirror.capacity mirror.base mirror.kept (printed mirror.base address) bytes
-      (Ok answer)
-      left
-
--- a visit at which a document was accepted; nothing is said of the others
-abbrev pub AcceptsAt : MirrorValue → Address → List KeptValue → Visit → Type 0
-AcceptsAt mirror address left (visits.Accepted answer) = IsAcceptedAt mirror address left answer
-AcceptsAt mirror address left visits.NotThere = Unit {0}
-AcceptsAt mirror address left (visits.Refused why) = Unit {0}
 
 -- the address was asked; if memory ran out, maybe not
 abbrev pub HasAsked : List (List ℕ) → List (List ℕ) → List ℕ → Result Visit WalkFault → Type 0
@@ -112,6 +99,19 @@ pub record LoadsToTaken (setting : WalkSetting) (kept : List KeptValue) (address
 abbrev pub IsVisitStep : WalkSetting → List KeptValue → Address → List ℕ → Type 0
 IsVisitStep setting kept address image = LoadsTo setting.base kept image ⊎ LoadsToTaken setting kept address
     image
+
+-- A visit by the answer that the source gave, which is its own where contracts see it (`seen`): what is held then, the
+-- result, the addresses asked, and the images that a crash at a moment of the visit leaves
+pub record VisitsByAnswer (told seen : Type 0) (s t : DiskState) (before after : FetchState) (mirror : MirrorValue)
+    (address : Address) (left : List KeptValue) (result : Result Visit WalkFault) : Type 0 where
+  pub found : Option (List ℕ)
+  pub found_is : seen → found ≡ before.answers (printed mirror.base address)
+  pub visit : IsVisit (setting_by mirror (λ _. found)) mirror.kept address left result
+  pub texts : List (List ℕ)
+  pub texts_are : seen → after.asked ≡ before.asked ++ texts
+  pub asked : HasAsked [] texts (printed mirror.base address) result
+  pub moments : told → IsAtRest s mirror.kept
+      → AlwaysLeaves s t MirrorArea (IsVisitStep (setting_by mirror (λ _. found)) mirror.kept address)
 
 -- the next address is the feed's at the beginning, and else that of the first missing document
 abbrev pub IsNextOf : List KeptValue → Address → Type 0
@@ -159,3 +159,11 @@ pub record HasVisited (setting : WalkSetting) (kept now : List KeptValue) (befor
   pub addresses : after ≡ before ++ map (printed setting.base) asked
   pub left : given ≢ Err faults.DiskFault → now ≡ held
   pub result : IsVisitsResult asked accepted ending given
+
+-- the walk up to its end, by what the source answered
+pub record VisitsByAnswers (told seen : Type 0) (s t : DiskState) (before after : FetchState) (mirror : MirrorValue)
+    (now : List KeptValue) (given : Result Visits WalkFault) : Type 0 where
+  pub source : Exchange seen before after
+  pub visited : HasVisited (setting_by mirror source.answers) mirror.kept now [] source.asked given
+  pub moments : told → IsAtRest s mirror.kept
+      → AlwaysLeaves s t MirrorArea (IsWalkStep (setting_by mirror source.answers) mirror.kept)

@@ -8,6 +8,9 @@ use Rattle.chain_links.specs.Address.{printed}
 use Rattle.chain_links.specs.declared.address.Address.{Address}
 use Rattle.chain_links.specs.declared.address.Address.TheVariants.{Feed, Archive}
 use Rattle.doc_source.specs.Fetch.{FetchState}
+use Rattle.feed_disk.specs.Disk.{DiskState}
+use Rattle.feed_disk.specs.Moments.{AlwaysLeaves}
+use Rattle.feed_disk.specs.declared.area.Area.TheVariants.{Mirror as MirrorArea}
 use Rattle.mirror_walk.specs.declared.answer.Accepted.{Accepted}
 use Rattle.mirror_walk.specs.declared.answer.Accepted.TheVariants.{Taken, Known, Stale}
 use Rattle.mirror_walk.specs.declared.answer.Offered.{Offered}
@@ -20,7 +23,7 @@ use Rattle.mirror_walk.specs.declared.walk.Walked.{Walked}
 use Rattle.mirror_walk.specs.Accept.{Answer, IsAnswerWithin, IsForRoom}
 use Rattle.mirror_walk.specs.Holding.{archive_at, first_missing}
 use Rattle.mirror_walk.specs.Listing.{outcome_of}
-use Rattle.mirror_walk.specs.Mirror.{LoadsTo, MirrorValue}
+use Rattle.mirror_walk.specs.Mirror.{IsAtRest, LoadsTo, MirrorValue}
 use Rattle.mirror_walk.specs.Offers.{AreTakenOf, Offering}
 use Rattle.member_rules.specs.Head.{HeadValue}
 use Rattle.member_rules.specs.Served.{Served}
@@ -32,8 +35,11 @@ pub record WalkSetting : Type 0 where
   pub capacity : ℕ
   pub answers : List ℕ → Option (List ℕ)
 
+abbrev pub setting_by : MirrorValue → (List ℕ → Option (List ℕ)) → WalkSetting
+setting_by mirror answers = record { base = mirror.base; capacity = mirror.capacity; answers = answers }
+
 abbrev pub setting_of : MirrorValue → FetchState → WalkSetting
-setting_of mirror source = record { base = mirror.base; capacity = mirror.capacity; answers = source.answers }
+setting_of mirror source = setting_by mirror source.answers
 
 -- how a walk ended
 pub data WalkEnding : Type 0 where
@@ -179,6 +185,24 @@ pub record IsWalkStep (setting : WalkSetting) (kept : List KeptValue) (image : L
   pub left : List KeptValue
   pub walks : WalksFromFeed setting kept asked accepted left cut_short
   pub loads : LoadsTo setting.base left image
+
+-- What a source was asked in a call, in order, and what it answered. Of a source that contracts see (`seen`), these are
+-- the addresses that it counts as asked, and its answers.
+pub record Exchange (seen : Type 0) (before after : FetchState) : Type 0 where
+  pub asked : List (List ℕ)
+  pub answers : List ℕ → Option (List ℕ)
+  pub asked_are : seen → after.asked ≡ before.asked ++ asked
+  pub answers_are : seen → answers ≡ before.answers
+
+-- A walk over any source, by what the source answered in this call: the documents held afterwards, the result, and the
+-- images of the mirror's area that a crash at a moment of the call leaves. The images are those of a disk that contracts
+-- see (`told`) and that was at rest.
+pub record WalksByAnswers (told seen : Type 0) (s t : DiskState) (before after : FetchState)
+    (mirror : MirrorValue) (now : List KeptValue) (given : Result Walked WalkFault) : Type 0 where
+  pub source : Exchange seen before after
+  pub walked : HasWalked (setting_by mirror source.answers) mirror.kept now [] source.asked given
+  pub moments : told → IsAtRest s mirror.kept
+      → AlwaysLeaves s t MirrorArea (IsWalkStep (setting_by mirror source.answers) mirror.kept)
 
 -- each number is below the one before it, and the first one is below `high`
 abbrev pub FallsFrom : ℕ → List ℕ → Type 0

@@ -1,16 +1,17 @@
 ghost use Rattle.std.specs.Prelude.{◌≡◌, ◌≢◌, ◌⊎◌, ◌≤◌, ◌<◌, ◌++◌, ℕ, [], ◌∷◌, false, Err, Ok, OnOk, OnErr};
 ghost use Rattle.std.specs.Prelude.{IsSome, MatchResult, None, Some, is_some, length, option_map};
 ghost use Rattle.std.specs.Prelude.{option_copied, slice_get, unwrap_or};
-ghost use Rattle.mirror_walk.specs.Accept.{accept, break_of, break_after, broken};
+ghost use Rattle.mirror_walk.specs.Accept.{IsAnswer, IsKeptOf, accept, break_of, break_after, broken};
 ghost use Rattle.mirror_walk.specs.Accept.{conflict, counterpart, first_of, known, stale};
 ghost use Rattle.mirror_walk.specs.Accept.{wrong_address, wrong_feed};
 ghost use Rattle.mirror_walk.specs.Checks.{Checks, Compares, IsNew};
-ghost use Rattle.mirror_walk.specs.Holding.{archive_at, gap_from};
+ghost use Rattle.mirror_walk.specs.Holding.{KeptValue, archive_at, gap_from};
 ghost use Rattle.mirror_walk.specs.Index.{HasBestAfter};
 
 use crate::answer::{Accepted, Offered};
 use crate::held::{Best, Held};
-use crate::kept::Kept;
+use crate::kept::{Kept, kept_of};
+use atom_grammar::MAX_DOCUMENT;
 use atom_values::{Bytes, NoMemory};
 use atom_writer::Kind;
 use deleted_entries::FeedId;
@@ -31,6 +32,33 @@ fn check_spans(older: &Kept, newer: &Kept) -> Result<(), Offered>
 }
 
 impl Held {
+    /// Offers a document: bytes that were found at an address. Returns whether it is held from now on.
+    ///
+    /// The answer is that of [`crate::Mirror::offer`], but never `Full` or `DiskFault`, which come from the
+    /// mirror's area and disk. `NoMemory` may come in place of any answer. Any answer but `Taken` leaves all
+    /// as it was.
+    ///
+    /// Reads the bytes once and digests them once.
+    pub fn offer(&mut self, address: &[u8], bytes: &[u8]) -> Result<Accepted, Offered>
+        requires { length bytes.now ≤ MAX_DOCUMENT }
+        // The answer, and what is held afterwards, unless memory runs out.
+        ensures answer { (result ≡ Err Offered.NoMemory)
+            ⊎ IsAnswer self.old.base self.old.kept address.now bytes.now result self.new.kept }
+        // A document gets the first answer that fits it, unless memory runs out.
+        ensures first_fit { (given : KeptValue) → IsKeptOf bytes.now given
+            → (result ≡ accept self.old.base self.old.kept address.now given)
+            ⊎ (result ≡ Err Offered.NoMemory) }
+        ensures unchanged { result ≢ Ok Accepted.Taken → self.new ≡ self.old }
+        ensures base { self.new.base ≡ self.old.base }
+    {
+        let given = kept_of(self.alloc, bytes)?;
+        if let Some(accepted) = self.check(address, &given)? {
+            return Ok(accepted);
+        }
+        self.take(given)?;
+        Ok(Accepted::Taken)
+    }
+
     /// Checks a document that was offered under this address: `Known`, `Stale` or a refusal. `None` if the
     /// mirror is to take it.
     pub(crate) fn check(&self, address: &[u8], given: &Kept) -> Result<Option<Accepted>, Offered>

@@ -10,7 +10,7 @@ ghost use Rattle.member_rules.specs.Head.{HeadValue};
 ghost use Rattle.member_rules.specs.declared.operation.Op.{Op};
 ghost use Rattle.published_rule.specs.Counts.{Counts};
 ghost use Rattle.mirror_walk.specs.Holding.{chain_of};
-ghost use Rattle.mirror_walk.specs.Listing.{live_at};
+ghost use Rattle.mirror_walk.specs.Listing.{IsShownAt, live_at};
 ghost use Rattle.mirror_walk.specs.Mirror.{StandsFor, is_spent};
 ghost use Rattle.mirror_walk.specs.Published.{HoldsServed};
 ghost use Rattle.mirror_walk.specs.Rereading.{HasEntryIn, HasReread, KeepsAllBut, IsSpentBy};
@@ -38,8 +38,9 @@ impl Mirror {
     /// Errors:
     ///
     /// - `DiskFault` if the disk's count of faults rose. Then the mirror is spent.
-    /// - `Changed` with the document's index if the disk gave less of it than there was, or bytes that are no
-    ///   document with this entry in its place. Never on a disk whose content contracts see.
+    /// - `Changed` with the index, counted from 0, of the document that shows the member, if the disk gave
+    ///   less of it than there was, or bytes that are no document with this entry in its place. Never on a
+    ///   disk whose content contracts see.
     /// - `NoMemory`.
     pub fn entry<D: Disk>(&mut self, disk: &mut D, number: u32) -> Result<Entry, LogFault>
         requires unspent { is_spent self.old ≡ false }
@@ -54,8 +55,9 @@ impl Mirror {
         // On any disk, the entry has this member's number.
         ensures number { IfOk result (λ entry. entry.number ≡ number) }
         ensures never { D.told → (index : ℕ) → result ≢ Err (LogFault.Changed index) }
+        // On any disk, the index is that of the document that shows the member.
         ensures changed { (index : ℕ) → result ≡ Err (LogFault.Changed index)
-            → index < length self.old.kept }
+            → IsShownAt self.old.kept number index }
 
         // No area changes, and of the mirror only the count of calls and the document that was read back
         // last. After `DiskFault` it is spent.

@@ -19,21 +19,37 @@ pub(crate) struct Best {
     pub(crate) missing: u32,
 }
 
-/// The entry of a live member: the index of its document among those taken, and the index of the item in it.
+/// The place of a live member's entry.
 #[derive(Clone, Copy, Debug)]
-pub(crate) struct EntryPlace {
-    pub(crate) document: usize,
-    pub(crate) item: usize,
+pub struct EntryPlace {
+    /// The index of the entry's document among those taken, from 0.
+    pub document: usize,
+    /// The index of the entry among the document's items, from 0.
+    pub item: usize,
 }
 
-/// The state of a mirror of one feed: the documents that it took of those offered to it.
+/// The documents of a mirror without a disk: the plain form of [`crate::Mirror`], which stands on it.
+///
+/// It answers offers as a mirror does whose area has room for each document, and has the mirror's other calls
+/// that need no disk.
 ///
 /// Contracts see the base, the documents taken with their digests, in order, and whether the live entries are
-/// listed. Memory holds no entry of a document, only the parts that the checks of later offers need. The
-/// index of each archive and of the best subscription document is kept too, so that an offer looks at no
-/// other document.
+/// listed. Memory holds no entry of a document, only the parts that the checks of later offers need. So
+/// `entry_place` says where an entry is, and a caller that keeps the documents finds it there. The index of
+/// each archive and of the best subscription document is kept too, so that an offer looks at no other
+/// document.
+///
+/// ```
+/// let mut held = Held::new(alloc, base);
+/// for (address, bytes) in documents {
+///     held.offer(address, bytes)?;
+/// }
+/// if let Some(address) = held.wanted() {
+///     println!(rt; "no {address:?} yet")?;
+/// }
+/// ```
 #[derive(Drop)]
-pub(crate) struct Held {
+pub struct Held {
     pub(crate) alloc: Global,
     pub(crate) base: Base,
     pub(crate) kept: Vec<Kept>,
@@ -57,8 +73,8 @@ impl Model for Held {
 }
 
 impl Held {
-    /// A mirror of the feed below this base that holds no document. Takes no memory.
-    pub(crate) fn new(alloc: Global, base: Base) -> Held
+    /// No documents yet, of the feed below this base. Takes no memory.
+    pub fn new(alloc: Global, base: Base) -> Held
         ensures base { result.base ≡ base }
         ensures empty { result.kept ≡ [] }
         ensures unlisted { result.listed ≡ false }
@@ -89,7 +105,7 @@ impl Held {
 
     /// The place of the best subscription document in the chain. `None` if no subscription document is held.
     /// Takes no memory.
-    pub(crate) fn best(&self) -> Option<Place>
+    pub fn best(&self) -> Option<Place>
         ensures { result ≡ option_map (λ kept. place_of kept.document) (best_of self.now.kept) }
     {
         Some(self.best_kept()?.place())
@@ -97,7 +113,7 @@ impl Held {
 
     /// The feed's name as the best subscription document states it. `None` if no subscription document is
     /// held.
-    pub(crate) fn name(&self) -> Option<&FeedName>
+    pub fn name(&self) -> Option<&FeedName>
         ensures { option_copied result ≡ name_of_best self.now.kept }
     {
         Some(self.best_kept()?.name())
@@ -105,7 +121,7 @@ impl Held {
 
     /// The SHA-256 digest of the bytes of the best subscription document for `Feed`, and of the held archive
     /// for an archive. `None` for a document that isn't held, and for a member. Takes no memory.
-    pub(crate) fn digest(&self, address: Address) -> Option<[u8; 32]>
+    pub fn digest(&self, address: Address) -> Option<[u8; 32]>
         ensures { result ≡ digest_at self.now.kept address }
     {
         let kept = match address {
@@ -120,7 +136,7 @@ impl Held {
     /// the best one needs, from its `prev` down to 1, and that isn't held. `None` if none is missing.
     ///
     /// Takes no memory, and the same time however many documents are held.
-    pub(crate) fn wanted(&self) -> Option<Address>
+    pub fn wanted(&self) -> Option<Address>
         ensures missing { result ≡ first_missing self.now.kept }
         ensures address { IfSome result IsAddress }
     {

@@ -28,6 +28,8 @@
 //!
 //! [`Mirror::walk`] asks a source of documents for those that are missing, newest first, and for none twice.
 //!
+//! [`Held`] is the plain form of a mirror's documents, in memory alone: it answers offers without a disk.
+//!
 //! Stands on `atom_grammar`, which reads the documents, on `member_rules` for the law of the chain, on
 //! `published_rule` for the law of duplicates, on `feed_journal` for the log of the area, on `doc_source` for
 //! the trait of a source, and on `sha2`.
@@ -49,6 +51,7 @@ mod origin;
 mod walk;
 
 pub use answer::{Accepted, Offered, Outcome};
+pub use held::{EntryPlace, Held};
 pub use laws::{served_documents_show_the_fold, walks_ask_for_nothing_twice};
 pub use mirror::Mirror;
 pub use mirror_fault::MirrorFault;

@@ -12,8 +12,8 @@ ghost use Rattle.mirror_walk.specs.Index.{AreMembers, HasEntries, HasEntryAt, La
 ghost use Rattle.mirror_walk.specs.Laws.{ShowsServed};
 ghost use Rattle.mirror_walk.specs.Offers.{AreServed, AreTakenOf, Offering};
 ghost use Rattle.mirror_walk.specs.Marks.{AreFromOne, marked_number};
-ghost use Rattle.mirror_walk.specs.Listing.{HasAddress, IsLastLive, IsNextLive, is_complete, live_at};
-ghost use Rattle.mirror_walk.specs.Listing.{outcome_of};
+ghost use Rattle.mirror_walk.specs.Listing.{HasAddress, IsLastLive, IsNextLive, IsShownAt, is_complete};
+ghost use Rattle.mirror_walk.specs.Listing.{live_at, outcome_of};
 
 use crate::answer::Outcome;
 use crate::held::{EntryPlace, Held};
@@ -70,7 +70,7 @@ impl Held {
     /// If none is missing, the live entries are listed afterwards, for `next_live` and `entry_place`. The
     /// first call after a document was taken makes the list, in one pass over the items of the needed
     /// documents. `NoMemory` if there is no memory for it.
-    pub(crate) fn outcome(&mut self) -> Result<Outcome, NoMemory>
+    pub fn outcome(&mut self) -> Result<Outcome, NoMemory>
         ensures outcome { IfOk result (λ outcome. outcome ≡ outcome_of self.old.kept) }
         ensures address { IfOk result HasAddress }
         ensures listed { IfOk result (λ outcome. IsTrue (is_complete outcome) → IsTrue self.new.listed) }
@@ -150,7 +150,7 @@ impl Held {
 
     /// The least number after this one of a live member. `None` if there is none. `outcome` has listed the
     /// live entries, and no document was taken since. Takes no memory.
-    pub(crate) fn next_live(&self, after: u32) -> Option<u32>
+    pub fn next_live(&self, after: u32) -> Option<u32>
         requires { IsTrue self.now.listed }
         ensures found { IfSome result (IsNextLive self.now.kept after) }
         ensures last { result ≡ None → IsLastLive self.now.kept after }
@@ -165,10 +165,11 @@ impl Held {
 
     /// The place of a live member's entry. `outcome` has listed the live entries, and no document was taken
     /// since. Takes no memory.
-    pub(crate) fn entry_place(&self, number: u32) -> EntryPlace
+    pub fn entry_place(&self, number: u32) -> EntryPlace
         requires listed { IsTrue self.now.listed }
         requires live { IsSome (live_at self.now.kept number) }
         ensures place { IfSome (live_at self.now.kept number) (HasEntryAt self.now.kept result) }
+        ensures shown { IsShownAt self.now.kept number result.document }
         ensures whole { first_missing self.now.kept ≡ None }
     {
         // The call requires that the entries are listed and that the member is live.

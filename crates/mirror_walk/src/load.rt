@@ -14,6 +14,7 @@ ghost use Rattle.mirror_walk.specs.Holding.{KeptValue, payloads_of};
 ghost use Rattle.mirror_walk.specs.Loaded.{IsLoadedOf, IsMirrorFault};
 ghost use Rattle.mirror_walk.specs.Loading.{FailsBy, IsNext, IsReadable, IsUnfit, OnlyReads, Worked};
 ghost use Rattle.mirror_walk.specs.Mirror.{IsAtRest, KeepsDocuments, StandsFor, is_spent};
+ghost use Rattle.mirror_walk.specs.Refused.{IsRefusal, Refuses, RefusesAt};
 
 use crate::answer::Offered;
 use crate::held::Held;
@@ -58,6 +59,9 @@ impl Mirror {
             → IfErr result (λ fault. (fault ≡ MirrorFault.DiskFault) ⊎ (fault ≡ MirrorFault.NoMemory)) }
         ensures refused { IfErr result (λ fault. D.told
             → IsMirrorFault base (records ((D.state disk.old).content MirrorArea)) fault) }
+        // On any disk, the fault is one of a load of some log: a payload that is read short is a bad record
+        // of its own index at 0.
+        ensures refusal { IfErr result (IsRefusal base) }
         ensures same { OnOk result (D.told → (a : AreaValue)
             → records ((D.state disk.new).content a) ≡ records ((D.state disk.old).content a)) }
 
@@ -101,6 +105,7 @@ fn reopen<D: Disk>(
     ensures worked { OnOk result ((D.state disk.new).faults ≡ (D.state disk.old).faults) }
     ensures reads { OnlyReads (D.state disk.old) (D.state disk.new) }
     ensures fault { IfErr result (FailsBy D.told base (D.state disk.old) (D.state disk.new)) }
+    ensures refused { IfErr result (Refuses base log.extents) }
 {
     let held = held_of(alloc, disk, &mut log, base)?;
     Ok(Mirror {
@@ -128,6 +133,7 @@ fn held_of<D: Disk>(
     ensures worked { OnOk result (Worked (D.state disk.old) (D.state disk.new) log.old log.new) }
     ensures reads { OnlyReads (D.state disk.old) (D.state disk.new) }
     ensures fault { IfErr result (FailsBy D.told base (D.state disk.old) (D.state disk.new)) }
+    ensures refused { IfErr result (Refuses base log.old.extents) }
 {
     let mut held = Held::new(alloc, base);
     for index in 0..log.len() {
@@ -161,6 +167,7 @@ fn document_of<D: Disk>(
     ensures worked { OnOk result (Worked (D.state disk.old) (D.state disk.new) log.old log.new) }
     ensures reads { OnlyReads (D.state disk.old) (D.state disk.new) }
     ensures fault { IfErr result (FailsBy D.told held.now.base (D.state disk.old) (D.state disk.new)) }
+    ensures refused { IfErr result (RefusesAt held.now.base held.now.kept log.old.extents index) }
 {
     let payload = log.read(disk, index)?;
     match kept_of(alloc, payload.as_slice()) {

@@ -12,7 +12,7 @@ pub enum MirrorFault {
     OtherBase { kept: Base },
     /// The mirror refuses the payload `index`, counted from 0. If it is no document, `at` is the offset of the first
     /// piece that is refused. If it is a document that isn't taken after those before it, `at` is its length.
-    /// If the disk gave less of it than there was, `at` is 0.
+    /// If the disk gave less of it than there was, `at` is 0. That is so on any disk.
     BadRecord { index: u32, at: usize },
     /// A device call failed.
     DiskFault,

@@ -50,7 +50,10 @@ impl Mirror {
     /// - `Full` if the area has no room for the document within the mirror's capacity.
     /// - `Taken`: the document is on the disk. This is the only answer that changes what is held.
     ///
-    /// `NoMemory` may come in place of any answer, and then nothing changed. `DiskFault` may come in place of
+    /// Any other answer but `DiskFault` leaves the mirror as it was, with its log, the list of the live
+    /// entries and the document that was read back last. So `entry` costs what it did before.
+    ///
+    /// `NoMemory` may come in place of any answer. `DiskFault` may come in place of
     /// `Taken`, if the disk's count of faults rose. Then the mirror is spent, and a crash leaves the
     /// documents held before, or those and the new one.
     ///
@@ -75,8 +78,10 @@ impl Mirror {
             ⊎ (result ≡ Err Offered.NoMemory) ⊎ (result ≡ Err Offered.DiskFault) }
         ensures kept { result ≢ Ok Accepted.Taken → result ≢ Err Offered.DiskFault
             → self.new.kept ≡ self.old.kept }
-        ensures listed { result ≢ Ok Accepted.Taken → result ≢ Err Offered.DiskFault
-            → self.new.listed ≡ self.old.listed }
+        // Only the room that the log has for one more payload may differ. What `entry` reads by stays: the
+        // places of the payloads, the list of the live entries and the document that was read back last.
+        ensures unchanged { result ≢ Ok Accepted.Taken → result ≢ Err Offered.DiskFault → self.new
+            ≡ record self.old { log = record self.old.log { spare = self.new.log.spare } } }
         ensures unmoved { result ≢ Ok Accepted.Taken → result ≢ Err Offered.DiskFault
             → disk.new ≡ disk.old }
         ensures base { self.new.base ≡ self.old.base }

@@ -1,7 +1,7 @@
 ghost use Rattle.std.specs.Prelude.{◌≡◌, ◌≢◌, ◌+◌, ◌-◌, ◌≤◌, ◌<◌, ◌^◌, List, None, Err, IfOk, IsTrue};
 ghost use Rattle.std.specs.Prelude.{IfSome, false, true};
 ghost use Rattle.atom_values.specs.Counts.{Rose};
-ghost use Rattle.chain_links.specs.Address.{IsAddress, printed};
+ghost use Rattle.chain_links.specs.Address.{IsAddress};
 ghost use Rattle.feed_disk.specs.Moments.{AlwaysLeaves, LeavesAlone};
 ghost use Rattle.feed_disk.specs.declared.area.Area.{Area as AreaValue};
 ghost use Rattle.feed_disk.specs.declared.area.Area.TheVariants.{Mirror as MirrorArea};
@@ -10,9 +10,9 @@ ghost use Rattle.member_rules.specs.declared.operation.Op.{Op};
 ghost use Rattle.mirror_walk.specs.Listing.{is_complete, outcome_of};
 ghost use Rattle.mirror_walk.specs.Mirror.{IsAtRest, StandsFor, TakesFew, is_spent};
 ghost use Rattle.mirror_walk.specs.Offers.{AreServed, AreTakenOf, Offering};
-ghost use Rattle.mirror_walk.specs.Visit.{AcceptsAt, CountsFaults, HasAsked, HasVisited, IsVisit};
-ghost use Rattle.mirror_walk.specs.Visit.{IsVisitStep, KeepsSetting, StaysSound, counted_answer, visit_of};
-ghost use Rattle.mirror_walk.specs.Walk.{HasWalked, IsServedBy, IsWalkStep, setting_of};
+ghost use Rattle.mirror_walk.specs.Visit.{CountsFaults, KeepsSetting, StaysSound, VisitsByAnswer};
+ghost use Rattle.mirror_walk.specs.Visit.{VisitsByAnswers, counted_answer, visit_of};
+ghost use Rattle.mirror_walk.specs.Walk.{HasWalked, IsServedBy, IsWalkStep, WalksByAnswers, setting_of};
 
 use crate::answer::{Accepted, Offered, Outcome};
 use crate::mirror::Mirror;
@@ -218,6 +218,9 @@ impl Mirror {
         ensures moments { D.told → F.told → IsAtRest (D.state disk.old) self.old.kept
             → AlwaysLeaves (D.state disk.old) (D.state disk.new) MirrorArea
             (IsWalkStep (setting_of self.old (F.state fetch.old)) self.old.kept) }
+        // Over any source: the same, by what the source answered in this call.
+        ensures by_answers { WalksByAnswers D.told F.told (D.state disk.old) (D.state disk.new)
+            (F.state fetch.old) (F.state fetch.new) self.old self.new.kept result }
         ensures rests { result ≢ Err WalkFault.DiskFault
             → D.told → IsAtRest (D.state disk.old) self.old.kept → IsAtRest (D.state disk.new) self.new.kept }
         ensures others { (a : AreaValue) → a ≢ MirrorArea
@@ -266,17 +269,14 @@ impl Mirror {
     ) -> Result<Visits, WalkFault>
         requires unspent { is_spent self.old ≡ false }
         requires stands { D.told → StandsFor (D.state disk.old) self.old }
-        ensures visited { F.told → HasVisited (setting_of self.old (F.state fetch.old))
-            self.old.kept self.new.kept (F.state fetch.old).asked (F.state fetch.new).asked result }
+        ensures visited { VisitsByAnswers D.told F.told (D.state disk.old) (D.state disk.new)
+            (F.state fetch.old) (F.state fetch.new) self.old self.new.kept result }
         ensures address { IfOk result (λ made.
             IfSome made.refused (λ refusal. IsAddress refusal.address)) }
         ensures setting { KeepsSetting (D.state disk.old) (D.state disk.new) self.old self.new }
         ensures sound { result ≢ Err WalkFault.DiskFault
             → StaysSound D.told (D.state disk.old) (D.state disk.new) self.old self.new }
         ensures spent { result ≡ Err WalkFault.DiskFault → is_spent self.new ≡ true }
-        ensures moments { D.told → F.told → IsAtRest (D.state disk.old) self.old.kept
-            → AlwaysLeaves (D.state disk.old) (D.state disk.new) MirrorArea
-            (IsWalkStep (setting_of self.old (F.state fetch.old)) self.old.kept) }
         ensures answers { (F.state fetch.new).answers ≡ (F.state fetch.old).answers }
         ensures faults { CountsFaults (D.state disk.old).faults (D.state disk.new).faults
             (F.state fetch.old).faults (F.state fetch.new).faults result }
@@ -316,18 +316,12 @@ impl Mirror {
         requires unspent { is_spent self.old ≡ false }
         requires stands { D.told → StandsFor (D.state disk.old) self.old }
         requires address { IsAddress address }
-        ensures visited { F.told → IsVisit (setting_of self.old (F.state fetch.old))
-            self.old.kept address self.new.kept result }
-        ensures accepted { IfOk result (AcceptsAt self.old address self.new.kept) }
-        ensures asked { F.told → HasAsked (F.state fetch.old).asked (F.state fetch.new).asked
-            (printed self.old.base address) result }
+        ensures visited { VisitsByAnswer D.told F.told (D.state disk.old) (D.state disk.new)
+            (F.state fetch.old) (F.state fetch.new) self.old address self.new.kept result }
         ensures setting { KeepsSetting (D.state disk.old) (D.state disk.new) self.old self.new }
         ensures sound { result ≢ Err WalkFault.DiskFault
             → StaysSound D.told (D.state disk.old) (D.state disk.new) self.old self.new }
         ensures spent { result ≡ Err WalkFault.DiskFault → is_spent self.new ≡ true }
-        ensures moments { D.told → F.told → IsAtRest (D.state disk.old) self.old.kept
-            → AlwaysLeaves (D.state disk.old) (D.state disk.new) MirrorArea
-            (IsVisitStep (setting_of self.old (F.state fetch.old)) self.old.kept address) }
         ensures answers { (F.state fetch.new).answers ≡ (F.state fetch.old).answers }
         ensures faults { CountsFaults (D.state disk.old).faults (D.state disk.new).faults
             (F.state fetch.old).faults (F.state fetch.new).faults result }

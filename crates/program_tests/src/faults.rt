@@ -1,5 +1,6 @@
 //! Words that name no command, and failing calls of the input and the output.
 
+use crate::certificates::MIRROR;
 use crate::runs::{APPLY, Run, expect_end};
 use atom_values::Many;
 use doc_source::ListSink;
@@ -42,7 +43,7 @@ const APPLY_FOUR: &[&str] = &["apply", "4"];
 const SHOW: &[&str] = &["show"];
 
 /// Words, inputs, the failing calls of input and output, and how the run ends.
-static FAILING: [(&[&str], &[u8], (u64, u64), u8, &[u8]); 10] = [
+static FAILING: [(&[&str], &[u8], (u64, u64), u8, &[u8]); 13] = [
     (APPLY_FOUR, b"add a\n", (1, 0), 9, FAULT),
     (APPLY_FOUR, b"add a\n", (2, 0), 9, FAULT),
     (APPLY_FOUR, b"subtract\n", (2, 0), 10, b"bad line 1\n"),
@@ -53,6 +54,10 @@ static FAILING: [(&[&str], &[u8], (u64, u64), u8, &[u8]); 10] = [
     (SHOW, b"<feed>", (1, 0), 9, FAULT),
     (SHOW, b"<feed>", (2, 0), 9, FAULT),
     (SHOW, b"<feed>", (3, 1), 10, b""),
+    // The second call comes only for bytes with which a pile can go on.
+    (MIRROR, b"pile 1\n", (2, 0), 9, FAULT),
+    (MIRROR, b"pale", (2, 0), 10, b"bad pile 0\n"),
+    (MIRROR, b"pile 1\nfeed x1", (2, 0), 10, b"bad pile 7\n"),
 ];
 
 #[test]

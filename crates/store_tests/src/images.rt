@@ -162,14 +162,15 @@ fn append_journals(
     append_area(rt, all, disk, Area::Journal)
 }
 
-/// Returns those journals after the three device calls, of which one fails.
-fn journals_after(rt: &impl Abort, alloc: Global, failing: u64, call: u64) -> Vec<u8> {
+/// Returns those journals after the three device calls, of which one fails, and how many calls found no memory.
+fn journals_after(rt: &impl Abort, alloc: Global, failing: u64, call: u64) -> (Vec<u8>, u64) {
     let mut all = Vec::new(alloc);
     let mut disk = disk_of(rt, alloc, b"abcd", [failing, 0]);
     write_sync_size(&mut disk);
     append_journals(rt, alloc, &mut all, &mut disk, call);
+    let starved = disk.starved();
     drop(disk);
-    all
+    (all, starved)
 }
 
 /// The call that fails, that of the crash, and the journal for the old bytes, the new ones, and after a sync.
@@ -186,9 +187,9 @@ static JOURNALS: [(u64, u64, &[u8]); 5] = [
 #[test]
 fn a_failed_call_leaves_its_bytes_uncertain(rt: HostRuntime) {
     for &(failing, call, journals) in &JOURNALS {
-        let left = journals_after(&rt, rt.alloc(), failing, call);
+        let (left, starved) = journals_after(&rt, rt.alloc(), failing, call);
         assert!(rt;
-            left.as_slice() == journals,
+            left.as_slice() == journals && starved == 0,
             "failing {failing}, call {call}"
         );
     }

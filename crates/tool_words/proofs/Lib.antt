@@ -12,6 +12,8 @@ pub mod InitLemmas
 pub mod LineLemmas
 -- serves `read_words`, for `mirror`
 pub mod MirrorLemmas
+-- serves `words_spell_one_command`
+pub mod OneCommandLemmas
 -- serves `read_words`, for the options of a command: the test of the grammar
 pub mod OptionLemmas
 -- serves `read_words`, for the options of a command: the parse by `clap`

@@ -778,3 +778,49 @@ matches_only names flags words can options are app (Ok m) is has memory =
     they_match names flags words options can are app m is has
 matches_only names flags words can options are app (Err fault) is has memory =
     memory (are_taken names flags words options can are app is)
+
+-- ---- words spell options in one way
+
+-- the rows of the options that words spell
+same_rows : (names flags words : List Text) → IsTrue (can_be_read names flags) → (one other : List Given)
+    → AreOptions names flags words one → AreOptions names flags words other
+    → fold with_default (map option_row one) (built_rules names flags)
+    ≡ fold with_default (map option_row other) (built_rules names flags)
+same_rows names flags words can one other x y =
+    sym (matched names flags (map option_row one) words (they_parse names flags words one can x))
+    ∙ matched names flags (map option_row other) words (they_parse names flags words other can y)
+
+pub one_value : (names flags words : List Text) → IsTrue (can_be_read names flags) → (one other : List Given)
+    → AreOptions names flags words one → AreOptions names flags words other
+    → All (λ name. value_of name one ≡ value_of name other) names
+one_value names flags words can one other x y = λ i d lt.
+    let name = get_or names i d in
+    let out = name_apart names flags (apart_is names flags words one can x) name (listed names i d lt) in
+    sym (value_is names flags name one out x.known)
+    ∙ ap (first_of name) (same_rows names flags words can one other x y)
+    ∙ value_is names flags name other out y.known
+
+true_apart : Some (codes "true") ≡ Some (codes "false") → ⊥
+true_apart e =
+    let same : codes "true" ≡ codes "false" = cc in
+    true≢false (sym ((bytes_eq-Decides (codes "true") (codes "false")).1 same))
+
+one_flag_text : (a b : Bool) → Some (if a then codes "true" else codes "false")
+    ≡ Some (if b then codes "true" else codes "false")
+    → a ≡ b
+one_flag_text true true e = refl
+one_flag_text true false e = absurd (true_apart e)
+one_flag_text false true e = absurd (true_apart (sym e))
+one_flag_text false false e = refl
+
+pub one_flag : (names flags words : List Text) → IsTrue (can_be_read names flags) → (one other : List Given)
+    → AreOptions names flags words one → AreOptions names flags words other
+    → All (λ name. is_given name one ≡ is_given name other) flags
+one_flag names flags words can one other x y = λ i d lt.
+    let name = get_or flags i d in
+    let among = listed flags i d lt in
+    let out = flag_apart names flags (apart_is names flags words one can x) name among in
+    one_flag_text (is_given name one) (is_given name other)
+    (sym (flag_is names flags name one out among x.known)
+    ∙ ap (one_of name) (same_rows names flags words can one other x y)
+    ∙ flag_is names flags name other out among y.known)

@@ -22,6 +22,7 @@
 //!
 //! Words are tested against this grammar first, and then parsed by `clap`, which gives their values. So words outside
 //! the grammar are `Usage` even if `clap` takes them. A command's words are refused only if memory runs out.
+//! The law [`words_spell_one_command`] states that words spell one command at most.
 //!
 //! [`read_line`] reads one line of the input of `apply` as a [`LineAsk`].
 //!
@@ -34,6 +35,7 @@ mod command;
 mod drill;
 mod fault;
 mod init;
+mod laws;
 mod line;
 mod mirror;
 mod number;
@@ -44,5 +46,6 @@ mod words;
 
 pub use command::{Command, Show};
 pub use fault::{LineFault, WordsFault};
+pub use laws::words_spell_one_command;
 pub use line::{LineAsk, read_line};
 pub use words::read_words;

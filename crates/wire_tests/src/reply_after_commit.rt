@@ -177,7 +177,16 @@ struct WatchedConn<'a> {
 impl Conn for WatchedConn<'_> {
     ghost told = { ⊥ };
 
-    ghost state = { λ s. record { left = []; sent = []; faults = 0; begun = s.begun } };
+    // Counters at their limit stay, so the connection needn't keep them.
+    ghost state = { λ s. record {
+      left = [];
+      sent = [];
+      faults = 0;
+      begun = s.begun;
+      bytes_read = 18446744073709551615;
+      reads = 18446744073709551615;
+      before_read = [];
+    } };
 
     fn read(&mut self, into: &mut [u8]) -> Result<usize, Failed> {
         self.events.asked.set(self.events.next());

@@ -242,3 +242,38 @@ fn reports_a_failed_call(rt: HostRuntime) -> Result<(), Fail> {
     }
     Ok(())
 }
+
+/// Bytes that decide their result with the first read, although the connection is still open.
+static SETTLED: [(&[u8], Option<RequestFault>); 5] = [
+    (b"GET / HTTP/1.1\r\n\r\n", None),
+    (b"DELETE /a HTTP/1.1\r\nContent-Length: 9\r\n\r\n", None),
+    (WHOLE, None),
+    (b"POST / HTTP/1.1\r\n\r\n", Some(RequestFault::NoLength)),
+    (b"G\x00", Some(RequestFault::BadHead)),
+];
+
+/// Call 2 would be one read more. Its failure stands for a client that waits for the reply and sends nothing.
+#[test]
+fn reads_no_more_once_the_result_is_certain(rt: HostRuntime) -> Result<(), Fail> {
+    let alloc = rt.alloc();
+    for (bytes, fault) in SETTLED {
+        let mut conn = conn_of(&rt, alloc, bytes, 2);
+        let request = read_request(alloc, &mut conn);
+        assert!(rt; (request.err(), conn.reads()) == (fault, 1));
+        drop(conn);
+    }
+    Ok(())
+}
+
+#[test]
+fn reads_a_long_body_and_no_more(rt: HostRuntime) -> Result<(), Fail> {
+    let alloc = rt.alloc();
+    let head = b"PUT / HTTP/1.1\r\nContent-Length: 20000\r\n\r\n";
+    let bytes = repeated(alloc, head, 20_000, b"a", b"")?;
+    // The first read fills the buffer of the head, and the second reads the rest of the body.
+    let mut conn = conn_of(&rt, alloc, &bytes, 3);
+    let request = read_request(alloc, &mut conn);
+    assert!(rt; (request.err(), conn.reads()) == (None, 2));
+    drop(conn);
+    Ok(())
+}

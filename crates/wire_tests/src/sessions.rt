@@ -309,6 +309,16 @@ fn ends_where_a_call_of_the_door_fails(rt: HostRuntime) {
     drop(disk);
 }
 
+#[test]
+fn asks_the_door_for_no_more_than_it_serves(rt: HostRuntime) {
+    let alloc = rt.alloc();
+    let mut disk = store_disk(&rt, alloc, 4, CAPACITY, 0);
+    // The call after the second connection would fail.
+    let mut door = door_of(&rt, alloc, &BACK, 4);
+    follow(&rt, alloc, &mut disk, &mut door, NOW + 5_000, 2, &BACK);
+    drop((disk, door));
+}
+
 /// Serves connections on a disk without a store, and then twice with one. The first call of the door fails.
 fn unopened(rt: &impl Abort, alloc: Global) -> [(End, usize); 3] {
     let mut disk = disk_of(rt, alloc, 0);

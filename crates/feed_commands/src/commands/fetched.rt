@@ -1,9 +1,9 @@
-ghost use Rattle.std.specs.Prelude.{◌≡◌, ◌≢◌, ◌⊎◌, ◌≤◌, ℕ, List, [], Err, IfOk, IfErr, IsOk, true, None};
+ghost use Rattle.std.specs.Prelude.{◌≡◌, ◌≢◌, ◌⊎◌, ◌≤◌, ℕ, List, [], Err, IfOk, IfErr, true, None};
 ghost use Rattle.atom_values.specs.Counts.{Rose};
 ghost use Rattle.doc_source.specs.Outside.{SourceState};
 ghost use Rattle.feed_commands.specs.declared.status.Status.TheVariants as status;
 ghost use Rattle.feed_commands.specs.Answer.{Answer, Prints};
-ghost use Rattle.feed_commands.specs.FetchEnds.{AsksOf, AsksOfMirror, GoesWalk, IsWalkRefusal, IsWalkedReport};
+ghost use Rattle.feed_commands.specs.FetchEnds.{AsksOf, AsksOfMirror, EndsWalkBy, GoesWalk, IsWalkRefusal, IsWalkedReport};
 ghost use Rattle.feed_commands.specs.FetchEnds.{MayEndFetched, MayEndWalkReport};
 ghost use Rattle.feed_commands.specs.MirrorEnds.{IsLater};
 ghost use Rattle.feed_commands.specs.MirrorCrash.{LeavesFetched, LeavesMirror};
@@ -20,7 +20,7 @@ ghost use Rattle.feed_disk.specs.declared.area.Area.{Area as AreaValue};
 ghost use Rattle.feed_disk.specs.declared.area.Area.TheVariants.{Mirror as MirrorArea};
 ghost use Rattle.feed_journal.specs.Limits.{area_limit};
 ghost use Rattle.feed_journal.specs.Records.{IsWhole};
-ghost use Rattle.feed_recovery.specs.Settled.{LeavesStores};
+ghost use Rattle.feed_recovery.specs.Settled.{KeepsPayloads};
 ghost use Rattle.mirror_walk.specs.Holding.{KeptValue, payloads_of};
 ghost use Rattle.mirror_walk.specs.Loaded.{IsLoadedOf};
 ghost use Rattle.tool_words.specs.declared.command.Command.TheVariants.{Mirror as MirrorOf};
@@ -84,7 +84,7 @@ pub fn mirror_fetched<D: Disk, F: Fetch, O: Sink>(
     ensures fetches { D.told → F.told → EndsFetching report capacity base.now (D.state disk.old)
         (D.state disk.new) (F.state fetch.old) (F.state fetch.new) O.told
         (O.state output.old) (O.state output.new) result.status }
-    ensures safe { D.told → LeavesStores (D.state disk.old) (D.state disk.new) }
+    ensures safe { D.told → KeepsPayloads (D.state disk.old) (D.state disk.new) }
 {
     match load_and_walk(alloc, base, report, capacity, disk, fetch) {
         Ok(printed) => end_printed(alloc, output, printed),
@@ -119,13 +119,13 @@ fn load_and_walk<D: Disk, F: Fetch>(
     ensures fetch_faults { result ≢ Err ReportFault.Fetch
         → (F.state fetch.new).faults ≡ (F.state fetch.old).faults }
     ensures asks { D.told → F.told → AsksOf capacity base.now (D.state disk.old).content
-        (F.state fetch.old) (F.state fetch.new) }
+        (F.state fetch.old) (F.state fetch.new) (EndsWalkBy result) }
     ensures others { (a : AreaValue) → a ≢ MirrorArea
         → LeavesAlone (D.state disk.old) (D.state disk.new) a }
     ensures kept { D.told → F.told → NowOnly (D.state disk.old) MirrorArea IsWhole
         → LeavesMirror (D.state disk.old) (D.state disk.new) (IsLater result)
         (LeavesFetched capacity base.now (F.state fetch.old).answers (D.state disk.old) (D.state disk.new)
-        (result ≡ Err (ReportFault.Other Fault.Disk)) (IsOk result)) }
+        (result ≡ Err (ReportFault.Other Fault.Disk)) (EndsWalkBy result)) }
 {
     let mut mirror = Mirror::load(alloc, disk, base.copy(alloc)?, capacity)?;
     let printed = report_walk(alloc, base, report, &mut mirror, disk, fetch);
@@ -154,10 +154,10 @@ fn report_walk<D: Disk, F: Fetch>(
     ensures ends { IfOk result (λ printed. IsDone (code_of (printed_answer printed).status)) }
     ensures own { IfErr result MayEndWalkReport }
     ensures asks { F.told → AsksOfMirror mirror.old.capacity mirror.old.base mirror.old.kept
-        (F.state fetch.old) (F.state fetch.new) }
+        (F.state fetch.old) (F.state fetch.new) (EndsWalkBy result) }
     ensures walk { D.told → F.told → GoesWalk mirror.old.capacity mirror.old.base mirror.old.kept
         (F.state fetch.old).answers (D.state disk.old) (D.state disk.new)
-        (result ≡ Err (ReportFault.Other Fault.Disk)) (IsOk result) }
+        (result ≡ Err (ReportFault.Other Fault.Disk)) (EndsWalkBy result) }
     ensures others { (a : AreaValue) → a ≢ MirrorArea
         → LeavesAlone (D.state disk.old) (D.state disk.new) a }
     ensures disk { result ≡ Err (ReportFault.Other Fault.Disk)

@@ -3,7 +3,6 @@ ghost use Rattle.atom_values.specs.Counts.{Rose};
 ghost use Rattle.feed_disk.specs.Moments.{LeavesAlone};
 ghost use Rattle.feed_disk.specs.declared.area.Area.TheVariants.{Mirror};
 ghost use Rattle.feed_commands.specs.declared.status.Status.TheVariants as status;
-ghost use Rattle.feed_recovery.specs.Settled.{LeavesStores};
 ghost use Rattle.member_rules.specs.Head.{capacity_floor, capacity_limit, title_limit, window_limit};
 ghost use Rattle.feed_commands.specs.Crash.{MakesStoreAt};
 ghost use Rattle.feed_commands.specs.Fault.{fault_answer, IsRefusal};
@@ -41,7 +40,6 @@ pub fn init<D: Disk, C: Clock>(
         → IsInitAnswer (D.state disk.old).content (fault_answer fault)) }
     ensures makes { D.told → MakesStoreAt (D.state disk.old) (D.state disk.new) name window capacity C.told
         (C.coming clock.old 0) (IsOk result) }
-    ensures safe { D.told → LeavesStores (D.state disk.old) (D.state disk.new) }
     ensures mirror { LeavesAlone (D.state disk.old) (D.state disk.new) Mirror }
     ensures disk { result ≡ Err Fault.Disk → Rose (D.state disk.old).faults (D.state disk.new).faults }
     ensures disk_faults { result ≢ Err Fault.Disk → (D.state disk.new).faults ≡ (D.state disk.old).faults }

@@ -8,7 +8,7 @@ ghost use Rattle.feed_commands.specs.Fault.{fault_answer, IsRefusal};
 ghost use Rattle.feed_commands.specs.Mirror.{HasAnswered, IsMirrored, IsReport, ReadsTo, ReadsWithinPile};
 ghost use Rattle.feed_commands.specs.Mirror.{offering, pile_limit};
 ghost use Rattle.feed_commands.specs.MirrorCrash.{LeavesMirror, LeavesMirrored};
-ghost use Rattle.feed_commands.specs.MirrorEnds.{GivesOffers, IsLater, IsPileReport, IsPileRefusal, MayEndMirror};
+ghost use Rattle.feed_commands.specs.MirrorEnds.{GivesOf, GivesOffers, IsLater, IsPileReport, IsPileRefusal, MayEndMirror};
 ghost use Rattle.feed_commands.specs.MirrorEnds.{MayEndOffers, MayEndPileReport};
 ghost use Rattle.feed_commands.specs.Mirroring.{EndsMirroring};
 ghost use Rattle.feed_commands.specs.MirrorFaults.{IsHeldIn, IsReportRefusal, report_answer};
@@ -23,7 +23,7 @@ ghost use Rattle.feed_disk.specs.declared.area.Area.{Area as AreaValue};
 ghost use Rattle.feed_disk.specs.declared.area.Area.TheVariants.{Mirror as MirrorArea};
 ghost use Rattle.feed_journal.specs.Limits.{area_limit};
 ghost use Rattle.feed_journal.specs.Records.{IsWhole};
-ghost use Rattle.feed_recovery.specs.Settled.{LeavesStores};
+ghost use Rattle.feed_recovery.specs.Settled.{KeepsPayloads};
 ghost use Rattle.mirror_walk.specs.Holding.{KeptValue, payloads_of};
 ghost use Rattle.mirror_walk.specs.Loaded.{IsLoadedOf};
 ghost use Rattle.tool_words.specs.declared.command.Command.TheVariants.{Mirror as MirrorOf};
@@ -103,9 +103,9 @@ pub fn mirror<D: Disk, I: Source, O: Sink>(
         → ¬ Rose (O.state output.old).faults (O.state output.new).faults
         → (result.status ≡ code_of given.status) ⊎ (result.status ≡ code_of status.NoMemory) }
     ensures mirrors { D.told → I.told → EndsMirroring report capacity base.now (D.state disk.old)
-        (D.state disk.new) (I.state input.old).left O.told
+        (D.state disk.new) (I.state input.old) (I.state input.new) O.told
         (O.state output.old) (O.state output.new) result.status }
-    ensures safe { D.told → LeavesStores (D.state disk.old) (D.state disk.new) }
+    ensures safe { D.told → KeepsPayloads (D.state disk.old) (D.state disk.new) }
 {
     match load_and_offer(alloc, base, report, capacity, disk, input) {
         Ok(printed) => end_printed(alloc, output, printed),
@@ -158,6 +158,8 @@ fn load_and_offer<D: Disk, I: Source>(
         → (I.state input.new).faults ≡ (I.state input.old).faults }
     ensures others { (a : AreaValue) → a ≢ MirrorArea
         → LeavesAlone (D.state disk.old) (D.state disk.new) a }
+    ensures gave { D.told → I.told → GivesOf capacity base.now (D.state disk.old).content
+        (I.state input.old) (I.state input.new) (result ≡ Err (ReportFault.Other Fault.Disk)) (IsOk result) }
     ensures kept { D.told → I.told → NowOnly (D.state disk.old) MirrorArea IsWhole
         → LeavesMirror (D.state disk.old) (D.state disk.new) (IsLater result)
         (LeavesMirrored capacity base.now (I.state input.old).left (D.state disk.old) (D.state disk.new)

@@ -8,7 +8,7 @@ ghost use Rattle.feed_disk.specs.Moments.{LeavesAlone};
 ghost use Rattle.feed_disk.specs.declared.area.Area.{Area as AreaValue};
 ghost use Rattle.feed_disk.specs.declared.area.Area.TheVariants.{Mirror};
 ghost use Rattle.feed_recovery.specs.Documents.{IsSealed};
-ghost use Rattle.feed_recovery.specs.Settled.{LeavesStores};
+ghost use Rattle.feed_recovery.specs.Settled.{KeepsPayloads};
 ghost use Rattle.feed_recovery.specs.Store.{StandsFor, is_spent};
 ghost use Rattle.feed_recovery.specs.Stored.{OpensTo, Stored, stored_of};
 ghost use Rattle.feed_commands.specs.declared.fault.Fault.{Fault as FaultValue};
@@ -101,7 +101,7 @@ pub fn show_pile<D: Disk, O: Sink>(alloc: Global, disk: &mut D, output: &mut O) 
         → Rose (O.state output.old).faults (O.state output.new).faults }
     ensures output_whole { result.status ≡ code_of status.Done
         → (O.state output.new).faults ≡ (O.state output.old).faults }
-    ensures safe { D.told → LeavesStores (D.state disk.old) (D.state disk.new) }
+    ensures safe { D.told → KeepsPayloads (D.state disk.old) (D.state disk.new) }
     ensures mirror { LeavesAlone (D.state disk.old) (D.state disk.new) Mirror }
     ensures lines { result.lines.items ≡ [] }
     ensures life { result.life ≡ None }
@@ -132,7 +132,7 @@ fn print_pile<D: Disk, O: Sink>(
     ensures opened { (fault : FaultValue) → result ≡ Err (PrintFault.Other fault) → D.told
         → (stored : Stored) → OpensTo (D.state disk.old).content stored → ¬ IsRefusal fault }
     ensures faults { (fault : FaultValue) → result ≡ Err (PrintFault.Other fault) → MayEndPile fault }
-    ensures safe { D.told → LeavesStores (D.state disk.old) (D.state disk.new) }
+    ensures safe { D.told → KeepsPayloads (D.state disk.old) (D.state disk.new) }
     ensures mirror { LeavesAlone (D.state disk.old) (D.state disk.new) Mirror }
     ensures disk { result ≡ Err (PrintFault.Other Fault.Disk)
         → Rose (D.state disk.old).faults (D.state disk.new).faults }

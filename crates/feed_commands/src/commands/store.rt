@@ -8,7 +8,7 @@ ghost use Rattle.feed_recovery.specs.Store.{StandsFor, is_spent};
 ghost use Rattle.feed_recovery.specs.Stored.{OpensTo, Stored, stored_of};
 ghost use Rattle.feed_commands.specs.declared.status.Status.TheVariants as status;
 ghost use Rattle.feed_commands.specs.Applied.{IsUnrefused};
-ghost use Rattle.feed_recovery.specs.Settled.{LeavesStores};
+ghost use Rattle.feed_recovery.specs.Settled.{KeepsPayloads};
 ghost use Rattle.feed_commands.specs.Crash.{AppliesSafely, EndsAfterLoad, OpensToApplied};
 ghost use Rattle.feed_commands.specs.Fault.{fault_answer, HasAnswer, IsRefusal};
 ghost use Rattle.feed_commands.specs.Loaded.{LeavesLines, line_made};
@@ -170,7 +170,7 @@ pub fn show_feed<D: Disk>(alloc: Global, disk: &mut D) -> Result<Vec<u8>, Fault>
         record { status = status.Done; printed = written.items }) }
     ensures refused { IfErr result (λ fault. IsRefusal fault → D.told
         → IsAnswerOn (D.state disk.old).content feed_answer (fault_answer fault)) }
-    ensures safe { D.told → LeavesStores (D.state disk.old) (D.state disk.new) }
+    ensures safe { D.told → KeepsPayloads (D.state disk.old) (D.state disk.new) }
     ensures mirror { LeavesAlone (D.state disk.old) (D.state disk.new) Mirror }
     ensures disk { result ≡ Err Fault.Disk → Rose (D.state disk.old).faults (D.state disk.new).faults }
     ensures disk_faults { result ≢ Err Fault.Disk → (D.state disk.new).faults ≡ (D.state disk.old).faults }
@@ -190,7 +190,7 @@ pub fn show_archive<D: Disk>(alloc: Global, number: u32, disk: &mut D) -> Result
         record { status = status.Done; printed = written.items }) }
     ensures refused { IfErr result (λ fault. IsRefusal fault → D.told
         → IsAnswerOn (D.state disk.old).content (archive_answer number) (fault_answer fault)) }
-    ensures safe { D.told → LeavesStores (D.state disk.old) (D.state disk.new) }
+    ensures safe { D.told → KeepsPayloads (D.state disk.old) (D.state disk.new) }
     ensures mirror { LeavesAlone (D.state disk.old) (D.state disk.new) Mirror }
     ensures disk { result ≡ Err Fault.Disk → Rose (D.state disk.old).faults (D.state disk.new).faults }
     ensures disk_faults { result ≢ Err Fault.Disk → (D.state disk.new).faults ≡ (D.state disk.old).faults }
@@ -210,7 +210,7 @@ pub fn show_member<D: Disk>(alloc: Global, number: u32, disk: &mut D) -> Result<
         record { status = status.Done; printed = written.items }) }
     ensures refused { IfErr result (λ fault. IsRefusal fault → D.told
         → IsAnswerOn (D.state disk.old).content (member_answer number) (fault_answer fault)) }
-    ensures safe { D.told → LeavesStores (D.state disk.old) (D.state disk.new) }
+    ensures safe { D.told → KeepsPayloads (D.state disk.old) (D.state disk.new) }
     ensures mirror { LeavesAlone (D.state disk.old) (D.state disk.new) Mirror }
     ensures disk { result ≡ Err Fault.Disk → Rose (D.state disk.old).faults (D.state disk.new).faults }
     ensures disk_faults { result ≢ Err Fault.Disk → (D.state disk.new).faults ≡ (D.state disk.old).faults }

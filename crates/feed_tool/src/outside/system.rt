@@ -37,18 +37,22 @@ impl<R: rt::Clock> Clock for SystemClock<'_, R> {
 pub struct InputSource<R: Read + Drop> {
     pub reader: R,
     pub faults: u64,
+    pub bytes_read: u64,
 }
 
 impl<R: Read + Drop> Source for InputSource<R> {
     ghost told = { ⊥ };
 
-    ghost state = { λ s. record { left = []; faults = s.faults } };
+    ghost state = { λ s. record { left = []; faults = s.faults; bytes_read = s.bytes_read } };
 
     fn read(&mut self, into: &mut [u8]) -> Result<usize, Failed> {
         // A read that a signal interrupted took no byte, and is made again.
         for _ in 0..u64::MAX {
             match self.reader.read(into) {
-                Ok(count) => return Ok(count),
+                Ok(count) => {
+                    self.bytes_read = self.bytes_read.saturating_add(count as u64);
+                    return Ok(count);
+                }
                 Err(error) if error.kind() == ErrorKind::Interrupted => {}
                 Err(_) => break,
             }

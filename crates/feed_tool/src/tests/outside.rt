@@ -57,9 +57,13 @@ fn makes_an_interrupted_call_again(rt: HostRuntime) {
     let mut input = InputSource {
         reader: Interrupted { calls: 0 },
         faults: 0,
+        bytes_read: 0,
     };
     let reads = (input.read(&mut [0u8; 4]), input.read(&mut [0u8; 4]));
-    assert_eq!(rt; (reads, input.faults), ((Ok(1), Err(Failed)), 1));
+    assert_eq!(rt;
+        (reads, input.faults, input.bytes_read),
+        ((Ok(1), Err(Failed)), 1, 1)
+    );
     let mut output = OutputSink {
         writer: Interrupted { calls: 0 },
         faults: 0,

@@ -1,6 +1,10 @@
-use Rattle.std.proofs.Common.{◌≡◌, None, refl, ap, subst, ◌∙◌, arith}
+use Rattle.std.proofs.Common.{◌≡◌, ℕ, None, Ok, Err, Result, refl, sym, ap, subst, ◌∙◌, arith}
+use Rattle.std.specs.Prelude.{IsErrAnd}
+use Rattle.feed_journal.specs.declared.fault.LogFault.{LogFault}
+use Rattle.feed_journal.specs.declared.fault.LogFault.TheVariants.{Changed}
 use Rattle.feed_disk.proofs.MomentLemmas.{alone_joins}
 use Rattle.mirror_walk.specs.Holding.{first_missing, payloads_of}
+use Rattle.mirror_walk.specs.Listing.{ShowsSome}
 use Rattle.mirror_walk.specs.Loaded.{IsLoadedOf}
 use Rattle.mirror_walk.specs.Mirror.{MirrorValue}
 use Rattle.sha2.specs.Sha256.{sha256}
@@ -31,6 +35,20 @@ loop-number-preserved-in_ok-document g c =
     (omega arith) c.in_ok-entry.ensures.entry (c.as_slice.ensures.value ∙ c.in_ok-document.ensures) c.update.ensures
     (c.in_ok-entry.ensures.same (λ e. cc)) (c.in_ok-entry.ensures.stands (λ e. cc)) c.in_ok-entry.ensures.areas
     (c.in_ok-entry.ensures.unfailed (λ e. cc))
+
+-- a fault that is passed on
+passed-on : {T : Type 0} (result : Result T LogFault) (fault : LogFault) (index : ℕ)
+    → IsErrAnd result (λ given. given ≡ fault) → result ≡ Err (Changed index) → fault ≡ Changed index
+passed-on (Ok value) fault index is e = absurd is
+passed-on (Err given) fault index is e = let same : given ≡ Changed index = cc in sym is ∙ same
+
+pub returns-in_err-entry-clause-changed : goal.returns-in_err-entry-clause-changed
+returns-in_err-entry-clause-changed g c = λ index changed.
+    subst (λ (m : MirrorValue). ShowsSome m.kept index) c.loop-number.invariant.keeps (
+      c.in-Some.number,
+      c.in_err-entry.ensures.changed index (ap (λ (f : LogFault). Err f)
+          (passed-on c.from_residual.result c.in_err-entry.field-0.0 index c.from_residual.ensures.1 changed)),
+    )
 
 pub returns-in_err-entry-clause-areas : goal.returns-in_err-entry-clause-areas
 returns-in_err-entry-clause-areas g c = λ a.

@@ -6,12 +6,12 @@ use Rattle.document_server.proofs.StepLemmas.{worked}
 use Rattle.document_server.proofs.change.change.Goals as goal
 
 pub returns-in-Ok-clause-answered : goal.returns-in-Ok-clause-answered
-returns-in-Ok-clause-answered g c = λ told.
+returns-in-Ok-clause-answered g c =
     let old = c.args.store.now in
     let prepared = c.prepare.new.self in
     comes-roomy old prepared _ _ _ _ c.prepare.ensures.same _ _
     (is-asked old prepared _ _ _ _ c.prepare.ensures.same c.args.ask c.args.now c.in-Ok.ready c.in-Ok.ensures.decided
-    c.in-Ok.ensures.commits) c.commit.new.store c.commit.result (c.commit.ensures.answered told)
+    c.in-Ok.ensures.commits) c.commit.new.store c.commit.result c.commit.ensures.answered
 
 pub returns-in-Ok-clause-leaves : goal.returns-in-Ok-clause-leaves
 returns-in-Ok-clause-leaves g c =
@@ -23,7 +23,7 @@ returns-in-Ok-clause-leaves g c =
 
 pub returns-in_ok-refused-in-Err-clause-answered :
     goal.returns-in_ok-refused-in-Err-clause-answered
-returns-in_ok-refused-in-Err-clause-answered g c = λ told.
+returns-in_ok-refused-in-Err-clause-answered g c =
     replied-refused c.args.store.now c.prepare.new.self _ _ _ _ c.prepare.ensures.same
     (IsAsked c.args.store.now c.args.ask c.args.now) _
     (refused-is c.args.store.now c.args.ask c.args.now c.in-Err.fault _ c.in-Err.ensures.refused

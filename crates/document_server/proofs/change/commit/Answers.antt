@@ -63,10 +63,10 @@ returns-clause-grows g c = λ done. record {
 }
 
 pub returns-clause-answered : goal.returns-clause-answered
-returns-clause-answered g c = λ told.
-    replied-done c.windows_seal_in_turn.ensures (g.D.Disk.state c.args.disk.now) (g.D.Disk.state c.commit.new.disk)
-    c.args.store.now c.commit.new.self c.args.ready c.in_ok-commit.ensures.history (c.requires.stands told)
-    c.commit.ensures.head c.in_ok-commit.ensures.sealed c.in-Ok.reply
+returns-clause-answered g c =
+    replied-done c.windows_seal_in_turn.ensures c.args.store.now c.commit.new.self c.args.ready
+    c.in_ok-commit.ensures.history c.commit.ensures.rules c.commit.ensures.head c.in_ok-commit.ensures.sealed
+    c.in-Ok.reply
     (c.in-Ok.ensures.reply ∙ done-same _ _ _ _
     (ap (λ (h : HeadValue). h.name) (c.behind-store.view_is ∙ c.head.ensures))
     c.op.ensures)

@@ -5,15 +5,15 @@ use Rattle.document_server.proofs.StepLemmas.{replied-none}
 use Rattle.document_server.proofs.change.delete.Goals as goal
 
 pub returns-in-Some-clause-answered : goal.returns-in-Some-clause-answered
-returns-in-Some-clause-answered g c = λ told.
+returns-in-Some-clause-answered g c =
     replied-none _ c.args.store.now _
     (absent-is _ _ _ (ap absent_reply (sym c.state.ensures) ∙ sym c.absent.ensures.reply ∙ c.in-Some.is))
 
 pub returns-in-None-clause-answered : goal.returns-in-None-clause-answered
-returns-in-None-clause-answered g c = λ told.
+returns-in-None-clause-answered g c =
     comes-as _ _
     (λ given. present-is _ _ given (ap absent_reply (sym c.state.ensures) ∙ sym c.absent.ensures.reply ∙ c.in-None.is))
-    c.args.store.now c.change.new.store c.change.result (c.change.ensures.answered told)
+    c.args.store.now c.change.new.store c.change.result c.change.ensures.answered
 
 pub returns-in-None-clause-leaves : goal.returns-in-None-clause-leaves
 returns-in-None-clause-leaves g c =

@@ -8,16 +8,16 @@ use Rattle.document_server.proofs.RowLemmas.{comes-as, commits-as, feed-refuses,
 use Rattle.document_server.proofs.dispatch.of_feed.Goals as goal
 
 pub returns-in-Get-clause-answered : goal.returns-in-Get-clause-answered
-returns-in-Get-clause-answered g c = λ told.
+returns-in-Get-clause-answered g c =
     comes-as _ _ (feed-verb c.args.store.now c.args.request.now c.args.now Get
     (ap (λ (r : RequestValue). r.verb) (sym c.request.view_is) ∙ c.in-Get.is))
     c.args.store.now c.show_feed.new.store c.show_feed.result (c.show_feed.ensures.answered)
 
 pub returns-in-Post-clause-answered : goal.returns-in-Post-clause-answered
-returns-in-Post-clause-answered g c = λ told.
+returns-in-Post-clause-answered g c =
     comes-as _ _ (feed-verb c.args.store.now c.args.request.now c.args.now Post
     (ap (λ (r : RequestValue). r.verb) (sym c.request.view_is) ∙ c.in-Post.is))
-    c.args.store.now c.create.new.store c.create.result (c.create.ensures.answered told)
+    c.args.store.now c.create.new.store c.create.result c.create.ensures.answered
 
 pub returns-in-Post-clause-leaves : goal.returns-in-Post-clause-leaves
 returns-in-Post-clause-leaves g c =
@@ -31,7 +31,7 @@ returns-in_default g c =
     let row = feed-refuses c.args.store.now c.args.request.now c.args.now c.args.request.now.verb
     (λ e. c.in_default.not-Get (verb ∙ e)) (λ e. c.in_default.not-Post (verb ∙ e)) in
     record {
-      answered = λ told. replied-none _ c.args.store.now _ (subst
+      answered = replied-none _ c.args.store.now _ (subst
           (λ (r : Reply). IsOfFeed c.args.store.now c.args.request.now c.args.now c.args.request.now.verb
           (unchanged r)) (sym c.refused_method.ensures.reply) row);
       own = c.refused_method.ensures.refusal.own;

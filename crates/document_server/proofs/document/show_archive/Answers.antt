@@ -4,8 +4,8 @@ use Rattle.feed_recovery.specs.declared.fault.ArchiveFault.TheVariants.{NotSeale
 use Rattle.document_server.specs.declared.failure.Failure.{Failure}
 use Rattle.document_server.specs.declared.failure.Failure.TheVariants as failure
 use Rattle.http_face.specs.declared.reply.Reply.{Reply}
-use Rattle.http_face.specs.declared.reply.Media.TheVariants.{Feed}
-use Rattle.document_server.specs.Reply.{document_reply, unchanged}
+use Rattle.document_server.specs.Reply.{disk_changed, unchanged}
+use Rattle.document_server.proofs.OverLemmas.{sealed-unless}
 use Rattle.document_server.proofs.StepLemmas.{failed_by, gains-archive, replied-unchanged, steps-archive}
 use Rattle.document_server.proofs.StepLemmas.{steps-archive-failed, worked}
 use Rattle.document_server.proofs.document.show_archive.Goals as goal
@@ -18,6 +18,10 @@ not_sealed fault number sealed is = failed_by fault (NotSealed number sealed) Di
 changed : (fault : ArchiveFault) (index : ℕ) → fault ≡ Changed index
     → (let result : Result (Vec ℕ Global) ArchiveFault = Err fault in result ≢ Err DiskFault)
 changed fault index is = failed_by fault (Changed index) DiskFault is (λ same. cc)
+
+changed_sealed : (fault : ArchiveFault) (index number sealed : ℕ) → fault ≡ Changed index
+    → (let result : Result (Vec ℕ Global) ArchiveFault = Err fault in result ≢ Err (NotSealed number sealed))
+changed_sealed fault index number sealed is = failed_by fault (Changed index) (NotSealed number sealed) is (λ same. cc)
 
 no_memory : (fault : ArchiveFault) → fault ≡ NoMemory
     → (let result : Result (Vec ℕ Global) ArchiveFault = Err fault in result ≢ Err DiskFault)
@@ -34,11 +38,15 @@ no_memory_reply : (let result : Result Reply Failure = Err failure.NoMemory in r
 no_memory_reply same = cc
 
 pub returns-in-Ok-clause-answered : goal.returns-in-Ok-clause-answered
-returns-in-Ok-clause-answered g c = λ told.
+returns-in-Ok-clause-answered g c =
     replied-unchanged _ c.args.store.now c.archive.new.self c.document.result
     (inl (
       c.in-Ok.ensures.sealed,
-      ap unchanged (c.document.ensures ∙ ap (document_reply Feed) (c.in-Ok.ensures.document told)),
+      inl (
+        c.in-Ok.text.items,
+        record { long = c.in-Ok.ensures.length; seen = c.in-Ok.ensures.document },
+        ap unchanged c.document.ensures,
+      ),
     ))
     (gains-archive c.args.store.now c.archive.new.self _ (c.in-Ok.ensures.same (worked _ _)))
 
@@ -50,7 +58,7 @@ returns-in-Ok-clause-steps g c =
     (ensured.same (worked _ _)) (worked _ _) (ensured.stands (worked _ _)) (ensured.unfailed (worked _ _))
 
 pub returns-in-Err-NotSealed-clause-answered : goal.returns-in-Err-NotSealed-clause-answered
-returns-in-Err-NotSealed-clause-answered g c = λ told.
+returns-in-Err-NotSealed-clause-answered g c =
     let is = c.in-Err-NotSealed.field-0-is in
     replied-unchanged _ c.args.store.now c.archive.new.self c.line.result
     (let numbers = c.in-Err-NotSealed.ensures.numbers _ _ (ap Err is) in
@@ -76,6 +84,18 @@ returns-in-Err-DiskFault-clause-steps g c =
     steps-archive-failed g.D.Disk.told _ _ c.args.store.now c.archive.new.self _ _ c.requires.unspent ensured.areas
     ensured.calls (ensured.spent fault) refl ensured.later (ensured.failed fault)
 
+pub returns-in-Err-Changed-clause-answered : goal.returns-in-Err-Changed-clause-answered
+returns-in-Err-Changed-clause-answered g c =
+    let is = c.in-Err-Changed.field-0-is in
+    let ensured = c.in-Err-Changed.ensures in
+    replied-unchanged _ c.args.store.now c.archive.new.self disk_changed
+    (inl (
+      sealed-unless c.args.store.now c.args.number
+          (λ unsealed. changed_sealed _ _ _ _ is (ensured.refused.1 unsealed)),
+      inr ((λ tells. ensured.never tells _ (ap Err is)), refl),
+    ))
+    (gains-archive c.args.store.now c.archive.new.self _ (ensured.same (changed _ _ is)))
+
 pub returns-in-Err-Changed-clause-steps : goal.returns-in-Err-Changed-clause-steps
 returns-in-Err-Changed-clause-steps g c =
     let is = c.in-Err-Changed.field-0-is in
@@ -86,7 +106,7 @@ returns-in-Err-Changed-clause-steps g c =
     (ensured.stands (changed _ _ is)) (ensured.unfailed (changed _ _ is))
 
 pub returns-in-Err-NoMemory-clause-answered : goal.returns-in-Err-NoMemory-clause-answered
-returns-in-Err-NoMemory-clause-answered g c = λ told.
+returns-in-Err-NoMemory-clause-answered g c =
     let is = c.in-Err-NoMemory.field-0-is in
     gains-archive c.args.store.now c.archive.new.self _ (c.in-Err-NoMemory.ensures.same (no_memory _ is))
 

@@ -1,12 +1,11 @@
-use Rattle.std.proofs.Common.{◌≡◌, ◌≢◌, ℕ, ℤ, Global, Vec, Result, Err, refl, ap, subst, ◌∙◌}
+use Rattle.std.proofs.Common.{◌≡◌, ◌≢◌, inl, inr, ℕ, ℤ, Global, Vec, Result, Err, refl, ap, subst, ◌∙◌}
 use Rattle.feed_recovery.specs.Documents.{IsMemberFault}
 use Rattle.feed_recovery.specs.declared.fault.MemberFault.{MemberFault}
 use Rattle.feed_recovery.specs.declared.fault.MemberFault.TheVariants.{NotFound, Deleted, Changed, DiskFault, NoMemory}
 use Rattle.document_server.specs.declared.failure.Failure.{Failure}
 use Rattle.document_server.specs.declared.failure.Failure.TheVariants as failure
 use Rattle.http_face.specs.declared.reply.Reply.{Reply}
-use Rattle.http_face.specs.declared.reply.Media.TheVariants.{Entry}
-use Rattle.document_server.specs.Reply.{document_reply, unchanged}
+use Rattle.document_server.specs.Reply.{disk_changed, unchanged}
 use Rattle.document_server.proofs.RowLemmas.{never-is, gone-is, live-is}
 use Rattle.document_server.proofs.StepLemmas.{failed_by, gains-member, replied-unchanged, steps-member}
 use Rattle.document_server.proofs.StepLemmas.{steps-member-failed, worked}
@@ -36,13 +35,15 @@ no_memory_reply : (let result : Result Reply Failure = Err failure.NoMemory in r
 no_memory_reply same = cc
 
 pub returns-in-Ok-clause-answered : goal.returns-in-Ok-clause-answered
-returns-in-Ok-clause-answered g c = λ told.
+returns-in-Ok-clause-answered g c =
     replied-unchanged _ c.args.store.now c.member.new.self c.document.result
     (
     let live = c.in-Ok.ensures.live in
-    let document = c.in-Ok.ensures.document told in
-    live-is _ _ _ live.0 live.1.updated live.1.state
-    (document.entry, document.live, ap unchanged (c.document.ensures ∙ ap (document_reply Entry) document.text)))
+    live-is _ _ _ live.0 live.1.updated live.1.state (inl (
+      c.in-Ok.text.items,
+      record { document = c.in-Ok.ensures.entry; seen = c.in-Ok.ensures.document },
+      ap unchanged c.document.ensures,
+    )))
     (gains-member c.args.store.now c.member.new.self _ (c.in-Ok.ensures.same (worked _ _)))
 
 pub returns-in-Ok-clause-steps : goal.returns-in-Ok-clause-steps
@@ -52,7 +53,7 @@ returns-in-Ok-clause-steps g c =
     (ensured.same (worked _ _)) (worked _ _) (ensured.stands (worked _ _)) (ensured.unfailed (worked _ _))
 
 pub returns-in-Err-NotFound-clause-answered : goal.returns-in-Err-NotFound-clause-answered
-returns-in-Err-NotFound-clause-answered g c = λ told.
+returns-in-Err-NotFound-clause-answered g c =
     let is = c.in-Err-NotFound.field-0-is in
     replied-unchanged _ c.args.store.now c.member.new.self c.line.result
     (let fault = subst (IsMemberFault c.args.store.now c.args.number) is
@@ -69,7 +70,7 @@ returns-in-Err-NotFound-clause-steps g c =
     (ensured.stands (not_found _ _ is)) (ensured.unfailed (not_found _ _ is))
 
 pub returns-in-Err-Deleted-clause-answered : goal.returns-in-Err-Deleted-clause-answered
-returns-in-Err-Deleted-clause-answered g c = λ told.
+returns-in-Err-Deleted-clause-answered g c =
     let is = c.in-Err-Deleted.field-0-is in
     replied-unchanged _ c.args.store.now c.member.new.self c.line-in-Err-Deleted.result
     (let fault = subst (IsMemberFault c.args.store.now c.args.number) is
@@ -91,6 +92,15 @@ returns-in-Err-DiskFault-clause-steps g c =
     let fault = ap Err c.in-Err-DiskFault.field-0-is in
     steps-member-failed g.D.Disk.told _ _ c.args.store.now c.member.new.self _ _ c.requires.unspent ensured.areas
     ensured.calls (ensured.spent fault) refl ensured.later (ensured.failed fault)
+
+pub returns-in-Err-Changed-clause-answered : goal.returns-in-Err-Changed-clause-answered
+returns-in-Err-Changed-clause-answered g c =
+    let is = c.in-Err-Changed.field-0-is in
+    let ensured = c.in-Err-Changed.ensures in
+    let fault = subst (IsMemberFault c.args.store.now c.args.number) is ensured.refused in
+    replied-unchanged _ c.args.store.now c.member.new.self disk_changed
+    (live-is _ _ _ _ fault.updated fault.state (inr ((λ tells. ensured.never tells _ (ap Err is)), refl)))
+    (gains-member c.args.store.now c.member.new.self _ (ensured.same (changed _ _ is)))
 
 pub returns-in-Err-Changed-clause-steps : goal.returns-in-Err-Changed-clause-steps
 returns-in-Err-Changed-clause-steps g c =

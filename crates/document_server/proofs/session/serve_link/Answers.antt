@@ -1,6 +1,7 @@
 use Rattle.std.proofs.Common.{◌≡◌, true, ap, ◌∙◌, refl}
 use Rattle.std.specs.Prelude.{None, Some}
-use Rattle.document_server.proofs.LinkLemmas.{none-since, sent-none, sent-reply, serves-one, turn-sent}
+use Rattle.document_server.proofs.LinkLemmas.{none-since, reported-none, reported-reply, sent-none, sent-reply}
+use Rattle.document_server.proofs.LinkLemmas.{serves-one, turn-sent}
 use Rattle.document_server.specs.declared.line.Line.{Line}
 use Rattle.feed_recovery.specs.Store.{is_spent, seal_count}
 use Rattle.http_face.specs.Conn.{ConnState}
@@ -8,17 +9,22 @@ use Rattle.feed_recovery.proofs.SettleLemmas.{rest_settles}
 use Rattle.document_server.proofs.session.serve_link.Goals as goal
 
 pub returns-in_default-clause-serves : goal.returns-in_default-clause-serves
-returns-in_default-clause-serves g c = λ told.
+returns-in_default-clause-serves g c =
     let none : c.reply_to.result ≡ None = none-since c.reply_to.result c.in_default.not-Some in
     let steps = c.reply_to.ensures.steps in
-    serves-one (g.D.Disk.state c.args.disk.now) (g.D.Disk.state c.reply_to.new.disk)
-    (g.C.Clock.coming c.args.clock.now) (g.C.Clock.coming c.reply_to.new.clock) (g.K.Conn.state c.args.link.now)
-    (g.K.Conn.state c.reply_to.new.link) (g.K.Conn.state c.reply_to.new.link) (g.C.Clock.told × g.K.Conn.told)
-    c.args.store.now c.reply_to.new.store None c.line_of.result (λ now turn is. is)
-    (rw none at (c.reply_to.ensures.replies told)) steps.head steps.stays
-    (λ seen. sent-none (g.K.Conn.state c.args.link.now) (g.K.Conn.state c.reply_to.new.link) c.line_of.result
-    (ap (λ (l : Line). l.status) c.line_of.ensures) (ap (λ (l : Line). l.whole) c.line_of.ensures)
-    c.reply_to.ensures.reads (c.reply_to.ensures.lost none)) (ap (λ (l : Line). l.version) c.line_of.ensures)
+    let reads = c.reply_to.ensures.reads in
+    let before = g.D.Disk.state c.args.disk.now in
+    let after = g.D.Disk.state c.reply_to.new.disk in
+    let given = g.K.Conn.state c.args.link.now in
+    let back = g.K.Conn.state c.reply_to.new.link in
+    serves-one before after (g.C.Clock.coming c.args.clock.now) (g.C.Clock.coming c.reply_to.new.clock) given back back
+    g.D.Disk.told g.C.Clock.told g.K.Conn.told c.args.store.now c.reply_to.new.store None c.line_of.result
+    (λ now turn is. is) (rw none at c.reply_to.ensures.replies) steps.head steps.stays
+    (rw none at c.reply_to.ensures.spent)
+    (reported-none before after given back c.line_of.result (ap (λ (l : Line). l.status) c.line_of.ensures.is)
+    (reads.begun ∙ c.requires.unbegun) (c.reply_to.ensures.lost none))
+    (λ told. sent-none before after given back c.line_of.result reads)
+    (ap (λ (l : Line). l.version) c.line_of.ensures.is)
 
 pub returns-in_default-clause-settled : goal.returns-in_default-clause-settled
 returns-in_default-clause-settled g c = λ unspent told rests.
@@ -29,22 +35,29 @@ returns-in_default-clause-settled g c = λ unspent told rests.
     (steps.rests works told rests)
 
 pub returns-clause-serves : goal.returns-clause-serves
-returns-clause-serves g c = λ told.
+returns-clause-serves g c =
     let steps = c.reply_to.ensures.steps in
-    serves-one (g.D.Disk.state c.args.disk.now) (g.D.Disk.state c.reply_to.new.disk)
-    (g.C.Clock.coming c.args.clock.now) (g.C.Clock.coming c.reply_to.new.clock) (g.K.Conn.state c.args.link.now)
-    (g.K.Conn.state c.reply_to.new.link) (g.K.Conn.state c.write_reply.new.conn) (g.C.Clock.told × g.K.Conn.told)
-    c.args.store.now c.reply_to.new.store (Some c.in-Some.reply) c.line_of-2.result
-    (λ now turn is. turn-sent _ _ _ _ _ _ _ _ _ is)
-    (rw c.in-Some.is at (c.reply_to.ensures.replies told)) steps.head steps.stays
-    (λ seen. sent-reply g.K.Conn.told (g.K.Conn.state c.args.link.now) (g.K.Conn.state c.begin.new.self)
-    (g.K.Conn.state c.write_reply.new.conn) c.in-Some.reply c.line_of-2.result c.write_reply.result
-    (ap (λ (l : Line). l.status) c.line_of-2.ensures) seen.1
-    (ap (λ (s : ConnState). s.sent) c.begin.ensures ∙ c.reply_to.ensures.reads.sent)
+    let before = g.D.Disk.state c.args.disk.now in
+    let after = g.D.Disk.state c.reply_to.new.disk in
+    let given = g.K.Conn.state c.args.link.now in
+    let read = g.K.Conn.state c.reply_to.new.link in
+    let begun = g.K.Conn.state c.begin.new.self in
+    let back = g.K.Conn.state c.write_reply.new.conn in
+    let reply = c.in-Some.reply in
+    let line = c.line_of-2.result in
+    let whole = ap (λ (l : Line). l.whole) c.line_of-2.ensures.is ∙ c.is_ok-whole.ensures.value in
+    serves-one before after (g.C.Clock.coming c.args.clock.now) (g.C.Clock.coming c.reply_to.new.clock) given read back
+    g.D.Disk.told g.C.Clock.told g.K.Conn.told c.args.store.now c.reply_to.new.store (Some reply) line
+    (λ now turn is. turn-sent before after _ _ _ _ _ _ _ _ _ is) (rw c.in-Some.is at c.reply_to.ensures.replies)
+    steps.head steps.stays (rw c.in-Some.is at c.reply_to.ensures.spent)
+    (reported-reply before after given back line begun reply c.write_reply.result
+    (ap (λ (l : Line). l.status) c.line_of-2.ensures.is) c.in-Some.ensures.status
     (ap (λ (s : ConnState). s.faults) c.begin.ensures ∙ c.in-Some.ensures.unfailed refl)
-    c.write_reply.ensures.whole c.write_reply.ensures.cut c.write_reply.ensures.counts
-    (ap (λ (l : Line). l.whole) c.line_of-2.ensures ∙ c.is_ok-whole.ensures.value))
-    (ap (λ (l : Line). l.version) c.line_of-2.ensures)
+    c.write_reply.ensures.counts whole)
+    (λ told. sent-reply before after given back line g.K.Conn.told begun reply c.write_reply.result told
+    (ap (λ (s : ConnState). s.sent) c.begin.ensures ∙ c.reply_to.ensures.reads.sent) c.write_reply.ensures.whole
+    c.write_reply.ensures.cut whole)
+    (ap (λ (l : Line). l.version) c.line_of-2.ensures.is)
 
 pub returns-clause-settled : goal.returns-clause-settled
 returns-clause-settled g c = λ unspent told rests.

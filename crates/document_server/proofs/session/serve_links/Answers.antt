@@ -30,13 +30,14 @@ loop-count-init g c =
     let door = g.L.Door.state c.args.door.now in
     record {
       unspent = c.requires.unspent;
+      logs = c.requires.logs;
       stands = c.requires.stands;
       count = ap length c.requires.empty;
       room = omega (arith, c.requires.room);
-      going = λ told start.
-          subst (λ (lines : List Line). Going start disk disk moments moments door door (g.C.Clock.told × g.L.Door.told)
-          c.args.store.now c.args.store.now lines) (sym c.requires.empty)
-          (going-begins start disk moments door (g.C.Clock.told × g.L.Door.told) c.args.store.now
+      going = λ start.
+          subst (λ (lines : List Line). Going start disk disk moments moments door door g.D.Disk.told g.C.Clock.told
+          g.L.Door.told c.args.store.now c.args.store.now lines) (sym c.requires.empty)
+          (going-begins start disk moments door g.D.Disk.told g.C.Clock.told g.L.Door.told c.args.store.now
           (g.met.D.Disk.is_disk c.args.disk.now));
       out = λ told. refl;
       listens = λ at is. is;
@@ -49,7 +50,7 @@ loop-count-init g c =
     }
 
 pub returns-in_err-link-clause-serves : goal.returns-in_err-link-clause-serves
-returns-in_err-link-clause-serves g c = λ told start counts.
+returns-in_err-link-clause-serves g c = λ start counts.
     let p = err_from_is_err_and c.from_residual.result c.from_residual.ensures.1 in
     let held = c.loop-count.invariant in
     let before = g.D.Disk.state c.args.disk.now in
@@ -58,18 +59,17 @@ returns-in_err-link-clause-serves g c = λ told start counts.
     let coming = g.C.Clock.coming c.loop-count.clock in
     let first = g.L.Door.state c.args.door.now in
     let door = g.L.Door.state c.loop-count.door in
-    let seen : Type 0 = g.C.Clock.told × g.L.Door.told in
     let opened = c.args.store.now in
     let store = c.loop-count.store in
     let lines = c.loop-count.lines.items in
     let last = g.L.Door.state c.next.new.self in
-    going-ends start before disk moments coming first last seen opened store lines _
-    (going-still start before disk moments coming first door last seen opened store lines (held.going told start)
-    (λ see. c.in_err-link.ensures.err see.1)) counts (held.stands told) (held.settled told)
-    (rw (p.1, p.2) door_end)
+    going-ends start before disk moments coming first last g.D.Disk.told g.C.Clock.told g.L.Door.told opened store
+    lines _
+    (going-still start before disk moments coming first door last g.D.Disk.told g.C.Clock.told g.L.Door.told opened
+    store lines (held.going start) c.in_err-link.ensures.err) held.stands counts held.settled (rw (p.1, p.2) door_end)
 
 pub returns-in_default-clause-serves : goal.returns-in_default-clause-serves
-returns-in_default-clause-serves g c = λ told start counts.
+returns-in_default-clause-serves g c = λ start counts.
     let held = c.loop-count.invariant in
     let before = g.D.Disk.state c.args.disk.now in
     let disk = g.D.Disk.state c.loop-count.disk in
@@ -77,18 +77,18 @@ returns-in_default-clause-serves g c = λ told start counts.
     let coming = g.C.Clock.coming c.loop-count.clock in
     let first = g.L.Door.state c.args.door.now in
     let door = g.L.Door.state c.loop-count.door in
-    let seen : Type 0 = g.C.Clock.told × g.L.Door.told in
     let opened = c.args.store.now in
     let store = c.loop-count.store in
     let lines = c.loop-count.lines.items in
     let last = g.L.Door.state c.next.new.self in
-    going-ends start before disk moments coming first last seen opened store lines _
-    (going-still start before disk moments coming first door last seen opened store lines (held.going told start)
-    (λ see. (rw c.in_default.is at (c.in_ok-link.ensures.given see.1)).1)) counts (held.stands told) (held.settled told)
-    done_end
+    going-ends start before disk moments coming first last g.D.Disk.told g.C.Clock.told g.L.Door.told opened store
+    lines _
+    (going-still start before disk moments coming first door last g.D.Disk.told g.C.Clock.told g.L.Door.told opened
+    store lines (held.going start) (λ told. (rw c.in_default.is at (c.in_ok-link.ensures.given told)).1)) held.stands
+    counts held.settled done_end
 
 pub returns-clause-serves : goal.returns-clause-serves
-returns-clause-serves g c = λ told start counts.
+returns-clause-serves g c = λ start counts.
     let held = c.loop-count.invariant in
     let before = g.D.Disk.state c.args.disk.now in
     let disk = g.D.Disk.state c.loop-count.disk in
@@ -96,15 +96,14 @@ returns-clause-serves g c = λ told start counts.
     let coming = g.C.Clock.coming c.loop-count.clock in
     let first = g.L.Door.state c.args.door.now in
     let door = g.L.Door.state c.loop-count.door in
-    let seen : Type 0 = g.C.Clock.told × g.L.Door.told in
     let opened = c.args.store.now in
     let store = c.loop-count.store in
     let lines = c.loop-count.lines.items in
-    going-ends start before disk moments coming first door seen opened store lines _ (held.going told start) counts
-    (held.stands told) (held.settled told) done_end
+    going-ends start before disk moments coming first door g.D.Disk.told g.C.Clock.told g.L.Door.told opened store
+    lines _ (held.going start) held.stands counts held.settled done_end
 
 pub returns-then-is_spent-clause-serves : goal.returns-then-is_spent-clause-serves
-returns-then-is_spent-clause-serves g c = λ told start counts.
+returns-then-is_spent-clause-serves g c = λ start counts.
     let held = c.loop-count.invariant in
     let opened = c.args.store.now in
     let store = c.loop-count.store in
@@ -122,8 +121,6 @@ returns-then-is_spent-clause-serves g c = λ told start counts.
     let door = g.L.Door.state c.loop-count.door in
     let amid = g.L.Door.state c.next.new.self in
     let last = g.L.Door.state c.back.new.self in
-    let seen : Type 0 = g.C.Clock.told × g.L.Door.told in
-    let seen_link : Type 0 = g.C.Clock.told × g.L.Link.Conn.told in
     let lines = c.loop-count.lines.items in
     let said = c.serve_link-line.ensures in
     let passes = λ (tells : g.L.Door.told).
@@ -131,8 +128,9 @@ returns-then-is_spent-clause-serves g c = λ told start counts.
     (c.back.ensures.back tells) in
     let spent = sym c.is_spent.ensures ∙ c.if-is_spent.true in
     let failed : Type 0 = ◌≡◌ {A = End} DiskFault DiskFault in
-    let linked : Linked disk left coming later given served seen_link store after line = record {
-      serves = said.serves told;
+    let linked : Linked disk left coming later given served g.D.Disk.told g.C.Clock.told g.L.Link.Conn.told store after
+    line = record {
+      serves = said.serves;
       head = said.head;
       version = said.version;
       calls = said.calls;
@@ -140,21 +138,20 @@ returns-then-is_spent-clause-serves g c = λ told start counts.
       makes = said.makes;
       grows = said.grows;
       begun = said.begun;
-      unbegun = said.unbegun;
     } in
-    let stands = held.stands told in
-    let going = held.going told start in
-    subst (λ (ls : List Line). ServesFrom start before left moments first last seen opened ls failed)
-    (sym c.in-Ok.ensures.ok)
-    (going-breaks start before disk left moments coming later given served first door seen seen_link opened store after
-    lines line going linked c.served_stays_served.ensures c.prefixes_are_lawful.ensures c.shown_are_served.ensures
-    stands.opens.is_journal.is_head stands.opens.is_journal.lawful last (λ see. (see.0, g.met.L.Door.tells see.1))
-    (λ see. passes see.1) failed refl spent (said.stays spent)
-    (λ see.
-    subst (λ (h : HeadValue). IsLawful h (store.history ++ linked.serves.operations)) going.head
-    (pending-lawful disk store (coming 0) _ (store.history ++ linked.serves.operations) c.calls.ensures.logs.0 stands
-    (linked.serves.broken_off (see.0, g.met.L.Door.tells see.1) spent)))
-    counts (g.met.D.Disk.is_disk c.serve_link-line.new.disk) (held.rests told))
+    let going = held.going start in
+    subst (λ (ls : List Line). ServesFrom start before left moments first last g.D.Disk.told g.C.Clock.told
+    g.L.Door.told opened ls failed) (sym c.in-Ok.ensures.ok)
+    (going-breaks start before disk left moments coming later given served first door g.D.Disk.told g.C.Clock.told
+    g.L.Door.told g.L.Link.Conn.told opened store after lines line going linked c.served_stays_served.ensures
+    c.prefixes_are_lawful.ensures last g.met.L.Door.tells passes held.disk_faults failed refl spent (said.stays spent)
+    (said.failed spent)
+    (λ told see.
+    let on = said.serves.stored told in
+    let broken = on.broken_off (g.met.L.Door.tells see) spent in
+    subst (λ (h : HeadValue). IsLawful h (store.history ++ on.operations)) going.head
+    (pending-lawful disk store broken.now _ (store.history ++ on.operations) held.logs.0 (held.stands told)
+    broken.broken_off)) counts (g.met.D.Disk.is_disk c.serve_link-line.new.disk) held.rests)
 
 pub loop-count-preserved : goal.loop-count-preserved
 loop-count-preserved g c =
@@ -175,8 +172,6 @@ loop-count-preserved g c =
     let door = g.L.Door.state c.loop-count.door in
     let amid = g.L.Door.state c.next.new.self in
     let last = g.L.Door.state c.back.new.self in
-    let seen : Type 0 = g.C.Clock.told × g.L.Door.told in
-    let seen_link : Type 0 = g.C.Clock.told × g.L.Link.Conn.told in
     let lines = c.loop-count.lines.items in
     let said = c.serve_link-line.ensures in
     let passes = λ (tells : g.L.Door.told).
@@ -186,12 +181,14 @@ loop-count-preserved g c =
     let pushed = c.in-Ok.ensures.ok in
     record {
       unspent = unspent;
+      logs = said.logs;
       stands = said.stands unspent;
       count = omega (arith, ap length pushed, length-append lines (line ∷ []), held.count);
       room = omega (arith, c.in-Ok.ensures.used, held.room);
-      going = λ told start.
-          let linked : Linked disk left coming later given served seen_link store after line = record {
-            serves = said.serves told;
+      going = λ start.
+          let linked : Linked disk left coming later given served g.D.Disk.told g.C.Clock.told g.L.Link.Conn.told
+          store after line = record {
+            serves = said.serves;
             head = said.head;
             version = said.version;
             calls = said.calls;
@@ -199,17 +196,17 @@ loop-count-preserved g c =
             makes = said.makes;
             grows = said.grows;
             begun = said.begun;
-            unbegun = said.unbegun;
           } in
-          let stands = held.stands told in
-          let stands_new = said.stands unspent told in
-          subst (λ (ls : List Line). Going start before left moments later first last seen opened after ls)
-          (sym pushed)
-          (going-more start before disk left moments coming later given served first door seen seen_link opened store
-          after lines line (held.going told start) linked c.served_stays_served.ensures
-          c.prefixes_are_lawful.ensures c.shown_are_served.ensures stands.opens.is_journal.is_head
-          stands.opens.is_journal.lawful last (λ see. (see.0, g.met.L.Door.tells see.1)) (λ see. passes see.1) unspent
-          stands_new.opens.is_journal.lawful (g.met.D.Disk.is_disk c.serve_link-line.new.disk) (held.rests told));
+          subst (λ (ls : List Line). Going start before left moments later first last g.D.Disk.told g.C.Clock.told
+          g.L.Door.told opened after ls) (sym pushed)
+          (going-more start before disk left moments coming later given served first door g.D.Disk.told
+          g.C.Clock.told g.L.Door.told g.L.Link.Conn.told opened store after lines line (held.going start) linked
+          c.served_stays_served.ensures c.prefixes_are_lawful.ensures last g.met.L.Door.tells passes
+          held.disk_faults c.shown_are_served.ensures unspent (said.unfailed unspent)
+          (λ told. (held.stands told).opens.is_journal.is_head)
+          (λ told. (held.stands told).opens.is_journal.lawful)
+          (λ told. (said.stands unspent told).opens.is_journal.lawful)
+          (g.met.D.Disk.is_disk c.serve_link-line.new.disk) held.rests);
       out = λ told. (passes told).out ∙ held.out told;
       listens = λ at is. c.back.ensures.at at (c.next.ensures.at at (held.listens at is));
       only_at = λ at is only.
@@ -230,8 +227,30 @@ unreachable-requires g c =
       | inr is ↦ omega (arith, c.in-Err.ensures.spare (ap Err is), held.room, more)
     ]
 
-pub returns-clause-done : goal.returns-clause-done
-returns-clause-done g c = inl (omega arith)
+pub returns-clause-ends : goal.returns-clause-ends
+returns-clause-ends g c = record {
+  done = λ _. inl (omega (arith, c.loop-count.invariant.count));
+  early = λ is. absurd cc;
+}
+
+pub returns-in_default-clause-ends : goal.returns-in_default-clause-ends
+returns-in_default-clause-ends g c = record {
+  done = λ _. inr (λ told.
+      let none = rw c.in_default.is at (c.in_ok-link.ensures.given told) in
+      none.1.left ∙ none.0);
+  early = λ is. absurd cc;
+}
+
+pub returns-in_err-link-clause-ends : goal.returns-in_err-link-clause-ends
+returns-in_err-link-clause-ends g c =
+    let p = err_from_is_err_and c.from_residual.result c.from_residual.ensures.1 in
+    rw (p.1, p.2) (record {
+      done = λ is. absurd cc;
+      early = λ _. omega (arith, c.loop-count.invariant.count, c.loop-count-test.true);
+    })
+
+pub returns-then-is_spent-clause-ends : goal.returns-then-is_spent-clause-ends
+returns-then-is_spent-clause-ends g c = record { done = λ is. absurd cc; early = λ is. absurd cc }
 
 pub returns-in_err-link-clause-most : goal.returns-in_err-link-clause-most
 returns-in_err-link-clause-most g c = omega (arith, c.loop-count.invariant.count)
@@ -276,6 +295,9 @@ returns-in_default-clause-no_hidden_door_fault g c = λ other.
 
 pub serve_link-line-requires-clause-unspent : goal.serve_link-line-requires-clause-unspent
 serve_link-line-requires-clause-unspent g c = c.loop-count.invariant.unspent
+
+pub serve_link-line-requires-clause-logs : goal.serve_link-line-requires-clause-logs
+serve_link-line-requires-clause-logs g c = c.loop-count.invariant.logs
 
 pub serve_link-line-requires-clause-stands : goal.serve_link-line-requires-clause-stands
 serve_link-line-requires-clause-stands g c = c.loop-count.invariant.stands

@@ -1,5 +1,6 @@
 use Rattle.std.proofs.Common.{◌≡◌, ℕ, ◌+◌, ◌≤◌, List, false, length}
 use Rattle.document_server.proofs.ServingLemmas.{Going}
+use Rattle.document_server.specs.Serving.{AreLogs}
 use Rattle.feed_disk.specs.Moments.{LeavesAlone}
 use Rattle.feed_disk.specs.declared.area.Area.TheVariants.{Mirror}
 use Rattle.feed_recovery.specs.Settled.{IsAtRest, Settled}
@@ -14,12 +15,13 @@ invariant-loop-count g l =
     let first = g.L.Door.state l.fn.door in
     record {
       unspent : is_spent l.store ≡ false;
+      logs : AreLogs l.store;
       stands : g.D.Disk.told → StandsFor disk l.store;
       count : length l.lines.items ≡ l._count;
       room : l.requests ≤ l.lines.spare + l._count;
-      going : g.D.Disk.told → (start : ℕ) →
+      going : (start : ℕ) →
           Going start before disk (g.C.Clock.coming l.fn.clock) (g.C.Clock.coming l.clock) first door
-          (g.C.Clock.told × g.L.Door.told) l.fn.store l.store l.lines.items;
+          g.D.Disk.told g.C.Clock.told g.L.Door.told l.fn.store l.store l.lines.items;
       out : g.L.Door.told → door.out ≡ first.out;
       listens : (at : List ℕ) → g.L.Door.listens l.fn.door at → g.L.Door.listens l.door at;
       only_at : (at : List ℕ) → g.L.Door.listens l.fn.door at → g.L.Door.only_at l.fn.door at →

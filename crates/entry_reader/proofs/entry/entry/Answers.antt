@@ -1,5 +1,5 @@
 use Rattle.std.proofs.Common.{Err, sym, ap, subst, ◌∙◌}
-use Rattle.entry_reader.specs.declared.fault.EarlyEnd.TheVariants.{Refused, Fault}
+use Rattle.entry_reader.specs.declared.fault.EarlyEnd.TheVariants.{Refused}
 use Rattle.entry_reader.specs.declared.fault.Why.TheVariants.{Missing, NotAnEntry}
 use Rattle.entry_reader.specs.Progress.{pending}
 use Rattle.entry_reader.specs.Parts.{IsEntryFrom}
@@ -31,23 +31,20 @@ drain-requires c =
     let x = c.in_ok-parts.ensures c.requires.reading.0 c.requires.reading.1 in
     (x.2.to, x.2.is_at)
 
-pub returns-in_err-drain-clause-read : goal.returns-in_err-drain-clause-read
-returns-in_err-drain-clause-read c = λ from e at of.
+pub returns-in-Err-clause-read : goal.returns-in-Err-clause-read
+returns-in-Err-clause-read c = λ from e at of.
     let old = c.args.elements.now in
-    let new = c.drain.new.self in
-    let fault = c.in_err-drain.field-0.0 in
     let x = c.in_ok-parts.ensures from at in
-    stop_is (λ r. IsEntryFrom old.length (pending old) from e r new) (Fault fault) c.from_residual-in_err-drain.result
-    c.from_residual-in_err-drain.ensures.1
-    (end_faulty old.length (pending old) from e (sym (c.is_atom.ensures e of) ∙ c.if-not-is_atom.false)
-    c.in_ok-parts.parts c.read_parts.new.elements new x fault (c.in_err-drain.ensures.read x.2.to x.2.is_at))
+    end_faulty old.length (pending old) from e (sym (c.is_atom.ensures e of) ∙ c.if-not-is_atom.false)
+    c.in_ok-parts.parts c.read_parts.new.elements c.drain.new.self x c.in-Err.fault
+    (c.in-Err.ensures.read x.2.to x.2.is_at)
 
 pub returns-in-Some-clause-read : goal.returns-in-Some-clause-read
 returns-in-Some-clause-read c = λ from e at of.
     let old = c.args.elements.now in
     let x = c.in_ok-parts.ensures from at in
     entry_read old.length (pending old) from e (sym (c.is_atom.ensures e of) ∙ c.if-not-is_atom.false)
-    c.in_ok-parts.parts c.read_parts.new.elements c.drain.new.self x (c.in_ok-drain.ensures.read x.2.to x.2.is_at)
+    c.in_ok-parts.parts c.read_parts.new.elements c.drain.new.self x (c.in_default.ensures.read x.2.to x.2.is_at)
     c.in-Some.draft (c.in-Some.ensures.made x.0 x.4)
 
 pub returns-in-None-clause-read : goal.returns-in-None-clause-read
@@ -58,5 +55,5 @@ returns-in-None-clause-read c = λ from e at of.
     subst (λ s. IsEntryFrom old.length (pending old) from e (Err s) new)
     (ap (λ k. Refused k Missing) of.place ∙ sym c.refused-in-None.ensures)
     (untitled old.length (pending old) from e (sym (c.is_atom.ensures e of) ∙ c.if-not-is_atom.false)
-    c.in_ok-parts.parts c.read_parts.new.elements new x (c.in_ok-drain.ensures.read x.2.to x.2.is_at)
+    c.in_ok-parts.parts c.read_parts.new.elements new x (c.in_default.ensures.read x.2.to x.2.is_at)
     (c.in-None.ensures.made x.0 x.4))

@@ -11,7 +11,7 @@ use Rattle.feed_commands.specs.Fault.{fault_answer}
 use Rattle.feed_commands.specs.Mirroring.{EndsFetching, EndsMirroring}
 use Rattle.feed_commands.specs.Outside.{outside_of}
 use Rattle.feed_commands.specs.Status.{code_of}
-use Rattle.feed_commands.proofs.DiskLemmas.{applies-none, applies-weaker, leaves-none, makes-none, makes-weaker}
+use Rattle.feed_commands.proofs.DiskLemmas.{applies-none, applies-weaker, keeps-none, makes-none, makes-weaker}
 use Rattle.feed_commands.proofs.EndLemmas.{answered-refusal, input_end, loaded_fault, no_door, no_end, no_output}
 use Rattle.feed_commands.proofs.EndLemmas.{no_three, unloaded_five}
 use Rattle.feed_commands.proofs.MirrorEndLemmas.{fault-complete}
@@ -356,8 +356,8 @@ returns-in-Mirror-default-false-default-default-clause-mirrors g c = λ base rep
     arm.is ∙ ap (λ (f : Bool). Mirror arm.base f arm.report arm.capacity) arm.fetch-test in
     same_mirror (λ b fetch report most. g.D.Disk.told → g.I.Source.told
     → EndsMirroring report most b (g.D.Disk.state c.args.disk.now) (g.D.Disk.state c.mirror.new.disk)
-    (g.I.Source.state c.args.input.now).left g.O.Sink.told (g.O.Sink.state c.args.output.now)
-    (g.O.Sink.state c.mirror.new.output) c.mirror.result.status)
+    (g.I.Source.state c.args.input.now) (g.I.Source.state c.mirror.new.input) g.O.Sink.told
+    (g.O.Sink.state c.args.output.now) (g.O.Sink.state c.mirror.new.output) c.mirror.result.status)
     _ c.read_words.result c.in-Ok.command _ false _ _ c.in-Ok.is is
     c.read_words.ensures.only c.mirror.ensures.mirrors base false report capacity of_words
 
@@ -446,8 +446,7 @@ returns-in-Drill-clause-no_life g c = λ others.
 -- words that name no command, or that find no memory
 
 pub returns-in-Err-Usage-clause-safe : goal.returns-in-Err-Usage-clause-safe
-returns-in-Err-Usage-clause-safe g c = λ others told.
-    leaves-none (g.D.Disk.state c.args.disk.now) (g.met.D.Disk.is_disk c.args.disk.now)
+returns-in-Err-Usage-clause-safe g c = λ others told. keeps-none (g.D.Disk.state c.args.disk.now)
 
 pub returns-in-Err-Usage-clause-applied : goal.returns-in-Err-Usage-clause-applied
 returns-in-Err-Usage-clause-applied g c = λ of_words.
@@ -455,8 +454,7 @@ returns-in-Err-Usage-clause-applied g c = λ of_words.
     c.read_words.ensures.only (Apply None) of_words)
 
 pub returns-in-Err-NoMemory-clause-safe : goal.returns-in-Err-NoMemory-clause-safe
-returns-in-Err-NoMemory-clause-safe g c = λ others told.
-    leaves-none (g.D.Disk.state c.args.disk.now) (g.met.D.Disk.is_disk c.args.disk.now)
+returns-in-Err-NoMemory-clause-safe g c = λ others told. keeps-none (g.D.Disk.state c.args.disk.now)
 
 pub returns-in-Err-NoMemory-clause-applied : goal.returns-in-Err-NoMemory-clause-applied
 returns-in-Err-NoMemory-clause-applied g c = λ of_words told.

@@ -1,4 +1,4 @@
-use Rattle.std.proofs.Common.{◌≡◌, true, false, subst, sym, ◌∙◌}
+use Rattle.std.proofs.Common.{subst, sym}
 use Rattle.atom_values.specs.Entry.{EntryValue}
 use Rattle.feed_recovery.specs.Documents.{IsVersion}
 use Rattle.feed_recovery.proofs.EntryLemmas.{sets_one}

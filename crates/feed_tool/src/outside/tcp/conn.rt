@@ -29,6 +29,8 @@ pub struct TcpConn<'a, R: Net + rt::Clock> {
     deadline: Option<Instant>,
     pub(super) begun: Option<u64>,
     pub(super) faults: u64,
+    bytes_read: u64,
+    reads: u64,
 }
 
 impl<'a, R: Net + rt::Clock> TcpConn<'a, R> {
@@ -47,6 +49,8 @@ impl<'a, R: Net + rt::Clock> TcpConn<'a, R> {
             deadline: Some(deadline),
             begun: None,
             faults: 0,
+            bytes_read: 0,
+            reads: 0,
         }
     }
 
@@ -80,16 +84,28 @@ impl<'a, R: Net + rt::Clock> TcpConn<'a, R> {
 impl<R: Net + rt::Clock> Conn for TcpConn<'_, R> {
     ghost told = { ⊥ };
 
-    ghost state = { λ s. record { left = []; sent = []; faults = s.faults; begun = s.begun } };
+    ghost state = { λ s. record {
+      left = [];
+      sent = [];
+      faults = s.faults;
+      begun = s.begun;
+      bytes_read = s.bytes_read;
+      reads = s.reads;
+      before_read = [];
+    } };
 
     fn read(&mut self, into: &mut [u8]) -> Result<usize, Failed> {
+        self.reads = self.reads.saturating_add(1);
         // A read that a signal interrupted took no byte, and is made again.
         for _ in 0..u64::MAX {
             if self.limit_read().is_none() {
                 break;
             }
             match self.socket.stream.read(into) {
-                Ok(count) => return Ok(count),
+                Ok(count) => {
+                    self.bytes_read = self.bytes_read.saturating_add(count as u64);
+                    return Ok(count);
+                }
                 Err(error) if error.kind() == ErrorKind::Interrupted => {}
                 // A stream that waits has this error at its deadline.
                 Err(error) if error.kind() == ErrorKind::WouldBlock && !self.socket.waits => {

@@ -1,20 +1,74 @@
-use Rattle.std.proofs.Common.{◌≡◌, ℕ, ◌≤◌, List, ◌++◌, length, take, inl, refl, sym, ◌∙◌, subst, arith, length-append, length-take}
+use Rattle.std.proofs.Common.{◌≡◌, ℕ, ◌+◌, ◌≤◌, List, ◌++◌, length, take, inl, refl, sym, ◌∙◌, subst, arith, length-append, length-take}
 use Rattle.std.proofs.lemmas.Result.{err_from_is_err_and}
 use Rattle.http_face.specs.Heard.{HasNoHead, IsHeadFault, head_limit}
 use Rattle.http_face.specs.declared.fault.RequestFault.TheVariants.{HeadTooLarge}
 use Rattle.http_face.proofs.HeadLemmas.{err_same, no_head-nil, no_head-long}
-use Rattle.http_face.proofs.ReadLemmas.{takes_none}
+use Rattle.http_face.proofs.ReadLemmas.{takes_none, takes_both, rises_none, rises_read, needs_nothing, needs_read}
+use Rattle.http_face.proofs.SettledLemmas.{unsettled-nil}
 use Rattle.http_face.proofs.head.read_head.Goals as goal
 
 pub loop-filled-init : goal.loop-filled-init
 loop-filled-init g c = record {
   within = omega arith;
   none = no_head-nil;
+  unsettled = λ _. unsettled-nil;
   bytes = λ _. refl;
   most = λ _. takes_none _ _ refl;
+  read = rises_none _ _ _ refl;
+  needed = λ _. needs_nothing _ _ _ refl;
   reads = record { sent = refl; begun = refl };
   faults = refl;
 }
+
+pub returns-in_err-count-clause-needed : goal.returns-in_err-count-clause-needed
+returns-in_err-count-clause-needed g c = λ told.
+    needs_read _ _ (g.C.Conn.state c.loop-filled.conn) _ _ (c.loop-filled.invariant.bytes told)
+    (c.read_behind.ensures.before told) (c.loop-filled.invariant.unsettled c.loop-filled-test.true)
+
+pub returns-then-count-eq0-clause-needed : goal.returns-then-count-eq0-clause-needed
+returns-then-count-eq0-clause-needed g c = λ told.
+    needs_read _ _ (g.C.Conn.state c.loop-filled.conn) _ _ (c.loop-filled.invariant.bytes told)
+    (c.read_behind.ensures.before told) (c.loop-filled.invariant.unsettled c.loop-filled-test.true)
+
+pub returns-in_err-spans-clause-needed : goal.returns-in_err-spans-clause-needed
+returns-in_err-spans-clause-needed g c = λ told.
+    needs_read _ _ (g.C.Conn.state c.loop-filled.conn) _ _ (c.loop-filled.invariant.bytes told)
+    (c.read_behind.ensures.before told) (c.loop-filled.invariant.unsettled c.loop-filled-test.true)
+
+pub returns-in-Some-clause-needed : goal.returns-in-Some-clause-needed
+returns-in-Some-clause-needed g c = λ told.
+    needs_read _ _ (g.C.Conn.state c.loop-filled.conn) _ _ (c.loop-filled.invariant.bytes told)
+    (c.read_behind.ensures.before told) (c.loop-filled.invariant.unsettled c.loop-filled-test.true)
+
+pub loop-filled-preserved : goal.loop-filled-preserved
+loop-filled-preserved g c =
+    let filled = c.loop-filled.filled + c.in_ok-count.count in
+    let before = c.loop-filled.invariant in
+    record {
+      within = omega (arith, c.in_ok-count.ensures.within, c.read_behind.auto.buffer);
+      none = (rw c.in_default.is at c.in_ok-spans.ensures.unfinished) refl;
+      unsettled = λ room. (rw c.in_default.is at c.in_ok-spans.ensures.unsettled) refl
+          (omega (
+            arith,
+            room,
+            length-take filled c.read_behind.new.buffer,
+            c.read_behind.auto.buffer,
+            c.loop-filled.auto.buffer,
+            c.requires.room,
+          ));
+      bytes = λ told. before.bytes told ∙ c.in_ok-count.ensures.bytes told;
+      most = λ told. takes_both _ _ _ _ _ (before.most told) (c.in_ok-count.ensures.most told);
+      read = rises_read c.loop-filled.filled c.in_ok-count.count _ _ _ _ (omega arith) before.read
+          c.in_ok-count.ensures.read;
+      needed = λ told.
+          needs_read _ _ (g.C.Conn.state c.loop-filled.conn) _ _ (before.bytes told) (c.read_behind.ensures.before told)
+          (before.unsettled c.loop-filled-test.true);
+      reads = record {
+        sent = c.in_ok-count.ensures.reads.sent ∙ before.reads.sent;
+        begun = c.in_ok-count.ensures.reads.begun ∙ before.reads.begun;
+      };
+      faults = c.in_ok-count.ensures.counts.worked ∙ before.faults;
+    }
 
 pub returns-in_err-spans-clause-refused : goal.returns-in_err-spans-clause-refused
 returns-in_err-spans-clause-refused g c =

@@ -1,14 +1,19 @@
-use Rattle.std.proofs.Common.{◌≡◌, ◌-◌, ◌≤◌, ◌++◌, length, take}
-use Rattle.http_face.specs.Conn.{Reads, TakesAtMost}
+use Rattle.std.proofs.Common.{◌≡◌, ◌-◌, ◌<◌, ◌≤◌, ◌++◌, length, take}
+use Rattle.feed_disk.specs.Raised.{RisesAtMost}
+use Rattle.http_face.specs.Conn.{LastReadAfter, Reads, TakesAtMost}
 use Rattle.http_face.specs.Heard.{HasNoHead}
+use Rattle.http_face.specs.Settled.{IsUnsettled}
 use Rattle.http_face.proofs.head.read_head.Given as goal
 
 abbrev pub invariant-loop-filled : goal.invariant-loop-filled
 invariant-loop-filled g l = record {
   within : l.filled ≤ length l.buffer;
   none : HasNoHead (take l.filled l.buffer);
+  unsettled : l.filled < length l.buffer → IsUnsettled (take l.filled l.buffer);
   bytes : g.C.Conn.told → (g.C.Conn.state l.fn.conn).left ≡ take l.filled l.buffer ++ (g.C.Conn.state l.conn).left;
   most : g.C.Conn.told → TakesAtMost l.filled (g.C.Conn.state l.fn.conn) (g.C.Conn.state l.conn);
+  read : RisesAtMost l.filled (g.C.Conn.state l.fn.conn).bytes_read (g.C.Conn.state l.conn).bytes_read;
+  needed : g.C.Conn.told → LastReadAfter IsUnsettled (g.C.Conn.state l.fn.conn) (g.C.Conn.state l.conn);
   reads : Reads (g.C.Conn.state l.fn.conn) (g.C.Conn.state l.conn);
   faults : (g.C.Conn.state l.conn).faults ≡ (g.C.Conn.state l.fn.conn).faults;
 }

@@ -1,7 +1,9 @@
-use Rattle.std.proofs.Common.{◌≤◌, length, take, arith, length-take}
+use Rattle.std.proofs.Common.{◌≤◌, ◌++◌, length, take, inr, refl, arith, length-take}
+use Rattle.std.proofs.lemmas.Result.{err_from_is_err_and}
 use Rattle.http_face.specs.Heard.{head_limit}
-use Rattle.http_face.proofs.ReadLemmas.{takes_more, takes_both}
-use Rattle.http_face.proofs.RequestLemmas.{result_heard, result_refused}
+use Rattle.http_face.specs.Request.{body_limit}
+use Rattle.http_face.proofs.ReadLemmas.{takes_more, takes_both, rises_more, rises_both, needs_both}
+use Rattle.http_face.proofs.RequestLemmas.{ends_unsettled, result_heard, result_refused}
 use Rattle.http_face.proofs.request.read_within.Goals as goal
 
 pub returns-clause-heard : goal.returns-clause-heard
@@ -32,3 +34,25 @@ pub returns-clause-most : goal.returns-clause-most
 returns-clause-most g c = λ told.
     takes_more _ _ _ _ (omega arith)
     (takes_both _ _ _ _ _ (c.in_ok-head.ensures.most told) (c.request_of.ensures.most told))
+
+pub returns-in_err-head-clause-refused : goal.returns-in_err-head-clause-refused
+returns-in_err-head-clause-refused g c =
+    let p = err_from_is_err_and c.from_residual.result c.from_residual.ensures.1 in
+    rw (p.1, p.2) (λ conn memory told. inr (c.in_err-head.ensures.refused conn memory told))
+
+pub returns-clause-read : goal.returns-clause-read
+returns-clause-read g c =
+    rises_more _ _ _ _ (omega arith)
+    (rises_both head_limit body_limit _ _ _ c.in_ok-head.ensures.read c.request_of.ensures.read)
+
+pub returns-clause-needed : goal.returns-clause-needed
+returns-clause-needed g c = λ told.
+    let head = c.in_ok-head.head in
+    let bytes = take head.filled c.read_head.new.buffer in
+    let short : length bytes ≤ head_limit =
+    omega (arith, length-take head.filled c.read_head.new.buffer, c.read_head.auto.buffer, c.requires.room) in
+    let complete = c.in_ok-head.ensures.complete in
+    needs_both _ _ _ (g.C.Conn.state c.read_head.new.conn) _ bytes (c.in_ok-head.ensures.bytes told)
+    (λ before. ends_unsettled (bytes ++ before) bytes before c.read_head.new.headers head.spans complete.0 refl short
+    c.in_ok-head.ensures.within complete.1 c.in_ok-head.ensures.few)
+    (c.in_ok-head.ensures.needed told) (c.request_of.ensures.needed told)

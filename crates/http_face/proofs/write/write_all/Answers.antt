@@ -21,6 +21,9 @@ loop-written-preserved g c =
       writes = record {
         left = c.in-Ok.ensures.writes.left ∙ c.loop-written.invariant.writes.left;
         begun = c.in-Ok.ensures.writes.begun ∙ c.loop-written.invariant.writes.begun;
+        bytes_read = c.in-Ok.ensures.writes.bytes_read ∙ c.loop-written.invariant.writes.bytes_read;
+        reads = c.in-Ok.ensures.writes.reads ∙ c.loop-written.invariant.writes.reads;
+        before_read = c.in-Ok.ensures.writes.before_read ∙ c.loop-written.invariant.writes.before_read;
       };
       faults = c.in-Ok.ensures.counts.worked ∙ c.loop-written.invariant.faults;
     }

@@ -1,15 +1,17 @@
-use Rattle.std.proofs.Common.{◌≡◌, ◌+◌, ◌≤◌, ℕ, List, [], ◌∷◌, ◌++◌, length, nat_eq, false, Some, Result, Ok, sym, ap, ◌∙◌, arith}
+use Rattle.std.proofs.Common.{◌≡◌, ◌+◌, ◌-◌, ◌≤◌, ℕ, List, [], ◌∷◌, ◌++◌, length, nat_eq, false, Some, Result, Ok, sym, ap, ◌∙◌, subst, arith}
 use Rattle.std.specs.List.{ends_with}
 use Rattle.std.proofs.lemmas.List.{append-nil}
 use Rattle.atom_values.specs.Ascii.{lf}
 use Rattle.atom_values.specs.declared.memory.Failed.{Failed}
+use Rattle.feed_disk.specs.Raised.{RisesAtMost}
 use Rattle.doc_source.specs.Intake.{IntakeState}
 use Rattle.doc_source.specs.Part.{part_text, with_part}
 use Rattle.doc_source.specs.declared.intake.Filled.{Filled}
 use Rattle.doc_source.specs.declared.intake.Filled.TheVariants.{End, Limit, More}
-use Rattle.doc_source.proofs.IntakeLemmas.{takes_as, takes_behind, takes_both, takes_if}
+use Rattle.doc_source.proofs.IntakeLemmas.{rises_filled, takes_as, takes_behind, takes_both, takes_if}
 use Rattle.doc_source.proofs.SeenLemmas.{
   body_ends,
+  body_open,
   body_other,
   body_too_long,
   ends_other,
@@ -71,6 +73,18 @@ returns-in-Limit-clause-refused g c = λ told.
           (c.fill_if_empty.ensures.goes_on is told) c.loop-self.invariant.part short,
     )
 
+pub returns-in_err-fill_if_empty-clause-open : goal.returns-in_err-fill_if_empty-clause-open
+returns-in_err-fill_if_empty-clause-open g c = λ _.
+    let used = c.args.used in
+    let part = c.loop-self.self in
+    let other : c.fill_if_empty.result ≡ Ok More → ⊥ = λ e. cc (e, c.in_err-fill_if_empty.was) in
+    let none : c.fill_if_empty.new.self.ahead ≡ [] =
+    ap (λ (x : IntakeState). x.ahead) (c.fill_if_empty.ensures.stays other) ∙ c.fill_if_empty.ensures.empty other in
+    let all : part_text used part ++ c.fill_if_empty.new.self.ahead ≡ part_text used part =
+    ap (λ (x : List ℕ). part_text used part ++ x) none ∙ append-nil (part_text used part) in
+    let short : length part.behind.items ≤ part.count = omega (arith, c.loop-self-test.true, c.len.ensures) in
+    body_open used part (part_text used part ++ c.fill_if_empty.new.self.ahead) all c.loop-self.invariant.part short
+
 pub returns-else-ends_with-clause-refused : goal.returns-else-ends_with-clause-refused
 returns-else-ends_with-clause-refused g c = λ told.
     let told' = g.S.Source.told in
@@ -125,6 +139,12 @@ loop-self-preserved g c =
       bound = omega (arith, counts.0, counts.1, c.fill_if_empty.ensures.bound);
       takes = takes_both told' before now (with_part used (Some took) c.take_from.new.intake) source rest after
           c.loop-self.invariant.takes moved;
+      read = subst (λ (n : ℕ). RisesAtMost (n - c.args.intake.now.taken) source.bytes_read after.bytes_read)
+          (sym counts.0)
+          (rises_filled c.args.intake.now.taken c.loop-self.intake.taken filled.taken source.bytes_read rest.bytes_read
+          after.bytes_read c.fill_if_empty.result (omega (arith, c.loop-self.invariant.takes.taken))
+          (omega (arith, c.fill_if_empty.ensures.takes.taken)) c.loop-self.invariant.read is
+          c.fill_if_empty.ensures.read);
       faults = c.in_ok-fill_if_empty.ensures.counts.worked ∙ c.loop-self.invariant.faults;
     }
 

@@ -2,4 +2,4 @@ use Rattle.std.proofs.Common.{take, All}
 use Rattle.entry_reader.proofs.rules.ManyRuled.show_rules.Given as goal
 
 abbrev pub invariant-loop-item : goal.invariant-loop-item
-invariant-loop-item g l = All g.T.Ruled.rules (take l.item-index l.item-items)
+invariant-loop-item g l = All g.T.Copies.rules (take l.item-index l.item-items)

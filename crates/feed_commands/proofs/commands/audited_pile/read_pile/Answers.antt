@@ -43,7 +43,7 @@ returns-in_err-offer-clause-within g c = λ is told.
     (g.I.Source.state c.loop-offers.input) c.loop-offers.reader c.loop-offers.offers.items h c.next.new.self
     (g.I.Source.state c.next.new.source) told
     c.in_err-offer.ensures.limit c.in_err-offer.ensures.bound (omega (arith, c.in_err-offer.ensures.used))
-    (c.in_err-offer.ensures.stays going told)
+    (c.in_err-offer.ensures.stays going told) (c.in_err-offer.ensures.«open» (ap Err failed))
 
 pub returns-then-len-eq-MAX_AUDITED_OFFERS-clause-refused : goal.returns-then-len-eq-MAX_AUDITED_OFFERS-clause-refused
 returns-then-len-eq-MAX_AUDITED_OFFERS-clause-refused g c = λ refusal told.

@@ -4,13 +4,13 @@ use Rattle.feed_disk.specs.declared.area.Area.TheVariants.{Mirror as MirrorArea}
 use Rattle.feed_disk.proofs.MomentLemmas.{alone_joins}
 use Rattle.feed_journal.specs.Records.{records}
 use Rattle.mirror_walk.specs.Loaded.{IsLoadedOf, IsMirrorFault}
-use Rattle.feed_commands.specs.FetchEnds.{AsksOfMirror, GoesWalk}
+use Rattle.feed_commands.specs.FetchEnds.{AsksOfMirror, EndsWalkBy, GoesWalk}
 use Rattle.feed_commands.specs.MirrorFaults.{report_answer}
 use Rattle.feed_commands.specs.Printed.{printed_answer}
 use Rattle.feed_commands.specs.Walked.{IsFetched, IsWalkReport}
 use Rattle.feed_commands.specs.declared.commands.report_fault.ReportFault.TheVariants.{Other}
 use Rattle.feed_commands.specs.declared.fault.Fault.TheVariants.{Disk}
-use Rattle.std.specs.Prelude.{Err, IsOk}
+use Rattle.std.specs.Prelude.{Err}
 use Rattle.feed_commands.proofs.MovedLemmas.{moved}
 use Rattle.feed_commands.proofs.LoadedLemmas.{leaves-walk, leaves-taken}
 use Rattle.feed_commands.proofs.commands.fetched.load_and_walk.Goals as goal
@@ -57,7 +57,8 @@ returns-clause-asks g c = λ disk source. inr record {
   loaded = subst (λ (b : List ℕ). IsLoadedOf b (records ((g.D.Disk.state c.args.disk.now).content MirrorArea))
       c.in_ok-mirror.mirror.kept) c.in_ok-copy.ensures.same (c.in_ok-mirror.ensures.loaded disk);
   asks = moved (λ (n : ℕ) (b : List ℕ). AsksOfMirror n b c.in_ok-mirror.mirror.kept
-      (g.F.Fetch.state c.args.fetch.now) (g.F.Fetch.state c.report_walk-printed.new.fetch))
+      (g.F.Fetch.state c.args.fetch.now) (g.F.Fetch.state c.report_walk-printed.new.fetch)
+      (EndsWalkBy c.report_walk-printed.result))
       _ _ _ _ c.in_ok-mirror.ensures.capacity (c.in_ok-mirror.ensures.base ∙ c.in_ok-copy.ensures.same)
       (c.report_walk-printed.ensures.asks source);
 }
@@ -69,14 +70,16 @@ returns-clause-others g c = λ a other.
 pub returns-clause-kept : goal.returns-clause-kept
 returns-clause-kept g c = λ disk source whole.
     leaves-taken _ _ _ _ (leaves-walk (g.D.Disk.state c.args.disk.now) (g.D.Disk.state c.load.new.disk)
-    (g.D.Disk.state c.report_walk-printed.new.disk) (g.met.D.Disk.is_disk c.args.disk.now) disk whole c.args.capacity
+    (g.D.Disk.state c.report_walk-printed.new.disk) (g.met.D.Disk.is_disk c.args.disk.now)
+    (g.met.D.Disk.is_disk c.load.new.disk) disk whole c.args.capacity
     c.args.base.now c.in_ok-mirror.mirror.kept
     (subst (λ (b : List ℕ). IsLoadedOf b (records ((g.D.Disk.state c.args.disk.now).content MirrorArea))
     c.in_ok-mirror.mirror.kept) c.in_ok-copy.ensures.same (c.in_ok-mirror.ensures.loaded disk))
     (c.in_ok-mirror.ensures.moments disk) (c.in_ok-mirror.ensures.rests disk)
-    (g.F.Fetch.state c.args.fetch.now).answers (c.report_walk-printed.result ≡ Err (Other Disk)) (IsOk c.report_walk-printed.result)
+    (g.F.Fetch.state c.args.fetch.now).answers (c.report_walk-printed.result ≡ Err (Other Disk))
+    (EndsWalkBy c.report_walk-printed.result)
     (moved (λ (n : ℕ) (b : List ℕ). GoesWalk n b c.in_ok-mirror.mirror.kept (g.F.Fetch.state c.args.fetch.now).answers
     (g.D.Disk.state c.load.new.disk) (g.D.Disk.state c.report_walk-printed.new.disk)
-    (c.report_walk-printed.result ≡ Err (Other Disk)) (IsOk c.report_walk-printed.result))
+    (c.report_walk-printed.result ≡ Err (Other Disk)) (EndsWalkBy c.report_walk-printed.result))
     _ _ _ _ c.in_ok-mirror.ensures.capacity (c.in_ok-mirror.ensures.base ∙ c.in_ok-copy.ensures.same)
     (c.report_walk-printed.ensures.walk disk source)))

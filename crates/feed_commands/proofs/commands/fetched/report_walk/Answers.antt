@@ -11,9 +11,9 @@ use Rattle.mirror_walk.proofs.WalkServedLemmas.{walks-loaded}
 use Rattle.feed_commands.specs.MirrorFaults.{walk_fault}
 use Rattle.feed_commands.specs.Printed.{printed_answer}
 use Rattle.feed_commands.specs.Walked.{IsWalkReport, walk_setting}
-use Rattle.feed_commands.proofs.GivingLemmas.{not-ok}
 use Rattle.feed_commands.proofs.OffersLemmas.{ends-told}
-use Rattle.feed_commands.proofs.WalkEndLemmas.{refusal-over, walk-goes, walk-lines, walk-refused, walked-is}
+use Rattle.feed_commands.proofs.WalkEndLemmas.{fault-ends, over-ends, refusal-over, walk-asks, walk-goes, walk-lines, walk-refused}
+use Rattle.feed_commands.proofs.WalkEndLemmas.{walked-is}
 use Rattle.feed_commands.proofs.commands.fetched.report_walk.Goals as goal
 
 pub returns-in_err-walked-clause-refused : goal.returns-in_err-walked-clause-refused
@@ -25,41 +25,82 @@ returns-in_err-walked-clause-refused g c =
     walk-refused c.args.report first.capacity first.base first.kept c.walk.new.self.kept source.answers source.asked
     (g.F.Fetch.state c.walk.new.fetch).asked c.in_err-walked.field-0.0 (c.in_err-walked.ensures.walked told) refusal)
 
+pub returns-in_err-walked-clause-asks : goal.returns-in_err-walked-clause-asks
+returns-in_err-walked-clause-asks g c = λ told.
+    let p = err_from_is_err_and c.from_residual.result c.from_residual.ensures.1 in
+    let first = c.args.mirror.now in
+    let fault = c.in_err-walked.field-0.0 in
+    let went = c.in_err-walked.ensures.walked told in
+    walk-asks first.capacity first.base first.kept c.walk.new.self.kept (g.F.Fetch.state c.args.fetch.now)
+    (g.F.Fetch.state c.walk.new.fetch) (Err fault) went _
+    (fault-ends went.asked went.accepted went.held went.ending fault c.from_residual.result went.result
+    (p.1 ∙ ap Err p.2))
+
 pub returns-in_err-walked-clause-walk : goal.returns-in_err-walked-clause-walk
 returns-in_err-walked-clause-walk g c = λ disk told.
     let p = err_from_is_err_and c.from_residual.result c.from_residual.ensures.1 in
     let first = c.args.mirror.now in
     let fault = c.in_err-walked.field-0.0 in
+    let went = c.in_err-walked.ensures.walked told in
     walk-goes first.capacity first.base first.kept c.walk.new.self.kept (g.F.Fetch.state c.args.fetch.now)
     (g.F.Fetch.state c.walk.new.fetch) (Err fault) (c.in_err-walked.ensures.walked told)
     (g.D.Disk.state c.args.disk.now) (g.D.Disk.state c.walk.new.disk) (g.D.Disk.state c.walk.new.disk) _ _
     c.begun_images_are_whole.ensures c.requires.loaded (c.in_err-walked.ensures.moments disk told)
     (λ e. let same : fault ≡ faults.DiskFault = cc in p.1 ∙ ap Err (p.2 ∙ ap walk_fault same))
-    (λ whole. absurd (not-ok c.from_residual.result _ p.1 whole))
+    (fault-ends went.asked went.accepted went.held went.ending fault c.from_residual.result went.result
+    (p.1 ∙ ap Err p.2))
     (λ worked. (c.in_err-walked.ensures.stands worked disk).payloads)
     (λ worked. c.in_err-walked.ensures.rests worked disk) (alone_begins _ MirrorArea)
+
+pub returns-in_err-made-clause-asks : goal.returns-in_err-made-clause-asks
+returns-in_err-made-clause-asks g c = λ told.
+    let p = err_from_is_err_and c.from_residual-in_err-made.result c.from_residual-in_err-made.ensures.1 in
+    let first = c.args.mirror.now in
+    let went = c.in_ok-walked.ensures.walked told in
+    walk-asks first.capacity first.base first.kept c.walk.new.self.kept (g.F.Fetch.state c.args.fetch.now)
+    (g.F.Fetch.state c.walk.new.fetch) (Ok c.in_ok-walked.walked) went _
+    (over-ends went.ending c.from_residual-in_err-made.result
+    (refusal-over went.asked went.ending c.in_ok-walked.walked.refused went.result.refusal)
+    (λ e. let a = p.1 in let b = p.2 in cc))
 
 pub returns-in_err-made-clause-walk : goal.returns-in_err-made-clause-walk
 returns-in_err-made-clause-walk g c = λ disk told.
     let p = err_from_is_err_and c.from_residual-in_err-made.result c.from_residual-in_err-made.ensures.1 in
     let first = c.args.mirror.now in
+    let went = c.in_ok-walked.ensures.walked told in
     walk-goes first.capacity first.base first.kept c.walk.new.self.kept (g.F.Fetch.state c.args.fetch.now)
     (g.F.Fetch.state c.walk.new.fetch) (Ok c.in_ok-walked.walked) (c.in_ok-walked.ensures.walked told)
     (g.D.Disk.state c.args.disk.now) (g.D.Disk.state c.walk.new.disk) (g.D.Disk.state c.walk.new.disk) _ _
     c.begun_images_are_whole.ensures c.requires.loaded (c.in_ok-walked.ensures.moments disk told) (λ e. absurd (cc))
-    (λ whole. absurd (not-ok c.from_residual-in_err-made.result _ p.1 whole))
+    (over-ends went.ending c.from_residual-in_err-made.result
+    (refusal-over went.asked went.ending c.in_ok-walked.walked.refused went.result.refusal)
+    (λ e. let a = p.1 in let b = p.2 in cc))
     (λ worked. (c.in_ok-walked.ensures.stands worked disk).payloads)
     (λ worked. c.in_ok-walked.ensures.rests worked disk) (alone_begins _ MirrorArea)
+
+pub returns-in_err-end-clause-asks : goal.returns-in_err-end-clause-asks
+returns-in_err-end-clause-asks g c = λ told.
+    let p = err_from_is_err_and c.from_residual-in_err-end.result c.from_residual-in_err-end.ensures.1 in
+    let first = c.args.mirror.now in
+    let went = c.in_ok-walked.ensures.walked told in
+    walk-asks first.capacity first.base first.kept c.walk.new.self.kept (g.F.Fetch.state c.args.fetch.now)
+    (g.F.Fetch.state c.walk.new.fetch) (Ok c.in_ok-walked.walked) went _
+    (over-ends went.ending c.from_residual-in_err-end.result
+    (refusal-over went.asked went.ending c.in_ok-walked.walked.refused went.result.refusal)
+    (λ e. let a = p.1 in let b = p.2 in cc))
 
 pub returns-in_err-end-clause-walk : goal.returns-in_err-end-clause-walk
 returns-in_err-end-clause-walk g c = λ disk told.
     let p = err_from_is_err_and c.from_residual-in_err-end.result c.from_residual-in_err-end.ensures.1 in
     let first = c.args.mirror.now in
+    let went = c.in_ok-walked.ensures.walked told in
     walk-goes first.capacity first.base first.kept c.walk.new.self.kept (g.F.Fetch.state c.args.fetch.now)
     (g.F.Fetch.state c.walk.new.fetch) (Ok c.in_ok-walked.walked) (c.in_ok-walked.ensures.walked told)
     (g.D.Disk.state c.args.disk.now) (g.D.Disk.state c.walk.new.disk) (g.D.Disk.state c.end.new.disk) _ _
     c.begun_images_are_whole.ensures c.requires.loaded (c.in_ok-walked.ensures.moments disk told) (λ e. absurd (cc))
-    (λ whole. absurd (not-ok c.from_residual-in_err-end.result _ p.1 whole))
+    (over-ends went.ending c.from_residual-in_err-end.result
+    (refusal-over went.asked went.ending c.in_ok-walked.walked.refused went.result.refusal)
+    (λ e. let a = p.1 in let b = p.2 in cc))
     (λ worked. (c.in_ok-walked.ensures.stands worked disk).payloads)
     (λ worked. c.in_ok-walked.ensures.rests worked disk) (c.in_err-end.ensures.areas MirrorArea)
 
@@ -106,6 +147,15 @@ returns-clause-printed g c = λ disk told.
     c.in_ok-made.ensures.detailed c.in_ok-made.ensures.text c.in_ok-made.ensures.counts
     (ends-told _ base c.in_ok-made.made left.kept given (disk, loaded) c.in_ok-end.ensures.printed))
 
+pub returns-clause-asks : goal.returns-clause-asks
+returns-clause-asks g c = λ told.
+    let first = c.args.mirror.now in
+    let went = c.in_ok-walked.ensures.walked told in
+    walk-asks first.capacity first.base first.kept c.walk.new.self.kept (g.F.Fetch.state c.args.fetch.now)
+    (g.F.Fetch.state c.walk.new.fetch) (Ok c.in_ok-walked.walked) went _
+    (over-ends went.ending _
+    (refusal-over went.asked went.ending c.in_ok-walked.walked.refused went.result.refusal) (λ e. cc))
+
 pub returns-clause-walk : goal.returns-clause-walk
 returns-clause-walk g c = λ disk told.
     let first = c.args.mirror.now in
@@ -114,7 +164,8 @@ returns-clause-walk g c = λ disk told.
     (g.F.Fetch.state c.walk.new.fetch) (Ok c.in_ok-walked.walked) went
     (g.D.Disk.state c.args.disk.now) (g.D.Disk.state c.walk.new.disk) (g.D.Disk.state c.end.new.disk) _ _
     c.begun_images_are_whole.ensures c.requires.loaded (c.in_ok-walked.ensures.moments disk told) (λ e. absurd (cc))
-    (λ whole. refusal-over went.asked went.ending c.in_ok-walked.walked.refused went.result.refusal)
+    (over-ends went.ending _
+    (refusal-over went.asked went.ending c.in_ok-walked.walked.refused went.result.refusal) (λ e. cc))
     (λ worked. (c.in_ok-walked.ensures.stands worked disk).payloads)
     (λ worked. c.in_ok-walked.ensures.rests worked disk) (c.in_ok-end.ensures.areas MirrorArea)
 

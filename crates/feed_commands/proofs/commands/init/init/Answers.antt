@@ -31,6 +31,7 @@ returns-in_err-made-clause-makes g c =
             settled = λ done. absurd (false≢true done);
             opens = λ done. absurd (false≢true done);
           });
+      stores = c.in_err-made.ensures.kept told;
     })
 
 pub returns-clause-answer : goal.returns-clause-answer
@@ -50,4 +51,5 @@ returns-clause-makes g c = λ told. record {
         settled = λ done. c.in_ok-made.ensures.settled told;
         opens = λ done. c.in_ok-made.ensures.opens told;
       });
+  stores = c.in_ok-made.ensures.kept told;
 }

@@ -13,6 +13,8 @@ use Rattle.feed_commands.specs.declared.fault.Fault.TheVariants.{Disk}
 use Rattle.feed_commands.proofs.LoadedLemmas.{mirrored-weaker}
 use Rattle.feed_commands.proofs.MovedLemmas.{moved}
 use Rattle.feed_commands.proofs.LoadedLemmas.{leaves-offers, leaves-taken}
+use Rattle.feed_commands.proofs.ReportFaultLemmas.{other-disk}
+use Rattle.feed_commands.proofs.TakingLemmas.{gives-held}
 use Rattle.feed_commands.proofs.commands.mirror.load_and_offer.Goals as goal
 
 pub returns-in_err-mirror-clause-refused : goal.returns-in_err-mirror-clause-refused
@@ -45,6 +47,29 @@ pub returns-in_err-printed-clause-others : goal.returns-in_err-printed-clause-ot
 returns-in_err-printed-clause-others g c = λ a other.
     alone_joins _ _ _ a (c.in_ok-mirror.ensures.others a other) (c.report_offers-printed.ensures.others a other)
 
+pub returns-in_err-printed-clause-gave : goal.returns-in_err-printed-clause-gave
+returns-in_err-printed-clause-gave g c =
+    let p = err_from_is_err_and c.from_residual-in_err-printed.result
+    c.from_residual-in_err-printed.ensures.1 in
+    rw (p.1, p.2) (λ disk input. inr (gives-held c.args.capacity c.args.base.now c.in_ok-mirror.mirror.kept
+    (g.D.Disk.state c.args.disk.now).content (g.I.Source.state c.args.input.now).left g.I.Source.told g.D.Disk.told
+    (g.D.Disk.state c.load.new.disk) (g.D.Disk.state c.report_offers-printed.new.disk)
+    (c.report_offers-printed.result ≡ Err Disk) _ (IsOk c.report_offers-printed.result) _
+    (subst (λ (b : List ℕ). IsLoadedOf b (records ((g.D.Disk.state c.args.disk.now).content MirrorArea))
+    c.in_ok-mirror.mirror.kept) c.in_ok-copy.ensures.same (c.in_ok-mirror.ensures.loaded disk)) input
+    (λ e. cc (e, c.in_err-printed.is, c.in_err-printed.was))
+    (λ e. elim e [
+      | inl ok ↦ absurd (false≢true ok)
+      | inr failed ↦ inr (rw c.in_err-printed.was (other-disk c.in_err-printed.field-0.0 failed))
+    ])
+    (λ ok. absurd (false≢true ok))
+    (moved (λ (n : ℕ) (b : List ℕ). GivesOffers n b c.in_ok-mirror.mirror.kept
+    (g.I.Source.state c.args.input.now).left g.I.Source.told g.D.Disk.told (g.D.Disk.state c.load.new.disk)
+    (g.D.Disk.state c.report_offers-printed.new.disk) (c.report_offers-printed.result ≡ Err Disk)
+    (IsOk c.report_offers-printed.result))
+    _ _ _ _ c.in_ok-mirror.ensures.capacity (c.in_ok-mirror.ensures.base ∙ c.in_ok-copy.ensures.same)
+    c.report_offers-printed.ensures.gives)))
+
 pub returns-in_err-printed-clause-kept : goal.returns-in_err-printed-clause-kept
 returns-in_err-printed-clause-kept g c =
     let p = err_from_is_err_and c.from_residual-in_err-printed.result
@@ -55,7 +80,8 @@ returns-in_err-printed-clause-kept g c =
     _ (IsOk c.report_offers-printed.result) _ (λ e. cc (e, c.in_err-printed.is, c.in_err-printed.was))
     (λ ok. absurd (false≢true ok))
     (leaves-offers (g.D.Disk.state c.args.disk.now) (g.D.Disk.state c.load.new.disk)
-    (g.D.Disk.state c.report_offers-printed.new.disk) (g.met.D.Disk.is_disk c.args.disk.now) disk whole c.args.capacity
+    (g.D.Disk.state c.report_offers-printed.new.disk) (g.met.D.Disk.is_disk c.args.disk.now)
+    (g.met.D.Disk.is_disk c.load.new.disk) disk whole c.args.capacity
     c.args.base.now c.in_ok-mirror.mirror.kept
     (subst (λ (b : List ℕ). IsLoadedOf b (records ((g.D.Disk.state c.args.disk.now).content MirrorArea))
     c.in_ok-mirror.mirror.kept) c.in_ok-copy.ensures.same (c.in_ok-mirror.ensures.loaded disk))
@@ -72,6 +98,22 @@ pub returns-clause-others : goal.returns-clause-others
 returns-clause-others g c = λ a other.
     alone_joins _ _ _ a (c.in_ok-mirror.ensures.others a other) (c.report_offers-printed.ensures.others a other)
 
+pub returns-clause-gave : goal.returns-clause-gave
+returns-clause-gave g c = λ disk input. inr (gives-held c.args.capacity c.args.base.now c.in_ok-mirror.mirror.kept
+    (g.D.Disk.state c.args.disk.now).content (g.I.Source.state c.args.input.now).left g.I.Source.told g.D.Disk.told
+    (g.D.Disk.state c.load.new.disk) (g.D.Disk.state c.report_offers-printed.new.disk)
+    (c.report_offers-printed.result ≡ Err Disk) _ (IsOk c.report_offers-printed.result) _
+    (subst (λ (b : List ℕ). IsLoadedOf b (records ((g.D.Disk.state c.args.disk.now).content MirrorArea))
+    c.in_ok-mirror.mirror.kept) c.in_ok-copy.ensures.same (c.in_ok-mirror.ensures.loaded disk)) input
+    (λ e. cc (e, c.in_ok-printed.is, c.in_ok-printed.was))
+    (λ e. inl (rw c.in_ok-printed.was refl)) (λ ok. rw c.in_ok-printed.was refl)
+    (moved (λ (n : ℕ) (b : List ℕ). GivesOffers n b c.in_ok-mirror.mirror.kept
+    (g.I.Source.state c.args.input.now).left g.I.Source.told g.D.Disk.told (g.D.Disk.state c.load.new.disk)
+    (g.D.Disk.state c.report_offers-printed.new.disk) (c.report_offers-printed.result ≡ Err Disk)
+    (IsOk c.report_offers-printed.result))
+    _ _ _ _ c.in_ok-mirror.ensures.capacity (c.in_ok-mirror.ensures.base ∙ c.in_ok-copy.ensures.same)
+    c.report_offers-printed.ensures.gives))
+
 pub returns-clause-kept : goal.returns-clause-kept
 returns-clause-kept g c = λ disk input whole. leaves-taken _ _ _ _ (mirrored-weaker c.args.capacity c.args.base.now
     (g.I.Source.state c.args.input.now).left
@@ -79,7 +121,8 @@ returns-clause-kept g c = λ disk input whole. leaves-taken _ _ _ _ (mirrored-we
     _ (IsOk c.report_offers-printed.result) _ (λ e. cc (e, c.in_ok-printed.is, c.in_ok-printed.was))
     (λ ok. rw c.in_ok-printed.was refl)
     (leaves-offers (g.D.Disk.state c.args.disk.now) (g.D.Disk.state c.load.new.disk)
-    (g.D.Disk.state c.report_offers-printed.new.disk) (g.met.D.Disk.is_disk c.args.disk.now) disk whole c.args.capacity
+    (g.D.Disk.state c.report_offers-printed.new.disk) (g.met.D.Disk.is_disk c.args.disk.now)
+    (g.met.D.Disk.is_disk c.load.new.disk) disk whole c.args.capacity
     c.args.base.now c.in_ok-mirror.mirror.kept
     (subst (λ (b : List ℕ). IsLoadedOf b (records ((g.D.Disk.state c.args.disk.now).content MirrorArea))
     c.in_ok-mirror.mirror.kept) c.in_ok-copy.ensures.same (c.in_ok-mirror.ensures.loaded disk))

@@ -1,4 +1,4 @@
-use Rattle.std.proofs.Common.{◌≡◌, ◌⊎◌, inl, ⊎_elim, ℕ, false, Result, Err, IsOk, refl, sym, ap, subst, ◌∙◌}
+use Rattle.std.proofs.Common.{◌≡◌, ◌⊎◌, inl, ⊎_elim, ℕ, false, Result, Err, IsOk, refl, sym, ap, subst, ◌∙◌, arith}
 use Rattle.tool_words.specs.declared.command.Command.TheVariants.{Mirror}
 use Rattle.feed_commands.specs.declared.commands.printed.Printed.{Printed}
 use Rattle.feed_commands.specs.declared.commands.report_fault.ReportFault.{ReportFault}
@@ -14,8 +14,8 @@ use Rattle.feed_commands.specs.Served.{IsReported}
 use Rattle.feed_commands.specs.Status.{code_of}
 use Rattle.feed_commands.proofs.LoadedLemmas.{stores-alone}
 use Rattle.feed_commands.proofs.MirrorEndLemmas.{disk-code, ends-reported, ends-unreported, fault-complete, pile-answers}
-use Rattle.feed_commands.proofs.MirrorEndLemmas.{pile-left, pile-refused, pile-same, pile-served}
-use Rattle.feed_commands.proofs.ReportFaultLemmas.{after-later, answered-report, report-unreported}
+use Rattle.feed_commands.proofs.MirrorEndLemmas.{pile-gave, pile-left, pile-refused, pile-same, pile-served, printed-never}
+use Rattle.feed_commands.proofs.ReportFaultLemmas.{after-later, answered-report, disk-of, report-unreported}
 use Rattle.feed_commands.proofs.commands.mirror.mirror.Goals as goal
 
 pub returns-in-Ok-clause-answered : goal.returns-in-Ok-clause-answered
@@ -40,6 +40,14 @@ returns-in-Ok-clause-complete g c = λ disk told kept given held is no_disk no_i
 
 pub returns-in-Ok-clause-mirrors : goal.returns-in-Ok-clause-mirrors
 returns-in-Ok-clause-mirrors g c = λ disk told. record {
+  gave = pile-gave (g.D.Disk.state c.args.disk.now) (g.D.Disk.state c.load_and_offer.new.disk)
+      c.end_printed.result.status c.args.capacity c.args.base.now (g.D.Disk.state c.args.disk.now).content
+      (g.I.Source.state c.args.input.now) (g.I.Source.state c.load_and_offer.new.input) c.load_and_offer.result
+      (c.load_and_offer.ensures.gave disk told) (λ e. let other = sym c.in-Ok.is ∙ e in absurd (cc))
+      (λ four. absurd (printed-never 4 (printed_answer c.in-Ok.printed).status c.end_printed.result.status
+      (λ e. omega (arith, e)) (λ e. omega (arith, e)) (λ e. omega (arith, e)) c.in-Ok.ensures.ends
+      c.end_printed.ensures.ends four))
+      (λ reported. subst (λ (r : Result Printed ReportFault). IsOk r) (sym c.in-Ok.is) refl);
   kept = λ whole. pile-left (g.D.Disk.state c.args.disk.now) (g.D.Disk.state c.load_and_offer.new.disk)
       c.end_printed.result.status c.args.capacity c.args.base.now
       (g.I.Source.state c.args.input.now).left c.load_and_offer.result
@@ -58,8 +66,7 @@ returns-in-Ok-clause-mirrors g c = λ disk told. record {
 
 pub returns-in-Ok-clause-safe : goal.returns-in-Ok-clause-safe
 returns-in-Ok-clause-safe g c = λ told.
-    stores-alone (g.D.Disk.state c.args.disk.now) (g.D.Disk.state c.load_and_offer.new.disk)
-    (g.met.D.Disk.is_disk c.args.disk.now) c.in-Ok.ensures.others
+    stores-alone (g.D.Disk.state c.args.disk.now) (g.D.Disk.state c.load_and_offer.new.disk) c.in-Ok.ensures.others
 
 pub returns-in-Err-clause-answered : goal.returns-in-Err-clause-answered
 returns-in-Err-clause-answered g c = λ disk told answered moments source.
@@ -90,6 +97,14 @@ returns-in-Err-clause-mirrors g c = λ disk told.
     let fault = c.in-Err.fault in
     let status = c.end_unreported.ensures.status in
     record {
+      gave = pile-gave (g.D.Disk.state c.args.disk.now) (g.D.Disk.state c.load_and_offer.new.disk)
+          c.end_unreported.result.status c.args.capacity c.args.base.now (g.D.Disk.state c.args.disk.now).content
+          (g.I.Source.state c.args.input.now) (g.I.Source.state c.load_and_offer.new.input) c.load_and_offer.result
+          (c.load_and_offer.ensures.gave disk told)
+          (λ e. let same : fault ≡ Other Disk = let other = sym c.in-Err.is ∙ e in cc in
+          disk-code fault c.end_unreported.result.status status same)
+          (λ four. c.in-Err.is ∙ ap Err (disk-of fault (sym status ∙ four)))
+          (λ reported. absurd (report-unreported fault (subst IsReported status reported)));
       kept = λ whole. pile-left (g.D.Disk.state c.args.disk.now) (g.D.Disk.state c.load_and_offer.new.disk)
           c.end_unreported.result.status c.args.capacity c.args.base.now (g.I.Source.state c.args.input.now).left
           c.load_and_offer.result (c.load_and_offer.ensures.kept disk told whole)
@@ -104,5 +119,4 @@ returns-in-Err-clause-mirrors g c = λ disk told.
 
 pub returns-in-Err-clause-safe : goal.returns-in-Err-clause-safe
 returns-in-Err-clause-safe g c = λ told.
-    stores-alone (g.D.Disk.state c.args.disk.now) (g.D.Disk.state c.load_and_offer.new.disk)
-    (g.met.D.Disk.is_disk c.args.disk.now) c.in-Err.ensures.others
+    stores-alone (g.D.Disk.state c.args.disk.now) (g.D.Disk.state c.load_and_offer.new.disk) c.in-Err.ensures.others

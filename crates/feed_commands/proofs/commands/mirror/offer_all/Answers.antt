@@ -16,6 +16,7 @@ use Rattle.feed_commands.specs.Mirror.{IsMirrored, pile_fault}
 use Rattle.feed_commands.specs.MirrorEnds.{GivesOffers}
 use Rattle.feed_commands.specs.Report.{HasAdded}
 use Rattle.feed_commands.proofs.GivingLemmas.{giving-ends, giving-fault, giving-full, giving-next, giving-start, not-ok}
+use Rattle.feed_commands.proofs.GivingLemmas.{pile-no_disk, unended}
 use Rattle.feed_commands.proofs.OffersLemmas.{input-of_pile, mirrored-fault, reads-to, within-fault}
 use Rattle.feed_commands.proofs.RoomFaultLemmas.{offered-refused}
 use Rattle.feed_commands.proofs.commands.mirror.offer_all.Goals as goal
@@ -46,7 +47,9 @@ returns-in_err-offer-clause-gives g c =
     (g.I.Source.state c.args.input.now) (g.D.Disk.state c.loop-offer.disk) (g.I.Source.state c.loop-offer.input)
     c.loop-offer.reader c.loop-offer.mirror c.loop-offer.report _ _ c.begun_images_are_whole.ensures
     c.loop-offer.invariant
-    (λ whole. absurd (not-ok c.from_residual.result _ p.1 whole))
+    (unended (not-ok c.from_residual.result _ p.1)
+    (λ e. let is = p.1 in let was = p.2 in
+    let disk : pile_fault c.in_err-offer.field-0.0 ≡ Disk = cc in pile-no_disk c.in_err-offer.field-0.0 disk))
 
 pub returns-in_err-offer-clause-within : goal.returns-in_err-offer-clause-within
 returns-in_err-offer-clause-within g c = λ is told.
@@ -62,7 +65,7 @@ returns-in_err-offer-clause-within g c = λ is told.
     c.loop-offer.reader (g.I.Source.state c.loop-offer.input) c.loop-offer.mirror.kept c.loop-offer.report h.amid
     c.next.new.self (g.I.Source.state c.args.input.now) (g.I.Source.state c.next.new.source) told refl
     c.in_err-offer.ensures.limit c.in_err-offer.ensures.bound (omega (arith, c.in_err-offer.ensures.used))
-    (c.in_err-offer.ensures.stays going told)
+    (c.in_err-offer.ensures.stays going told) (c.in_err-offer.ensures.«open» (ap Err failed))
 
 pub returns-in_err-added-clause-refused : goal.returns-in_err-added-clause-refused
 returns-in_err-added-clause-refused g c =
@@ -117,7 +120,7 @@ returns-in_err-added-clause-gives g c =
     c.in-Some.is (c.in_ok-offer.ensures.stays (c.in_ok-offer.ensures.refusal h.amid.fresh) t))
     c.in_ok-offer.ensures.limit (omega (arith, c.in_ok-offer.ensures.bound))
     (g.D.Disk.state c.offer-added.new.disk) fault _ _ c.in_err-added.ensures.own
-    (λ is. let a = p.1 in let b = p.2 in cc)
+    (λ is. let a = p.1 in let b = p.2 in cc) (λ is. let a = p.1 in let b = p.2 in cc)
     (not-ok c.from_residual-in_err-added.result _ p.1) c.begun_images_are_whole.ensures
     (λ told rest.
     subst (λ (a : List ℕ). AlwaysLeaves (g.D.Disk.state c.loop-offer.disk) (g.D.Disk.state c.offer-added.new.disk) MirrorArea

@@ -1,4 +1,4 @@
-use Rattle.std.proofs.Common.{◌≡◌, List, ℕ, Bool, Err, refl, sym, ap, subst, ◌∙◌, map}
+use Rattle.std.proofs.Common.{◌≡◌, inl, inr, List, ℕ, Bool, Err, refl, sym, ap, subst, ◌∙◌, map}
 use Rattle.std.proofs.lemmas.Result.{err_from_is_err_and, IfErr-weaker, IfOk-weaker}
 use Rattle.feed_disk.specs.declared.area.Area.TheVariants.{Mirror as MirrorArea}
 use Rattle.feed_disk.proofs.MomentLemmas.{alone_begins, alone_joins}
@@ -20,7 +20,7 @@ returns-in_err-reader-clause-gives g c =
     let p = err_from_is_err_and c.from_residual.result c.from_residual.ensures.1 in
     gives-none g.I.Source.told g.D.Disk.told c.args.mirror.now (g.D.Disk.state c.args.disk.now)
     (g.I.Source.state c.args.input.now).left _ _ c.begun_images_are_whole.ensures c.requires.usable c.requires.loaded
-    (λ whole. not-ok c.from_residual.result _ p.1 whole)
+    (λ whole. not-ok c.from_residual.result _ p.1 whole) (λ e. let a = p.1 in let b = p.2 in cc)
 
 pub returns-in_err-offered-clause-refused : goal.returns-in_err-offered-clause-refused
 returns-in_err-offered-clause-refused g c =
@@ -39,6 +39,10 @@ returns-in_err-offered-clause-gives g c =
     gives-later g.D.Disk.told first.capacity first.base first.kept (g.D.Disk.state c.args.disk.now)
     (g.I.Source.state c.args.input.now).left g.I.Source.told later later _ _ _ _
     (λ e. let same : fault ≡ Disk = cc in p.1 ∙ ap Err (p.2 ∙ same))
+    (λ e. elim e [
+      | inl whole ↦ absurd (not-ok c.from_residual-in_err-offered.result _ p.1 whole)
+      | inr failed ↦ inr (let a = p.1 in let b = p.2 in let same : fault ≡ Disk = cc in ap Err same)
+    ])
     (λ whole. absurd (not-ok c.from_residual-in_err-offered.result _ p.1 whole)) (alone_begins later MirrorArea)
     c.in_err-offered.ensures.gives
 
@@ -99,5 +103,5 @@ returns-clause-gives g c =
     let first = c.args.mirror.now in
     gives-later g.D.Disk.told first.capacity first.base first.kept (g.D.Disk.state c.args.disk.now)
     (g.I.Source.state c.args.input.now).left g.I.Source.told (g.D.Disk.state c.offer_all-offered.new.disk)
-    (g.D.Disk.state c.end.new.disk) _ _ _ _ (λ e. absurd (cc)) (λ whole. refl)
+    (g.D.Disk.state c.end.new.disk) _ _ _ _ (λ e. absurd (cc)) (λ e. inl refl) (λ whole. refl)
     (c.end.ensures.areas MirrorArea) c.in_ok-offered.ensures.gives

@@ -2,10 +2,8 @@ use Rattle.std.proofs.Common.{◌≡◌, inr, subst}
 use Rattle.std.proofs.lemmas.Result.{err_from_is_err_and, on_ok_weaker}
 use Rattle.feed_disk.specs.declared.area.Area.TheVariants.{Journal, Sealed, Mirror}
 use Rattle.feed_disk.proofs.MomentLemmas.{alone_joins}
-use Rattle.feed_recovery.specs.Settled.{OpensPast}
 use Rattle.feed_recovery.specs.Stored.{stored_of}
-use Rattle.feed_recovery.proofs.BothLemmas.{both_joins}
-use Rattle.feed_recovery.proofs.PastLemmas.{both_alone}
+use Rattle.feed_recovery.proofs.LoadedLemmas.{payloads-then-alone}
 use Rattle.feed_commands.specs.Fault.{IsRefusal}
 use Rattle.feed_commands.specs.StoreFaults.{load_fault}
 use Rattle.feed_commands.proofs.AnswerOnLemmas.{not-refusal}
@@ -59,11 +57,9 @@ pub returns-clause-refused : goal.returns-clause-refused
 returns-clause-refused g c = λ fault is refusal told. absurd (c.print_documents-printed.ensures.opened fault is told refusal)
 
 pub returns-clause-safe : goal.returns-clause-safe
-returns-clause-safe g c = λ told head operations least settled.
-    let loaded = c.in_ok-store.ensures.moments told head operations least settled in
-    both_joins _ _ _ (OpensPast head operations least) loaded
-    (both_alone _ _ (OpensPast head operations least) (g.met.D.Disk.is_disk c.load.new.disk)
-    (c.print_documents-printed.ensures.areas Journal) (c.print_documents-printed.ensures.areas Sealed) loaded.now)
+returns-clause-safe g c = λ told.
+    payloads-then-alone _ _ _ (c.in_ok-store.ensures.payloads told) (c.print_documents-printed.ensures.areas Journal)
+    (c.print_documents-printed.ensures.areas Sealed)
 
 pub returns-clause-mirror : goal.returns-clause-mirror
 returns-clause-mirror g c = alone_joins _ _ _ Mirror c.load.ensures.mirror (c.print_documents-printed.ensures.areas Mirror)

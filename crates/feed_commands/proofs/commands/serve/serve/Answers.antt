@@ -26,8 +26,8 @@ returns-clause-serves g c =
           (on_ok_weaker c.print_session-printed.result (λ whole. whole told) c.print_session-printed.ensures.whole)
           c.print_session-printed.ensures.counts;
       most = session.ensures.most;
-      serves = λ opened told. session.ensures.serves told (λ fault is. opened-load end fault opened is);
-      done = session.ensures.done;
+      serves = λ opened. session.ensures.serves (λ fault is. opened-load end fault opened is);
+      ends = session.ensures.ends;
       unopened = λ closed. record {
         no_lines = (session.ensures.unopened (unopened-end end closed)).0;
         same_door = ap g.L.Door.state (session.ensures.unopened (unopened-end end closed)).1;

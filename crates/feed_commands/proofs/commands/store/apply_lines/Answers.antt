@@ -1,4 +1,4 @@
-use Rattle.std.proofs.Common.{◌≡◌, inl, inr, ℕ, ◌+◌, ◌-◌, List, [], ◌∷◌, ◌++◌, length, Result, Ok, Err, refl, ap, sym, subst, ◌∙◌, arith, zero-add}
+use Rattle.std.proofs.Common.{◌≡◌, inl, inr, ℕ, ◌+◌, ◌-◌, List, [], ◌∷◌, ◌++◌, length, Result, Ok, Err, refl, ap, sym, subst, ◌∙◌, append-nil, append_assoc, arith, zero-add}
 use Rattle.std.specs.Prelude.{Some}
 use Rattle.std.proofs.lemmas.Bool.{false≢true}
 use Rattle.std.proofs.lemmas.Result.{err_from_is_err_and}
@@ -30,7 +30,7 @@ returns-in_err-lines-clause-leaves g c =
     let p = err_from_is_err_and c.from_residual.result c.from_residual.ensures.1 in
     rw (p.1, p.2) (λ told rests settled.
     lines-leave disk disk (g.C.Clock.coming c.args.clock.now) input input _ _ _ opened opened 0
-    (λ below. omega arith)
+    ([], sym (append-nil opened.history)) (λ below. omega arith)
     (λ seen. record { within = omega arith; lines = refl })
     (λ stop. cc)
     (both_stay disk (OpensPast opened.head opened.history (length opened.history))
@@ -63,6 +63,7 @@ loop-lines-init g c =
       calls = λ below. omega arith;
       mirror = alone_begins disk Mirror;
       rests = λ told rests. rests;
+      added = λ told rests. ([], sym (append-nil store.history));
       leaves = λ told rests settled.
           both_stay disk (OpensPast store.head store.history (length store.history))
           (g.met.D.Disk.is_disk c.args.disk.now) settled;
@@ -115,6 +116,13 @@ loop-lines-preserved g c =
           omega (arith, one, held.calls (omega (arith, one, below)), held.grown, grows);
       mirror = alone_joins start disk left Mirror held.mirror c.apply_line.ensures.mirror;
       rests = λ told rests. c.in_ok-apply_line.ensures.rests told (held.rests told rests);
+      added = λ told rests.
+          let one = c.in_ok-apply_line.ensures.leaves told (held.rests told rests) in
+          let so_far = held.added told rests in (
+            so_far.0 ++ one.0 ∷ [],
+            one.1 ∙ ap (λ (h : List Op). h ++ one.0 ∷ []) so_far.1
+                ∙ append_assoc opened.history so_far.0 (one.0 ∷ []),
+          );
       leaves = λ told rests settled.
           let one = c.in_ok-apply_line.ensures.leaves told (held.rests told rests) in
           subst (λ (h : List Op). AlwaysLeavesBoth start left (OpensPast opened.head h (length opened.history)))
@@ -158,7 +166,7 @@ returns-in_err-next-clause-leaves g c =
     let before = length store.history - length opened.history in
     rw (p.1, p.2) (λ told rests settled.
     lines-leave (g.D.Disk.state c.args.disk.now) (g.D.Disk.state c.loop-lines.disk) moments start rest
-    (g.C.Clock.told × g.I.Source.told) _ _ opened store before held.calls
+    (g.C.Clock.told × g.I.Source.told) _ _ opened store before (held.added told rests) held.calls
     (λ seen. Progress-made (stored_step moments) opened start.left c.loop-lines.lines input before store
     (held.progress told seen.0 seen.1))
     (λ stop seen.
@@ -233,7 +241,7 @@ returns-in_err-apply_line-clause-leaves g c =
           bad.3) in
           let later = bad.3.moments.first.later in
           lines-fail start left moments input rest (g.C.Clock.told × g.I.Source.told) _ _ opened store before
-          (λ below. omega (arith, later, held.calls (omega (arith, later, below))))
+          (held.added told rests) (λ below. omega (arith, later, held.calls (omega (arith, later, below))))
           made (λ stop. absurd (none stop)) bad.0 (ap Err is)
           (λ seen.
           Progress-made (stored_step moments) opened input.left c.next.new.self rest (before + 1) next
@@ -251,7 +259,7 @@ returns-in_err-apply_line-clause-leaves g c =
           (◌≡◌ {A = Result (Unit {0}) Fault} (Err fault) (Err Disk))
           (◌≡◌ {A = Result (Unit {0}) Fault} (Err fault) (Err Input))) (sym same)
           (lines-leave start disk moments input rest (g.C.Clock.told × g.I.Source.told) _ _ opened store before
-          held.calls made (λ stop. absurd (none stop))
+          (held.added told rests) held.calls made (λ stop. absurd (none stop))
           (held.leaves told rests settled)
           (held.settled told rests settled))
     ])
@@ -274,7 +282,7 @@ returns-clause-leaves g c = λ told rests settled.
     let before = length store.history - length opened.history in
     lines-leave (g.D.Disk.state c.args.disk.now) (g.D.Disk.state c.loop-lines.disk) moments start
     (g.I.Source.state c.next.new.input)
-    (g.C.Clock.told × g.I.Source.told) _ _ opened store before held.calls
+    (g.C.Clock.told × g.I.Source.told) _ _ opened store before (held.added told rests) held.calls
     (λ seen. Progress-made (stored_step moments) opened start.left c.loop-lines.lines
     (g.I.Source.state c.loop-lines.input) before store
     (held.progress told seen.0 seen.1))

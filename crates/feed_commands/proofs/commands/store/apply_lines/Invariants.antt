@@ -1,4 +1,4 @@
-use Rattle.std.proofs.Common.{◌≡◌, ℕ, ◌+◌, ◌-◌, ◌*◌, ◌<◌, ◌≤◌, false, length}
+use Rattle.std.proofs.Common.{◌≡◌, ℕ, ◌+◌, ◌-◌, ◌*◌, ◌<◌, ◌≤◌, List, ◌++◌, false, length}
 use Rattle.atom_values.specs.Counts.{counter_limit}
 use Rattle.feed_disk.specs.Moments.{LeavesAlone}
 use Rattle.feed_disk.specs.declared.area.Area.TheVariants.{Mirror}
@@ -9,6 +9,7 @@ use Rattle.feed_commands.specs.Lines.{KnowsEnd, allowance}
 use Rattle.feed_commands.specs.Stored.{stored_step}
 use Rattle.feed_commands.proofs.ProgressLemmas.{Progress}
 use Rattle.feed_commands.proofs.commands.store.apply_lines.Given as goal
+use Rattle.member_rules.specs.declared.operation.Op.{Op}
 
 abbrev pub invariant-loop-lines : goal.invariant-loop-lines
 invariant-loop-lines g l =
@@ -35,6 +36,8 @@ invariant-loop-lines g l =
           before.clock + 4 * (length l.store.history - length old.history) ≤ disk.clock;
       mirror : LeavesAlone before disk Mirror;
       rests : g.D.Disk.told → IsAtRest before → IsAtRest disk;
+      added : g.D.Disk.told → IsAtRest before →
+          (more : List Op) × (l.store.history ≡ old.history ++ more);
       leaves : g.D.Disk.told → IsAtRest before →
           Settled before old.head old.history (length old.history) →
           AlwaysLeavesBoth before disk (OpensPast old.head l.store.history (length old.history));

@@ -3,15 +3,13 @@ use Rattle.atom_values.specs.Counts.{Rose}
 use Rattle.std.proofs.lemmas.Result.{err_from_is_err_and}
 use Rattle.feed_disk.specs.declared.area.Area.TheVariants.{Journal, Sealed, Mirror}
 use Rattle.feed_disk.proofs.MomentLemmas.{alone_joins}
-use Rattle.feed_recovery.specs.Settled.{OpensPast}
 use Rattle.feed_recovery.specs.declared.fault.ArchiveFault.TheVariants.{DiskFault}
 use Rattle.feed_recovery.specs.Stored.{stored_of}
 use Rattle.feed_commands.specs.declared.fault.Fault.TheVariants.{Disk, Input}
 use Rattle.feed_commands.specs.StoreFaults.{archive_fault}
 use Rattle.feed_commands.specs.Stored.{archive_answer}
 use Rattle.feed_commands.proofs.AnswerOnLemmas.{answer-bad, answer-on, archive-disk, archive-input, archive-refused, archive-sealed}
-use Rattle.feed_recovery.proofs.BothLemmas.{both_joins}
-use Rattle.feed_recovery.proofs.PastLemmas.{both_alone}
+use Rattle.feed_recovery.proofs.LoadedLemmas.{payloads-then-alone}
 use Rattle.feed_commands.proofs.StoreLemmas.{opens-same}
 use Rattle.feed_commands.proofs.commands.store.show_archive.Goals as goal
 
@@ -38,11 +36,9 @@ returns-in_err-text-clause-refused g c =
     (λ e. c.in_err-text.ensures.refused.0 (ap Err e)) refusal))
 
 pub returns-in_err-text-clause-safe : goal.returns-in_err-text-clause-safe
-returns-in_err-text-clause-safe g c = λ told head operations least settled.
-    let loaded = c.in_ok-store.ensures.moments told head operations least settled in
-    both_joins _ _ _ (OpensPast head operations least) loaded
-    (both_alone _ _ (OpensPast head operations least) (g.met.D.Disk.is_disk c.load.new.disk)
-    (c.archive-text.ensures.areas Journal) (c.archive-text.ensures.areas Sealed) loaded.now)
+returns-in_err-text-clause-safe g c = λ told.
+    payloads-then-alone _ _ _ (c.in_ok-store.ensures.payloads told) (c.archive-text.ensures.areas Journal)
+    (c.archive-text.ensures.areas Sealed)
 
 pub returns-in_err-text-clause-mirror : goal.returns-in_err-text-clause-mirror
 returns-in_err-text-clause-mirror g c =
@@ -84,8 +80,6 @@ returns-clause-answer g c = λ told.
     (archive-sealed store c.args.number _ c.in_ok-text.ensures.sealed (c.in_ok-text.ensures.document told))
 
 pub returns-clause-safe : goal.returns-clause-safe
-returns-clause-safe g c = λ told head operations least settled.
-    let loaded = c.in_ok-store.ensures.moments told head operations least settled in
-    both_joins _ _ _ (OpensPast head operations least) loaded
-    (both_alone _ _ (OpensPast head operations least) (g.met.D.Disk.is_disk c.load.new.disk)
-    (c.archive-text.ensures.areas Journal) (c.archive-text.ensures.areas Sealed) loaded.now)
+returns-clause-safe g c = λ told.
+    payloads-then-alone _ _ _ (c.in_ok-store.ensures.payloads told) (c.archive-text.ensures.areas Journal)
+    (c.archive-text.ensures.areas Sealed)

@@ -1,14 +1,12 @@
 use Rattle.std.proofs.Common.{◌≡◌, Err, ap, ◌∙◌}
 use Rattle.std.proofs.lemmas.Result.{err_from_is_err_and}
 use Rattle.feed_disk.specs.declared.area.Area.TheVariants.{Journal, Sealed}
-use Rattle.feed_recovery.specs.Settled.{OpensPast}
 use Rattle.feed_recovery.specs.declared.fault.MemberFault.TheVariants.{DiskFault}
 use Rattle.feed_recovery.specs.Stored.{stored_of}
 use Rattle.feed_commands.specs.StoreFaults.{member_fault}
 use Rattle.feed_commands.specs.Stored.{member_answer}
 use Rattle.feed_commands.proofs.AnswerOnLemmas.{answer-bad, answer-on, member-live, member-refused}
-use Rattle.feed_recovery.proofs.BothLemmas.{both_joins}
-use Rattle.feed_recovery.proofs.PastLemmas.{both_alone}
+use Rattle.feed_recovery.proofs.LoadedLemmas.{payloads-then-alone}
 use Rattle.feed_commands.proofs.StoreLemmas.{opens-same}
 use Rattle.feed_commands.proofs.commands.store.show_member.Goals as goal
 
@@ -34,11 +32,9 @@ returns-in_err-text-clause-refused g c =
     (λ index e. c.in_err-text.ensures.never told index (ap Err e)) refusal))
 
 pub returns-in_err-text-clause-safe : goal.returns-in_err-text-clause-safe
-returns-in_err-text-clause-safe g c = λ told head operations least settled.
-    let loaded = c.in_ok-store.ensures.moments told head operations least settled in
-    both_joins _ _ _ (OpensPast head operations least) loaded
-    (both_alone _ _ (OpensPast head operations least) (g.met.D.Disk.is_disk c.load.new.disk)
-    (c.member-text.ensures.areas Journal) (c.member-text.ensures.areas Sealed) loaded.now)
+returns-in_err-text-clause-safe g c = λ told.
+    payloads-then-alone _ _ _ (c.in_ok-store.ensures.payloads told) (c.member-text.ensures.areas Journal)
+    (c.member-text.ensures.areas Sealed)
 
 pub returns-in_err-text-clause-disk_faults : goal.returns-in_err-text-clause-disk_faults
 returns-in_err-text-clause-disk_faults g c =
@@ -60,8 +56,6 @@ returns-clause-answer g c = λ told.
     (c.in_ok-text.ensures.document told))
 
 pub returns-clause-safe : goal.returns-clause-safe
-returns-clause-safe g c = λ told head operations least settled.
-    let loaded = c.in_ok-store.ensures.moments told head operations least settled in
-    both_joins _ _ _ (OpensPast head operations least) loaded
-    (both_alone _ _ (OpensPast head operations least) (g.met.D.Disk.is_disk c.load.new.disk)
-    (c.member-text.ensures.areas Journal) (c.member-text.ensures.areas Sealed) loaded.now)
+returns-clause-safe g c = λ told.
+    payloads-then-alone _ _ _ (c.in_ok-store.ensures.payloads told) (c.member-text.ensures.areas Journal)
+    (c.member-text.ensures.areas Sealed)

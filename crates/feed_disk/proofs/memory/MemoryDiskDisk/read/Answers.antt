@@ -19,6 +19,7 @@ returns-clause-areas c =
       areas = c.self.inside.areas;
       calls = c.self.inside.calls;
       bytes_read = c.saturating_add-self-inside.result;
+      starved = c.self.inside.starved;
     } in
     passes_by_all c.args.self.now n c.count_call.ensures.rules
     (ap (λ (m : MemoryValue). m.calls.made) c.self.view_is ∙ c.count_call.ensures.made)

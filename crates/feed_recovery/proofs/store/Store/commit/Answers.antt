@@ -1,4 +1,5 @@
-use Rattle.std.proofs.Common.{[], ◌∷◌, ◌++◌, length, ap, subst}
+use Rattle.std.proofs.Common.{[], ◌∷◌, ◌++◌, length, ap, subst, Result, Ok, Err}
+use Rattle.std.specs.Prelude.{OnOk}
 use Rattle.feed_disk.specs.declared.area.Area.TheVariants.{Journal, Sealed, Mirror}
 use Rattle.feed_disk.proofs.MomentLemmas.{alone_joins}
 use Rattle.feed_recovery.specs.Commit.{MakesSealCalls}
@@ -73,3 +74,13 @@ returns-clause-most g c =
     (subst (λ (v : ReadyValue). MakesSealCalls v.seal s m before after) c.ready.view_is
     c.in_default.ensures.calls)
     c.append_operation.ensures.most
+
+-- at rest after both appends
+both-rest : {A E : Type 0} (told P Q R : Type 0) (result : Result A E) → (told → P → Q) → OnOk result (told → Q → R)
+    → OnOk result (told → P → R)
+both-rest told P Q R (Err fault) first second = tt
+both-rest told P Q R (Ok done) first second = λ tells rests. second tells (first tells rests)
+
+pub returns-clause-rests : goal.returns-clause-rests
+returns-clause-rests g c =
+    both-rest _ _ _ _ c.append_operation.result c.in_default.ensures.rests c.append_operation.ensures.rests

@@ -6,34 +6,43 @@ use Rattle.feed_journal.specs.declared.fault.LogFault.{LogFault}
 use Rattle.feed_recovery.specs.Faults.{IsLoadFault}
 use Rattle.feed_recovery.specs.Store.{seal_count}
 use Rattle.feed_recovery.proofs.FaultLemmas.{opens_without}
-use Rattle.feed_recovery.proofs.LoadedLemmas.{all_same, alone_stands, journal_same, journal_stands}
-use Rattle.feed_recovery.proofs.LoadedLemmas.{loaded_calls, loaded_rests, mirror_alone, mirror_journal}
-use Rattle.feed_recovery.proofs.LoadedLemmas.{sealed_journal, sealed_same, sealed_stands, settled_stays}
+use Rattle.feed_recovery.proofs.LoadedLemmas.{all_same, alone_stands, both-payloads, journal_same, loaded_calls}
+use Rattle.feed_recovery.proofs.LoadedLemmas.{loaded_rests, mirror_alone, mirror_journal, payloads-leave}
+use Rattle.feed_recovery.proofs.LoadedLemmas.{sealed_journal, sealed_same}
 use Rattle.feed_recovery.proofs.ReadingLemmas.{reads_begin}
 use Rattle.feed_recovery.proofs.RefusedLemmas.{refusal-log}
 use Rattle.feed_recovery.proofs.SettleLemmas.{rest_settles}
 use Rattle.feed_recovery.proofs.store.Store.load.Goals as goal
 
-pub returns-in_err-journal-clause-moments : goal.returns-in_err-journal-clause-moments
-returns-in_err-journal-clause-moments g c = λ tells head operations least settled.
+pub returns-in_err-journal-clause-payloads : goal.returns-in_err-journal-clause-payloads
+returns-in_err-journal-clause-payloads g c = λ tells.
     let s = g.D.Disk.state c.args.disk.now in
     let m = g.D.Disk.state c.load.new.disk in
-    settled_stays s m head operations least (g.met.D.Disk.is_disk c.args.disk.now) (c.load.ensures.moments tells)
-    (alone_stands s m Sealed (c.load.ensures.others Sealed sealed_journal)) settled
+    record {
+      journal = c.load.ensures.moments tells;
+      sealed = alone_stands s m Sealed (c.load.ensures.others Sealed sealed_journal);
+    }
+
+pub returns-in_err-journal-clause-moments : goal.returns-in_err-journal-clause-moments
+returns-in_err-journal-clause-moments g c = λ tells.
+    payloads-leave (g.D.Disk.state c.args.disk.now) (g.D.Disk.state c.load.new.disk)
+    (g.met.D.Disk.is_disk c.args.disk.now) (returns-in_err-journal-clause-payloads g c tells)
 
 pub returns-in_err-journal-clause-mirror : goal.returns-in_err-journal-clause-mirror
 returns-in_err-journal-clause-mirror g c = c.load.ensures.others Mirror mirror_journal
 
-pub returns-in_err-seals-clause-moments : goal.returns-in_err-seals-clause-moments
-returns-in_err-seals-clause-moments g c = λ tells head operations least settled.
+pub returns-in_err-seals-clause-payloads : goal.returns-in_err-seals-clause-payloads
+returns-in_err-seals-clause-payloads g c = λ tells.
     let s = g.D.Disk.state c.args.disk.now in
     let m = g.D.Disk.state c.load.new.disk in
     let t = g.D.Disk.state c.load-2.new.disk in
-    let others = c.load.ensures.others in
-    let others' = c.load-2.ensures.others in
-    settled_stays s t head operations least (g.met.D.Disk.is_disk c.args.disk.now)
-    (journal_stands s m t t others others' (reads_begin t) (c.load.ensures.moments tells))
-    (sealed_stands s m t t others others' (reads_begin t) (c.load-2.ensures.moments tells)) settled
+    both-payloads s m t t c.load.ensures.others c.load-2.ensures.others (reads_begin t) (c.load.ensures.moments tells)
+    (c.load-2.ensures.moments tells)
+
+pub returns-in_err-seals-clause-moments : goal.returns-in_err-seals-clause-moments
+returns-in_err-seals-clause-moments g c = λ tells.
+    payloads-leave (g.D.Disk.state c.args.disk.now) (g.D.Disk.state c.load-2.new.disk)
+    (g.met.D.Disk.is_disk c.args.disk.now) (returns-in_err-seals-clause-payloads g c tells)
 
 pub returns-in_err-seals-clause-mirror : goal.returns-in_err-seals-clause-mirror
 returns-in_err-seals-clause-mirror g c =
@@ -59,18 +68,16 @@ returns-in_err-store-clause-only g c = λ tells head history seals opens.
     rw (returned.1, returned.2)
     (opens_without (s.content Journal) (s.content Sealed) head history seals opens fault cause)
 
+pub returns-in_err-store-clause-payloads : goal.returns-in_err-store-clause-payloads
+returns-in_err-store-clause-payloads g c = λ tells.
+    both-payloads (g.D.Disk.state c.args.disk.now) (g.D.Disk.state c.load.new.disk) (g.D.Disk.state c.load-2.new.disk)
+    (g.D.Disk.state c.reopen.new.disk) c.load.ensures.others c.load-2.ensures.others c.reopen.ensures.reads
+    (c.load.ensures.moments tells) (c.load-2.ensures.moments tells)
+
 pub returns-in_err-store-clause-moments : goal.returns-in_err-store-clause-moments
-returns-in_err-store-clause-moments g c = λ tells head operations least settled.
-    let s = g.D.Disk.state c.args.disk.now in
-    let m = g.D.Disk.state c.load.new.disk in
-    let t = g.D.Disk.state c.load-2.new.disk in
-    let u = g.D.Disk.state c.reopen.new.disk in
-    let others = c.load.ensures.others in
-    let others' = c.load-2.ensures.others in
-    let reads = c.reopen.ensures.reads in
-    settled_stays s u head operations least (g.met.D.Disk.is_disk c.args.disk.now)
-    (journal_stands s m t u others others' reads (c.load.ensures.moments tells))
-    (sealed_stands s m t u others others' reads (c.load-2.ensures.moments tells)) settled
+returns-in_err-store-clause-moments g c = λ tells.
+    payloads-leave (g.D.Disk.state c.args.disk.now) (g.D.Disk.state c.reopen.new.disk)
+    (g.met.D.Disk.is_disk c.args.disk.now) (returns-in_err-store-clause-payloads g c tells)
 
 pub returns-in_err-store-clause-mirror : goal.returns-in_err-store-clause-mirror
 returns-in_err-store-clause-mirror g c =
@@ -83,18 +90,16 @@ returns-clause-same g c = λ tells. all_same (g.D.Disk.state c.args.disk.now) (g
     c.load-2.ensures.others (c.in_ok-journal.ensures.same tells) (c.in_ok-seals.ensures.same tells)
     c.reopen.ensures.reads
 
+pub returns-clause-payloads : goal.returns-clause-payloads
+returns-clause-payloads g c = λ tells.
+    both-payloads (g.D.Disk.state c.args.disk.now) (g.D.Disk.state c.load.new.disk) (g.D.Disk.state c.load-2.new.disk)
+    (g.D.Disk.state c.reopen.new.disk) c.load.ensures.others c.load-2.ensures.others c.reopen.ensures.reads
+    (c.load.ensures.moments tells) (c.load-2.ensures.moments tells)
+
 pub returns-clause-moments : goal.returns-clause-moments
-returns-clause-moments g c = λ tells head operations least settled.
-    let s = g.D.Disk.state c.args.disk.now in
-    let m = g.D.Disk.state c.load.new.disk in
-    let t = g.D.Disk.state c.load-2.new.disk in
-    let u = g.D.Disk.state c.reopen.new.disk in
-    let others = c.load.ensures.others in
-    let others' = c.load-2.ensures.others in
-    let reads = c.reopen.ensures.reads in
-    settled_stays s u head operations least (g.met.D.Disk.is_disk c.args.disk.now)
-    (journal_stands s m t u others others' reads (c.load.ensures.moments tells))
-    (sealed_stands s m t u others others' reads (c.load-2.ensures.moments tells)) settled
+returns-clause-moments g c = λ tells.
+    payloads-leave (g.D.Disk.state c.args.disk.now) (g.D.Disk.state c.reopen.new.disk)
+    (g.met.D.Disk.is_disk c.args.disk.now) (returns-clause-payloads g c tells)
 
 pub returns-clause-rests : goal.returns-clause-rests
 returns-clause-rests g c = λ tells whole. loaded_rests (g.D.Disk.state c.args.disk.now) (g.D.Disk.state c.load.new.disk)

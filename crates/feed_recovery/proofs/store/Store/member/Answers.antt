@@ -1,4 +1,4 @@
-use Rattle.std.proofs.Common.{◌≡◌, ◌-◌, ℕ, List, length, sym, ap, subst, ◌∙◌, arith}
+use Rattle.std.proofs.Common.{◌≡◌, ◌-◌, ℕ, List, Some, length, sym, ap, subst, ◌∙◌, arith}
 use Rattle.std.specs.Prelude.{IfOk, slice_index_or, vec_len}
 use Rattle.atom_writer.specs.declared.doc.FeedName.{FeedName}
 use Rattle.feed_recovery.specs.Documents.{IsDocumentOf, IsLiveDocument, Sets}
@@ -7,7 +7,7 @@ use Rattle.feed_recovery.specs.declared.store.Store.TheInside.{Inside}
 use Rattle.member_rules.proofs.VersionLemmas.{version-is}
 use Rattle.member_rules.specs.Head.{HeadValue, IsHead}
 use Rattle.feed_recovery.proofs.EntryLemmas.{document_live, document_version, inward, live_named, live_rules}
-use Rattle.feed_recovery.proofs.EntryLemmas.{live_sets, set_edited, state_within}
+use Rattle.feed_recovery.proofs.EntryLemmas.{live_sets, on-ok, set_edited, state_within}
 use Rattle.member_rules.specs.declared.operation.Op.{Op}
 use Rattle.feed_recovery.proofs.store.Store.member.Goals as goal
 
@@ -84,8 +84,19 @@ returns-clause-entry g c =
     ∙ ap (λ (v : StoreValue). v.history) (c.self.view_is ∙ same) in
     let operation = c.index.result.now in
     document_version store c.args.number c.in-Live.version c.moment-edited.result c.in-Live.updated operation
-    c.as_slice.result.now (sym c.in-Live.ensures)
+    c.as_slice.result.now
+    (c.in_ok-payload.ensures.length ∙ ap (λ (bytes : List ℕ). Some (length bytes)) (sym c.as_slice.ensures.value))
+    (sym c.in-Live.ensures)
     (subst (λ (l : List Op). operation ≡ slice_index_or l (c.in-Live.version - 1) operation) history c.index.ensures)
     c.moment-edited.ensures c.document_of.result
     (subst (λ (n : FeedName). IfOk c.document_of.result (λ written. IsDocumentOf n c.as_slice.result.now c.args.number
     c.moment-edited.result c.in-Live.updated written.items)) name c.document_of.ensures.document)
+
+pub returns-clause-read : goal.returns-clause-read
+returns-clause-read g c = on-ok _ c.document_of.result (record {
+  since = c.in-Live.version;
+  is_since = record { updated = c.in-Live.updated; state = sym c.in-Live.ensures };
+  count = length c.in_ok-payload.payload.items;
+  long = c.in_ok-payload.ensures.length;
+  given = c.in_ok-payload.ensures.read;
+})

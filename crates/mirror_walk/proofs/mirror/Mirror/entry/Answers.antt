@@ -1,4 +1,4 @@
-use Rattle.std.proofs.Common.{◌≡◌, ◌⊎◌, ◌<◌, inl, inr, ℕ, List, Result, Ok, Err, Some, None, length, ap, subst}
+use Rattle.std.proofs.Common.{◌≡◌, ◌⊎◌, inl, inr, ℕ, List, Result, Ok, Err, Some, None, ap, subst}
 use Rattle.std.proofs.Common.{◌∙◌}
 use Rattle.std.specs.Prelude.{IfErr, IfOk, IfSome, MatchOption}
 use Rattle.atom_values.specs.Entry.{EntryValue}
@@ -6,11 +6,11 @@ use Rattle.feed_journal.specs.declared.fault.LogFault.{LogFault}
 use Rattle.feed_journal.specs.declared.fault.LogFault.TheVariants.{Changed, NoMemory}
 use Rattle.mirror_walk.specs.Holding.{KeptValue, first_missing, payloads_of}
 use Rattle.mirror_walk.specs.Index.{HasEntryAt}
-use Rattle.mirror_walk.specs.Listing.{live_at}
+use Rattle.mirror_walk.specs.Listing.{IsShownAt, live_at}
 use Rattle.mirror_walk.specs.Mirror.{IsHeldAt, MirrorValue}
 use Rattle.mirror_walk.specs.Rereading.{HasEntryIn}
 use Rattle.mirror_walk.proofs.PublishedLemmas.{entry-counts}
-use Rattle.mirror_walk.proofs.RereadLemmas.{IsLiveAt, entry-same, entry-there, live-place, place-within}
+use Rattle.mirror_walk.proofs.RereadLemmas.{IsLiveAt, entry-same, entry-there, live-place}
 use Rattle.mirror_walk.proofs.VisitAnswerLemmas.{loaded-of}
 use Rattle.mirror_walk.proofs.mirror.Mirror.entry.Given.{Over}
 use Rattle.mirror_walk.proofs.mirror.Mirror.entry.Goals as goal
@@ -52,12 +52,12 @@ changed_is (Err fault) index other (inr changed) is = cc
 
 pub returns-clause-changed : goal.returns-clause-changed
 returns-clause-changed g c = λ index changed.
-    let is_live = live g (goal.at.returns-clause-changed g c).After-entry_at in
     let same = changed_is c.entry_at.result c.entry_place-place.result.document index
     c.entry_at.ensures.refused
     changed in
-    subst (λ (n : ℕ). n < length c.args.self.now.kept) same
-    (place-within c.args.self.now.kept c.args.number c.entry_place-place.result is_live)
+    subst (λ (n : ℕ). IsShownAt c.args.self.now.kept c.args.number n) same
+    (subst (λ (m : MirrorValue). IsShownAt m.kept c.args.number c.entry_place-place.result.document)
+    c.self.view_is c.entry_place-place.ensures.shown)
 
 ok-then : (result : Result EntryValue LogFault) (P Q : EntryValue → Type 0) → IfOk result P
     → ((entry : EntryValue) → P entry → Q entry) → IfOk result Q

@@ -1,11 +1,19 @@
-use Rattle.std.proofs.Common.{List, ℕ, subst}
+use Rattle.std.proofs.Common.{Err, List, ℕ, ap, subst}
 use Rattle.std.proofs.lemmas.Result.{err_from_is_err_and}
 use Rattle.feed_disk.specs.declared.area.Area.TheVariants.{Mirror as MirrorArea}
 use Rattle.feed_disk.proofs.MomentLemmas.{alone_joins}
 use Rattle.feed_journal.specs.Records.{records}
+use Rattle.feed_journal.specs.declared.fault.LogFault.{LogFault}
 use Rattle.mirror_walk.specs.Loaded.{IsMirrorFault}
 use Rattle.mirror_walk.proofs.LoadLemmas.{loads-without}
+use Rattle.mirror_walk.proofs.RefusedLemmas.{log-refused}
 use Rattle.mirror_walk.proofs.mirror.Mirror.load.Goals as goal
+
+pub returns-in_err-log-clause-refusal : goal.returns-in_err-log-clause-refusal
+returns-in_err-log-clause-refusal g c =
+    let returned = err_from_is_err_and c.from_residual.result c.from_residual.ensures.1 in
+    rw (returned.1, returned.2) (log-refused c.args.base c.in_err-log.field-0.0
+    (λ n is. c.in_err-log.ensures.unchanged n (ap (λ (f : LogFault). Err f) is)))
 
 pub returns-in_err-mirror-clause-only : goal.returns-in_err-mirror-clause-only
 returns-in_err-mirror-clause-only g c = λ tells kept loaded.

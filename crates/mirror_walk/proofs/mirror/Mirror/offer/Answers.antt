@@ -121,9 +121,9 @@ pub returns-in-New-clause-kept : goal.returns-in-New-clause-kept
 returns-in-New-clause-kept g c = λ other other'. ap (λ (m : MirrorValue). m.kept)
     (c.take.ensures.unchanged (memory_left c.take.result c.take.ensures.answers other other'))
 
-pub returns-in-New-clause-listed : goal.returns-in-New-clause-listed
-returns-in-New-clause-listed g c = λ other other'. ap (λ (m : MirrorValue). m.listed)
-    (c.take.ensures.unchanged (memory_left c.take.result c.take.ensures.answers other other'))
+pub returns-in-New-clause-unchanged : goal.returns-in-New-clause-unchanged
+returns-in-New-clause-unchanged g c = λ other other'.
+    c.take.ensures.unchanged (memory_left c.take.result c.take.ensures.answers other other')
 
 pub returns-in-New-clause-unmoved : goal.returns-in-New-clause-unmoved
 returns-in-New-clause-unmoved g c = λ other other'.

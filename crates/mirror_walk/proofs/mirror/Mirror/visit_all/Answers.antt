@@ -1,21 +1,18 @@
-use Rattle.std.proofs.Common.{◌≡◌, ◌≢◌, ◌++◌, ◌∷◌, [], None, Ok, Err, Result, inl, inr, refl, sym, ap}
+use Rattle.std.proofs.Common.{◌≡◌, ◌≢◌, None, Ok, Err, Result, inl, inr, refl, sym, ap}
 use Rattle.std.proofs.Common.{subst, ◌∙◌, arith}
 use Rattle.chain_links.specs.declared.address.Address.TheVariants.{Feed}
-use Rattle.feed_disk.proofs.MomentLemmas.{leaves_begin}
-use Rattle.feed_disk.specs.declared.area.Area.TheVariants.{Mirror as MirrorArea}
 use Rattle.mirror_walk.specs.declared.walk.Visits.{Visits}
 use Rattle.mirror_walk.specs.declared.walk.WalkFault.{WalkFault}
-use Rattle.chain_links.specs.Address.{printed}
 use Rattle.mirror_walk.specs.declared.walk.Tally.{Tally}
 use Rattle.mirror_walk.specs.declared.walk.Visit.{Visit}
 use Rattle.mirror_walk.specs.declared.walk.WalkFault.TheVariants.{DiskFault, FetchFault}
-use Rattle.mirror_walk.specs.Visit.{AcceptsAt, HasVisited, IsVisit}
-use Rattle.mirror_walk.specs.Walk.{IsAnswered, IsWalkStep, setting_of}
-use Rattle.mirror_walk.proofs.VisitLemmas.{GoesOn, asks-some, goes-on, setting-begins, setting-joins}
-use Rattle.mirror_walk.proofs.VisitLemmas.{sound-joins}
-use Rattle.mirror_walk.proofs.VisitsLemmas.{asked-as, ends-fault, ends-nowhere, ends-refused, err-of}
-use Rattle.mirror_walk.proofs.VisitsLemmas.{moments-as, IsSoFar, counted-sums, no-tally, one_asked, sum_of}
-use Rattle.mirror_walk.proofs.VisitsLemmas.{visit-as, visits-begin, visits-done, visits-more}
+use Rattle.mirror_walk.specs.Visit.{IsVisit, VisitsByAnswers}
+use Rattle.mirror_walk.specs.Walk.{IsAnswered, setting_by}
+use Rattle.mirror_walk.proofs.GivenLemmas.{HasGone, ended-done, ended-fault, ended-nowhere, ended-refused}
+use Rattle.mirror_walk.proofs.GivenLemmas.{goes-further, gone-none}
+use Rattle.mirror_walk.proofs.VisitAnswerLemmas.{ok-works}
+use Rattle.mirror_walk.proofs.VisitLemmas.{GoesOn, asks-some, goes-on, setting-begins, setting-joins, sound-joins}
+use Rattle.mirror_walk.proofs.VisitsLemmas.{counted-sums, err-again, err-of, no-tally, one_asked, sum_of}
 use Rattle.mirror_walk.proofs.mirror.Mirror.visit_all.Given.{Over}
 use Rattle.mirror_walk.proofs.mirror.Mirror.visit_all.Goals as goal
 use Rattle.mirror_walk.proofs.mirror.Mirror.visit_all.Goals.{In-Accepted}
@@ -39,14 +36,10 @@ addresses-init g c =
       is_address = tt;
       bounded = omega (arith, c.default-tally.ensures);
       answered = omega (arith, c.default-tally.ensures);
-      so_far = λ told. subst (IsSoFar (setting_of c.args.self.now source) c.args.self.now.kept
-          c.args.self.now.kept Feed
-          source.asked source.asked) (no-tally c.default-tally.result c.default-tally.ensures.0
+      gone = subst (HasGone g.D.Disk.told g.F.Fetch.told s s source source c.args.self.now c.args.self.now.kept Feed)
+          (no-tally c.default-tally.result c.default-tally.ensures.0
           c.default-tally.ensures.1.0 c.default-tally.ensures.1.1.0 c.default-tally.ensures.1.1.1)
-          (visits-begin (setting_of c.args.self.now source) c.args.self.now.kept source.asked);
-      moments = λ told_disk told_source rest.
-          leaves_begin s MirrorArea (λ _. IsWalkStep (setting_of c.args.self.now source)
-          c.args.self.now.kept);
+          (gone-none g.D.Disk.told g.F.Fetch.told s source c.args.self.now);
     }
 
 pub overflow_add-tally : goal.overflow_add-tally
@@ -93,158 +86,94 @@ returns-in-None-clause-setting g c =
     (g.D.Disk.state c.visit.new.disk)
     c.args.self.now c.addresses.self c.visit.new.self c.addresses.invariant.setting c.visit.ensures.setting
 
+pub returns-in_err-answer-clause-sound : goal.returns-in_err-answer-clause-sound
+returns-in_err-answer-clause-sound g c = λ works.
+    sound-joins g.D.Disk.told (g.D.Disk.state c.args.disk.now) (g.D.Disk.state c.addresses.disk)
+    (g.D.Disk.state c.visit.new.disk) c.args.self.now c.addresses.self c.visit.new.self
+    c.addresses.invariant.sound (c.in_err-answer.ensures.sound (λ e. works (err-of c.from_residual.result
+    c.in_err-answer.field-0.0 c.from_residual.ensures.1 ∙ err-again c.in_err-answer.field-0.0 DiskFault e)))
+
+pub returns-in-NotThere-clause-sound : goal.returns-in-NotThere-clause-sound
+returns-in-NotThere-clause-sound g c = λ works.
+    sound-joins g.D.Disk.told (g.D.Disk.state c.args.disk.now) (g.D.Disk.state c.addresses.disk)
+    (g.D.Disk.state c.visit.new.disk) c.args.self.now c.addresses.self c.visit.new.self
+    c.addresses.invariant.sound (c.in_ok-answer.ensures.sound (ok-works _ _))
+
+pub returns-in-Refused-clause-sound : goal.returns-in-Refused-clause-sound
+returns-in-Refused-clause-sound g c = λ works.
+    sound-joins g.D.Disk.told (g.D.Disk.state c.args.disk.now) (g.D.Disk.state c.addresses.disk)
+    (g.D.Disk.state c.visit.new.disk) c.args.self.now c.addresses.self c.visit.new.self
+    c.addresses.invariant.sound (c.in_ok-answer.ensures.sound (ok-works _ _))
+
+pub returns-in-None-clause-sound : goal.returns-in-None-clause-sound
+returns-in-None-clause-sound g c = λ works.
+    sound-joins g.D.Disk.told (g.D.Disk.state c.args.disk.now) (g.D.Disk.state c.addresses.disk)
+    (g.D.Disk.state c.visit.new.disk) c.args.self.now c.addresses.self c.visit.new.self
+    c.addresses.invariant.sound (c.in_ok-answer.ensures.sound (ok-works _ _))
+
 pub returns-in_err-answer-clause-visited : goal.returns-in_err-answer-clause-visited
-returns-in_err-answer-clause-visited g c = λ told.
-    let keeps = c.addresses.invariant in
+returns-in_err-answer-clause-visited g c =
     let fault = c.in_err-answer.field-0.0 in
-    let before = g.F.Fetch.state c.args.fetch.now in
-    let between = g.F.Fetch.state c.addresses.fetch in
-    let after = g.F.Fetch.state c.visit.new.fetch in
-    let s = g.D.Disk.state c.args.disk.now in
-    let m = g.D.Disk.state c.addresses.disk in
-    let setting = setting_of c.args.self.now before in
     let is : c.from_residual.result ≡ Err fault = err-of c.from_residual.result fault
     c.from_residual.ensures.1 in
-    subst (λ (r : Result Visits WalkFault).
-    HasVisited setting c.args.self.now.kept c.visit.new.self.kept before.asked after.asked r) (sym is)
-    (ends-fault setting c.args.self.now.kept c.addresses.self.kept c.addresses.address before.asked
-    between.asked
-    c.addresses.tally (keeps.so_far told) fault c.visit.new.self.kept after.asked
-    (visit-as s m c.args.self.now c.addresses.self before between keeps.setting keeps.answers
-    c.addresses.address
-    c.visit.new.self.kept (Err fault) (c.in_err-answer.ensures.visited told))
-    (asked-as s m c.args.self.now c.addresses.self before between keeps.setting keeps.answers after.asked
-    c.addresses.address (Err fault) (c.in_err-answer.ensures.asked told)))
+    subst (λ (r : Result Visits WalkFault). VisitsByAnswers g.D.Disk.told g.F.Fetch.told
+    (g.D.Disk.state c.args.disk.now) (g.D.Disk.state c.visit.new.disk) (g.F.Fetch.state c.args.fetch.now)
+    (g.F.Fetch.state c.visit.new.fetch) c.args.self.now c.visit.new.self.kept r) (sym is)
+    (ended-fault g.D.Disk.told g.F.Fetch.told (g.D.Disk.state c.args.disk.now)
+    (g.D.Disk.state c.addresses.disk) (g.D.Disk.state c.visit.new.disk) (g.F.Fetch.state c.args.fetch.now)
+    (g.F.Fetch.state c.addresses.fetch) (g.F.Fetch.state c.visit.new.fetch) c.args.self.now c.addresses.self
+    c.addresses.address c.addresses.tally c.addresses.invariant.setting c.addresses.invariant.answers
+    c.addresses.invariant.is_address c.addresses.invariant.gone c.visit.new.self.kept
+    (Err fault) c.in_err-answer.ensures.visited c.addresses.invariant.sound.rests fault refl)
 
 pub returns-in-NotThere-clause-visited : goal.returns-in-NotThere-clause-visited
-returns-in-NotThere-clause-visited g c = λ told.
-    let keeps = c.addresses.invariant in
-    let before = g.F.Fetch.state c.args.fetch.now in
-    let between = g.F.Fetch.state c.addresses.fetch in
-    let after = g.F.Fetch.state c.visit.new.fetch in
-    let s = g.D.Disk.state c.args.disk.now in
-    let m = g.D.Disk.state c.addresses.disk in
-    let setting = setting_of c.args.self.now before in
-    ends-nowhere setting c.args.self.now.kept c.addresses.self.kept c.addresses.address before.asked
-    between.asked
-    c.addresses.tally (keeps.so_far told) c.visit.new.self.kept after.asked
-    (subst (λ (v : Visit). IsVisit setting c.addresses.self.kept c.addresses.address c.visit.new.self.kept
-    (Ok v))
-    c.in-NotThere.is (visit-as s m c.args.self.now c.addresses.self before between keeps.setting keeps.answers
-    c.addresses.address c.visit.new.self.kept (Ok c.in_ok-answer.field-0) (c.in_ok-answer.ensures.visited
-    told)))
-    (asked-as s m c.args.self.now c.addresses.self before between keeps.setting keeps.answers after.asked
-    c.addresses.address (Ok c.in_ok-answer.field-0) (c.in_ok-answer.ensures.asked told))
+returns-in-NotThere-clause-visited g c =
+    ended-nowhere g.D.Disk.told g.F.Fetch.told (g.D.Disk.state c.args.disk.now)
+    (g.D.Disk.state c.addresses.disk) (g.D.Disk.state c.visit.new.disk) (g.F.Fetch.state c.args.fetch.now)
+    (g.F.Fetch.state c.addresses.fetch) (g.F.Fetch.state c.visit.new.fetch) c.args.self.now c.addresses.self
+    c.addresses.address c.addresses.tally c.addresses.invariant.setting c.addresses.invariant.answers
+    c.addresses.invariant.is_address c.addresses.invariant.gone c.visit.new.self.kept
+    (Ok c.in_ok-answer.field-0) c.in_ok-answer.ensures.visited c.addresses.invariant.sound.rests
+    (ap (λ (v : Visit). Ok v) c.in-NotThere.is)
 
 pub returns-in-Refused-clause-visited : goal.returns-in-Refused-clause-visited
-returns-in-Refused-clause-visited g c = λ told.
-    let keeps = c.addresses.invariant in
-    let before = g.F.Fetch.state c.args.fetch.now in
-    let between = g.F.Fetch.state c.addresses.fetch in
-    let after = g.F.Fetch.state c.visit.new.fetch in
-    let s = g.D.Disk.state c.args.disk.now in
-    let m = g.D.Disk.state c.addresses.disk in
-    let setting = setting_of c.args.self.now before in
-    ends-refused setting c.args.self.now.kept c.addresses.self.kept c.addresses.address before.asked
-    between.asked
-    c.addresses.tally (keeps.so_far told) c.in-Refused.why c.visit.new.self.kept after.asked
-    (subst (λ (v : Visit). IsVisit setting c.addresses.self.kept c.addresses.address c.visit.new.self.kept
-    (Ok v))
-    c.in-Refused.is (visit-as s m c.args.self.now c.addresses.self before between keeps.setting keeps.answers
-    c.addresses.address c.visit.new.self.kept (Ok c.in_ok-answer.field-0) (c.in_ok-answer.ensures.visited
-    told)))
-    (asked-as s m c.args.self.now c.addresses.self before between keeps.setting keeps.answers after.asked
-    c.addresses.address (Ok c.in_ok-answer.field-0) (c.in_ok-answer.ensures.asked told))
-
--- the accepted document, in the walk's setting
-accepted : (g : Over) (c : In-Accepted g) → g.F.Fetch.told
-    → IsAnswered (setting_of c.args.self.now (g.F.Fetch.state c.args.fetch.now)) c.addresses.self.kept
-    c.addresses.address (Ok c.in-Accepted.answer) c.visit.new.self.kept
-accepted g c told =
-    let keeps = c.addresses.invariant in
-    let before = g.F.Fetch.state c.args.fetch.now in
-    let between = g.F.Fetch.state c.addresses.fetch in
-    subst (λ (v : Visit). IsVisit (setting_of c.args.self.now before) c.addresses.self.kept
-    c.addresses.address
-    c.visit.new.self.kept (Ok v)) c.in-Accepted.is
-    (visit-as (g.D.Disk.state c.args.disk.now) (g.D.Disk.state c.addresses.disk) c.args.self.now
-    c.addresses.self before
-    between keeps.setting keeps.answers c.addresses.address c.visit.new.self.kept (Ok c.in_ok-answer.field-0)
-    (c.in_ok-answer.ensures.visited told))
-
--- the address was asked
-asked : (g : Over) (c : In-Accepted g) → g.F.Fetch.told → (g.F.Fetch.state c.visit.new.fetch).asked
-    ≡ (g.F.Fetch.state c.addresses.fetch).asked ++ printed c.args.self.now.base c.addresses.address ∷ []
-asked g c told =
-    let keeps = c.addresses.invariant in
-    asked-as (g.D.Disk.state c.args.disk.now) (g.D.Disk.state c.addresses.disk) c.args.self.now
-    c.addresses.self
-    (g.F.Fetch.state c.args.fetch.now) (g.F.Fetch.state c.addresses.fetch) keeps.setting keeps.answers
-    (g.F.Fetch.state c.visit.new.fetch).asked c.addresses.address (Ok c.in_ok-answer.field-0)
-    (c.in_ok-answer.ensures.asked told)
+returns-in-Refused-clause-visited g c =
+    ended-refused g.D.Disk.told g.F.Fetch.told (g.D.Disk.state c.args.disk.now)
+    (g.D.Disk.state c.addresses.disk) (g.D.Disk.state c.visit.new.disk) (g.F.Fetch.state c.args.fetch.now)
+    (g.F.Fetch.state c.addresses.fetch) (g.F.Fetch.state c.visit.new.fetch) c.args.self.now c.addresses.self
+    c.addresses.address c.addresses.tally c.addresses.invariant.setting c.addresses.invariant.answers
+    c.addresses.invariant.is_address c.addresses.invariant.gone c.visit.new.self.kept
+    (Ok c.in_ok-answer.field-0) c.in_ok-answer.ensures.visited c.addresses.invariant.sound.rests c.in-Refused.why
+    (ap (λ (v : Visit). Ok v) c.in-Refused.is)
 
 pub returns-in-None-clause-visited : goal.returns-in-None-clause-visited
-returns-in-None-clause-visited g c = λ told.
-    let at_answer = (goal.at.returns-in-None-clause-visited g c).In-Accepted in
-    let before = g.F.Fetch.state c.args.fetch.now in
-    let between = g.F.Fetch.state c.addresses.fetch in
-    let after = g.F.Fetch.state c.visit.new.fetch in
-    let setting = setting_of c.args.self.now before in
-    subst (λ (t : Tally). HasVisited setting c.args.self.now.kept c.visit.new.self.kept before.asked
-    after.asked
+returns-in-None-clause-visited g c =
+    subst (λ (t : Tally). VisitsByAnswers g.D.Disk.told g.F.Fetch.told
+    (g.D.Disk.state c.args.disk.now) (g.D.Disk.state c.visit.new.disk) (g.F.Fetch.state c.args.fetch.now)
+    (g.F.Fetch.state c.visit.new.fetch) c.args.self.now c.visit.new.self.kept
     (Ok record { tally = t; refused = None })) (sym c.count.ensures)
-    (visits-done setting c.args.self.now.kept c.addresses.self.kept c.addresses.address before.asked
-    between.asked
-    c.addresses.tally (c.addresses.invariant.so_far told) c.visit.new.self.kept c.in-Accepted.answer
-    (accepted g at_answer told) after.asked (asked g at_answer told) (sym c.in-None.ensures.missing))
+    (ended-done g.D.Disk.told g.F.Fetch.told (g.D.Disk.state c.args.disk.now)
+    (g.D.Disk.state c.addresses.disk) (g.D.Disk.state c.visit.new.disk) (g.F.Fetch.state c.args.fetch.now)
+    (g.F.Fetch.state c.addresses.fetch) (g.F.Fetch.state c.visit.new.fetch) c.args.self.now c.addresses.self
+    c.addresses.address c.addresses.tally c.addresses.invariant.setting c.addresses.invariant.answers
+    c.addresses.invariant.is_address c.addresses.invariant.gone c.visit.new.self.kept
+    (Ok c.in_ok-answer.field-0) c.in_ok-answer.ensures.visited c.addresses.invariant.sound.rests
+    c.in-Accepted.answer (ap (λ (v : Visit). Ok v) c.in-Accepted.is) (sym c.in-None.ensures.missing))
 
-pub returns-in_err-answer-clause-moments : goal.returns-in_err-answer-clause-moments
-returns-in_err-answer-clause-moments g c = λ told_disk told_source rest.
-    let keeps = c.addresses.invariant in
-    moments-as (g.D.Disk.state c.args.disk.now) (g.D.Disk.state c.addresses.disk) c.args.self.now
-    c.addresses.self
-    (g.F.Fetch.state c.args.fetch.now) (g.F.Fetch.state c.addresses.fetch) keeps.setting keeps.answers
-    (g.D.Disk.state c.visit.new.disk) c.addresses.address c.addresses.tally (keeps.so_far told_source)
-    (keeps.moments told_disk told_source rest)
-    (c.visit.ensures.moments told_disk told_source (keeps.sound.rests told_disk rest))
-
-pub returns-in-NotThere-clause-moments : goal.returns-in-NotThere-clause-moments
-returns-in-NotThere-clause-moments g c = λ told_disk told_source rest.
-    let keeps = c.addresses.invariant in
-    moments-as (g.D.Disk.state c.args.disk.now) (g.D.Disk.state c.addresses.disk) c.args.self.now
-    c.addresses.self
-    (g.F.Fetch.state c.args.fetch.now) (g.F.Fetch.state c.addresses.fetch) keeps.setting keeps.answers
-    (g.D.Disk.state c.visit.new.disk) c.addresses.address c.addresses.tally (keeps.so_far told_source)
-    (keeps.moments told_disk told_source rest)
-    (c.visit.ensures.moments told_disk told_source (keeps.sound.rests told_disk rest))
-
-pub returns-in-Refused-clause-moments : goal.returns-in-Refused-clause-moments
-returns-in-Refused-clause-moments g c = λ told_disk told_source rest.
-    let keeps = c.addresses.invariant in
-    moments-as (g.D.Disk.state c.args.disk.now) (g.D.Disk.state c.addresses.disk) c.args.self.now
-    c.addresses.self
-    (g.F.Fetch.state c.args.fetch.now) (g.F.Fetch.state c.addresses.fetch) keeps.setting keeps.answers
-    (g.D.Disk.state c.visit.new.disk) c.addresses.address c.addresses.tally (keeps.so_far told_source)
-    (keeps.moments told_disk told_source rest)
-    (c.visit.ensures.moments told_disk told_source (keeps.sound.rests told_disk rest))
-
-pub returns-in-None-clause-moments : goal.returns-in-None-clause-moments
-returns-in-None-clause-moments g c = λ told_disk told_source rest.
-    let keeps = c.addresses.invariant in
-    moments-as (g.D.Disk.state c.args.disk.now) (g.D.Disk.state c.addresses.disk) c.args.self.now
-    c.addresses.self
-    (g.F.Fetch.state c.args.fetch.now) (g.F.Fetch.state c.addresses.fetch) keeps.setting keeps.answers
-    (g.D.Disk.state c.visit.new.disk) c.addresses.address c.addresses.tally (keeps.so_far told_source)
-    (keeps.moments told_disk told_source rest)
-    (c.visit.ensures.moments told_disk told_source (keeps.sound.rests told_disk rest))
+-- the accepted document
+accepted : (g : Over) (c : In-Accepted g)
+    → IsAnswered (setting_by c.addresses.self (λ _. c.in_ok-answer.ensures.visited.found)) c.addresses.self.kept
+    c.addresses.address (Ok c.in-Accepted.answer) c.visit.new.self.kept
+accepted g c =
+    subst (λ (v : Visit). IsVisit (setting_by c.addresses.self (λ _. c.in_ok-answer.ensures.visited.found))
+    c.addresses.self.kept c.addresses.address c.visit.new.self.kept (Ok v)) c.in-Accepted.is
+    c.in_ok-answer.ensures.visited.visit
 
 -- fewer addresses are left
 on : (g : Over) (c : In-Accepted g) → GoesOn c.addresses.address c.visit.new.self.kept
-on g c = goes-on c.addresses.self c.addresses.address c.visit.new.self.kept c.in-Accepted.answer
-    c.addresses.invariant.next c.addresses.invariant.is_address
-    (subst (λ (v : Visit). AcceptsAt c.addresses.self c.addresses.address c.visit.new.self.kept v)
-    c.in-Accepted.is
-    c.in_ok-answer.ensures.accepted)
+on g c = goes-on c.addresses.self (λ _. c.in_ok-answer.ensures.visited.found) c.addresses.address
+    c.visit.new.self.kept c.in-Accepted.answer c.addresses.invariant.next c.addresses.invariant.is_address
+    (accepted g c)
 
 pub addresses-smaller : goal.addresses-smaller
 addresses-smaller g c =
@@ -255,18 +184,13 @@ pub addresses-preserved : goal.addresses-preserved
 addresses-preserved g c =
     let at_answer = (goal.at.addresses-preserved g c).In-Accepted in
     let keeps = c.addresses.invariant in
-    let before = g.F.Fetch.state c.args.fetch.now in
-    let between = g.F.Fetch.state c.addresses.fetch in
-    let after = g.F.Fetch.state c.visit.new.fetch in
     let s = g.D.Disk.state c.args.disk.now in
     let m = g.D.Disk.state c.addresses.disk in
     let t = g.D.Disk.state c.visit.new.disk in
-    let setting = setting_of c.args.self.now before in
     let answer = c.in-Accepted.answer in
-    let tally = one_asked c.addresses.tally in
     let goes = on g at_answer in
     let fewer = goes.fewer c.in-Some.next (sym c.in-Some.ensures.missing) c.in-Some.ensures.address in
-    let counts = counted-sums tally answer in
+    let counts = counted-sums (one_asked c.addresses.tally) answer in
     let works : c.visit.result ≢ Err DiskFault =
     λ e. let clash : Ok c.in_ok-answer.field-0 ≡ Err DiskFault = sym c.in_ok-answer.was ∙ e in cc in
     record {
@@ -290,17 +214,14 @@ addresses-preserved g c =
         counts.1,
         keeps.answered,
       );
-      so_far = λ told. subst (IsSoFar setting c.args.self.now.kept c.visit.new.self.kept c.in-Some.next
-          before.asked
-          after.asked) (sym c.count.ensures)
-          (visits-more setting c.args.self.now.kept c.addresses.self.kept c.addresses.address before.asked
-          between.asked
-          c.addresses.tally (keeps.so_far told) c.visit.new.self.kept answer (accepted g at_answer told)
-          after.asked
-          (asked g at_answer told) c.in-Some.next (sym c.in-Some.ensures.missing));
-      moments = λ told_disk told_source rest.
-          (moments-as s m c.args.self.now c.addresses.self before between keeps.setting keeps.answers t
-          c.addresses.address c.addresses.tally (keeps.so_far told_source)
-          (keeps.moments told_disk told_source rest)
-          (c.visit.ensures.moments told_disk told_source (keeps.sound.rests told_disk rest))).moments;
+      gone = subst (HasGone g.D.Disk.told g.F.Fetch.told s t (g.F.Fetch.state c.args.fetch.now)
+          (g.F.Fetch.state c.visit.new.fetch) c.args.self.now c.visit.new.self.kept c.in-Some.next)
+          (sym c.count.ensures)
+          (goes-further g.D.Disk.told g.F.Fetch.told (g.D.Disk.state c.args.disk.now)
+          (g.D.Disk.state c.addresses.disk) (g.D.Disk.state c.visit.new.disk) (g.F.Fetch.state c.args.fetch.now)
+          (g.F.Fetch.state c.addresses.fetch) (g.F.Fetch.state c.visit.new.fetch) c.args.self.now c.addresses.self
+          c.addresses.address c.addresses.tally c.addresses.invariant.setting c.addresses.invariant.answers
+          c.addresses.invariant.is_address c.addresses.invariant.gone c.visit.new.self.kept
+          (Ok c.in_ok-answer.field-0) c.in_ok-answer.ensures.visited keeps.sound.rests
+          answer (ap (λ (v : Visit). Ok v) c.in-Accepted.is) c.in-Some.next (sym c.in-Some.ensures.missing) fewer);
     }

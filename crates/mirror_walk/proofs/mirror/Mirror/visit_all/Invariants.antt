@@ -1,12 +1,8 @@
 use Rattle.std.proofs.Common.{◌≡◌, ◌+◌, ◌≤◌}
 use Rattle.atom_writer.specs.Doc.{archive_limit}
 use Rattle.chain_links.specs.Address.{IsAddress}
-use Rattle.feed_disk.specs.Moments.{LeavesOnly}
-use Rattle.feed_disk.specs.declared.area.Area.TheVariants.{Mirror as MirrorArea}
-use Rattle.mirror_walk.specs.Mirror.{IsAtRest}
 use Rattle.mirror_walk.specs.Visit.{IsNextOf, KeepsSetting, StaysSound, asks_left}
-use Rattle.mirror_walk.specs.Walk.{IsWalkStep, setting_of}
-use Rattle.mirror_walk.proofs.VisitsLemmas.{IsSoFar}
+use Rattle.mirror_walk.proofs.GivenLemmas.{HasGone}
 use Rattle.mirror_walk.proofs.mirror.Mirror.visit_all.Given as goal
 
 abbrev pub invariant-addresses : goal.invariant-addresses
@@ -25,11 +21,7 @@ invariant-addresses g l =
       is_address : IsAddress l.address;
       bounded : l.tally.asked + asks_left l.address ≤ archive_limit + 1;
       answered : l.tally.taken + l.tally.known + l.tally.stale ≤ l.tally.asked;
-      so_far : g.F.Fetch.told → IsSoFar (setting_of l.fn.self before) l.fn.self.kept l.self.kept l.address
-          before.asked
-          after.asked l.tally;
-      moments : g.D.Disk.told → g.F.Fetch.told → IsAtRest s l.fn.self.kept
-          → LeavesOnly s t MirrorArea (λ _. IsWalkStep (setting_of l.fn.self before) l.fn.self.kept);
+      gone : HasGone g.D.Disk.told g.F.Fetch.told s t before after l.fn.self l.self.kept l.address l.tally;
     }
 
 abbrev pub decreases-addresses : goal.decreases-addresses

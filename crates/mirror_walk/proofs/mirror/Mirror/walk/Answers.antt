@@ -1,29 +1,68 @@
-use Rattle.std.proofs.Common.{Result, ap, subst, sym}
-use Rattle.mirror_walk.specs.declared.walk.Walked.{Walked}
-use Rattle.mirror_walk.specs.declared.walk.WalkFault.{WalkFault}
+use Rattle.std.proofs.Common.{ap, subst, sym}
 use Rattle.mirror_walk.specs.declared.walk.WalkFault.TheVariants.{NoMemory}
 use Rattle.mirror_walk.specs.Mirror.{MirrorValue}
-use Rattle.mirror_walk.specs.Walk.{HasWalked, setting_of}
+use Rattle.mirror_walk.specs.Walk.{WalksByAnswers}
+use Rattle.mirror_walk.proofs.GivenWalkLemmas.{seen-moments, seen-served, seen-walked, walks-cut-short, walks-done}
+use Rattle.mirror_walk.proofs.GivenWalkLemmas.{walks-fault}
 use Rattle.mirror_walk.proofs.VisitsLemmas.{err-of}
-use Rattle.mirror_walk.proofs.WalkServedLemmas.{visited-cut, visited-served}
 use Rattle.mirror_walk.proofs.mirror.Mirror.walk.Goals as goal
 
-pub returns-in_err-outcome-clause-walked : goal.returns-in_err-outcome-clause-walked
-returns-in_err-outcome-clause-walked g c = λ told.
-    let before = g.F.Fetch.state c.args.fetch.now in
-    let after = g.F.Fetch.state c.visit_all.new.fetch in
-    let setting = setting_of c.args.self.now before in
-    subst (λ (r : Result Walked WalkFault).
-    HasWalked setting c.args.self.now.kept c.outcome.new.self.kept before.asked after.asked r)
+pub returns-in_err-tally-clause-by_answers : goal.returns-in_err-tally-clause-by_answers
+returns-in_err-tally-clause-by_answers g c =
+    let fault = c.in_err-tally.field-0.0 in
+    subst (WalksByAnswers g.D.Disk.told g.F.Fetch.told (g.D.Disk.state c.args.disk.now)
+    (g.D.Disk.state c.visit_all.new.disk) (g.F.Fetch.state c.args.fetch.now)
+    (g.F.Fetch.state c.visit_all.new.fetch) c.args.self.now c.visit_all.new.self.kept)
+    (sym (err-of c.from_residual.result fault c.from_residual.ensures.1))
+    (walks-fault g.D.Disk.told g.F.Fetch.told (g.D.Disk.state c.args.disk.now)
+    (g.D.Disk.state c.visit_all.new.disk) (g.F.Fetch.state c.args.fetch.now)
+    (g.F.Fetch.state c.visit_all.new.fetch) c.args.self.now c.visit_all.new.self.kept fault
+    c.in_err-tally.ensures.visited)
+
+pub returns-in_err-tally-clause-walked : goal.returns-in_err-tally-clause-walked
+returns-in_err-tally-clause-walked g c =
+    seen-walked _ _ _ _ _ _ _ _ _ (returns-in_err-tally-clause-by_answers g c)
+
+pub returns-in_err-tally-clause-moments : goal.returns-in_err-tally-clause-moments
+returns-in_err-tally-clause-moments g c =
+    seen-moments _ _ _ _ _ _ _ _ _ (returns-in_err-tally-clause-by_answers g c)
+
+pub returns-in_err-outcome-clause-by_answers : goal.returns-in_err-outcome-clause-by_answers
+returns-in_err-outcome-clause-by_answers g c =
+    subst (WalksByAnswers g.D.Disk.told g.F.Fetch.told (g.D.Disk.state c.args.disk.now)
+    (g.D.Disk.state c.visit_all.new.disk) (g.F.Fetch.state c.args.fetch.now)
+    (g.F.Fetch.state c.visit_all.new.fetch) c.args.self.now c.outcome.new.self.kept)
     (sym (err-of c.from_residual-in_err-outcome.result NoMemory c.from_residual-in_err-outcome.ensures.1))
-    (visited-cut setting c.args.self.now.kept c.visit_all.new.self.kept c.outcome.new.self.kept before.asked
-    after.asked
-    c.in_ok-tally.field-0 (c.in_ok-tally.ensures.visited told)
-    (ap (λ (m : MirrorValue). m.kept) c.outcome.ensures.same))
+    (walks-cut-short g.D.Disk.told g.F.Fetch.told (g.D.Disk.state c.args.disk.now)
+    (g.D.Disk.state c.visit_all.new.disk) (g.F.Fetch.state c.args.fetch.now)
+    (g.F.Fetch.state c.visit_all.new.fetch) c.args.self.now c.visit_all.new.self.kept c.in_ok-tally.field-0
+    c.in_ok-tally.ensures.visited c.outcome.new.self.kept (ap (λ (m : MirrorValue). m.kept) c.outcome.ensures.same))
+
+pub returns-in_err-outcome-clause-walked : goal.returns-in_err-outcome-clause-walked
+returns-in_err-outcome-clause-walked g c =
+    seen-walked _ _ _ _ _ _ _ _ _ (returns-in_err-outcome-clause-by_answers g c)
+
+pub returns-in_err-outcome-clause-moments : goal.returns-in_err-outcome-clause-moments
+returns-in_err-outcome-clause-moments g c =
+    seen-moments _ _ _ _ _ _ _ _ _ (returns-in_err-outcome-clause-by_answers g c)
+
+pub returns-clause-by_answers : goal.returns-clause-by_answers
+returns-clause-by_answers g c =
+    walks-done g.D.Disk.told g.F.Fetch.told (g.D.Disk.state c.args.disk.now)
+    (g.D.Disk.state c.visit_all.new.disk) (g.F.Fetch.state c.args.fetch.now)
+    (g.F.Fetch.state c.visit_all.new.fetch) c.args.self.now c.visit_all.new.self.kept c.in_ok-tally.field-0
+    c.in_ok-tally.ensures.visited c.outcome.new.self.kept (ap (λ (m : MirrorValue). m.kept) c.outcome.ensures.same)
+    c.in_ok-outcome.outcome c.in_ok-outcome.ensures.outcome
+
+pub returns-clause-walked : goal.returns-clause-walked
+returns-clause-walked g c = seen-walked _ _ _ _ _ _ _ _ _ (returns-clause-by_answers g c)
+
+pub returns-clause-moments : goal.returns-clause-moments
+returns-clause-moments g c = seen-moments _ _ _ _ _ _ _ _ _ (returns-clause-by_answers g c)
 
 pub returns-clause-served : goal.returns-clause-served
-returns-clause-served g c = λ told.
-    visited-served (setting_of c.args.self.now (g.F.Fetch.state c.args.fetch.now)) c.args.self.now.kept
-    c.visit_all.new.self.kept (g.F.Fetch.state c.args.fetch.now).asked
-    (g.F.Fetch.state c.visit_all.new.fetch).asked
-    c.in_ok-tally.field-0 (c.in_ok-tally.ensures.visited told)
+returns-clause-served g c =
+    seen-served g.D.Disk.told g.F.Fetch.told (g.D.Disk.state c.args.disk.now)
+    (g.D.Disk.state c.visit_all.new.disk) (g.F.Fetch.state c.args.fetch.now)
+    (g.F.Fetch.state c.visit_all.new.fetch) c.args.self.now c.visit_all.new.self.kept c.in_ok-tally.field-0
+    c.in_ok-tally.ensures.visited
