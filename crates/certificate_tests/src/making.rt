@@ -27,7 +27,7 @@ fn empty_disk(rt: &impl Abort, alloc: Global) -> MemoryDisk {
 /// The mirror of a disk after it took the document of a feed without operations.
 fn mirror_of<D: Disk>(rt: &impl Abort, alloc: Global, disk: &mut D) -> Mirror
     ensures unspent { is_spent result ≡ false }
-    ensures stands { D.told → StandsFor (D.state disk.new) result }
+    ensures stands { D.observable → StandsFor (D.state disk.new) result }
 {
     let base = Base::parse(alloc, b"http://feed.example/").expect(rt, "a base");
     let mut mirror = Mirror::load(alloc, disk, base, 1_000_000).expect(rt, "a mirror");

@@ -21,7 +21,7 @@ use Rattle.member_rules.proofs.ShowsLemmas.{live_of-past}
 use Rattle.mirror_walk.specs.Holding.{KeptValue, best_of, chain_of, digest_at, numbers_from}
 use Rattle.mirror_walk.specs.Listing.{IsLastLive, IsNextLive, entries_up_to, live_at, live_entries, with_entry}
 use Rattle.mirror_walk.specs.Mirror.{MirrorValue, StandsFor, is_spent}
-use Rattle.mirror_walk.specs.Rereading.{IsSpentBy, KeepsAllBut}
+use Rattle.mirror_walk.specs.Rereading.{HasReadBack, IsSpentBy, KeepsAllBut}
 use Rattle.coverage_certificate.specs.Certificate.{AreCoverLines, CoverValue, IsArchive}
 use Rattle.chain_links.specs.declared.place.Place.{Place}
 use Rattle.member_rules.specs.Chain.{place_of}
@@ -110,25 +110,33 @@ spent_joins a b c first second =
       reread = c.reread;
     } in left) first
 
--- The digest of the live entries up to this number is under way. `told` is whether contracts can see the disk.
-pub record IsDigesting (told : Type 0) (first : MirrorValue) (name : FeedName) (s now : DiskState)
+pub read_joins : (observable : Type 0) (s : DiskState) (a b c : MirrorValue) (failed : Type 0) → KeepsAllBut a b
+    → HasReadBack observable s b c failed → HasReadBack observable s a c failed
+read_joins observable s a b c failed first second = record {
+  same = λ other. keeps_joins a b c first (second.same other);
+  spent = λ is. spent_joins a b c first (second.spent is);
+  stands = second.stands;
+}
+
+-- The digest of the live entries up to this number is under way. `observable` is whether contracts can see the disk.
+pub record IsDigesting (observable : Type 0) (first : MirrorValue) (name : FeedName) (s now : DiskState)
     (mirror : MirrorValue) (hasher : Sha256) (count after : ℕ) : Type 0 where
   pub keeps : KeepsAllBut first mirror
   pub listed : IsTrue mirror.listed
   pub unspent : is_spent mirror ≡ false
-  pub stands : told → StandsFor now mirror
+  pub stands : observable → StandsFor now mirror
   pub message : List ℕ
   pub holds : Holds256 hasher message
-  pub text : told → message ≡ live_text name (entries_up_to (live_at first.kept) after)
+  pub text : observable → message ≡ live_text name (entries_up_to (live_at first.kept) after)
   pub count_is : count ≡ length (entries_up_to (live_at first.kept) after)
   pub below : count ≤ after
   pub small : after < 2 ^ 32
   pub areas : (a : Area) → LeavesAlone s now a
   pub faults : now.faults ≡ s.faults
 
-module _ (told : Type 0) (first : MirrorValue) (name : FeedName) (s : DiskState) where
+module _ (observable : Type 0) (first : MirrorValue) (name : FeedName) (s : DiskState) where
   pub digesting-start : (hasher : Sha256) → Holds256 hasher [] → IsTrue first.listed → is_spent first ≡ false
-      → (told → StandsFor s first) → IsDigesting told first name s s first hasher 0 0
+      → (observable → StandsFor s first) → IsDigesting observable first name s s first hasher 0 0
   digesting-start hasher holds listed unspent stands = record {
     keeps = refl;
     listed = listed;
@@ -145,16 +153,16 @@ module _ (told : Type 0) (first : MirrorValue) (name : FeedName) (s : DiskState)
   }
 
   module _ (now : DiskState) (mirror : MirrorValue) (hasher : Sha256) (count after : ℕ)
-      (h : IsDigesting told first name s now mirror hasher count after) where
+      (h : IsDigesting observable first name s now mirror hasher count after) where
     pub same_kept : mirror.kept ≡ first.kept
     same_kept = ap (λ (m : MirrorValue). m.kept) h.keeps
 
     pub digesting-next : (later : DiskState) (left : MirrorValue) (more : Sha256) (number : ℕ) (entry : EntryValue)
         (document : List ℕ) → IsNextLive mirror.kept after number → number < 2 ^ 32
-        → (told → live_at mirror.kept number ≡ Some entry) → document ≡ member_text name entry
+        → (observable → live_at mirror.kept number ≡ Some entry) → document ≡ member_text name entry
         → ((m : List ℕ) → Holds256 hasher m → Holds256 more (m ++ document)) → KeepsAllBut mirror left
-        → (told → StandsFor later left) → ((a : Area) → LeavesAlone now later a) → later.faults ≡ now.faults
-        → IsDigesting told first name s later left more (count + 1) number
+        → (observable → StandsFor later left) → ((a : Area) → LeavesAlone now later a) → later.faults ≡ now.faults
+        → IsDigesting observable first name s later left more (count + 1) number
     digesting-next later left more number entry document next small there written holds keeps stands areas faults =
         let found : IsNextLive first.kept after number =
         subst (λ (ks : List KeptValue). IsNextLive ks after number) same_kept next in
@@ -197,7 +205,7 @@ module _ (told : Type 0) (first : MirrorValue) (name : FeedName) (s : DiskState)
     digesting-count last =
         h.count_is ∙ ap length (digesting-entries last) ∙ length-live first.kept
 
-    pub digesting-text : IsLastLive mirror.kept after → told
+    pub digesting-text : IsLastLive mirror.kept after → observable
         → h.message ≡ live_text name (live_entries first.kept)
     digesting-text last t = h.text t ∙ ap (live_text name) (digesting-entries last)
 

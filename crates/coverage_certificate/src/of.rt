@@ -1,9 +1,9 @@
 //! The certificate of what a mirror holds.
 
-ghost use Rattle.std.specs.Prelude.{◌≡◌, ◌≢◌, ◌≤◌, ◌<◌, ◌++◌, ◌^◌, ℕ, false, Err, IfOk, IsSome, IsTrue, List, None, OnOk, Some};
-ghost use Rattle.std.specs.Prelude.{length, option_map, take};
+ghost use Rattle.std.specs.Prelude.{◌≡◌, ◌≢◌, ◌++◌, ℕ, false, Err, IfOk, IsSome, IsTrue, List, None, OnOk, Some};
+ghost use Rattle.std.specs.Prelude.{option_map, take};
 ghost use Rattle.std.specs.Option.{option_to_list};
-ghost use Rattle.atom_values.specs.Counts.{Rose};
+ghost use Rattle.atom_values.specs.Counts.{CountsFault};
 ghost use Rattle.feed_disk.specs.Moments.{LeavesAlone};
 ghost use Rattle.feed_disk.specs.declared.area.Area.{Area as AreaValue};
 ghost use Rattle.member_rules.specs.Head.{HeadValue};
@@ -14,7 +14,7 @@ ghost use Rattle.mirror_walk.specs.Listing.{ShowsSome, live_entries};
 ghost use Rattle.mirror_walk.specs.Loaded.{IsLoadedOf};
 ghost use Rattle.mirror_walk.specs.Mirror.{StandsFor, is_spent};
 ghost use Rattle.mirror_walk.specs.Published.{HoldsServed};
-ghost use Rattle.mirror_walk.specs.Rereading.{KeepsAllBut, IsSpentBy};
+ghost use Rattle.mirror_walk.specs.Rereading.{HasReadBack};
 ghost use Rattle.coverage_certificate.specs.Certificate.{AreCoverLines};
 ghost use Rattle.coverage_certificate.specs.Held.{certificate_of, line_at, lines_of, with_digest};
 ghost use Rattle.coverage_certificate.specs.Live.{live_digest_of};
@@ -53,8 +53,8 @@ impl Certificate {
         requires unspent { is_spent mirror.old ≡ false }
         requires listed { IsTrue mirror.old.listed }
         requires best { IsSome (best_of mirror.old.kept) }
-        requires stands { D.told → StandsFor (D.state disk.old) mirror.old }
-        ensures certificate { IfOk result (λ made. D.told
+        requires stands { D.observable → StandsFor (D.state disk.old) mirror.old }
+        ensures certificate { IfOk result (λ made. D.observable
             → certificate_of made.base mirror.old.kept ≡ Some made) }
         // On any disk, all but the digest of the live entries is that of what is held.
         ensures parts { IfOk result (λ made. option_map (with_digest made.live_digest)
@@ -62,10 +62,10 @@ impl Certificate {
         ensures base { IfOk result (λ made. option_map (λ name. name.base) (name_of_best mirror.old.kept)
             ≡ Some made.base) }
         // If one feed served all documents held, it is the feed's own certificate at this version.
-        ensures served { IfOk result (λ made. D.told → (head : HeadValue) (history : List Op)
+        ensures served { IfOk result (λ made. D.observable → (head : HeadValue) (history : List Op)
             → mirror.old.base ≡ head.name.base → HoldsServed head history mirror.old.kept
             → made ≡ served_certificate head (take made.version history)) }
-        ensures never { D.told → (index : ℕ) → result ≢ Err (LogFault.Changed index) }
+        ensures never { D.observable → (index : ℕ) → result ≢ Err (LogFault.Changed index) }
         // On any disk, the index is that of the document that shows a live member.
         ensures changed { (index : ℕ) → result ≡ Err (LogFault.Changed index)
             → ShowsSome mirror.old.kept index }
@@ -73,16 +73,11 @@ impl Certificate {
         // No area changes, and of the mirror only the count of calls and the document that was read back
         // last. After `DiskFault` it is spent.
         ensures areas { (a : AreaValue) → LeavesAlone (D.state disk.old) (D.state disk.new) a }
-        ensures same { result ≢ Err LogFault.DiskFault → KeepsAllBut mirror.old mirror.new }
-        ensures spent { result ≡ Err LogFault.DiskFault → IsSpentBy mirror.old mirror.new }
-        ensures stands { result ≢ Err LogFault.DiskFault
-            → D.told → StandsFor (D.state disk.new) mirror.new }
+        ensures mirror { HasReadBack D.observable (D.state disk.new) mirror.old mirror.new
+            (result ≡ Err LogFault.DiskFault) }
 
-        ensures later { (D.state disk.old).faults ≤ (D.state disk.new).faults }
-        ensures failed { result ≡ Err LogFault.DiskFault
-            → Rose (D.state disk.old).faults (D.state disk.new).faults }
-        ensures unfailed { result ≢ Err LogFault.DiskFault
-            → (D.state disk.new).faults ≡ (D.state disk.old).faults }
+        ensures faults { CountsFault (D.state disk.old).faults (D.state disk.new).faults
+            (result ≡ Err LogFault.DiskFault) }
     {
         // A complete mirror has a best subscription document, and with it a name.
         let best = mirror.best().unwrap();
@@ -155,33 +150,31 @@ fn digest_live<D: Disk>(
 ) -> Result<Live, LogFault>
     requires unspent { is_spent mirror.old ≡ false }
     requires listed { IsTrue mirror.old.listed }
-    requires stands { D.told → StandsFor (D.state disk.old) mirror.old }
+    requires stands { D.observable → StandsFor (D.state disk.old) mirror.old }
     ensures count { IfOk result (λ live. live.count ≡ live_count_of (chain_of mirror.old.kept)) }
-    ensures digest { IfOk result (λ live. D.told
+    ensures digest { IfOk result (λ live. D.observable
         → live.digest ≡ live_digest_of name.now (live_entries mirror.old.kept)) }
     ensures whole { IfOk result (λ live. first_missing mirror.old.kept ≡ None) }
     ensures loaded { IfOk result (λ live.
         IsLoadedOf mirror.old.base (payloads_of mirror.old.kept) mirror.old.kept) }
-    ensures never { D.told → (index : ℕ) → result ≢ Err (LogFault.Changed index) }
+    ensures never { D.observable → (index : ℕ) → result ≢ Err (LogFault.Changed index) }
     ensures changed { (index : ℕ) → result ≡ Err (LogFault.Changed index)
         → ShowsSome mirror.old.kept index }
     ensures areas { (a : AreaValue) → LeavesAlone (D.state disk.old) (D.state disk.new) a }
-    ensures same { result ≢ Err LogFault.DiskFault → KeepsAllBut mirror.old mirror.new }
-    ensures spent { result ≡ Err LogFault.DiskFault → IsSpentBy mirror.old mirror.new }
-    ensures stands { result ≢ Err LogFault.DiskFault
-        → D.told → StandsFor (D.state disk.new) mirror.new }
-    ensures later { (D.state disk.old).faults ≤ (D.state disk.new).faults }
-    ensures failed { result ≡ Err LogFault.DiskFault
-        → Rose (D.state disk.old).faults (D.state disk.new).faults }
-    ensures unfailed { result ≢ Err LogFault.DiskFault
-        → (D.state disk.new).faults ≡ (D.state disk.old).faults }
+    ensures mirror { HasReadBack D.observable (D.state disk.new) mirror.old mirror.new
+        (result ≡ Err LogFault.DiskFault) }
+    ensures faults { CountsFault (D.state disk.old).faults (D.state disk.new).faults
+        (result ≡ Err LogFault.DiskFault) }
 {
     let mut hasher = Sha256::new();
     let mut count = 0;
     let mut after = 0;
     while let Some(number) = mirror.next_live(after) {
         let entry = mirror.entry(disk, number)?;
-        let document = write_member(alloc, name, &entry)?;
+        let written = write_member(alloc, name, &entry);
+        // Before the exit, which would drop it a second time.
+        drop(entry);
+        let document = written?;
         hasher.update(document.as_slice());
         count += 1;
         after = number;

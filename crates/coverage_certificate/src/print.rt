@@ -31,9 +31,9 @@ impl Certificate {
     ///
     /// `Failed`: a call of the sink failed, and the sink took a prefix of the text.
     pub fn print<K: Sink>(&self, sink: &mut K) -> Result<(), Failed>
-        ensures prefix { K.told → TakesPrefix (K.state sink.old) (K.state sink.new)
+        ensures prefix { K.observable → TakesPrefix (K.state sink.old) (K.state sink.new)
             (certificate_text self.now) }
-        ensures whole { OnOk result (K.told
+        ensures whole { OnOk result (K.observable
             → (K.state sink.new).taken ≡ (K.state sink.old).taken ++ certificate_text self.now) }
         ensures counts { HasCause (K.state sink.old).faults (K.state sink.new).faults result }
     {
@@ -47,9 +47,9 @@ impl Certificate {
 
 /// Writes the document lines.
 fn print_documents<K: Sink>(sink: &mut K, base: &Base, lines: &[CoverLine]) -> Result<(), Failed>
-    ensures prefix { K.told → TakesPrefix (K.state sink.old) (K.state sink.new)
+    ensures prefix { K.observable → TakesPrefix (K.state sink.old) (K.state sink.new)
         (text_of_lines (map (document_line base.now) lines.now)) }
-    ensures whole { OnOk result (K.told → (K.state sink.new).taken
+    ensures whole { OnOk result (K.observable → (K.state sink.new).taken
         ≡ (K.state sink.old).taken ++ text_of_lines (map (document_line base.now) lines.now)) }
     ensures counts { HasCause (K.state sink.old).faults (K.state sink.new).faults result }
 {

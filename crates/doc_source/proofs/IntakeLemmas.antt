@@ -41,7 +41,7 @@ takes_none T s t source rest same left = record {
   ahead = ap (λ (x : IntakeState). x.ahead) same ∙ sym (append-nil s.ahead);
   taken = omega (arith, ap (λ (x : IntakeState). x.taken) same);
   limit = ap (λ (x : IntakeState). x.limit) same;
-  from = λ told. sym (left told);
+  from = λ observable. sym (left observable);
 }
 
 pub takes_both : (T : Type 0) (r s t : IntakeState) (a b c : SourceState) → TakesMore T r s a b → TakesMore T s t b c →
@@ -51,13 +51,13 @@ takes_both T r s t a b c m n = record {
   ahead = n.ahead ∙ ap (λ (x : List ℕ). x ++ n.read) m.ahead ∙ append_assoc r.ahead m.read n.read;
   taken = omega (arith, m.taken, n.taken, length-append m.read n.read);
   limit = n.limit ∙ m.limit;
-  from = λ told. m.from told ∙ ap (λ (x : List ℕ). m.read ++ x) (n.from told) ∙ sym (append_assoc m.read n.read c.left);
+  from = λ observable. m.from observable ∙ ap (λ (x : List ℕ). m.read ++ x) (n.from observable) ∙ sym (append_assoc m.read n.read c.left);
 }
 
 pub takes_if : (T U : Type 0) (s t : IntakeState) (a b : SourceState) → (U → T) → TakesMore T s t a b
     → TakesMore U s t a b
 takes_if T U s t a b f m =
-    record { read = m.read; ahead = m.ahead; taken = m.taken; limit = m.limit; from = λ told. m.from (f told) }
+    record { read = m.read; ahead = m.ahead; taken = m.taken; limit = m.limit; from = λ observable. m.from (f observable) }
 
 -- bytes taken after a front of the bytes ahead
 pub takes_behind : (T : Type 0) (front : List ℕ) (s t : IntakeState) (a b : SourceState) → TakesMore T s t a b →
@@ -115,5 +115,5 @@ takes_no_piece T items buffer start end kept taken limit a b same front left =
           ap (λ (n : ℕ). take n buffer) all ∙ front ∙ sym (append-nil (take (end - start) (drop start items)));
       taken = omega arith;
       limit = refl;
-      from = λ told. sym (left told);
+      from = λ observable. sym (left observable);
     }

@@ -23,8 +23,8 @@ takes_sum T used s t a b m sum = omega (arith, m.taken, ap length m.ahead, lengt
 -- the bytes that are unused stay
 pub takes_same : (T : Type 0) (s t : IntakeState) (a b : SourceState) → T → TakesMore T s t a b →
     s.ahead ++ a.left ≡ t.ahead ++ b.left
-takes_same T s t a b told m =
-    ap (λ (x : List ℕ). s.ahead ++ x) (m.from told)
+takes_same T s t a b observable m =
+    ap (λ (x : List ℕ). s.ahead ++ x) (m.from observable)
     ∙ sym (append_assoc s.ahead m.read b.left)
     ∙ ap (λ (x : List ℕ). x ++ b.left) (sym m.ahead)
 
@@ -62,14 +62,14 @@ offer_used used text ahead left bytes offer own e =
 pub answer_before : (T : Type 0) (used : ℕ) (s t : IntakeState) (a b : SourceState)
     (answer : Result (Option Offer) PileFault) → T → TakesMore T s t a b →
     IsAnswer used t.limit (t.ahead ++ b.left) answer → IsAnswer used s.limit (s.ahead ++ a.left) answer
-answer_before T used s t a b answer told m is =
-    subst (λ (x : List ℕ). IsAnswer used s.limit x answer) (sym (takes_same T s t a b told m))
+answer_before T used s t a b answer observable m is =
+    subst (λ (x : List ℕ). IsAnswer used s.limit x answer) (sym (takes_same T s t a b observable m))
     (subst (λ (n : ℕ). IsAnswer used n (t.ahead ++ b.left) answer) m.limit is)
 
 pub end_before : (T : Type 0) (used : ℕ) (s t : IntakeState) (a b : SourceState) → T → TakesMore T s t a b →
     IsEnd used t.limit (t.ahead ++ b.left) → IsEnd used s.limit (s.ahead ++ a.left)
-end_before T used s t a b told m is =
-    subst (λ (x : List ℕ). IsEnd used s.limit x) (sym (takes_same T s t a b told m))
+end_before T used s t a b observable m is =
+    subst (λ (x : List ℕ). IsEnd used s.limit x) (sym (takes_same T s t a b observable m))
     (subst (λ (n : ℕ). IsEnd used n (t.ahead ++ b.left)) m.limit is)
 
 -- the line that was found, and what is after it

@@ -54,9 +54,9 @@ pub record Seen (used : ℕ) (before : IntakeState) (source : SourceState) (ahea
 pub seen : (T : Type 0) (used : ℕ) (before after : IntakeState) (source rest : SourceState) → T →
     TakesMore T before after source rest → used + length before.ahead ≡ before.taken → after.taken ≤ after.limit →
     Seen used before source after.ahead rest.left
-seen T used before after source rest told m sum within = record {
+seen T used before after source rest observable m sum within = record {
   stream =
-      ap (λ (x : List ℕ). before.ahead ++ x) (m.from told)
+      ap (λ (x : List ℕ). before.ahead ++ x) (m.from observable)
       ∙ sym (append_assoc before.ahead m.read rest.left)
       ∙ ap (λ (x : List ℕ). x ++ rest.left) (sym m.ahead);
   short = omega (arith, m.taken, m.limit, ap length m.ahead, length-append before.ahead m.read, sum, within);

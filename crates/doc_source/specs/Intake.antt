@@ -20,10 +20,10 @@ pub record IntakeState : Type 0 where
   pub taken : ℕ
   pub limit : ℕ
 
--- bytes were taken from the source and stand after those ahead; `told` is whether the source's content is known
-pub record TakesMore (told : Type 0) (before after : IntakeState) (source rest : SourceState) : Type 0 where
+-- bytes were taken from the source and stand after those ahead; `observable` is whether the source's content is known
+pub record TakesMore (observable : Type 0) (before after : IntakeState) (source rest : SourceState) : Type 0 where
   pub read : List ℕ
   pub ahead : after.ahead ≡ before.ahead ++ read
   pub taken : after.taken ≡ before.taken + length read
   pub limit : after.limit ≡ before.limit
-  pub from : told → source.left ≡ read ++ rest.left
+  pub from : observable → source.left ≡ read ++ rest.left

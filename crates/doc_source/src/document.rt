@@ -1,7 +1,7 @@
 //! The document that a response carries.
 
 ghost use Rattle.std.specs.Prelude.{◌≡◌, ◌⊎◌, ◌≤◌, List, ℕ, Option, Err, IfOk, IfSome, IsErr, IsOkAnd, option_map, vec_len};
-ghost use Rattle.atom_values.specs.Counts.{Rose};
+ghost use Rattle.atom_values.specs.Counts.{HasRisen};
 ghost use Rattle.http_face.specs.Conn.{Reads};
 ghost use Rattle.http_face.specs.Response.{IsAnswered, IsBadResponse};
 ghost use Rattle.doc_source.specs.Pile.{offer_limit};
@@ -16,14 +16,14 @@ use std::alloc::Global;
 /// - `Failed`: a call of the connection failed, or no response can be read.
 /// - `NoMemory`: memory ran out.
 pub fn read_document<C: Conn>(alloc: Global, conn: &mut C) -> Result<Option<Vec<u8>>, GetFault>
-    ensures answered { IfOk result (λ found. C.told
+    ensures answered { IfOk result (λ found. C.observable
         → IsAnswered (C.state conn.old).left (option_map (λ bytes. bytes.items) found)) }
-    ensures only { (answer : Option (List ℕ)) → IsAnswered (C.state conn.old).left answer → C.told
+    ensures only { (answer : Option (List ℕ)) → IsAnswered (C.state conn.old).left answer → C.observable
         → IsOkAnd result (λ found. option_map (λ bytes. bytes.items) found ≡ answer)
         ⊎ (result ≡ Err GetFault.Failed) ⊎ (result ≡ Err GetFault.NoMemory) }
-    ensures bad { C.told → IsBadResponse (C.state conn.old).left → IsErr result }
-    ensures failed { result ≡ Err GetFault.Failed → C.told → IsBadResponse (C.state conn.old).left
-        ⊎ Rose (C.state conn.old).faults (C.state conn.new).faults }
+    ensures bad { C.observable → IsBadResponse (C.state conn.old).left → IsErr result }
+    ensures failed { result ≡ Err GetFault.Failed → C.observable → IsBadResponse (C.state conn.old).left
+        ⊎ HasRisen (C.state conn.old).faults (C.state conn.new).faults }
     ensures limit { IfOk result (λ found. IfSome found (λ bytes. vec_len bytes ≤ offer_limit)) }
     ensures reads { Reads (C.state conn.old) (C.state conn.new) }
 {

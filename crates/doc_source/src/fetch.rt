@@ -1,7 +1,7 @@
 //! A fetch of documents, as a trait.
 
 ghost use Rattle.std.specs.Prelude.{◌≡◌, ◌≢◌, ◌≤◌, ◌∷◌, ◌++◌, [], Err, IfOk, IfSome, option_map, vec_len};
-ghost use Rattle.atom_values.specs.Counts.{Rose};
+ghost use Rattle.atom_values.specs.Counts.{HasRisen};
 ghost use Rattle.doc_source.specs.Fetch.{FetchState};
 ghost use Rattle.doc_source.specs.Pile.{offer_limit};
 
@@ -55,7 +55,7 @@ impl From<NoMemory> for GetFault {
 /// The documents of a server, which are asked for by their addresses.
 pub trait Fetch {
     /// Whether contracts can see the addresses that were asked and the answers.
-    ghost told: { Type 0 };
+    ghost observable: { Type 0 };
 
     /// The addresses that were asked, the answers, and the count of faults.
     ghost state: { Self → FetchState };
@@ -66,15 +66,15 @@ pub trait Fetch {
     /// - `Failed`: the call failed. It is counted as a fault.
     /// - `NoMemory`: memory ran out. Contracts don't count the address as asked.
     fn get(&mut self, alloc: Global, address: &[u8]) -> Result<Option<Vec<u8>>, GetFault>
-        ensures asked { result ≢ Err GetFault.NoMemory → told
+        ensures asked { result ≢ Err GetFault.NoMemory → observable
             → (state self.new).asked ≡ (state self.old).asked ++ address.now ∷ [] }
-        ensures unasked { result ≡ Err GetFault.NoMemory → told
+        ensures unasked { result ≡ Err GetFault.NoMemory → observable
             → (state self.new).asked ≡ (state self.old).asked }
         ensures answers { (state self.new).answers ≡ (state self.old).answers }
-        ensures answer { IfOk result (λ found. told
+        ensures answer { IfOk result (λ found. observable
             → option_map (λ bytes. bytes.items) found ≡ (state self.old).answers address.now) }
         ensures limit { IfOk result (λ found. IfSome found (λ bytes. vec_len bytes ≤ offer_limit)) }
         ensures later { (state self.old).faults ≤ (state self.new).faults }
-        ensures failed { result ≡ Err GetFault.Failed → Rose (state self.old).faults (state self.new).faults }
+        ensures failed { result ≡ Err GetFault.Failed → HasRisen (state self.old).faults (state self.new).faults }
         ensures worked { result ≢ Err GetFault.Failed → (state self.new).faults ≡ (state self.old).faults };
 }

@@ -36,7 +36,7 @@ struct Link<R: Net> {
 }
 
 impl<R: Net> Conn for Link<R> {
-    ghost told = { ⊥ };
+    ghost observable = { ⊥ };
 
     ghost state = { λ s. record {
       left = [];
@@ -150,7 +150,7 @@ impl<'a, R: Net> HttpFetch<'a, R> {
 }
 
 impl<R: Net> Fetch for HttpFetch<'_, R> {
-    ghost told = { ⊥ };
+    ghost observable = { ⊥ };
 
     ghost state = { λ f. record { asked = []; answers = λ _. None; faults = f.faults } };
 

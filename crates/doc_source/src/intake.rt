@@ -103,16 +103,16 @@ impl Intake {
     /// `Failed`: a call of the source failed, and no byte was taken.
     pub(crate) fn fill<S: Source>(&mut self, source: &mut S) -> Result<Filled, Failed>
         requires room { length self.old.ahead < buffer_limit }
-        ensures takes { TakesMore (S.told × (result ≢ Ok Limit)) self.old self.new
+        ensures takes { TakesMore (S.observable × (result ≢ Ok Limit)) self.old self.new
             (S.state source.old) (S.state source.new) }
         ensures bound { self.new.taken ≤ self.new.limit }
         ensures read { RisesAtMost (self.new.taken - self.old.taken + probed result)
             (S.state source.old).bytes_read (S.state source.new).bytes_read }
         ensures more { result ≡ Ok More → length self.old.ahead < length self.new.ahead }
         ensures stays { result ≢ Ok More → self.new ≡ self.old }
-        ensures end { result ≡ Ok End → S.told → (S.state source.old).left ≡ [] }
+        ensures end { result ≡ Ok End → S.observable → (S.state source.old).left ≡ [] }
         ensures limit { result ≡ Ok Limit → self.old.taken ≡ self.old.limit }
-        ensures goes_on { result ≡ Ok Limit → S.told → 0 < length (S.state source.old).left }
+        ensures goes_on { result ≡ Ok Limit → S.observable → 0 < length (S.state source.old).left }
         ensures counts { HasCause (S.state source.old).faults (S.state source.new).faults result }
     {
         let allowed = self.limit - self.taken;
@@ -137,7 +137,7 @@ impl Intake {
     /// `Failed`: a call of the source failed, and no byte was taken.
     pub(crate) fn fill_if_empty<S: Source>(&mut self, source: &mut S) -> Result<Filled, Failed>
         requires { self.old.taken ≤ self.old.limit }
-        ensures takes { TakesMore (S.told × (result ≢ Ok Limit)) self.old self.new
+        ensures takes { TakesMore (S.observable × (result ≢ Ok Limit)) self.old self.new
             (S.state source.old) (S.state source.new) }
         ensures bound { self.new.taken ≤ self.new.limit }
         ensures read { RisesAtMost (self.new.taken - self.old.taken + probed result)
@@ -145,9 +145,9 @@ impl Intake {
         ensures more { result ≡ Ok More → 0 < length self.new.ahead }
         ensures empty { result ≢ Ok More → self.old.ahead ≡ [] }
         ensures stays { result ≢ Ok More → self.new ≡ self.old }
-        ensures end { result ≡ Ok End → S.told → (S.state source.old).left ≡ [] }
+        ensures end { result ≡ Ok End → S.observable → (S.state source.old).left ≡ [] }
         ensures limit { result ≡ Ok Limit → self.old.taken ≡ self.old.limit }
-        ensures goes_on { result ≡ Ok Limit → S.told → 0 < length (S.state source.old).left }
+        ensures goes_on { result ≡ Ok Limit → S.observable → 0 < length (S.state source.old).left }
         ensures counts { HasCause (S.state source.old).faults (S.state source.new).faults result }
     {
         if self.ahead().is_empty() {
@@ -181,10 +181,10 @@ fn read_behind<S: Source>(
     requires { filled + room ≤ length buffer.old }
     ensures within { IfOk result (λ count. count ≤ room) }
     ensures before { take filled buffer.new ≡ take filled buffer.old }
-    ensures bytes { IfOk result (λ count. S.told
+    ensures bytes { IfOk result (λ count. S.observable
         → (S.state source.old).left ≡ take count (drop filled buffer.new) ++ (S.state source.new).left) }
-    ensures end { IfOk result (λ count. S.told → count ≡ 0 → 0 < room → (S.state source.old).left ≡ []) }
-    ensures err { OnErr result (S.told → (S.state source.new).left ≡ (S.state source.old).left) }
+    ensures end { IfOk result (λ count. S.observable → count ≡ 0 → 0 < room → (S.state source.old).left ≡ []) }
+    ensures err { OnErr result (S.observable → (S.state source.new).left ≡ (S.state source.old).left) }
     ensures read { IfOk result (λ count. (S.state source.new).bytes_read
         ≡ raised (S.state source.old).bytes_read count) }
     ensures unread { OnErr result ((S.state source.new).bytes_read ≡ (S.state source.old).bytes_read) }
@@ -195,12 +195,12 @@ fn read_behind<S: Source>(
 
 /// Whether the source has more bytes. One of them is taken and dropped.
 fn probe<S: Source>(source: &mut S) -> Result<Filled, Failed>
-    ensures own { result ≢ Ok More }
-    ensures end { result ≡ Ok End → S.told → (S.state source.old).left ≡ [] }
-    ensures goes_on { result ≡ Ok Limit → S.told → 0 < length (S.state source.old).left }
+    ensures decided { result ≢ Ok More }
+    ensures end { result ≡ Ok End → S.observable → (S.state source.old).left ≡ [] }
+    ensures goes_on { result ≡ Ok Limit → S.observable → 0 < length (S.state source.old).left }
     ensures read { RisesAtMost (probed result) (S.state source.old).bytes_read
         (S.state source.new).bytes_read }
-    ensures same { result ≢ Ok Limit → S.told → (S.state source.new).left ≡ (S.state source.old).left }
+    ensures same { result ≢ Ok Limit → S.observable → (S.state source.new).left ≡ (S.state source.old).left }
     ensures counts { HasCause (S.state source.old).faults (S.state source.new).faults result }
 {
     match source.read(&mut [0u8; 1])? {

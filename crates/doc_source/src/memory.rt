@@ -2,7 +2,7 @@
 //! them fail.
 
 ghost use Rattle.std.specs.Prelude.{◌≡◌, ◌≢◌, ◌↔◌, ◌+◌, ◌-◌, ◌<◌, ◌≤◌, ◌∷◌, ◌++◌, [], length, take, drop, min, slice_index, All, Err, IfOk, IfSome, OnOk, OnErr, IsErr, IsTrue, map, option_map, vec_len};
-ghost use Rattle.atom_values.specs.Counts.{HasCause, Rose, counted};
+ghost use Rattle.atom_values.specs.Counts.{HasCause, HasRisen, counted};
 ghost use Rattle.atom_values.specs.ListedCalls.{after_call, next_call_fails};
 ghost use Rattle.feed_disk.specs.Raised.{raised};
 ghost use Rattle.doc_source.specs.Fetch.{answer_of};
@@ -42,7 +42,7 @@ impl ListSource {
 }
 
 impl Source for ListSource {
-    ghost told = { Unit {0} };
+    ghost observable = { Unit {0} };
 
     ghost state = { λ s. record {
       left = drop s.at s.bytes;
@@ -108,7 +108,7 @@ impl ListSink {
 }
 
 impl Sink for ListSink {
-    ghost told = { Unit {0} };
+    ghost observable = { Unit {0} };
 
     ghost state = { λ s. record { taken = s.taken.items; faults = s.calls.faults } };
 
@@ -207,7 +207,7 @@ impl PileFetch {
 }
 
 impl Fetch for PileFetch {
-    ghost told = { Unit {0} };
+    ghost observable = { Unit {0} };
 
     ghost state = { λ f. record {
       asked = f.asked.items;
@@ -231,7 +231,7 @@ impl Fetch for PileFetch {
             ≡ answer_of self.old.offers.items address.now) }
         ensures limit { IfOk result (λ found. IfSome found (λ bytes. vec_len bytes ≤ offer_limit)) }
         ensures later { self.old.calls.faults ≤ self.new.calls.faults }
-        ensures failed { result ≡ Err GetFault.Failed → Rose self.old.calls.faults self.new.calls.faults }
+        ensures failed { result ≡ Err GetFault.Failed → HasRisen self.old.calls.faults self.new.calls.faults }
         ensures worked { result ≢ Err GetFault.Failed → self.new.calls.faults ≡ self.old.calls.faults }
     {
         // All memory is taken before the call is counted.

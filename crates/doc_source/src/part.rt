@@ -2,7 +2,7 @@
 
 ghost use Rattle.std.specs.Prelude.{◌≡◌, ◌≢◌, ℕ, ◌+◌, ◌-◌, ◌<◌, ◌≤◌, ◌++◌, [], length, take, drop, Ok, Err, None, Some, IfOk, IfErr, IfSome, OnOk, MatchOption};
 ghost use Rattle.std.specs.Option.{ForSome};
-ghost use Rattle.atom_values.specs.Counts.{Rose};
+ghost use Rattle.atom_values.specs.Counts.{HasRisen};
 ghost use Rattle.feed_disk.specs.Raised.{RisesAtMost};
 ghost use Rattle.doc_source.specs.Intake.{TakesMore};
 ghost use Rattle.atom_values.specs.Ascii.{lf};
@@ -43,18 +43,18 @@ pub(crate) fn next_part<S: Source>(
     requires sum { used + length (with_part used kept intake.old).ahead ≡ intake.old.taken }
     requires bound { intake.old.taken ≤ intake.old.limit }
     ensures part { IfOk result (λ found. IfSome found IsPart) }
-    ensures takes { TakesMore (S.told × Stays result) (with_part used kept intake.old)
+    ensures takes { TakesMore (S.observable × Stays result) (with_part used kept intake.old)
         (with_part used (part_of result) intake.new) (S.state source.old) (S.state source.new) }
     ensures bound { intake.new.taken ≤ intake.new.limit }
     ensures read { RisesAtMost (intake.new.taken - intake.old.taken + taken_past result)
         (S.state source.old).bytes_read (S.state source.new).bytes_read }
-    ensures end { result ≡ Ok None → S.told → IsEnd used intake.old.limit
+    ensures end { result ≡ Ok None → S.observable → IsEnd used intake.old.limit
         ((with_part used kept intake.old).ahead ++ (S.state source.old).left) }
-    ensures refused { IfErr result (λ fault. S.told → IsAnswer used intake.old.limit
+    ensures refused { IfErr result (λ fault. S.observable → IsAnswer used intake.old.limit
         ((with_part used kept intake.old).ahead ++ (S.state source.old).left) (Err fault)) }
     ensures open { result ≡ Err PileFault.SourceFault → IsOpen used intake.new.ahead }
     ensures failed { result ≡ Err PileFault.SourceFault
-        → Rose (S.state source.old).faults (S.state source.new).faults }
+        → HasRisen (S.state source.old).faults (S.state source.new).faults }
     ensures unfailed { result ≢ Err PileFault.SourceFault
         → (S.state source.new).faults ≡ (S.state source.old).faults }
 {
@@ -75,18 +75,18 @@ fn begin<S: Source>(
     requires sum { used + length intake.old.ahead ≡ intake.old.taken }
     requires bound { intake.old.taken ≤ intake.old.limit }
     ensures part { IfOk result (λ found. IfSome found IsPart) }
-    ensures takes { TakesMore (S.told × Stays result) intake.old (with_part used (part_of result) intake.new)
+    ensures takes { TakesMore (S.observable × Stays result) intake.old (with_part used (part_of result) intake.new)
         (S.state source.old) (S.state source.new) }
-    ensures end { result ≡ Ok None → S.told → IsEnd used intake.old.limit
+    ensures end { result ≡ Ok None → S.observable → IsEnd used intake.old.limit
         (intake.old.ahead ++ (S.state source.old).left) }
     ensures bound { intake.new.taken ≤ intake.new.limit }
     ensures read { RisesAtMost (intake.new.taken - intake.old.taken + taken_past result)
         (S.state source.old).bytes_read (S.state source.new).bytes_read }
-    ensures refused { IfErr result (λ fault. S.told → IsAnswer used intake.old.limit
+    ensures refused { IfErr result (λ fault. S.observable → IsAnswer used intake.old.limit
         (intake.old.ahead ++ (S.state source.old).left) (Err fault)) }
     ensures open { result ≡ Err PileFault.SourceFault → IsOpen used intake.new.ahead }
     ensures failed { result ≡ Err PileFault.SourceFault
-        → Rose (S.state source.old).faults (S.state source.new).faults }
+        → HasRisen (S.state source.old).faults (S.state source.new).faults }
     ensures unfailed { result ≢ Err PileFault.SourceFault
         → (S.state source.new).faults ≡ (S.state source.old).faults }
 {
@@ -114,16 +114,16 @@ fn read_head<S: Source>(intake: &mut Intake, source: &mut S, used: u64) -> Resul
     requires bound { intake.old.taken ≤ intake.old.limit }
     ensures len { IfOk result (λ len. len ≡ length (head_at used)) }
     ensures head { OnOk result (HasHead used intake.new.ahead) }
-    ensures takes { TakesMore (S.told × Stays result) intake.old intake.new
+    ensures takes { TakesMore (S.observable × Stays result) intake.old intake.new
         (S.state source.old) (S.state source.new) }
     ensures bound { intake.new.taken ≤ intake.new.limit }
     ensures read { RisesAtMost (intake.new.taken - intake.old.taken + taken_past result)
         (S.state source.old).bytes_read (S.state source.new).bytes_read }
-    ensures refused { IfErr result (λ fault. S.told → IsAnswer used intake.old.limit
+    ensures refused { IfErr result (λ fault. S.observable → IsAnswer used intake.old.limit
         (intake.old.ahead ++ (S.state source.old).left) (Err fault)) }
     ensures open { result ≡ Err PileFault.SourceFault → IsOpen used intake.new.ahead }
     ensures failed { result ≡ Err PileFault.SourceFault
-        → Rose (S.state source.old).faults (S.state source.new).faults }
+        → HasRisen (S.state source.old).faults (S.state source.new).faults }
     ensures unfailed { result ≢ Err PileFault.SourceFault
         → (S.state source.new).faults ≡ (S.state source.old).faults }
 {
@@ -164,18 +164,18 @@ fn find_line<S: Source>(
     requires len { head ≡ length (head_at used) }
     requires head { HasHead used intake.old.ahead }
     ensures found { IfOk result (λ found. IfSome found (IsLineEnd intake.new.ahead head)) }
-    ensures takes { TakesMore (S.told × Stays result) intake.old intake.new
+    ensures takes { TakesMore (S.observable × Stays result) intake.old intake.new
         (S.state source.old) (S.state source.new) }
-    ensures end { result ≡ Ok None → S.told → IsEnd used intake.old.limit
+    ensures end { result ≡ Ok None → S.observable → IsEnd used intake.old.limit
         (intake.old.ahead ++ (S.state source.old).left) }
     ensures bound { intake.new.taken ≤ intake.new.limit }
     ensures read { RisesAtMost (intake.new.taken - intake.old.taken + taken_past result)
         (S.state source.old).bytes_read (S.state source.new).bytes_read }
-    ensures refused { IfErr result (λ fault. S.told → IsAnswer used intake.old.limit
+    ensures refused { IfErr result (λ fault. S.observable → IsAnswer used intake.old.limit
         (intake.old.ahead ++ (S.state source.old).left) (Err fault)) }
     ensures open { result ≡ Err PileFault.SourceFault → IsOpen used intake.new.ahead }
     ensures failed { result ≡ Err PileFault.SourceFault
-        → Rose (S.state source.old).faults (S.state source.new).faults }
+        → HasRisen (S.state source.old).faults (S.state source.new).faults }
     ensures unfailed { result ≢ Err PileFault.SourceFault
         → (S.state source.new).faults ≡ (S.state source.old).faults }
 {
@@ -236,17 +236,17 @@ impl Part {
         requires bound { intake.old.taken ≤ intake.old.limit }
         ensures part { IsPart self.new }
         ensures whole { OnOk result (IsWhole self.new) }
-        ensures takes { TakesMore (S.told × Stays result) (with_part used (Some self.old) intake.old)
+        ensures takes { TakesMore (S.observable × Stays result) (with_part used (Some self.old) intake.old)
             (with_part used (Some self.new) intake.new) (S.state source.old) (S.state source.new) }
         ensures bound { intake.new.taken ≤ intake.new.limit }
         ensures read { RisesAtMost (intake.new.taken - intake.old.taken + taken_past result)
             (S.state source.old).bytes_read (S.state source.new).bytes_read }
-        ensures refused { IfErr result (λ fault. S.told → IsAnswer used intake.old.limit
+        ensures refused { IfErr result (λ fault. S.observable → IsAnswer used intake.old.limit
             ((part_text used self.old ++ intake.old.ahead) ++ (S.state source.old).left) (Err fault)) }
         ensures open { result ≡ Err PileFault.SourceFault
             → IsOpen used (part_text used self.new ++ intake.new.ahead) }
         ensures failed { result ≡ Err PileFault.SourceFault
-            → Rose (S.state source.old).faults (S.state source.new).faults }
+            → HasRisen (S.state source.old).faults (S.state source.new).faults }
         ensures unfailed { result ≢ Err PileFault.SourceFault
             → (S.state source.new).faults ≡ (S.state source.old).faults }
     {

@@ -1,7 +1,7 @@
 //! The reader of a pile.
 
 ghost use Rattle.std.specs.Prelude.{◌≡◌, ◌≢◌, ℕ, ◌+◌, ◌-◌, ◌≤◌, ◌++◌, [], length, Ok, Err, None, Some, Option, Result, IfOk, IfSome, OnOk};
-ghost use Rattle.atom_values.specs.Counts.{Rose};
+ghost use Rattle.atom_values.specs.Counts.{HasRisen};
 ghost use Rattle.feed_disk.specs.Raised.{RisesAtMost};
 ghost use Rattle.doc_source.specs.declared.fault.PileFault.{PileFault as PileFaultValue};
 ghost use Rattle.doc_source.specs.declared.offer.Offer.{Offer as OfferValue};
@@ -68,9 +68,9 @@ impl PileReader {
     /// - `TooLong`: the next offer isn't whole within the first `limit` bytes, these bytes are a prefix of some pile,
     ///   and the source has more bytes.
     /// - `BadPile`: in all other cases in which no offer follows and the pile doesn't end. `at` is the offset at which
-    ///   the line or the offer begins that can't be read. It comes as soon as no pile can go on from what was read.
-    /// - `SourceFault`: a call of the source failed. What was read before is the beginning of a pile's next offer. A
-    ///   further call reads on.
+    ///   the line or the offer begins that can't be read.
+    /// - `SourceFault`: a call of the source failed. What was read before is the beginning of a pile's next offer, so
+    ///   bytes that can't be read come to `BadPile`, also if the next read would fail. A further call reads on.
     /// - `NoMemory`: memory ran out.
     ///
     /// After `TooLong`, `BadPile` or `NoMemory` each further call returns the same error and reads nothing.
@@ -78,12 +78,12 @@ impl PileReader {
     /// At most `limit` bytes of the source are taken. One byte more may be taken before `TooLong` or `BadPile`,
     /// to learn whether the source goes on.
     pub fn next<S: Source>(&mut self, source: &mut S) -> Result<Option<Offer>, PileFault>
-        ensures answer { self.old.refusal ≡ None → S.told
+        ensures answer { self.old.refusal ≡ None → S.observable
             → IsAnswer self.old.used self.old.limit
             (unused self.old (S.state source.old)) result }
 
         // No other answer fits the bytes.
-        ensures only { self.old.refusal ≡ None → S.told
+        ensures only { self.old.refusal ≡ None → S.observable
             → (answer : Result (Option OfferValue) PileFaultValue)
             → IsAnswer self.old.used self.old.limit
             (unused self.old (S.state source.old)) answer
@@ -95,7 +95,7 @@ impl PileReader {
         ensures refusal { self.old.refusal ≡ None → self.new.refusal ≡ refusal_after result }
 
         // Any other answer but an offer leaves all bytes unused.
-        ensures stays { self.new.refusal ≡ None → S.told → unused self.old (S.state source.old)
+        ensures stays { self.new.refusal ≡ None → S.observable → unused self.old (S.state source.old)
             ≡ used_text self.old.used result ++ unused self.new (S.state source.new) }
         ensures used { self.new.used ≡ self.old.used + length (used_text self.old.used result) }
         ensures limit { self.new.limit ≡ self.old.limit }
@@ -108,7 +108,7 @@ impl PileReader {
         // Bytes from which no pile goes on are refused before more are asked for.
         ensures open { result ≡ Err PileFault.SourceFault → IsOpen self.old.used self.new.ahead }
         ensures failed { result ≡ Err PileFault.SourceFault
-            → Rose (S.state source.old).faults (S.state source.new).faults }
+            → HasRisen (S.state source.old).faults (S.state source.new).faults }
         ensures unfailed { result ≢ Err PileFault.SourceFault
             → (S.state source.new).faults ≡ (S.state source.old).faults }
     {
@@ -127,10 +127,10 @@ impl PileReader {
     /// Reads the next offer. After an error but `SourceFault` nothing is known of the bytes ahead.
     fn read_offer<S: Source>(&mut self, source: &mut S) -> Result<Option<Offer>, PileFault>
         requires { self.old.refusal ≡ None }
-        ensures answer { S.told → IsAnswer self.old.used self.old.limit
+        ensures answer { S.observable → IsAnswer self.old.used self.old.limit
             (unused self.old (S.state source.old)) result }
         ensures refusal { self.new.refusal ≡ None }
-        ensures stays { refusal_after result ≡ None → S.told → unused self.old (S.state source.old)
+        ensures stays { refusal_after result ≡ None → S.observable → unused self.old (S.state source.old)
             ≡ used_text self.old.used result ++ unused self.new (S.state source.new) }
         ensures used { self.new.used ≡ self.old.used + length (used_text self.old.used result) }
         ensures limit { self.new.limit ≡ self.old.limit }
@@ -141,7 +141,7 @@ impl PileReader {
         ensures rules { IfOk result (λ found. IfSome found IsOffer) }
         ensures open { result ≡ Err PileFault.SourceFault → IsOpen self.old.used self.new.ahead }
         ensures failed { result ≡ Err PileFault.SourceFault
-            → Rose (S.state source.old).faults (S.state source.new).faults }
+            → HasRisen (S.state source.old).faults (S.state source.new).faults }
         ensures unfailed { result ≢ Err PileFault.SourceFault
             → (S.state source.new).faults ≡ (S.state source.old).faults }
     {

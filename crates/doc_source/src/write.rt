@@ -23,8 +23,8 @@ type CountLine = ArrayString<COUNT_LINE>;
 ///
 /// `Failed`: a call of the sink failed, and the sink took a prefix.
 pub fn write_all<K: Sink>(sink: &mut K, bytes: &[u8]) -> Result<(), Failed>
-    ensures prefix { K.told → TakesPrefix (K.state sink.old) (K.state sink.new) bytes.now }
-    ensures whole { OnOk result (K.told
+    ensures prefix { K.observable → TakesPrefix (K.state sink.old) (K.state sink.new) bytes.now }
+    ensures whole { OnOk result (K.observable
         → (K.state sink.new).taken ≡ (K.state sink.old).taken ++ bytes.now) }
     ensures counts { HasCause (K.state sink.old).faults (K.state sink.new).faults result }
 {
@@ -40,8 +40,8 @@ pub fn write_all<K: Sink>(sink: &mut K, bytes: &[u8]) -> Result<(), Failed>
 ///
 /// `Failed`: a call of the sink failed, and the sink took a prefix.
 pub fn write_pile_head<K: Sink>(sink: &mut K) -> Result<(), Failed>
-    ensures prefix { K.told → TakesPrefix (K.state sink.old) (K.state sink.new) pile_head }
-    ensures whole { OnOk result (K.told
+    ensures prefix { K.observable → TakesPrefix (K.state sink.old) (K.state sink.new) pile_head }
+    ensures whole { OnOk result (K.observable
         → (K.state sink.new).taken ≡ (K.state sink.old).taken ++ pile_head) }
     ensures counts { HasCause (K.state sink.old).faults (K.state sink.new).faults result }
 {
@@ -56,9 +56,9 @@ pub fn write_pile_head<K: Sink>(sink: &mut K) -> Result<(), Failed>
 ///
 /// `Failed`: a call of the sink failed, and the sink took a prefix.
 pub fn write_offer<K: Sink>(sink: &mut K, address: &[u8], bytes: &[u8]) -> Result<(), Failed>
-    ensures prefix { K.told → TakesPrefix (K.state sink.old) (K.state sink.new)
+    ensures prefix { K.observable → TakesPrefix (K.state sink.old) (K.state sink.new)
         (offer_text record { address = address.now; bytes = bytes.now }) }
-    ensures whole { OnOk result (K.told → (K.state sink.new).taken ≡ (K.state sink.old).taken
+    ensures whole { OnOk result (K.observable → (K.state sink.new).taken ≡ (K.state sink.old).taken
         ++ offer_text record { address = address.now; bytes = bytes.now }) }
     ensures counts { HasCause (K.state sink.old).faults (K.state sink.new).faults result }
 {

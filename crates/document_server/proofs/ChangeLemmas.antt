@@ -114,18 +114,16 @@ module _ (old prepared : StoreValue) (members journal seals spare : ℕ)
   })
 
   -- a fact on the store with more room holds of the store
-  pub steps-roomy : (told : Type 0) (s t : DiskState) (new : StoreValue) (failed : Type 0)
-      → Steps told s t prepared new failed → Steps told s t old new failed
-  steps-roomy told s t new failed steps =
-      let roomier : Steps told s t (roomy old members journal seals spare) new failed =
-      subst (λ (p : StoreValue). Steps told s t p new failed) same steps in
+  pub steps-roomy : (observable : Type 0) (s t : DiskState) (new : StoreValue) (failed : Type 0)
+      → Steps observable s t prepared new failed → Steps observable s t old new failed
+  steps-roomy observable s t new failed steps =
+      let roomier : Steps observable s t (roomy old members journal seals spare) new failed =
+      subst (λ (p : StoreValue). Steps observable s t p new failed) same steps in
       record {
         head = roomier.head;
-        later = roomier.later;
-        rose = roomier.rose;
+        faults = roomier.faults;
         spent = roomier.spent;
         stays = roomier.stays;
-        unfailed = roomier.unfailed;
         unspent = roomier.unspent;
         stands = roomier.stands;
         rests = roomier.rests;
@@ -134,11 +132,11 @@ module _ (old prepared : StoreValue) (members journal seals spare : ℕ)
       }
 
   -- the ask isn't made ready
-  module _ (told : Type 0) (s : DiskState) (failed : Type 0) (worked : ¬ failed) (unspent : is_spent old ≡ false)
-      (stands : told → StandsFor s old) where
-    pub steps-refused : Steps told s s old prepared failed
-    steps-refused = steps-roomy told s s prepared failed
-        (steps-none told s prepared failed worked (ap is_spent same ∙ unspent) (λ tells. stands-roomy s (stands tells)))
+  module _ (observable : Type 0) (s : DiskState) (failed : Type 0) (worked : ¬ failed) (unspent : is_spent old ≡ false)
+      (stands : observable → StandsFor s old) where
+    pub steps-refused : Steps observable s s old prepared failed
+    steps-refused = steps-roomy observable s s prepared failed
+        (steps-none observable s prepared failed worked (ap is_spent same ∙ unspent) (λ tells. stands-roomy s (stands tells)))
 
     pub reads-refused : OnlyReads s s old prepared
     reads-refused = record {
@@ -206,14 +204,14 @@ module _ (old prepared : StoreValue) (members journal seals spare : ℕ)
   }
   comes-roomy part whole to new (Err NoMemory) comes = gains-roomy new None comes
 
-  pub leaves-roomy : (told : Type 0) (part whole : Outcome → Type 0) → ((given : Outcome) → part given → whole given)
-      → (s t : DiskState) (new : StoreValue) (failed : Type 0) → ReadsOrCommits told part s t prepared new failed
-      → ReadsOrCommits told whole s t old new failed
-  leaves-roomy told part whole to s t new failed (inl reads) = inl (record {
+  pub leaves-roomy : (observable : Type 0) (part whole : Outcome → Type 0) → ((given : Outcome) → part given → whole given)
+      → (s t : DiskState) (new : StoreValue) (failed : Type 0) → ReadsOrCommits observable part s t prepared new failed
+      → ReadsOrCommits observable whole s t old new failed
+  leaves-roomy observable part whole to s t new failed (inl reads) = inl (record {
     areas = reads.areas;
     history = reads.history ∙ ap (λ (p : StoreValue). p.history) same;
   })
-  leaves-roomy told part whole to s t new failed (inr commits) = inr (record {
+  leaves-roomy observable part whole to s t new failed (inr commits) = inr (record {
     operation = commits.operation;
     given = commits.given;
     is_one = to commits.given commits.is_one;
@@ -267,12 +265,12 @@ module _ (turn : WindowsSealInTurn) (old new : StoreValue) (ready : ReadyValue)
     };
   }
 
-pub commits : (told : Type 0) (s t : DiskState) (old new : StoreValue) (operation : Op) (failed : Type 0)
-    → (told → IsAtRest s → AlwaysLeavesBoth s t
+pub commits : (observable : Type 0) (s t : DiskState) (old new : StoreValue) (operation : Op) (failed : Type 0)
+    → (observable → IsAtRest s → AlwaysLeavesBoth s t
     (OpensPast old.head (old.history ++ operation ∷ []) (length old.history)))
     → (¬ failed → new.history ≡ old.history ++ operation ∷ [])
-    → ReadsOrCommits told (λ given. given ≡ done old.head.name operation) s t old new failed
-commits told s t old new operation failed leaves gained = inr (record {
+    → ReadsOrCommits observable (λ given. given ≡ done old.head.name operation) s t old new failed
+commits observable s t old new operation failed leaves gained = inr (record {
   operation = operation;
   given = done old.head.name operation;
   is_one = refl;

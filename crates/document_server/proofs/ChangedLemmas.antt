@@ -125,16 +125,16 @@ module _ (store : StoreValue) where
   state-other (member.Gone when) live given other is = of-other given _ gone-other is
   state-other (member.Live updated version) live given other is = other is
 
-  module _ (told : Type 0) where
+  module _ (observable : Type 0) where
     -- a document that a read gave isn't `changed`, so the content isn't seen
     shown-untold : (kind : Media) (IsGiven : List ℕ → Type 0) (given : Outcome)
-        → given.reply.body ≡ Fixed line.Changed → IsShownFrom told kind IsGiven given → ¬ told
+        → given.reply.body ≡ Fixed line.Changed → IsShownFrom observable kind IsGiven given → ¬ observable
     shown-untold kind IsGiven given changed (inl (written, read, is)) =
         absurd (of-other given _ (made-other _) is changed)
     shown-untold kind IsGiven given changed (inr (untold, is)) = untold
 
     state-untold : (state : State) (number : ℕ) (given : Outcome) → given.reply.body ≡ Fixed line.Changed
-        → IsOfState state (IsMemberShownOver told store number) given → ¬ told
+        → IsOfState state (IsMemberShownOver observable store number) given → ¬ observable
     state-untold member.Never number given changed is = absurd (of-other given _ not-found-other is changed)
     state-untold (member.Gone when) number given changed is = absurd (of-other given _ gone-other is changed)
     state-untold (member.Live updated version) number given changed is = shown-untold _ _ given changed is
@@ -151,7 +151,7 @@ module _ (store : StoreValue) where
     feed-other request now verb.Other given is = of-other given _ not-allowed-other is
 
     archive-get : (number : ℕ) (method : Verb) (given : Outcome) → given.reply.body ≡ Fixed line.Changed
-        → IsOfArchiveOver told store number method given → (method ≡ verb.Get) × (¬ told)
+        → IsOfArchiveOver observable store number method given → (method ≡ verb.Get) × (¬ observable)
     archive-get number verb.Get given changed (inl (sealed, is)) = (refl, shown-untold _ _ given changed is)
     archive-get number verb.Get given changed (inr (unsealed, is)) =
         absurd (of-other given _ not-found-other is changed)
@@ -164,8 +164,8 @@ module _ (store : StoreValue) where
     archive-get number verb.Other given changed is = absurd (of-other given _ not-allowed-other is changed)
 
     member-get : (request : RequestValue) (now number : ℕ) (method : Verb) (given : Outcome)
-        → given.reply.body ≡ Fixed line.Changed → IsOfMemberOver told store request now number method given
-        → (method ≡ verb.Get) × (¬ told)
+        → given.reply.body ≡ Fixed line.Changed → IsOfMemberOver observable store request now number method given
+        → (method ≡ verb.Get) × (¬ observable)
     member-get request now number verb.Get given changed is =
         (refl, state-untold (state_of store.history number) number given changed is)
     member-get request now number verb.Put given changed is =
@@ -186,15 +186,15 @@ module _ (store : StoreValue) where
         absurd (of-other given _ not-allowed-other is changed)
 
     at-get : (request : RequestValue) (now : ℕ) (named : FeedAddress) (given : Outcome)
-        → given.reply.body ≡ Fixed line.Changed → IsAtAddressAs (shown_over told store) store request now named given
-        → (request.verb ≡ verb.Get) × (¬ told)
+        → given.reply.body ≡ Fixed line.Changed → IsAtAddressAs (shown_over observable store) store request now named given
+        → (request.verb ≡ verb.Get) × (¬ observable)
     at-get request now address.Feed given changed is = absurd (feed-other request now request.verb given is changed)
     at-get request now (address.Archive number) given changed is = archive-get number request.verb given changed is
     at-get request now (address.Member number) given changed is =
         member-get request now number request.verb given changed is
 
     outcome-get : (request : RequestValue) (now : ℕ) (given : Outcome) → given.reply.body ≡ Fixed line.Changed
-        → IsOutcomeOver told store request now given → (request.verb ≡ verb.Get) × (¬ told)
+        → IsOutcomeOver observable store request now given → (request.verb ≡ verb.Get) × (¬ observable)
     outcome-get request now given changed (inl (method, is)) =
         absurd (of-other given _ not-implemented-other is changed)
     outcome-get request now given changed (inr (method, inl (none, is))) =
@@ -203,8 +203,8 @@ module _ (store : StoreValue) where
         at-get request now named given changed at
 
     pub changed-get : (request : RequestValue) (now : ℕ) (new : StoreValue) (reply : Reply) (failed : Type 0)
-        → IsAnswer (IsOutcomeOver told store request now) store new reply failed → reply ≡ disk_changed
-        → (request.verb ≡ verb.Get) × (¬ told)
+        → IsAnswer (IsOutcomeOver observable store request now) store new reply failed → reply ≡ disk_changed
+        → (request.verb ≡ verb.Get) × (¬ observable)
     changed-get request now new reply failed (inl replied) is =
         outcome-get request now replied.given
         (ap (λ (r : Reply). r.body) (sym replied.reply_is) ∙ ap (λ (r : Reply). r.body) is) replied.is_one

@@ -12,8 +12,8 @@ use Rattle.document_server.specs.Answer.{Commits, LeavesAnswered, OnlyReads, Rea
 use Rattle.document_server.specs.Reply.{Outcome}
 use Rattle.member_rules.specs.declared.operation.Op.{Op}
 
-module _ {told : Type 0} (begun_are : BegunAreWhole) (outcomes : Outcome → Type 0) (s t : DiskState)
-    (old new : StoreValue) (failed : Type 0) (disk : IsDisk told s)
+module _ {observable : Type 0} (begun_are : BegunAreWhole) (outcomes : Outcome → Type 0) (s t : DiskState)
+    (old new : StoreValue) (failed : Type 0) (disk : IsDisk observable s)
     (stands : StandsFor s old) where
   pub reads-leave : OnlyReads s t old new → LeavesAnswered outcomes s t old new failed
   reads-leave reads = record {
@@ -27,7 +27,7 @@ module _ {told : Type 0} (begun_are : BegunAreWhole) (outcomes : Outcome → Typ
     gained = λ _. reads.history ∙ sym (append-nil old.history);
   }
 
-  commit-leaves : told → Commits told outcomes s t old new failed → LeavesAnswered outcomes s t old new failed
+  commit-leaves : observable → Commits observable outcomes s t old new failed → LeavesAnswered outcomes s t old new failed
   commit-leaves tells commits = record {
     operations = commits.operation ∷ [];
     may = inr (commits.given, commits.is_one, sym (ap added commits.adds));
@@ -35,7 +35,7 @@ module _ {told : Type 0} (begun_are : BegunAreWhole) (outcomes : Outcome → Typ
     gained = commits.gained;
   }
 
-  pub leaves-answered : told → ReadsOrCommits told outcomes s t old new failed
+  pub leaves-answered : observable → ReadsOrCommits observable outcomes s t old new failed
       → LeavesAnswered outcomes s t old new failed
   leaves-answered tells (inl reads) = reads-leave reads
   leaves-answered tells (inr commits) = commit-leaves tells commits

@@ -4,19 +4,15 @@ use Rattle.std.proofs.Common.{◌++◌, length, subst, zero-add, add_comm, arith
 use Rattle.std.specs.Prelude.{Option, Some, None, Result, Ok, Err, IfErr, OnOk, is_ok}
 use Rattle.std.proofs.lemmas.Bool.{cases_eq}
 use Rattle.std.proofs.lemmas.List.{append-nil}
-use Rattle.atom_values.specs.Counts.{HasCause, Rose}
-use Rattle.document_server.specs.Answer.{IsAnswer, IsDone, LeavesAnswered, MayAdd, Steps, added}
+use Rattle.atom_values.specs.Counts.{HasCause, HasRisen}
+use Rattle.document_server.specs.Answer.{Grows, IsAnswer, IsDone, LeavesAnswered, MayAdd, Steps, added}
 use Rattle.document_server.specs.Reply.{IsOutcome, Outcome, disk_fault}
 use Rattle.document_server.specs.Serving.{IsReplyOn, RepliesOne, ServesOne, exchange_of}
 use Rattle.document_server.specs.Session.{IsReported, IsSent, IsTurn, fault_reply, unheard}
 use Rattle.document_server.specs.declared.line.Line.{Line}
 use Rattle.document_server.proofs.StepLemmas.{gains-none}
 use Rattle.feed_disk.specs.Disk.{DiskState}
-use Rattle.feed_disk.specs.Moments.{LeavesAlone}
-use Rattle.feed_disk.specs.declared.area.Area.TheVariants.{Mirror}
-use Rattle.feed_journal.specs.Log.{MakesSome}
-use Rattle.feed_recovery.specs.Settled.{IsAtRest}
-use Rattle.feed_recovery.specs.Store.{StandsFor, StoreValue, call_count, is_spent}
+use Rattle.feed_recovery.specs.Store.{StoreValue, call_count, is_spent}
 use Rattle.feed_recovery.specs.Stored.{IsSized}
 use Rattle.http_face.specs.Conn.{ConnState, Reads}
 use Rattle.http_face.specs.Heard.{IsHeard, IsMisheard}
@@ -84,29 +80,6 @@ stays-or-grows verb reply same grown grows stays =
 
 -- The reply to a connection
 
--- the effect of an answered request on the store and on the disk
-pub steps-answered : (told : Type 0) (s t : DiskState) (old new : StoreValue) (reply : Reply) → new.head ≡ old.head
-    → s.faults ≤ t.faults → (reply ≡ disk_fault → Rose s.faults t.faults)
-    → (reply ≢ disk_fault → t.faults ≡ s.faults) → (reply ≡ disk_fault → is_spent new ≡ true)
-    → (reply ≢ disk_fault → is_spent new ≡ false) → (is_spent new ≡ true → reply ≡ disk_fault)
-    → (reply ≢ disk_fault → told → StandsFor t new) → (reply ≢ disk_fault → told → IsAtRest s → IsAtRest t)
-    → LeavesAlone s t Mirror → MakesSome s t (call_count old) (call_count new)
-    → (¬ IsDone reply → new.history ≡ old.history) → Steps told s t old new (is_spent new ≡ true)
-steps-answered told s t old new reply head later rose unfailed spent unspent only stands rests mirror calls
-    stays = record {
-      head = head;
-      later = later;
-      rose = λ fails. rose (only fails);
-      spent = λ fails. fails;
-      stays = λ fails. stays (λ done. undone (only fails) done);
-      unfailed = λ works. unfailed (λ e. works (spent e));
-      unspent = λ works. unspent (λ e. works (spent e));
-      stands = λ works. stands (λ e. works (spent e));
-      rests = λ works. rests (λ e. works (spent e));
-      mirror = mirror;
-      calls = calls;
-    }
-
 pub none-since : {T : Type 0} (given : Option T) → ((value : T) → given ≡ Some value → ⊥) → given ≡ None
 none-since None other = refl
 none-since (Some value) other = absurd (other value refl)
@@ -138,7 +111,7 @@ turn-sent s t store now given read back reply line line' turn (inr (inr (inr for
 
 -- the turn of a connection whose bytes are no request, or that failed
 fault-turn : (s t : DiskState) (store : StoreValue) (now : ℕ) (given read : ConnState) (line : Line)
-    (reason : RequestFault) → (reason ≡ fault.ConnFault → Rose given.faults read.faults)
+    (reason : RequestFault) → (reason ≡ fault.ConnFault → HasRisen given.faults read.faults)
     → (reason ≢ fault.ConnFault → reason ≢ fault.NoMemory → IsMisheard given.left reason)
     → IsTurn store now (exchange_of s t given read (fault_reply reason) line) unheard
 fault-turn s t store now given read line fault.ConnFault failed refused =
@@ -174,7 +147,7 @@ module _ (s t : DiskState) (moments coming : ℕ → ℕ) (given read : ConnStat
       is = refl;
     })));
     gains = replied.gains;
-    clock = λ told k. later told k ∙ ap moments (add_comm k 1);
+    clock = λ observable k. later observable k ∙ ap moments (add_comm k 1);
   }
   answered-on request now reply rose rules heard moment later unspent (inr (inl forgotten)) = record {
     now = now;
@@ -185,7 +158,7 @@ module _ (s t : DiskState) (moments coming : ℕ → ℕ) (given read : ConnStat
       is = inr (request, heard, refl);
     })));
     gains = forgotten.1;
-    clock = λ told k. later told k ∙ ap moments (add_comm k 1);
+    clock = λ observable k. later observable k ∙ ap moments (add_comm k 1);
   }
   answered-on request now reply rose rules heard moment later unspent (inr (inr failed)) = absurd cc
 
@@ -202,13 +175,13 @@ module _ (s t : DiskState) (moments coming : ℕ → ℕ) (given read : ConnStat
     at_most_one = may-add-one _ left.operations left.may;
     leaves = left.leaves;
     gained = λ unspent. left.gained (λ is. let e : is_spent new ≡ true = spent is in cc);
-    replied = λ told unspent. answered-on request now reply rose rules (heard told) moment later unspent answer;
-    failed = λ told is_failed. record {
+    replied = λ observable unspent. answered-on request now reply rose rules (heard observable) moment later unspent answer;
+    failed = λ observable is_failed. record {
       now = now;
       is_now = moment;
       request = request;
       rules = rules;
-      heard = heard told;
+      heard = heard observable;
       may = left.may;
       is = ap Some (only is_failed);
     };
@@ -217,7 +190,7 @@ module _ (s t : DiskState) (moments coming : ℕ → ℕ) (given read : ConnStat
 -- the reply to bytes that are no request
 pub replies-refused : (s : DiskState) (moments : ℕ → ℕ) (given read : ConnState) (clock_told conn_told failed : Type 0)
     (store : StoreValue) (reason : RequestFault) → IsSized store → is_spent store ≡ false → ¬ failed
-    → (reason ≡ fault.ConnFault → Rose given.faults read.faults)
+    → (reason ≡ fault.ConnFault → HasRisen given.faults read.faults)
     → (reason ≢ fault.ConnFault → reason ≢ fault.NoMemory → conn_told → IsMisheard given.left reason)
     → LeavesAnswered (λ _. ⊥) s s store store failed
     → RepliesOne s s moments moments given read clock_told conn_told store store (fault_reply reason)
@@ -228,23 +201,23 @@ replies-refused s moments given read clock_told conn_told failed store reason si
       at_most_one = may-add-one _ left.operations left.may;
       leaves = left.leaves;
       gained = λ _. left.gained worked;
-      replied = λ told _. record {
+      replied = λ observable _. record {
         now = moments 0;
         is_now = λ _. refl;
         turn = unheard;
         is_turn = λ line. fault-turn s s store (moments 0) given read line reason lost
-            (λ other other'. refused other other' told);
+            (λ other other'. refused other other' observable);
         gains = gains-none store store refl refl;
         clock = λ _ k. ap moments (sym (zero-add k));
       };
-      failed = λ told spent. absurd cc;
+      failed = λ observable spent. absurd cc;
     }
 
 -- The reply is sent
 
 module _ (s t : DiskState) (given back : ConnState) (line : Line) where
   -- no reply was begun, and the connection failed
-  pub reported-none : line.status ≡ 0 → back.begun ≡ None → Rose given.faults back.faults
+  pub reported-none : line.status ≡ 0 → back.begun ≡ None → HasRisen given.faults back.faults
       → IsReported (exchange_of s t given back None line)
   reported-none status unbegun rose = record { status = status; cause = λ _. rose; unbegun = λ _. unbegun }
 
@@ -264,7 +237,7 @@ module _ (s t : DiskState) (given back : ConnState) (line : Line) where
       cc
 
   cut-rose : (result : Result Unit CutOff) (before after : ℕ) (whole : Bool) → whole ≡ is_ok result
-      → HasCause before after result → whole ≡ false → Rose before after
+      → HasCause before after result → whole ≡ false → HasRisen before after
   cut-rose (Ok done) before after whole is counts cut = absurd cc
   cut-rose (Err failure) before after whole is counts cut = counts.failed
 
@@ -279,24 +252,24 @@ module _ (s t : DiskState) (given back : ConnState) (line : Line) where
         cause = elim [
           | inl none ↦ absurd (some none)
           | inr cut ↦
-              subst (λ (n : ℕ). Rose n back.faults) faults
+              subst (λ (n : ℕ). HasRisen n back.faults) faults
               (cut-rose result begun.faults back.faults line.whole whole counts cut)
         ];
         unbegun = λ none. absurd (some none);
       }
 
-  pub sent-reply : (told : Type 0) (begun : ConnState) (reply : Reply) (result : Result Unit CutOff) → told
-      → begun.sent ≡ given.sent → OnOk result (told → back.sent ≡ begun.sent ++ reply_bytes reply)
-      → IfErr result (λ cut. IsCutOff told (reply_bytes reply) cut.sent begun.sent back.sent)
+  pub sent-reply : (observable : Type 0) (begun : ConnState) (reply : Reply) (result : Result Unit CutOff) → observable
+      → begun.sent ≡ given.sent → OnOk result (observable → back.sent ≡ begun.sent ++ reply_bytes reply)
+      → IfErr result (λ cut. IsCutOff observable (reply_bytes reply) cut.sent begun.sent back.sent)
       → line.whole ≡ is_ok result → IsSent (exchange_of s t given back (Some reply) line)
-  sent-reply told begun reply (Ok done) tells sent whole cut is = record {
+  sent-reply observable begun reply (Ok done) tells sent whole cut is = record {
     front = reply_bytes reply;
     rest = [];
     split = sym (append-nil (reply_bytes reply));
     sent = whole tells ∙ ap (λ (b : List ℕ). b ++ reply_bytes reply) sent;
     whole = λ _. refl;
   }
-  sent-reply told begun reply (Err failure) tells sent whole cut is = record {
+  sent-reply observable begun reply (Err failure) tells sent whole cut is = record {
     front = cut.front;
     rest = cut.back;
     split = cut.split;
@@ -311,18 +284,20 @@ pub serves-one : (s t : DiskState) (moments coming : ℕ → ℕ) (given read ba
     → ((now : ℕ) (turn : _) → IsTurn old now (exchange_of s t given read reply line) turn
     → IsTurn old now (exchange_of s t given back reply line) turn)
     → (disk_told → RepliesOne s t moments coming given read clock_told conn_told old new reply)
-    → new.head ≡ old.head → (is_spent new ≡ true → new.history ≡ old.history)
-    → (is_spent new ≡ true → reply ≡ Some disk_fault) → IsReported (exchange_of s t given back reply line)
+    → Steps disk_told s t old new (is_spent new ≡ true) → (is_spent new ≡ true → reply ≡ Some disk_fault)
+    → IsReported (exchange_of s t given back reply line)
     → (conn_told → IsSent (exchange_of s t given back reply line)) → line.version ≡ length new.history
+    → line.calls ≡ call_count new → (new.history ≡ old.history) ⊎ Grows s t old new
+    → (line.status ≢ 0 → back.begun ≡ Some t.clock)
     → ServesOne s t moments coming given back disk_told clock_told conn_told old new line
-serves-one s t moments coming given read back disk_told clock_told conn_told old new reply line turns replies head stays
-    fault reported sent version = record {
+serves-one s t moments coming given read back disk_told clock_told conn_told old new reply line turns replies steps
+    fault reported sent version calls grows begun = record {
       reply = reply;
       reported = reported;
       failed = fault;
       sent = sent;
-      stored = λ told.
-          let one = replies told in
+      stored = λ observable.
+          let one = replies observable in
           record {
             operations = one.operations;
             at_most_one = one.at_most_one;
@@ -335,7 +310,7 @@ serves-one s t moments coming given read back disk_told clock_told conn_told old
               served = record {
                 sized = one.sized;
                 is_turn = turns on.now on.turn (on.is_turn line);
-                head = head;
+                head = steps.head;
                 gains = on.gains;
                 version = version;
               };
@@ -353,8 +328,12 @@ serves-one s t moments coming given read back disk_told clock_told conn_told old
                 may = on.may;
                 history_is = refl;
                 reply = on.is;
-                version = version ∙ ap (length {A = Op}) (stays spent);
+                version = version ∙ ap (length {A = Op}) (steps.stays spent);
               };
             };
           };
+      version = version;
+      calls = calls;
+      grows = grows;
+      begun = begun;
     }

@@ -1,29 +1,34 @@
 -- A store is loaded, and then connections are served on it.
-use Rattle.std.proofs.Common.{◌≡◌, ◌⊎◌, inl, inr, sym, ap, ◌∙◌, subst, ℕ, ◌+◌, ◌-◌, ◌^◌, ◌<◌, ◌≤◌, List, []}
+use Rattle.std.proofs.Common.{◌≡◌, ◌≢◌, ◌⊎◌, ⊎_elim, inl, inr, refl, sym, ap, ◌∙◌, subst, ℕ, ◌+◌, ◌-◌, ◌^◌, ◌<◌, ◌≤◌}
+use Rattle.std.proofs.Common.{List, []}
 use Rattle.std.proofs.Common.{◌∷◌, ◌++◌, map, length, All, arith, Result, Ok, Err, IfErr}
 use Rattle.std.proofs.lemmas.List.Elements.{All-weaker}
-use Rattle.atom_values.specs.Counts.{counter_limit}
+use Rattle.atom_values.specs.Counts.{CountsFault, counter_limit}
 use Rattle.document_server.specs.Door.{DoorState, SameLinks}
-use Rattle.document_server.specs.Serving.{AreInOrder, CountsFrom, HasExchanges, LeavesServed, LeavesServing, OpensAt}
-use Rattle.document_server.specs.Serving.{OpensAfter, Serves, ServesFrom, end_of}
+use Rattle.document_server.specs.Serving.{AreInOrder, CountsFrom, EndsUnopened, EndsWithin, HasExchanges}
+use Rattle.document_server.specs.Serving.{IsUnopened, LeavesServed, LeavesServing, OpensAt, OpensAfter, Serves, ServesFrom, end_of}
 use Rattle.document_server.specs.Session.{Exchange, IsOneFailed, IsUnfailed}
 use Rattle.document_server.specs.declared.line.Line.{Line}
 use Rattle.document_server.specs.declared.session.End.{End}
-use Rattle.document_server.specs.declared.session.End.TheVariants.{DiskFault, DoorFault, Load, NoMemory as OutOfMemory}
+use Rattle.document_server.specs.declared.session.End.TheVariants.{Done, DiskFault, DoorFault, Load, NoMemory as OutOfMemory}
 use Rattle.document_server.proofs.OrderLemmas.{raised-on}
-use Rattle.document_server.proofs.ServingLemmas.{going-begins, going-ends}
+use Rattle.document_server.proofs.ServingLemmas.{going-begins, going-ends, going-settles}
 use Rattle.document_server.proofs.SessionLemmas.{links-listened}
+use Rattle.document_server.proofs.StepLemmas.{counts-as, same_fault}
 use Rattle.feed_disk.specs.Disk.{DiskState, IsDisk}
 use Rattle.feed_disk.specs.declared.area.Area.{Area}
 use Rattle.feed_disk.specs.declared.area.Area.TheVariants.{Journal, Sealed}
 use Rattle.feed_disk.proofs.MomentLemmas.{leaves_join, leaves_over}
 use Rattle.feed_journal.specs.Log.{MakesCalls}
+use Rattle.feed_journal.specs.Laws.{BegunAreWhole}
 use Rattle.feed_journal.specs.Records.{records}
-use Rattle.feed_recovery.specs.Opening.{AreSeals, IsJournal, OpensInOneWay}
-use Rattle.feed_recovery.specs.Settled.{AlwaysLeavesBoth, AreWhole, IsAtRest, OpensPast, Settled}
+use Rattle.feed_recovery.specs.Opening.{AreSeals, IsJournal, Opens, OpensInOneWay}
+use Rattle.feed_recovery.specs.Settled.{AlwaysLeavesBoth, AreWhole, IsAtRest, IsSettled, LeavesStores, OpensPast, Settled}
 use Rattle.feed_recovery.specs.Store.{StandsFor, StoreValue, call_count}
 use Rattle.feed_recovery.specs.Stored.{OpensTo, Stored, stored_of}
+use Rattle.feed_recovery.specs.Faults.{IsLoadFault}
 use Rattle.feed_recovery.specs.declared.fault.LoadFault.{LoadFault}
+use Rattle.feed_recovery.specs.declared.fault.LoadFault.TheVariants as load
 use Rattle.feed_recovery.proofs.PastLemmas.{settled-head, settled-whole}
 use Rattle.member_rules.specs.Head.{HeadValue}
 use Rattle.member_rules.specs.declared.operation.Op.{Op}
@@ -66,7 +71,7 @@ exchanges-loaded start faults before after door listened rest door_told lines se
       broken_off = λ fails. subst (λ (n : ℕ). IsOneFailed n after.faults last) unfailed (all.broken_off fails);
       reported = all.reported;
       marked = all.marked;
-      linked = λ told. links-listened door listened rest (served ++ last) (same told) (all.linked told);
+      linked = λ observable. links-listened door listened rest (served ++ last) (same observable) (all.linked observable);
       sent = all.sent;
     }
 
@@ -103,27 +108,43 @@ leaves-served s m t head operations least opened history lines unbroken failed s
 }
 
 -- a store that was loaded
-pub record IsLoaded (told : Type 0) (s m : DiskState) (store : StoreValue) : Type 0 where
-  pub disk : IsDisk told s
+pub record IsLoaded (observable : Type 0) (s m : DiskState) (store : StoreValue) : Type 0 where
+  pub disk : IsDisk observable s
   pub one : OpensInOneWay
-  pub same : told → (a : Area) → records (m.content a) ≡ records (s.content a)
-  pub stands : told → StandsFor m store
-  pub moments : told → (head : HeadValue) (operations : List Op) (least : ℕ) → Settled s head operations least
+  pub same : observable → (a : Area) → records (m.content a) ≡ records (s.content a)
+  pub stands : observable → StandsFor m store
+  pub moments : observable → (head : HeadValue) (operations : List Op) (least : ℕ) → Settled s head operations least
       → AlwaysLeavesBoth s m (OpensPast head operations least)
-  pub rests : told → AreWhole s → IsAtRest m
+  pub rests : observable → AreWhole s → IsAtRest m
   pub number : ℕ
   pub calls : MakesCalls s m 0 (call_count store) number
   pub unfailed : m.faults ≡ s.faults
 
+pub loaded-by : (observable : Type 0) (s m : DiskState) (store : StoreValue) → IsDisk observable s → OpensInOneWay
+    → (observable → (a : Area) → records (m.content a) ≡ records (s.content a)) → (observable → StandsFor m store)
+    → (observable → LeavesStores s m) → (observable → AreWhole s → IsSettled m store)
+    → (number : ℕ) × MakesCalls s m 0 (call_count store) number → m.faults ≡ s.faults → IsLoaded observable s m store
+loaded-by observable s m store disk one same stands moments settled calls unfailed = record {
+  disk = disk;
+  one = one;
+  same = same;
+  stands = stands;
+  moments = moments;
+  rests = λ tells whole. (settled tells whole).rests;
+  number = calls.0;
+  calls = calls.1;
+  unfailed = unfailed;
+}
+
 -- and then connections were served
-module _ {told : Type 0} (s m t : DiskState) (moments : ℕ → ℕ) (door listened rest : DoorState)
+module _ {observable : Type 0} (s m t : DiskState) (moments : ℕ → ℕ) (door listened rest : DoorState)
     (clock_told door_told : Type 0) (store : StoreValue) (lines : List Line) (failed : Type 0)
-    (loaded : IsLoaded told s m store) (same : door_told → SameLinks door listened) (later : m.clock ≤ t.clock)
+    (loaded : IsLoaded observable s m store) (same : door_told → SameLinks door listened) (later : m.clock ≤ t.clock)
     (serves : CountsFrom s.clock m t store
-    → ServesFrom s.clock m t moments listened rest told clock_told door_told store lines failed) where
-  pub serves-loaded : Serves s t moments door rest told clock_told door_told lines failed
+    → ServesFrom s.clock m t moments listened rest observable clock_told door_told store lines failed) where
+  pub serves-loaded : Serves s t moments door rest observable clock_told door_told lines failed
   serves-loaded =
-      let opens = λ (tells : told).
+      let opens = λ (tells : observable).
       opens-same s.content m.content (stored_of store) (loaded.same tells) (loaded.stands tells).opens in
       let all = serves (λ below.
       raised-on s.clock m.clock s.clock 0 (call_count store) loaded.number loaded.calls.clock loaded.calls.calls
@@ -156,39 +177,132 @@ module _ {told : Type 0} (s m t : DiskState) (moments : ℕ → ℕ) (door liste
       }
 
 -- no connection was served
-pub serves-none : {told : Type 0} (s m : DiskState) (moments : ℕ → ℕ) (door listened : DoorState)
+pub serves-none : {observable : Type 0} (s m : DiskState) (moments : ℕ → ℕ) (door listened : DoorState)
     (clock_told door_told : Type 0) (store : StoreValue) (lines : List Line) (failed : Type 0)
-    → IsLoaded told s m store → IsDisk told m → (door_told → SameLinks door listened)
-    → (told → IsAtRest m → Settled m store.head store.history (length store.history)) → lines ≡ [] → (failed → ⊥)
-    → Serves s m moments door listened told clock_told door_told lines failed
-serves-none {told} s m moments door listened clock_told door_told store lines failed loaded disk same settled none
+    → IsLoaded observable s m store → IsDisk observable m → (door_told → SameLinks door listened) → BegunAreWhole
+    → lines ≡ [] → (failed → ⊥)
+    → Serves s m moments door listened observable clock_told door_told lines failed
+serves-none {observable} s m moments door listened clock_told door_told store lines failed loaded disk same whole none
     works =
-    subst (λ (ls : List Line). Serves s m moments door listened told clock_told door_told ls failed) (sym none)
+    subst (λ (ls : List Line). Serves s m moments door listened observable clock_told door_told ls failed) (sym none)
     (serves-loaded s m m moments door listened listened clock_told door_told store [] failed loaded same (omega arith)
     (λ counts.
-    going-ends s.clock m m moments moments listened listened told clock_told door_told store store [] failed
-    (going-begins s.clock m moments listened told clock_told door_told store disk) loaded.stands counts settled
-    works))
+    going-ends s.clock m m moments moments listened listened observable clock_told door_told store store [] failed
+    (going-begins s.clock m moments listened observable clock_told door_told store disk) loaded.stands counts
+    (going-settles whole m m store loaded.stands (λ tells rests. rests)) works))
 
 -- How it ended
 
-pub no-load : (result : Result (Unit {0}) End) (fault : LoadFault)
-    → IfErr result (λ end. (end ≡ DiskFault) ⊎ (end ≡ DoorFault)) → result ≡ Err (Load fault) → ⊥
-no-load (Ok done) fault own is = cc
-no-load (Err end) fault (inl own) is = cc
-no-load (Err end) fault (inr own) is = cc
+same-load : (fault given : LoadFault) → Load fault ≡ Load given → fault ≡ given
+same-load fault given is = cc
 
-pub no-memory : (result : Result (Unit {0}) End)
-    → IfErr result (λ end. (end ≡ DiskFault) ⊎ (end ≡ DoorFault)) → result ≡ Err OutOfMemory → ⊥
-no-memory (Ok done) own is = cc
-no-memory (Err end) (inl own) is = cc
-no-memory (Err end) (inr own) is = cc
+-- the session didn't end before the door was opened
+pub opened : {L : Type 0} (observable : Type 0) (s t : DiskState) (door rest : L) (lines : List Line) (end : End)
+    → ¬ IsUnopened end → EndsUnopened observable s t door rest lines end
+opened observable s t door rest lines end works = record {
+  refused = λ fault is. absurd (works (inr (fault, is)));
+  only = λ tells stored opens fault is. absurd (works (inr (fault, is)));
+  safe = λ ends. absurd (works ends);
+  unserved = λ ends. absurd (works ends);
+}
 
-pub end-load : (result : Result (Unit {0}) End) (fault : LoadFault) → end_of result ≡ Load fault
-    → result ≡ Err (Load fault)
-end-load (Ok done) fault is = absurd (cc)
-end-load (Err end) fault is = ap Err is
+-- memory for the lines ran out
+pub unopened-memory : {L : Type 0} (observable : Type 0) (s t : DiskState) (door : L) (lines : List Line)
+    → lines ≡ [] → (observable → LeavesStores s t) → EndsUnopened observable s t door door lines OutOfMemory
+unopened-memory observable s t door lines none leaves = record {
+  refused = λ fault is. absurd cc;
+  only = λ tells stored opens fault is. absurd cc;
+  safe = λ ends. leaves;
+  unserved = λ ends. (none, refl);
+}
 
-pub end-memory : (result : Result (Unit {0}) End) → end_of result ≡ OutOfMemory → result ≡ Err OutOfMemory
-end-memory (Ok done) is = absurd (cc)
-end-memory (Err end) is = ap Err is
+-- no connection was served
+pub ends-unserved : (requests : ℕ) (door_told : Type 0) (door rest : DoorState) (lines : List Line) (end : End)
+    → lines ≡ [] → 1 ≤ requests → end ≢ Done → (door_told → SameLinks door rest)
+    → EndsWithin requests door_told door rest lines end
+ends-unserved requests door_told door rest lines end none some undone same =
+    let count = ap length none in
+    record {
+      most = omega (arith, count);
+      cause = record { done = λ is. absurd (undone is); early = λ _. omega (arith, count, some) };
+      returned = λ tells. (same tells).out;
+    }
+
+pub same-links : (door_told : Type 0) (door : DoorState) → door_told → SameLinks door door
+same-links door_told door tells = record { left = refl; back = refl; out = refl }
+
+-- the store wasn't loaded
+module _ (end : End) (fault : LoadFault) (is : end ≡ Load fault) where
+  pub load-undone : end ≢ Done
+  load-undone done = cc
+
+  load-undisk : end ≢ DiskFault
+  load-undisk disk = cc
+
+  pub load-undoor : end ≢ DoorFault
+  load-undoor door = cc
+
+  pub unopened-load : {L : Type 0} (observable : Type 0) (s t : DiskState) (door : L) (lines : List Line) → lines ≡ []
+      → (observable → IsLoadFault (records (s.content Journal)) (records (s.content Sealed)) fault)
+      → (observable → (head : HeadValue) (history : List Op) (seals : ℕ)
+      → Opens (s.content Journal) (s.content Sealed) head history seals
+      → (fault ≡ load.DiskFault) ⊎ (fault ≡ load.NoMemory))
+      → (observable → LeavesStores s t) → EndsUnopened observable s t door door lines end
+  unopened-load observable s t door lines none refused only leaves = record {
+    refused = λ given same tells.
+        subst (IsLoadFault (records (s.content Journal)) (records (s.content Sealed)))
+        (same-load fault given (sym is ∙ same)) (refused tells);
+    only = λ tells stored opens given same.
+        subst (λ (f : LoadFault). (f ≡ load.DiskFault) ⊎ (f ≡ load.NoMemory))
+        (same-load fault given (sym is ∙ same)) (only tells stored.head stored.history stored.seals opens);
+    safe = λ ends. leaves;
+    unserved = λ ends. (none, refl);
+  }
+
+  -- the disk's count of faults
+  pub counts-load : {T : Type 0} (before after : ℕ)
+      → CountsFault before after (let result : Result T LoadFault = Err fault in result ≡ Err load.DiskFault)
+      → CountsFault before after ((end ≡ DiskFault) ⊎ (end ≡ Load load.DiskFault))
+  counts-load before after counts =
+      counts-as before after _ ((end ≡ DiskFault) ⊎ (end ≡ Load load.DiskFault))
+      (λ fails. inr (is ∙ ap Load (same_fault fault load.DiskFault fails)))
+      (⊎_elim (λ other. absurd (load-undisk other)) (λ same. ap Err (same-load fault load.DiskFault (sym is ∙ same)))) counts
+
+pub memory-undone : OutOfMemory ≢ Done
+memory-undone is = cc
+
+pub memory-undoor : OutOfMemory ≢ DoorFault
+memory-undoor is = cc
+
+pub memory-no-fault : ¬ ((OutOfMemory ≡ DiskFault) ⊎ (OutOfMemory ≡ Load load.DiskFault))
+memory-no-fault (inl is) = absurd cc
+memory-no-fault (inr is) = absurd cc
+
+pub door-undone : DoorFault ≢ Done
+door-undone is = cc
+
+pub door-no-fault : ¬ ((DoorFault ≡ DiskFault) ⊎ (DoorFault ≡ Load load.DiskFault))
+door-no-fault (inl is) = absurd cc
+door-no-fault (inr is) = absurd cc
+
+-- how a session ends whose store was loaded and whose door was opened
+pub is-opened : (result : Result (Unit {0}) End)
+    → IfErr result (λ end. (end ≡ DiskFault) ⊎ (end ≡ DoorFault)) → ¬ IsUnopened (end_of result)
+is-opened (Ok done) own (inl is) = absurd cc
+is-opened (Ok done) own (inr (fault, is)) = absurd cc
+is-opened (Err end) (inl own) (inl is) = absurd cc
+is-opened (Err end) (inl own) (inr (fault, is)) = absurd cc
+is-opened (Err end) (inr own) (inl is) = absurd cc
+is-opened (Err end) (inr own) (inr (fault, is)) = absurd cc
+
+pub door-opened : ¬ IsUnopened DoorFault
+door-opened = is-opened (Err DoorFault) (inr refl)
+
+-- the disk's count of faults after the load and after the session
+pub counts-loaded : (before amid after : ℕ) (end : End) → ¬ IsUnopened end → amid ≡ before
+    → CountsFault amid after (end ≡ DiskFault)
+    → CountsFault before after ((end ≡ DiskFault) ⊎ (end ≡ Load load.DiskFault))
+counts-loaded before amid after end works same counts =
+    subst (λ (n : ℕ). CountsFault n after ((end ≡ DiskFault) ⊎ (end ≡ Load load.DiskFault))) same
+    (counts-as amid after (end ≡ DiskFault) ((end ≡ DiskFault) ⊎ (end ≡ Load load.DiskFault)) inl
+    (⊎_elim (λ is. is) (λ is. absurd (works (inr (load.DiskFault, is))))) counts)

@@ -17,7 +17,7 @@ use Rattle.member_rules.specs.Head.{HeadValue}
 use Rattle.member_rules.specs.declared.operation.Op.{Op}
 
 -- two runs, where what the first leaves holds until its end, and what the second leaves from there on
-pub both-join-at : {told : Type 0} (s m t : DiskState) (P Q R : ℕ → List ℕ → List ℕ → Type 0) → IsDisk told t
+pub both-join-at : {observable : Type 0} (s m t : DiskState) (P Q R : ℕ → List ℕ → List ℕ → Type 0) → IsDisk observable t
     → LeavesOnlyBoth s m Journal Sealed P → LeavesOnlyBoth m t Journal Sealed Q
     → (t.clock < counter_limit → (c : ℕ) (i j : List ℕ) → c ≤ m.clock → P c i j → R c i j)
     → (t.clock < counter_limit → (c : ℕ) (i j : List ℕ) → m.clock < c → c ≤ t.clock → Q c i j → R c i j)

@@ -1,9 +1,7 @@
 -- The rows of documents that are read from the disk, over any disk and over one whose content contracts see.
-use Rattle.std.proofs.Common.{◌≡◌, inl, inr, ap, subst, ◌∙◌, ℕ, List, Result, Err, arith}
-use Rattle.std.proofs.lemmas.Bool.{cases_lt}
+use Rattle.std.proofs.Common.{◌≡◌, inl, inr, ap, subst, ◌∙◌, ℕ, List, Result, Err}
 use Rattle.chain_links.specs.declared.address.Address.{Address as FeedAddress}
 use Rattle.chain_links.specs.declared.address.Address.TheVariants as address
-use Rattle.feed_recovery.specs.Documents.{IsSealed, sealed_count}
 use Rattle.feed_recovery.specs.Store.{StoreValue}
 use Rattle.http_face.specs.Request.{RequestValue}
 use Rattle.http_face.specs.declared.reply.Media.TheVariants as media
@@ -21,86 +19,76 @@ use Rattle.member_rules.specs.Fold.{state_of}
 use Rattle.member_rules.specs.declared.state.State.{State}
 use Rattle.member_rules.specs.declared.state.State.TheVariants as member
 
--- an archive that isn't unsealed is sealed
-pub sealed-unless : (store : StoreValue) (number : ℕ) → ¬ (¬ IsSealed store number) → IsSealed store number
-sealed-unless store number none = elim (cases_lt 0 number) [
-  | inl some ↦ elim (cases_lt (sealed_count store) number) [
-    | inl past ↦ absurd (none (λ sealed. absurd (omega (arith, past, sealed.1))))
-    | inr within ↦ (omega (arith, some), within)
-  ]
-  | inr zero ↦ absurd (none (λ sealed. absurd (omega (arith, zero, sealed.0))))
-]
-
 -- where the disk's content is seen, the outcomes over any disk are those of the table
-module _ (told : Type 0) (tells : told) (store : StoreValue) where
-  archive-told : (number : ℕ) (given : Outcome) → IsArchiveShownOver told store number given
+module _ (observable : Type 0) (tells : observable) (store : StoreValue) where
+  archive-observable : (number : ℕ) (given : Outcome) → IsArchiveShownOver observable store number given
       → IsArchiveShown store number given
-  archive-told number given (inl (written, read, is)) =
+  archive-observable number given (inl (written, read, is)) =
       is ∙ ap (λ (bytes : List ℕ). unchanged (document_reply media.Feed bytes)) (read.seen tells)
-  archive-told number given (inr (untold, is)) = absurd (untold tells)
+  archive-observable number given (inr (untold, is)) = absurd (untold tells)
 
-  member-told : (number : ℕ) (given : Outcome) → IsMemberShownOver told store number given
+  member-observable : (number : ℕ) (given : Outcome) → IsMemberShownOver observable store number given
       → IsMemberShown store number given
-  member-told number given (inl (written, read, is)) =
+  member-observable number given (inl (written, read, is)) =
       let live = read.seen tells in
       (live.entry, live.live, is ∙ ap (λ (bytes : List ℕ). unchanged (document_reply media.Entry bytes)) live.text)
-  member-told number given (inr (untold, is)) = absurd (untold tells)
+  member-observable number given (inr (untold, is)) = absurd (untold tells)
 
-  state-told : (state : State) (number : ℕ) (given : Outcome)
-      → IsOfState state (IsMemberShownOver told store number) given
+  state-observable : (state : State) (number : ℕ) (given : Outcome)
+      → IsOfState state (IsMemberShownOver observable store number) given
       → IsOfState state (IsMemberShown store number) given
-  state-told member.Never number given is = is
-  state-told (member.Gone when) number given is = is
-  state-told (member.Live updated version) number given is = member-told number given is
+  state-observable member.Never number given is = is
+  state-observable (member.Gone when) number given is = is
+  state-observable (member.Live updated version) number given is = member-observable number given is
 
-  of-archive-told : (number : ℕ) (method : Verb) (given : Outcome) → IsOfArchiveOver told store number method given
+  of-archive-observable : (number : ℕ) (method : Verb) (given : Outcome) → IsOfArchiveOver observable store number method given
       → IsOfArchive store number method given
-  of-archive-told number verb.Get given (inl (sealed, is)) = inl (sealed, archive-told number given is)
-  of-archive-told number verb.Get given (inr is) = inr is
-  of-archive-told number verb.Head given is = is
-  of-archive-told number verb.Post given is = is
-  of-archive-told number verb.Put given is = is
-  of-archive-told number verb.Delete given is = is
-  of-archive-told number verb.Options given is = is
-  of-archive-told number verb.Patch given is = is
-  of-archive-told number verb.Other given is = is
+  of-archive-observable number verb.Get given (inl (sealed, is)) = inl (sealed, archive-observable number given is)
+  of-archive-observable number verb.Get given (inr is) = inr is
+  of-archive-observable number verb.Head given is = is
+  of-archive-observable number verb.Post given is = is
+  of-archive-observable number verb.Put given is = is
+  of-archive-observable number verb.Delete given is = is
+  of-archive-observable number verb.Options given is = is
+  of-archive-observable number verb.Patch given is = is
+  of-archive-observable number verb.Other given is = is
 
   module _ (request : RequestValue) (now : ℕ) where
-    of-member-told : (number : ℕ) (method : Verb) (given : Outcome)
-        → IsOfMemberOver told store request now number method given → IsOfMember store request now number method given
-    of-member-told number verb.Get given is = state-told (state_of store.history number) number given is
-    of-member-told number verb.Head given is = is
-    of-member-told number verb.Post given is = is
-    of-member-told number verb.Put given is = is
-    of-member-told number verb.Delete given is = is
-    of-member-told number verb.Options given is = is
-    of-member-told number verb.Patch given is = is
-    of-member-told number verb.Other given is = is
+    of-member-observable : (number : ℕ) (method : Verb) (given : Outcome)
+        → IsOfMemberOver observable store request now number method given → IsOfMember store request now number method given
+    of-member-observable number verb.Get given is = state-observable (state_of store.history number) number given is
+    of-member-observable number verb.Head given is = is
+    of-member-observable number verb.Post given is = is
+    of-member-observable number verb.Put given is = is
+    of-member-observable number verb.Delete given is = is
+    of-member-observable number verb.Options given is = is
+    of-member-observable number verb.Patch given is = is
+    of-member-observable number verb.Other given is = is
 
-    at-told : (named : FeedAddress) (given : Outcome)
-        → IsAtAddressAs (shown_over told store) store request now named given
+    at-observable : (named : FeedAddress) (given : Outcome)
+        → IsAtAddressAs (shown_over observable store) store request now named given
         → IsAtAddress store request now named given
-    at-told address.Feed given is = is
-    at-told (address.Archive number) given is = of-archive-told number request.verb given is
-    at-told (address.Member number) given is = of-member-told number request.verb given is
+    at-observable address.Feed given is = is
+    at-observable (address.Archive number) given is = of-archive-observable number request.verb given is
+    at-observable (address.Member number) given is = of-member-observable number request.verb given is
 
-    pub outcome-told : (given : Outcome) → IsOutcomeOver told store request now given
+    pub outcome-observable : (given : Outcome) → IsOutcomeOver observable store request now given
         → IsOutcome store request now given
-    outcome-told given (inl is) = inl is
-    outcome-told given (inr (method, inl none)) = inr (method, inl none)
-    outcome-told given (inr (method, inr (named, is_address, target, at))) =
-        inr (method, inr (named, is_address, target, at-told named given at))
+    outcome-observable given (inl is) = inl is
+    outcome-observable given (inr (method, inl none)) = inr (method, inl none)
+    outcome-observable given (inr (method, inr (named, is_address, target, at))) =
+        inr (method, inr (named, is_address, target, at-observable named given at))
 
-    pub answer-told : (new : StoreValue) (reply : Reply) (failed : Type 0)
-        → IsAnswer (IsOutcomeOver told store request now) store new reply failed
+    pub answer-observable : (new : StoreValue) (reply : Reply) (failed : Type 0)
+        → IsAnswer (IsOutcomeOver observable store request now) store new reply failed
         → IsAnswer (IsOutcome store request now) store new reply failed
-    answer-told new reply failed (inl replied) = inl (record {
+    answer-observable new reply failed (inl replied) = inl (record {
       given = replied.given;
-      is_one = outcome-told replied.given replied.is_one;
+      is_one = outcome-observable replied.given replied.is_one;
       reply_is = replied.reply_is;
       gains = replied.gains;
     })
-    answer-told new reply failed (inr other) = inr other
+    answer-observable new reply failed (inr other) = inr other
 
 -- The answer from the result of its part
 

@@ -163,11 +163,11 @@ comes-as part whole to old new (Err Changed) comes = record {
 }
 comes-as part whole to old new (Err NoMemory) comes = comes
 
-pub commits-as : (told : Type 0) (part whole : Outcome → Type 0) → ((given : Outcome) → part given → whole given)
-    → (s t : DiskState) (old new : StoreValue) (failed : Type 0) → ReadsOrCommits told part s t old new failed
-    → ReadsOrCommits told whole s t old new failed
-commits-as told part whole to s t old new failed (inl reads) = inl reads
-commits-as told part whole to s t old new failed (inr commits) = inr (record {
+pub commits-as : (observable : Type 0) (part whole : Outcome → Type 0) → ((given : Outcome) → part given → whole given)
+    → (s t : DiskState) (old new : StoreValue) (failed : Type 0) → ReadsOrCommits observable part s t old new failed
+    → ReadsOrCommits observable whole s t old new failed
+commits-as observable part whole to s t old new failed (inl reads) = inl reads
+commits-as observable part whole to s t old new failed (inr commits) = inr (record {
   operation = commits.operation;
   given = commits.given;
   is_one = to commits.given commits.is_one;

@@ -1,11 +1,11 @@
 -- The store and its disk after the connections so far, and after one more connection.
-use Rattle.std.proofs.Common.{◌≡◌, ◌≢◌, ◌⊎◌, inl, inr, refl, sym, ap, ◌∙◌, subst, ℕ, ◌+◌, ◌<◌, ◌≤◌, List, [], ◌∷◌}
+use Rattle.std.proofs.Common.{◌≡◌, inl, inr, refl, sym, ap, ◌∙◌, subst, ℕ, ◌+◌, ◌<◌, ◌≤◌, List, [], ◌∷◌}
 use Rattle.std.proofs.Common.{◌++◌, length, map, All, arith, append_assoc, length-append, true, false}
 use Rattle.std.specs.Prelude.{Some}
 use Rattle.std.proofs.lemmas.List.{append-nil}
 use Rattle.std.proofs.lemmas.List.Elements.{All-nil, All-push, All-weaker}
-use Rattle.atom_values.specs.Counts.{Rose, counter_limit}
-use Rattle.document_server.specs.Answer.{Grows}
+use Rattle.atom_values.specs.Counts.{HasRisen, counter_limit}
+use Rattle.document_server.specs.Answer.{Steps}
 use Rattle.document_server.specs.Door.{DoorState, SameLinks}
 use Rattle.document_server.specs.Laws.{ShownAreServed}
 use Rattle.document_server.specs.Reply.{disk_fault}
@@ -26,27 +26,16 @@ use Rattle.feed_disk.specs.Disk.{DiskState, IsDisk}
 use Rattle.feed_disk.specs.Moments.{LeavesOnlyBoth}
 use Rattle.feed_disk.specs.declared.area.Area.TheVariants.{Journal, Sealed}
 use Rattle.feed_disk.proofs.MomentLemmas.{leaves_begin}
-use Rattle.feed_journal.specs.Log.{MakesSome}
+use Rattle.feed_journal.specs.Laws.{BegunAreWhole}
+use Rattle.feed_recovery.proofs.SettleLemmas.{rest_settles}
 use Rattle.feed_recovery.specs.Settled.{IsAtRest, NowBoth, OpensPast, Settled}
-use Rattle.feed_recovery.specs.Store.{StandsFor, StoreValue, call_count, is_spent}
+use Rattle.feed_recovery.specs.Store.{StandsFor, StoreValue, call_count, is_spent, seal_count}
 use Rattle.feed_recovery.specs.Stored.{OpensTo, stored_of}
 use Rattle.http_face.specs.Conn.{ConnState}
-use Rattle.member_rules.specs.Head.{HeadValue, IsHead}
+use Rattle.member_rules.specs.Head.{HeadValue}
 use Rattle.member_rules.specs.History.{IsLawful}
 use Rattle.member_rules.specs.Laws.{PrefixesAreLawful, ServedStays}
 use Rattle.member_rules.specs.declared.operation.Op.{Op}
-
--- the effect of a connection that was served on the store and on its disk
-pub record Linked (before after : DiskState) (moments coming : ℕ → ℕ) (given back : ConnState)
-    (disk_told clock_told conn_told : Type 0) (old new : StoreValue) (line : Line) : Type 0 where
-  pub serves : ServesOne before after moments coming given back disk_told clock_told conn_told old new line
-  pub head : new.head ≡ old.head
-  pub version : line.version ≡ length new.history
-  pub calls : line.calls ≡ call_count new
-  pub later : before.clock ≤ after.clock
-  pub makes : MakesSome before after (call_count old) (call_count new)
-  pub grows : (new.history ≡ old.history) ⊎ Grows before after old new
-  pub begun : line.status ≢ 0 → back.begun ≡ Some after.clock
 
 -- the store counts its device calls from this moment
 abbrev pub Counts : ℕ → DiskState → StoreValue → Type 0
@@ -93,13 +82,13 @@ going-begins start disk moments door disk_told clock_told door_told store is_dis
   lines_are = refl;
   unfailed = All-nil (IsUnfailed disk.faults);
   exchanges = exchanges-none start disk door door_told store;
-  crash = λ told rests. record {
+  crash = λ observable rests. record {
     first = leaves_begin disk Journal (λ _ _. Unit {0});
     second = leaves_begin disk Sealed (λ _ _. Unit {0});
     each = λ below c i j inside may may'. absurd (omega (arith, inside, is_disk.begun Journal c i may));
   };
-  over = λ told see. All-nil (IsOver store.head store.history);
-  session = λ told clock see. (refl, λ k. refl);
+  over = λ observable see. All-nil (IsOver store.head store.history);
+  session = λ observable clock see. (refl, λ k. refl);
 }
 
 -- a call of the door that gives no connection
@@ -185,7 +174,7 @@ module _ (start : ℕ) (before after : DiskState) (moments coming : ℕ → ℕ)
     (stands : disk_told → StandsFor after store) where
   history-ends : disk_told
       → HasHistory after moments clock_told door_told (stored_of opened) lines going.served [] store.history failed
-  history-ends told = record {
+  history-ends observable = record {
     more = going.more;
     extends = going.extends;
     no_fewer = omega (arith, going.version);
@@ -193,15 +182,15 @@ module _ (start : ℕ) (before after : DiskState) (moments coming : ℕ → ℕ)
     documents = λ see.
         subst (All (SendsServed opened.head store.history)) (sym (append-nil going.served))
         (All-weaker (IsOver opened.head store.history) (SendsServed opened.head store.history)
-        (sends-over opened.head store.history) going.served (going.over told see));
+        (sends-over opened.head store.history) going.served (going.over observable see));
     session = λ clock see. (
       opened,
       refl,
       session-ends (Ends failed after.content [] store.history) opened moments going.served store coming
           (λ last now at. (
             ap (λ (s : StoreValue). s.history) (sym at.0),
-            λ works. subst (λ (s : StoreValue). OpensTo after.content (stored_of s)) (sym at.0) (stands told).opens,
-          )) (going.session told clock see),
+            λ works. subst (λ (s : StoreValue). OpensTo after.content (stored_of s)) (sym at.0) (stands observable).opens,
+          )) (going.session observable clock see),
     );
   }
 
@@ -220,38 +209,49 @@ module _ (start : ℕ) (before after : DiskState) (moments coming : ℕ → ℕ)
     within = λ below.
         lines-within start before after opened lines (length store.history) (call_count store) (counts below)
         (going.clock below (counts below)) (going.lead below (counts below));
-    history = λ told. store.history;
+    history = λ observable. store.history;
     stored = history-ends;
-    crash = λ told rest.
+    crash = λ observable rest.
         let leaves : Settled after opened.head store.history (length store.history) =
         subst (λ (h : HeadValue). Settled after h store.history (length store.history)) going.head
-        (settled told rest) in
+        (settled observable rest) in
         subst (λ (unbroken : List Line). LeavesServing start before after opened.head (length opened.history)
         store.history lines unbroken failed) going.lines_are
         (leaves-serving start before after opened store.history lines lines failed (length store.history) counts
         (omega (arith, ap length going.extends, length-append opened.history going.more)) going.versions
-        (going.crash told rest) leaves (λ unfailed. leaves));
+        (going.crash observable rest) leaves (λ unfailed. leaves));
   }
 
+-- a store that stands for a disk at rest is what a crash leaves
+pub going-settles : BegunAreWhole → {observable : Type 0} (before after : DiskState) (store : StoreValue)
+    → (observable → StandsFor after store) → (observable → IsAtRest before → IsAtRest after)
+    → observable → IsAtRest before → Settled after store.head store.history (length store.history)
+going-settles whole before after store stands rests tells rest =
+    rest_settles whole after store.head store.history (seal_count store) (stands tells).opens (rests tells rest)
+
 -- One more connection
+
+pub is-unspent : (store : StoreValue) → is_spent store ≡ false → ¬ (is_spent store ≡ true)
+is-unspent store unspent spent = cc
 
 module _ (start : ℕ) (before amid after : DiskState) (moments coming later : ℕ → ℕ) (given back : ConnState)
     (door rest : DoorState) (disk_told clock_told door_told conn_told : Type 0) (opened store new : StoreValue)
     (lines : List Line) (line : Line)
     (going : Going start before amid moments coming door rest disk_told clock_told door_told opened store lines)
-    (linked : Linked amid after coming later given back disk_told clock_told conn_told store new line) where
+    (linked : ServesOne amid after coming later given back disk_told clock_told conn_told store new line)
+    (steps : Steps disk_told amid after store new (is_spent new ≡ true)) where
   abbrev exchange : Exchange
-  exchange = exchange_of amid after given back linked.serves.reply line
+  exchange = exchange_of amid after given back linked.reply line
 
   grown : length opened.history ≤ length store.history
   grown = omega (arith, ap length going.extends, length-append opened.history going.more)
 
   short : after.clock < counter_limit → amid.clock < counter_limit
-  short below = omega (arith, below, linked.later)
+  short below = omega (arith, below, steps.mirror.leaves.later)
 
   counts-on : after.clock < counter_limit → Counts start before opened → Counts start after new
   counts-on below counted =
-      clock-on amid after start (call_count store) (call_count new) linked.makes below
+      clock-on amid after start (call_count store) (call_count new) steps.calls below
       (going.clock (short below) counted)
 
   -- the line's calls are those at the end of the connection
@@ -263,7 +263,7 @@ module _ (start : ℕ) (before amid after : DiskState) (moments coming later : �
   lead-on below counted =
       lead-more (length opened.history) (call_count opened) lines (length store.history) (call_count store) line
       (going.lead (short below) counted)
-      (line-follows amid after start store new line linked.version linked.calls linked.later linked.makes linked.grows
+      (line-follows amid after start store new line linked.version linked.calls steps.mirror.leaves.later steps.calls linked.grows
       below (going.clock (short below) counted))
 
   lines-before : after.clock < counter_limit → Counts start before opened → (c : ℕ) → amid.clock < c
@@ -285,29 +285,29 @@ module _ (start : ℕ) (before amid after : DiskState) (moments coming later : �
     | inr grows ↦ (grows.operation ∷ [], grows.history)
   ]
 
-  module _ (told : disk_told) (disk : IsDisk disk_told after) (rests : IsAtRest before → IsAtRest amid) where
+  module _ (observable : disk_told) (disk : IsDisk disk_told after) (rests : IsAtRest before → IsAtRest amid) where
     -- the images that the connection leaves open to the head that was opened
     past-opened : (i j : List ℕ)
-        → OpensPast store.head (store.history ++ (linked.serves.stored told).operations) (length store.history) i j
-        → OpensPast opened.head (store.history ++ (linked.serves.stored told).operations) (length store.history) i j
+        → OpensPast store.head (store.history ++ (linked.stored observable).operations) (length store.history) i j
+        → OpensPast opened.head (store.history ++ (linked.stored observable).operations) (length store.history) i j
     past-opened i j past =
-        subst (λ (h : HeadValue). OpensPast h (store.history ++ (linked.serves.stored told).operations) (length store.history) i j)
+        subst (λ (h : HeadValue). OpensPast h (store.history ++ (linked.stored observable).operations) (length store.history) i j)
         going.head past
 
-    pub crash-more : length (store.history ++ (linked.serves.stored told).operations) ≡ line.version → IsAtRest before
+    pub crash-more : length (store.history ++ (linked.stored observable).operations) ≡ line.version → IsAtRest before
         → LeavesOnlyBoth before after Journal Sealed
-        (CrashOpens start before opened (store.history ++ (linked.serves.stored told).operations) (lines ++ line ∷ [])
+        (CrashOpens start before opened (store.history ++ (linked.stored observable).operations) (lines ++ line ∷ [])
         (lines ++ line ∷ []))
     crash-more has rest =
-        let operations = (linked.serves.stored told).operations in
+        let operations = (linked.stored observable).operations in
         both-join-at before amid after (CrashOpens start before opened store.history lines lines)
         (λ _. OpensPast store.head (store.history ++ operations) (length store.history))
         (CrashOpens start before opened (store.history ++ operations) (lines ++ line ∷ []) (lines ++ line ∷ [])) disk
-        (going.crash told rest) ((linked.serves.stored told).leaves (rests rest)).moments
+        (going.crash observable rest) ((linked.stored observable).leaves (rests rest)).moments
         (λ below c i j early at counted.
         let on : start + line.calls ≡ after.clock = line-calls below counted in
         opens-until opened.head store.history operations i j start c (length opened.history) lines line (at counted)
-        (omega (arith, early, on, linked.later)) (omega (arith, has, length-append store.history operations)))
+        (omega (arith, early, on, steps.mirror.leaves.later)) (omega (arith, has, length-append store.history operations)))
         (λ below c i j inside to past counted.
         let on : start + line.calls ≡ after.clock = line-calls below counted in
         opens-amid opened.head store.history operations i j start c (length opened.history) lines line
@@ -316,17 +316,17 @@ module _ (start : ℕ) (before amid after : DiskState) (moments coming later : �
 
     pub crash-break : IsAtRest before
         → LeavesOnlyBoth before after Journal Sealed
-        (CrashOpens start before opened (store.history ++ (linked.serves.stored told).operations) (lines ++ line ∷ []) lines)
+        (CrashOpens start before opened (store.history ++ (linked.stored observable).operations) (lines ++ line ∷ []) lines)
     crash-break rest =
-        let operations = (linked.serves.stored told).operations in
+        let operations = (linked.stored observable).operations in
         both-join-at before amid after (CrashOpens start before opened store.history lines lines)
         (λ _. OpensPast store.head (store.history ++ operations) (length store.history))
         (CrashOpens start before opened (store.history ++ operations) (lines ++ line ∷ []) lines) disk
-        (going.crash told rest) ((linked.serves.stored told).leaves (rests rest)).moments
+        (going.crash observable rest) ((linked.stored observable).leaves (rests rest)).moments
         (λ below c i j early at counted.
         let on : start + line.calls ≡ after.clock = line-calls below counted in
         opens-until-break opened.head store.history operations i j start c (length opened.history) lines line
-        (at counted) (omega (arith, early, on, linked.later)))
+        (at counted) (omega (arith, early, on, steps.mirror.leaves.later)))
         (λ below c i j inside to past counted.
         let on : start + line.calls ≡ after.clock = line-calls below counted in
         opens-amid-break opened.head store.history operations i j start c (length opened.history) lines line
@@ -347,60 +347,63 @@ module _ (start : ℕ) (before amid after : DiskState) (moments coming later : �
     exchanges-on : Exchanges start before after door last door_told opened (going.served ++ exchange ∷ [])
     exchanges-on =
         exchanges-more start before amid after door rest last door_told opened going.served exchange going.exchanges
-        linked.later passes linked.serves.reported marked-on (λ told. linked.serves.sent (sees told))
+        steps.mirror.leaves.later passes linked.reported marked-on (λ observable. linked.sent (sees observable))
 
     lines-on : lines ++ line ∷ [] ≡ map (λ e. e.line) (going.served ++ exchange ∷ [])
     lines-on = lines-more lines going.served exchange going.lines_are
 
-    over-on : (told : disk_told) → door_told
-        → IsLawful opened.head (store.history ++ (linked.serves.stored told).operations)
-        → IsOver opened.head (store.history ++ (linked.serves.stored told).operations) exchange
-        → All (IsOver opened.head (store.history ++ (linked.serves.stored told).operations))
+    over-on : (observable : disk_told) → door_told
+        → IsLawful opened.head (store.history ++ (linked.stored observable).operations)
+        → IsOver opened.head (store.history ++ (linked.stored observable).operations) exchange
+        → All (IsOver opened.head (store.history ++ (linked.stored observable).operations))
         (going.served ++ exchange ∷ [])
-    over-on told see longer over =
-        let operations = (linked.serves.stored told).operations in
+    over-on observable see longer over =
+        let operations = (linked.stored observable).operations in
         All-push (IsOver opened.head (store.history ++ operations)) going.served exchange
         (All-weaker (IsOver opened.head store.history) (IsOver opened.head (store.history ++ operations))
-        (sends-later stays prefixes opened.head store.history operations longer) going.served (going.over told see))
+        (sends-later stays prefixes opened.head store.history operations longer) going.served (going.over observable see))
         over
 
     -- the connection was served
-    module _ (shown : ShownAreServed) (unspent : is_spent new ≡ false) (still : after.faults ≡ amid.faults)
-        (is_head : disk_told → IsHead store.head) (lawful : disk_told → IsLawful store.head store.history)
-        (new_lawful : disk_told → IsLawful new.head new.history) where
-      gained : (told : disk_told) → new.history ≡ store.history ++ (linked.serves.stored told).operations
-      gained told = (linked.serves.stored told).gained unspent
+    module _ (shown : ShownAreServed) (unspent : is_spent new ≡ false) (stands : disk_told → StandsFor amid store) where
+      works : ¬ (is_spent new ≡ true)
+      works = is-unspent new unspent
 
-      longer-lawful : (told : disk_told)
-          → IsLawful opened.head (store.history ++ (linked.serves.stored told).operations)
-      longer-lawful told =
-          subst (λ (h : List Op). IsLawful opened.head h) (gained told)
-          (subst (λ (h : HeadValue). IsLawful h new.history) (linked.head ∙ going.head) (new_lawful told))
+      gained : (observable : disk_told) → new.history ≡ store.history ++ (linked.stored observable).operations
+      gained observable = (linked.stored observable).gained unspent
 
-      version-is : (told : disk_told)
-          → length (store.history ++ (linked.serves.stored told).operations) ≡ line.version
-      version-is told = ap length (sym (gained told)) ∙ sym linked.version
+      longer-lawful : (observable : disk_told)
+          → IsLawful opened.head (store.history ++ (linked.stored observable).operations)
+      longer-lawful observable =
+          subst (λ (h : List Op). IsLawful opened.head h) (gained observable)
+          (subst (λ (h : HeadValue). IsLawful h new.history) (steps.head ∙ going.head)
+          (steps.stands works observable).opens.is_journal.lawful)
 
-      over-more : (told : disk_told) → door_told
+      version-is : (observable : disk_told)
+          → length (store.history ++ (linked.stored observable).operations) ≡ line.version
+      version-is observable = ap length (sym (gained observable)) ∙ sym linked.version
+
+      over-more : (observable : disk_told) → door_told
           → All (IsOver opened.head new.history) (going.served ++ exchange ∷ [])
-      over-more told see =
-          let operations = (linked.serves.stored told).operations in
-          let on = (linked.serves.stored told).served (sees see) unspent in
-          let has = version-is told in
-          subst (λ (h : List Op). All (IsOver opened.head h) (going.served ++ exchange ∷ [])) (sym (gained told))
-          (over-on told see (longer-lawful told) (record {
+      over-more observable see =
+          let operations = (linked.stored observable).operations in
+          let on = (linked.stored observable).served (sees see) unspent in
+          let has = version-is observable in
+          subst (λ (h : List Op). All (IsOver opened.head h) (going.served ++ exchange ∷ [])) (sym (gained observable))
+          (over-on observable see (longer-lawful observable) (record {
             within = omega (arith, has);
-            sends = sends-turn stays prefixes opened.head store.history operations (longer-lawful told) shown store
-                on.now (is_head told) (lawful told) exchange on.turn going.head refl (omega (arith, has))
+            sends = sends-turn stays prefixes opened.head store.history operations (longer-lawful observable) shown store
+                on.now (stands observable).opens.is_journal.is_head (stands observable).opens.is_journal.lawful exchange
+                on.turn going.head refl (omega (arith, has))
                 on.served.is_turn;
           }))
 
       session-on : disk_told → clock_told → door_told
           → IsSession (IsAt new later) opened moments (going.served ++ exchange ∷ [])
-      session-on told clock see =
-          let on = (linked.serves.stored told).served (sees see) unspent in
+      session-on observable clock see =
+          let on = (linked.stored observable).served (sees see) unspent in
           session-more opened moments going.served store new coming later exchange on.turn
-          (going.session told clock see)
+          (going.session observable clock see)
           (subst (λ (now : ℕ). IsServed store now exchange on.turn new) (on.is_now clock) on.served) (on.clock clock)
 
       pub going-more : IsDisk disk_told after → (disk_told → IsAtRest before → IsAtRest amid)
@@ -410,7 +413,7 @@ module _ (start : ℕ) (before amid after : DiskState) (moments coming later : �
           let longer : length store.history ≤ length new.history =
           omega (arith, ap length gains.1, length-append store.history gains.0) in
           record {
-            head = linked.head ∙ going.head;
+            head = steps.head ∙ going.head;
             more = going.more ++ gains.0;
             extends = gains.1 ∙ ap (λ (h : List Op). h ++ gains.0) going.extends
                 ∙ append_assoc opened.history going.more gains.0;
@@ -427,38 +430,37 @@ module _ (start : ℕ) (before amid after : DiskState) (moments coming later : �
             served = going.served ++ exchange ∷ [];
             lines_are = lines-on;
             unfailed = All-push (IsUnfailed before.faults) going.served exchange going.unfailed
-                (record { before = faults; after = still ∙ faults });
+                (record { before = faults; after = steps.faults.unfailed works ∙ faults });
             exchanges = exchanges-on;
-            crash = λ told rest.
+            crash = λ observable rest.
                 subst (λ (h : List Op). LeavesOnlyBoth before after Journal Sealed
-                (CrashOpens start before opened h (lines ++ line ∷ []) (lines ++ line ∷ []))) (sym (gained told))
-                (crash-more told disk (rests told) (version-is told) rest);
+                (CrashOpens start before opened h (lines ++ line ∷ []) (lines ++ line ∷ []))) (sym (gained observable))
+                (crash-more observable disk (rests observable) (version-is observable) rest);
             over = over-more;
             session = session-on;
           }
 
     -- the disk failed after its request
-    module _ (failed : Type 0) (fails : failed) (spent : is_spent new ≡ true) (stayed : new.history ≡ store.history)
-        (rose : Rose amid.faults after.faults)
-        (pending_lawful : (told : disk_told) → door_told
-        → IsLawful opened.head (store.history ++ (linked.serves.stored told).operations))
+    module _ (failed : Type 0) (fails : failed) (spent : is_spent new ≡ true)
+        (pending_lawful : (observable : disk_told) → door_told
+        → IsLawful opened.head (store.history ++ (linked.stored observable).operations))
         (counts : CountsFrom start before after opened) where
       version-was : line.version ≡ length store.history
-      version-was = linked.version ∙ ap length stayed
+      version-was = linked.version ∙ ap length (steps.stays spent)
 
       exchange-failed : IsFailed before.faults after.faults exchange
       exchange-failed = record {
         before = faults;
         after = refl;
-        rose = subst (λ (n : ℕ). Rose n after.faults) faults rose;
-        reply = linked.serves.failed spent;
+        rose = subst (λ (n : ℕ). HasRisen n after.faults) faults (steps.faults.failed spent);
+        reply = linked.failed spent;
       }
 
-      history-breaks : (told : disk_told)
+      history-breaks : (observable : disk_told)
           → HasHistory after moments clock_told door_told (stored_of opened) (lines ++ line ∷ []) going.served
-          (exchange ∷ []) (store.history ++ (linked.serves.stored told).operations) failed
-      history-breaks told =
-          let on = linked.serves.stored told in
+          (exchange ∷ []) (store.history ++ (linked.stored observable).operations) failed
+      history-breaks observable =
+          let on = linked.stored observable in
           let history = store.history ++ on.operations in
           let version = version-last (length opened.history) lines line ∙ version-was in
           record {
@@ -470,9 +472,9 @@ module _ (start : ℕ) (before amid after : DiskState) (moments coming later : �
             documents = λ see.
                 All-weaker (IsOver opened.head history) (SendsServed opened.head history)
                 (sends-over opened.head history) (going.served ++ exchange ∷ [])
-                (over-on told see (pending_lawful told see) (record {
+                (over-on observable see (pending_lawful observable see) (record {
                   within = omega (arith, version-was, length-append store.history on.operations);
-                  sends = sends-other opened.head history exchange disk_fault (linked.serves.failed spent)
+                  sends = sends-other opened.head history exchange disk_fault (linked.failed spent)
                       (λ is. cc);
                 }));
             session = λ clock see.
@@ -486,7 +488,7 @@ module _ (start : ℕ) (before amid after : DiskState) (moments coming later : �
                         subst (λ (s : StoreValue). IsBrokenOff s (now 0) exchange history) (sym at.0)
                             (subst (λ (m : ℕ). IsBrokenOff store m exchange history)
                             (broken.is_now clock ∙ sym (at.1 0)) broken.broken_off),
-                      )) (going.session told clock see),
+                      )) (going.session observable clock see),
                 );
           }
 
@@ -504,16 +506,16 @@ module _ (start : ℕ) (before amid after : DiskState) (moments coming later : �
         within = λ below.
             lines-within start before after opened (lines ++ line ∷ []) line.version line.calls (counts below)
             (line-calls below (counts below)) (lead-on below (counts below));
-        history = λ told. store.history ++ (linked.serves.stored told).operations;
+        history = λ observable. store.history ++ (linked.stored observable).operations;
         stored = history-breaks;
-        crash = λ told rest.
-            let on = linked.serves.stored told in
+        crash = λ observable rest.
+            let on = linked.stored observable in
             subst (λ (unbroken : List Line). LeavesServing start before after opened.head (length opened.history)
             (store.history ++ on.operations) (lines ++ line ∷ []) unbroken failed) going.lines_are
             (leaves-serving start before after opened (store.history ++ on.operations) (lines ++ line ∷ []) lines
             failed (length store.history) counts grown
             (versions-more store.history (omega arith) (omega (arith, version-was)))
-            (crash-break told disk (rests told) rest)
-            (λ i j may may'. past-opened told disk (rests told) i j ((on.leaves (rests told rest)).now i j may may'))
+            (crash-break observable disk (rests observable) rest)
+            (λ i j may may'. past-opened observable disk (rests observable) i j ((on.leaves (rests observable rest)).now i j may may'))
             (λ works. absurd (works fails)));
       }

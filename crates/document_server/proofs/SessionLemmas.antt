@@ -1,15 +1,17 @@
 -- The exchanges of a session so far, and one more.
-use Rattle.std.proofs.Common.{◌≡◌, refl, sym, ap, ◌∙◌, subst, ℕ, ◌+◌, ◌<◌, ◌≤◌, List, [], ◌∷◌, ◌++◌}
+use Rattle.std.proofs.Common.{◌≡◌, inl, inr, length, refl, sym, ap, ◌∙◌, subst, ℕ, ◌+◌, ◌<◌, ◌≤◌, List, [], ◌∷◌, ◌++◌}
 use Rattle.std.proofs.Common.{map, All, arith, append_assoc}
 use Rattle.std.specs.Prelude.{Some}
 use Rattle.std.proofs.lemmas.List.{append-nil, map-append}
 use Rattle.std.proofs.lemmas.List.Elements.{All-nil, All-push}
 use Rattle.atom_values.specs.Counts.{counter_limit}
 use Rattle.document_server.specs.Door.{DoorState, Gives, SameLinks, with_back}
-use Rattle.document_server.specs.Serving.{CountsFrom, GoesOn, HasExchanges, HasLinks}
+use Rattle.document_server.specs.Serving.{CountsFrom, EndsWithin, GoesOn, HasExchanges, HasLinks}
 use Rattle.document_server.specs.Session.{Exchange, IsMarked, IsOneFailed, IsReported, IsSent, IsServed, IsSession}
 use Rattle.document_server.specs.Session.{IsUnfailed, Turn}
 use Rattle.document_server.specs.declared.line.Line.{Line}
+use Rattle.document_server.specs.declared.session.End.{End}
+use Rattle.document_server.specs.declared.session.End.TheVariants.{Done, DiskFault, DoorFault}
 use Rattle.feed_disk.specs.Disk.{DiskState}
 use Rattle.feed_recovery.specs.Store.{StoreValue, call_count}
 use Rattle.http_face.specs.Conn.{ConnState}
@@ -134,8 +136,8 @@ pub exchanges-none : (start : ℕ) (disk : DiskState) (door : DoorState) (door_t
 exchanges-none start disk door door_told opened = record {
   reported = All-nil IsReported;
   marked = λ below counted. All-nil (IsMarked start);
-  linked = λ told. links-none door;
-  sent = λ told. All-nil IsSent;
+  linked = λ observable. links-none door;
+  sent = λ observable. All-nil IsSent;
 }
 
 pub exchanges-more : (start : ℕ) (before after behind : DiskState) (door rest later : DoorState) (door_told : Type 0)
@@ -151,8 +153,8 @@ exchanges-more start before after behind door rest later door_told opened served
       marked = λ below counted.
           All-push (IsMarked start) served exchange (so_far.marked (omega (arith, below, on)) counted)
           (marked below counted);
-      linked = λ told. links-more door rest later served exchange (so_far.linked told) (passes told);
-      sent = λ told. All-push IsSent served exchange (so_far.sent told) (sent told);
+      linked = λ observable. links-more door rest later served exchange (so_far.linked observable) (passes observable);
+      sent = λ observable. All-push IsSent served exchange (so_far.sent observable) (sent observable);
     }
 
 pub exchanges-still : (start : ℕ) (before after : DiskState) (door rest later : DoorState) (door_told : Type 0)
@@ -161,7 +163,7 @@ pub exchanges-still : (start : ℕ) (before after : DiskState) (door rest later 
 exchanges-still start before after door rest later door_told opened served all same = record {
   reported = all.reported;
   marked = all.marked;
-  linked = λ told. links-still door rest later served (all.linked told) (same told);
+  linked = λ observable. links-still door rest later served (all.linked observable) (same observable);
   sent = all.sent;
 }
 
@@ -183,8 +185,8 @@ module _ (start : ℕ) (before after : DiskState) (door rest : DoorState) (door_
         broken_off = λ fails. absurd (works fails);
         reported = subst (All IsReported) (sym none) all.reported;
         marked = λ below. subst (All (IsMarked start)) (sym none) (all.marked below (counted below));
-        linked = λ told. subst (HasLinks door rest) (sym none) (all.linked told);
-        sent = λ told. subst (All IsSent) (sym none) (all.sent told);
+        linked = λ observable. subst (HasLinks door rest) (sym none) (all.linked observable);
+        sent = λ observable. subst (All IsSent) (sym none) (all.sent observable);
       }
 
   -- the last connection was broken off
@@ -202,4 +204,38 @@ module _ (start : ℕ) (before after : DiskState) (door rest : DoorState) (door_
     marked = λ below. all.marked below (counted below);
     linked = all.linked;
     sent = all.sent;
+  }
+
+-- How it ends, with this many lines at most
+
+module _ (requests : ℕ) (door_told : Type 0) (door rest : DoorState) (lines : List Line)
+    (returned : door_told → rest.out ≡ door.out) where
+  pub ends-all : length lines ≡ requests → EndsWithin requests door_told door rest lines Done
+  ends-all all = record {
+    most = omega (arith, all);
+    cause = record { done = λ _. inl all; early = λ is. absurd cc };
+    returned = returned;
+  }
+
+  -- the door has no connection left
+  pub ends-left : length lines ≤ requests → (door_told → rest.left ≡ [])
+      → EndsWithin requests door_told door rest lines Done
+  ends-left most none =
+      record { most = most; cause = record { done = λ _. inr none; early = λ is. absurd cc }; returned = returned }
+
+  -- a call of the door failed
+  pub ends-door : (end : End) → end ≡ DoorFault → length lines < requests
+      → EndsWithin requests door_told door rest lines end
+  ends-door end is few = record {
+    most = omega (arith, few);
+    cause = record { done = λ done. absurd cc; early = λ _. few };
+    returned = returned;
+  }
+
+  -- a device call failed
+  pub ends-disk : length lines ≤ requests → EndsWithin requests door_told door rest lines DiskFault
+  ends-disk most = record {
+    most = most;
+    cause = record { done = λ done. absurd cc; early = λ is. absurd cc };
+    returned = returned;
   }

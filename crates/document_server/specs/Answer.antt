@@ -1,7 +1,7 @@
 -- The store and its disk after a request was answered.
-use Rattle.std.specs.Prelude.{◌≡◌, ◌⊎◌, ℕ, ◌+◌, ◌≤◌, List, [], ◌∷◌, ◌++◌, length, Option, Some, None, Result, Ok, Err}
+use Rattle.std.specs.Prelude.{◌≡◌, ◌⊎◌, ℕ, ◌+◌, List, [], ◌∷◌, ◌++◌, length, Option, Some, None, Result, Ok, Err}
 use Rattle.std.specs.Prelude.{true, false}
-use Rattle.atom_values.specs.Counts.{Rose}
+use Rattle.atom_values.specs.Counts.{CountsFault}
 use Rattle.atom_values.specs.Entry.{DraftValue, IsDraft}
 use Rattle.entry_reader.specs.Refusal.{IsRefusedAt}
 use Rattle.entry_reader.specs.Spells.{Spells}
@@ -97,16 +97,14 @@ ComesTo outcomes old new (Err Changed) = IsReplied outcomes old new disk_changed
 ComesTo outcomes old new (Err NoMemory) = Gains old new None
 
 -- the store and the disk after a part of the answer, which fails exactly if a device call failed
-pub record Steps (told : Type 0) (before after : DiskState) (old new : StoreValue) (failed : Type 0) : Type 0 where
+pub record Steps (observable : Type 0) (before after : DiskState) (old new : StoreValue) (failed : Type 0) : Type 0 where
   pub head : new.head ≡ old.head
-  pub later : before.faults ≤ after.faults
-  pub rose : failed → Rose before.faults after.faults
+  pub faults : CountsFault before.faults after.faults failed
   pub spent : failed → is_spent new ≡ true
   pub stays : failed → new.history ≡ old.history
-  pub unfailed : ¬ failed → after.faults ≡ before.faults
   pub unspent : ¬ failed → is_spent new ≡ false
-  pub stands : ¬ failed → told → StandsFor after new
-  pub rests : ¬ failed → told → IsAtRest before → IsAtRest after
+  pub stands : ¬ failed → observable → StandsFor after new
+  pub rests : ¬ failed → observable → IsAtRest before → IsAtRest after
   pub mirror : LeavesAlone before after Mirror
   pub calls : MakesSome before after (call_count old) (call_count new)
 
@@ -116,20 +114,20 @@ pub record OnlyReads (before after : DiskState) (old new : StoreValue) : Type 0 
   pub history : new.history ≡ old.history
 
 -- an operation of an outcome is committed, or its commit fails
-pub record Commits (told : Type 0) (outcomes : Outcome → Type 0) (before after : DiskState) (old new : StoreValue)
+pub record Commits (observable : Type 0) (outcomes : Outcome → Type 0) (before after : DiskState) (old new : StoreValue)
     (failed : Type 0) : Type 0 where
   pub operation : Op
   pub given : Outcome
   pub is_one : outcomes given
   pub adds : given.adds ≡ Some operation
-  pub leaves : told → IsAtRest before
+  pub leaves : observable → IsAtRest before
       → AlwaysLeavesBoth before after (OpensPast old.head (old.history ++ operation ∷ []) (length old.history))
   pub gained : ¬ failed → new.history ≡ old.history ++ operation ∷ []
 
 abbrev pub ReadsOrCommits : Type 0 → (Outcome → Type 0) → DiskState → DiskState → StoreValue → StoreValue → Type 0
     → Type 0
-ReadsOrCommits told outcomes before after old new failed =
-    OnlyReads before after old new ⊎ Commits told outcomes before after old new failed
+ReadsOrCommits observable outcomes before after old new failed =
+    OnlyReads before after old new ⊎ Commits observable outcomes before after old new failed
 
 -- a change is acknowledged
 abbrev pub Acknowledges : Result Reply Failure → Type 0

@@ -288,41 +288,41 @@ IsOutcomeAs shown store request now given =
 abbrev pub IsOutcome : StoreValue → RequestValue → ℕ → Outcome → Type 0
 IsOutcome store request now given = IsOutcomeAs (shown_by store) store request now given
 
--- The same over any disk. `told` says whether contracts see the disk's content.
+-- The same over any disk. `observable` says whether contracts see the disk's content.
 
 -- the text that a read gave for a sealed archive is as long as the store has its seal, and is its text if that is seen
-pub record IsArchiveRead (told : Type 0) (store : StoreValue) (number : ℕ) (written : List ℕ) : Type 0 where
+pub record IsArchiveRead (observable : Type 0) (store : StoreValue) (number : ℕ) (written : List ℕ) : Type 0 where
   pub long : slice_get (payload_lengths store.seals.extents) (number - 1) ≡ Some (length written)
-  pub seen : told → written ≡ seal_of store.head store.history number
+  pub seen : observable → written ≡ seal_of store.head store.history number
 
 -- the member document that a read gave for a live member is that of the entry that the member has, if that is seen
-pub record IsMemberRead (told : Type 0) (store : StoreValue) (number : ℕ) (written : List ℕ) : Type 0 where
+pub record IsMemberRead (observable : Type 0) (store : StoreValue) (number : ℕ) (written : List ℕ) : Type 0 where
   pub document : IsMemberDocument store number written
-  pub seen : told → IsLiveDocument store number written
+  pub seen : observable → IsLiveDocument store number written
 
 -- a document that a read gave; or the disk gave something else than what the store has on it
 abbrev pub IsShownFrom : Type 0 → Media → (List ℕ → Type 0) → Outcome → Type 0
-IsShownFrom told kind IsGiven given =
+IsShownFrom observable kind IsGiven given =
     ((written : List ℕ) × IsGiven written × (given ≡ unchanged (document_reply kind written)))
-    ⊎ ((¬ told) × (given ≡ unchanged disk_changed))
+    ⊎ ((¬ observable) × (given ≡ unchanged disk_changed))
 
 abbrev pub IsArchiveShownOver : Type 0 → StoreValue → ℕ → Outcome → Type 0
-IsArchiveShownOver told store number given = IsShownFrom told media.Feed (IsArchiveRead told store number) given
+IsArchiveShownOver observable store number given = IsShownFrom observable media.Feed (IsArchiveRead observable store number) given
 
 abbrev pub IsMemberShownOver : Type 0 → StoreValue → ℕ → Outcome → Type 0
-IsMemberShownOver told store number given = IsShownFrom told media.Entry (IsMemberRead told store number) given
+IsMemberShownOver observable store number given = IsShownFrom observable media.Entry (IsMemberRead observable store number) given
 
 abbrev pub shown_over : Type 0 → StoreValue → Shown
-shown_over told store =
-    record { archive = IsArchiveShownOver told store; member = IsMemberShownOver told store }
+shown_over observable store =
+    record { archive = IsArchiveShownOver observable store; member = IsMemberShownOver observable store }
 
 abbrev pub IsOfArchiveOver : Type 0 → StoreValue → ℕ → Verb → Outcome → Type 0
-IsOfArchiveOver told store number verb given =
-    IsOfArchiveAs (IsArchiveShownOver told store number) store number verb given
+IsOfArchiveOver observable store number verb given =
+    IsOfArchiveAs (IsArchiveShownOver observable store number) store number verb given
 
 abbrev pub IsOfMemberOver : Type 0 → StoreValue → RequestValue → ℕ → ℕ → Verb → Outcome → Type 0
-IsOfMemberOver told store request now number verb given =
-    IsOfMemberAs (IsMemberShownOver told store number) store request now number verb given
+IsOfMemberOver observable store request now number verb given =
+    IsOfMemberAs (IsMemberShownOver observable store number) store request now number verb given
 
 abbrev pub IsOutcomeOver : Type 0 → StoreValue → RequestValue → ℕ → Outcome → Type 0
-IsOutcomeOver told store request now given = IsOutcomeAs (shown_over told store) store request now given
+IsOutcomeOver observable store request now given = IsOutcomeAs (shown_over observable store) store request now given

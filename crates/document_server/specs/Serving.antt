@@ -1,22 +1,27 @@
 -- The store and its disk after connections were served, and the facts that the lines state of them.
-use Rattle.std.specs.Prelude.{◌≡◌, ◌⊎◌, ℕ, ◌+◌, ◌<◌, ◌≤◌, List, [], ◌∷◌, ◌++◌, length, map, All, Option, Some}
+use Rattle.std.specs.Prelude.{◌≡◌, ◌≢◌, ◌⊎◌, ℕ, ◌+◌, ◌<◌, ◌≤◌, List, [], ◌∷◌, ◌++◌, length, map, All, Option}
+use Rattle.std.specs.Prelude.{Some}
 use Rattle.std.specs.Prelude.{true, false, Result, Ok, Err}
 use Rattle.atom_values.specs.Counts.{counter_limit}
-use Rattle.document_server.specs.Answer.{Gains, MayAdd}
+use Rattle.document_server.specs.Answer.{Gains, Grows, MayAdd}
 use Rattle.document_server.specs.Door.{DoorState}
 use Rattle.document_server.specs.Reply.{IsOutcome, disk_fault}
 use Rattle.document_server.specs.Session.{Ends, Exchange, IsBrokenOff, IsMarked, IsOneFailed, IsReported, IsSent}
 use Rattle.document_server.specs.Session.{IsServed, IsSession, IsTurn, IsUnfailed, SendsServed, Turn}
 use Rattle.document_server.specs.declared.line.Line.{Line}
 use Rattle.document_server.specs.declared.session.End.{End}
-use Rattle.document_server.specs.declared.session.End.TheVariants.{Done, DoorFault}
+use Rattle.document_server.specs.declared.session.End.TheVariants.{Done, Load, DoorFault, NoMemory}
 use Rattle.feed_disk.specs.Disk.{DiskState}
 use Rattle.feed_disk.specs.Moments.{LeavesOnlyBoth}
 use Rattle.feed_disk.specs.declared.area.Area.TheVariants.{Journal, Sealed}
 use Rattle.feed_journal.specs.Log.{IsLog}
-use Rattle.feed_recovery.specs.Settled.{AlwaysLeavesBoth, IsAtRest, NowBoth, OpensPast, Settled}
+use Rattle.feed_journal.specs.Records.{records}
+use Rattle.feed_recovery.specs.Faults.{IsLoadFault}
+use Rattle.feed_recovery.specs.Settled.{AlwaysLeavesBoth, IsAtRest, LeavesStores, NowBoth, OpensPast, Settled}
 use Rattle.feed_recovery.specs.Store.{StoreValue, call_count, is_spent}
 use Rattle.feed_recovery.specs.Stored.{IsSized, OpensTo, Stored, stored_of}
+use Rattle.feed_recovery.specs.declared.fault.LoadFault.{LoadFault}
+use Rattle.feed_recovery.specs.declared.fault.LoadFault.TheVariants as load
 use Rattle.http_face.specs.Conn.{ConnState}
 use Rattle.http_face.specs.Heard.{IsHeard}
 use Rattle.http_face.specs.Request.{IsRequest, RequestValue}
@@ -137,11 +142,11 @@ pub record Serves (before after : DiskState) (moments : ℕ → ℕ) (door rest 
   pub ordered : after.clock < counter_limit → AreInOrder (length opened.history) 0 lines
   pub within : after.clock < counter_limit → All (λ (line : Line). before.clock + line.calls ≤ after.clock) lines
   pub history : disk_told → List Op
-  pub stored : (told : disk_told)
-      → HasHistory after moments clock_told door_told opened lines served last (history told) failed
-  pub crash : (told : disk_told) (head : HeadValue) (operations : List Op) (least : ℕ)
+  pub stored : (observable : disk_told)
+      → HasHistory after moments clock_told door_told opened lines served last (history observable) failed
+  pub crash : (observable : disk_told) (head : HeadValue) (operations : List Op) (least : ℕ)
       → Settled before head operations least
-      → LeavesServed before after head operations least opened (history told) lines (map (λ e. e.line) served) failed
+      → LeavesServed before after head operations least opened (history observable) lines (map (λ e. e.line) served) failed
 
 -- Connections were served on a store that was loaded before, which has made its device calls since the moment `start`.
 pub record ServesFrom (start : ℕ) (before after : DiskState) (moments : ℕ → ℕ) (door rest : DoorState)
@@ -154,10 +159,10 @@ pub record ServesFrom (start : ℕ) (before after : DiskState) (moments : ℕ �
   pub within : after.clock < counter_limit
       → All (λ (line : Line). (before.clock ≤ start + line.calls) × (start + line.calls ≤ after.clock)) lines
   pub history : disk_told → List Op
-  pub stored : (told : disk_told)
-      → HasHistory after moments clock_told door_told (stored_of store) lines served last (history told) failed
-  pub crash : (told : disk_told) → IsAtRest before
-      → LeavesServing start before after store.head (length store.history) (history told) lines
+  pub stored : (observable : disk_told)
+      → HasHistory after moments clock_told door_told (stored_of store) lines served last (history observable) failed
+  pub crash : (observable : disk_told) → IsAtRest before
+      → LeavesServing start before after store.head (length store.history) (history observable) lines
       (map (λ e. e.line) served) failed
 
 -- How a session of at most this many connections ends: as done if it served them all or the door has no more, and by a
@@ -166,6 +171,29 @@ pub record IsEndOf (requests : ℕ) (door_told : Type 0) (rest : DoorState) (lin
     : Type 0 where
   pub done : end ≡ Done → (length lines ≡ requests) ⊎ (door_told → rest.left ≡ [])
   pub early : end ≡ DoorFault → length lines < requests
+
+-- the lines and the end of a session of at most this many connections, and the door after it
+pub record EndsWithin (requests : ℕ) (door_told : Type 0) (door rest : DoorState) (lines : List Line) (end : End)
+    : Type 0 where
+  pub most : length lines ≤ requests
+  pub cause : IsEndOf requests door_told rest lines end
+  -- the door has each connection back that it gave
+  pub returned : door_told → rest.out ≡ door.out
+
+-- the session ended before the door was opened
+abbrev pub IsUnopened : End → Type 0
+IsUnopened end = (end ≡ NoMemory) ⊎ ((fault : LoadFault) × (end ≡ Load fault))
+
+-- A session that ended before the door was opened: why the store wasn't loaded, and all that was there before stays.
+pub record EndsUnopened {L : Type 0} (observable : Type 0) (before after : DiskState) (door rest : L) (lines : List Line)
+    (end : End) : Type 0 where
+  pub refused : (fault : LoadFault) → end ≡ Load fault → observable
+      → IsLoadFault (records (before.content Journal)) (records (before.content Sealed)) fault
+  -- a disk that opens is loaded, unless a device call fails or memory runs out
+  pub only : observable → (stored : Stored) → OpensTo before.content stored → (fault : LoadFault) → end ≡ Load fault
+      → (fault ≡ load.DiskFault) ⊎ (fault ≡ load.NoMemory)
+  pub safe : IsUnopened end → observable → LeavesStores before after
+  pub unserved : IsUnopened end → (lines ≡ []) × (rest ≡ door)
 
 -- the store has made its device calls since this moment, unless the clock is at the greatest u64
 abbrev pub CountsFrom : ℕ → DiskState → DiskState → StoreValue → Type 0
@@ -255,7 +283,8 @@ pub record StoresOne (before after : DiskState) (moments coming : ℕ → ℕ) (
   pub broken_off : conn_told → is_spent new ≡ true
       → IsBrokenOffOn moments clock_told old exchange (old.history ++ operations)
 
--- a connection was served on a store, or the disk failed after its request
+-- A connection was served on a store, or the disk failed after its request. The line has the version and the device
+-- calls of the store afterwards. The connection keeps the disk's clock as the mark of the reply, if one was begun.
 pub record ServesOne (before after : DiskState) (moments coming : ℕ → ℕ) (given back : ConnState)
     (disk_told clock_told conn_told : Type 0) (old new : StoreValue) (line : Line) : Type 0 where
   pub reply : Option Reply
@@ -265,3 +294,7 @@ pub record ServesOne (before after : DiskState) (moments coming : ℕ → ℕ) (
   pub stored : disk_told
       → StoresOne before after moments coming clock_told conn_told old new
       (exchange_of before after given back reply line)
+  pub version : line.version ≡ length new.history
+  pub calls : line.calls ≡ call_count new
+  pub grows : (new.history ≡ old.history) ⊎ Grows before after old new
+  pub begun : line.status ≢ 0 → back.begun ≡ Some after.clock

@@ -1,7 +1,7 @@
 -- A session: connections that are served one after the other on one store.
 use Rattle.std.specs.Prelude.{◌≡◌, ◌≢◌, ◌⊎◌, ℕ, ◌+◌, ◌≤◌, List, [], ◌∷◌, ◌++◌, length, take, Option, Some, None}
 use Rattle.std.specs.Prelude.{true, false}
-use Rattle.atom_values.specs.Counts.{Rose}
+use Rattle.atom_values.specs.Counts.{HasRisen}
 use Rattle.chain_links.specs.Address.{IsTarget, printed}
 use Rattle.chain_links.specs.declared.address.Address.{Address}
 use Rattle.document_server.specs.Answer.{Gains, MayAdd}
@@ -60,7 +60,7 @@ unheard = record { adds = None; moments = 0 }
 
 -- the connection failed before its request was read
 pub record IsLost (exchange : Exchange) (turn : Turn) : Type 0 where
-  pub cause : Rose exchange.given.faults exchange.back.faults
+  pub cause : HasRisen exchange.given.faults exchange.back.faults
   pub reply : exchange.reply ≡ None
   pub is : turn ≡ unheard
 
@@ -105,7 +105,7 @@ bytes_of (Some reply) = reply_bytes reply
 pub record IsReported (exchange : Exchange) : Type 0 where
   pub status : exchange.line.status ≡ status_of exchange.reply
   pub cause : (exchange.line.status ≡ 0) ⊎ (exchange.line.whole ≡ false)
-      → Rose exchange.given.faults exchange.back.faults
+      → HasRisen exchange.given.faults exchange.back.faults
   pub unbegun : exchange.line.status ≡ 0 → exchange.back.begun ≡ None
 
 -- the bytes of the reply were sent, or a prefix of them if the line says that it isn't whole
@@ -125,7 +125,7 @@ pub record IsUnfailed (faults : ℕ) (exchange : Exchange) : Type 0 where
 pub record IsFailed (faults later : ℕ) (exchange : Exchange) : Type 0 where
   pub before : exchange.faults_before ≡ faults
   pub after : exchange.faults_after ≡ later
-  pub rose : Rose faults later
+  pub rose : HasRisen faults later
   pub reply : exchange.reply ≡ Some disk_fault
 
 -- the same of the one exchange of a list

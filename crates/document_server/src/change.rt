@@ -57,13 +57,13 @@ pub(crate) fn create<D: Disk>(
     now: u64,
 ) -> Result<Reply, Failure>
     requires unspent { is_spent store.old ≡ false }
-    requires stands { D.told → StandsFor (D.state disk.old) store.old }
+    requires stands { D.observable → StandsFor (D.state disk.old) store.old }
     ensures answered { ComesTo
         (IsSent store.old request.now (λ draft. Create draft) now) store.old store.new result }
     ensures own { IfOk result IsOwn }
-    ensures steps { Steps D.told (D.state disk.old) (D.state disk.new) store.old store.new
+    ensures steps { Steps D.observable (D.state disk.old) (D.state disk.new) store.old store.new
         (result ≡ Err Failure.Disk) }
-    ensures leaves { ReadsOrCommits D.told
+    ensures leaves { ReadsOrCommits D.observable
         (IsSent store.old request.now (λ draft. Create draft) now)
         (D.state disk.old) (D.state disk.new) store.old store.new (result ≡ Err Failure.Disk) }
     ensures grows { Acknowledges result → Grows (D.state disk.old) (D.state disk.new) store.old store.new }
@@ -85,14 +85,14 @@ pub(crate) fn replace<D: Disk>(
     now: u64,
 ) -> Result<Reply, Failure>
     requires unspent { is_spent store.old ≡ false }
-    requires stands { D.told → StandsFor (D.state disk.old) store.old }
+    requires stands { D.observable → StandsFor (D.state disk.old) store.old }
     ensures answered { ComesTo
         (IsOfState (state_of store.old.history number)
         (IsSent store.old request.now (λ draft. Replace number draft) now)) store.old store.new result }
     ensures own { IfOk result IsOwn }
-    ensures steps { Steps D.told (D.state disk.old) (D.state disk.new) store.old store.new
+    ensures steps { Steps D.observable (D.state disk.old) (D.state disk.new) store.old store.new
         (result ≡ Err Failure.Disk) }
-    ensures leaves { ReadsOrCommits D.told
+    ensures leaves { ReadsOrCommits D.observable
         (IsOfState (state_of store.old.history number)
         (IsSent store.old request.now (λ draft. Replace number draft) now))
         (D.state disk.old) (D.state disk.new) store.old store.new (result ≡ Err Failure.Disk) }
@@ -117,14 +117,14 @@ pub(crate) fn delete<D: Disk>(
     now: u64,
 ) -> Result<Reply, Failure>
     requires unspent { is_spent store.old ≡ false }
-    requires stands { D.told → StandsFor (D.state disk.old) store.old }
+    requires stands { D.observable → StandsFor (D.state disk.old) store.old }
     ensures answered { ComesTo
         (IsOfState (state_of store.old.history number) (IsAsked store.old (Delete number) now))
         store.old store.new result }
     ensures own { IfOk result IsOwn }
-    ensures steps { Steps D.told (D.state disk.old) (D.state disk.new) store.old store.new
+    ensures steps { Steps D.observable (D.state disk.old) (D.state disk.new) store.old store.new
         (result ≡ Err Failure.Disk) }
-    ensures leaves { ReadsOrCommits D.told
+    ensures leaves { ReadsOrCommits D.observable
         (IsOfState (state_of store.old.history number) (IsAsked store.old (Delete number) now))
         (D.state disk.old) (D.state disk.new) store.old store.new (result ≡ Err Failure.Disk) }
     ensures grows { Acknowledges result → Grows (D.state disk.old) (D.state disk.new) store.old store.new }
@@ -145,12 +145,12 @@ fn change<D: Disk>(
     now: u64,
 ) -> Result<Reply, Failure>
     requires unspent { is_spent store.old ≡ false }
-    requires stands { D.told → StandsFor (D.state disk.old) store.old }
+    requires stands { D.observable → StandsFor (D.state disk.old) store.old }
     ensures answered { ComesTo (IsAsked store.old ask now) store.old store.new result }
     ensures own { IfOk result IsOwn }
-    ensures steps { Steps D.told (D.state disk.old) (D.state disk.new) store.old store.new
+    ensures steps { Steps D.observable (D.state disk.old) (D.state disk.new) store.old store.new
         (result ≡ Err Failure.Disk) }
-    ensures leaves { ReadsOrCommits D.told (IsAsked store.old ask now)
+    ensures leaves { ReadsOrCommits D.observable (IsAsked store.old ask now)
         (D.state disk.old) (D.state disk.new) store.old store.new (result ≡ Err Failure.Disk) }
     ensures grows { Acknowledges result → Grows (D.state disk.old) (D.state disk.new) store.old store.new }
     ensures same { ¬ Acknowledges result → store.new.history ≡ store.old.history }
@@ -171,13 +171,13 @@ fn commit<D: Disk>(
     requires unspent { is_spent store.old ≡ false }
     requires prepared { MayCommit store.old ready }
     requires room { HasRoom store.old }
-    requires stands { D.told → StandsFor (D.state disk.old) store.old }
+    requires stands { D.observable → StandsFor (D.state disk.old) store.old }
     ensures answered { ComesTo (λ given. given ≡ done store.old.head.name ready.operation)
         store.old store.new result }
     ensures own { IfOk result IsOwn }
-    ensures steps { Steps D.told (D.state disk.old) (D.state disk.new) store.old store.new
+    ensures steps { Steps D.observable (D.state disk.old) (D.state disk.new) store.old store.new
         (result ≡ Err Failure.Disk) }
-    ensures leaves { ReadsOrCommits D.told (λ given. given ≡ done store.old.head.name ready.operation)
+    ensures leaves { ReadsOrCommits D.observable (λ given. given ≡ done store.old.head.name ready.operation)
         (D.state disk.old) (D.state disk.new) store.old store.new (result ≡ Err Failure.Disk) }
     ensures grows { Acknowledges result → Grows (D.state disk.old) (D.state disk.new) store.old store.new }
     ensures same { ¬ Acknowledges result → store.new.history ≡ store.old.history }

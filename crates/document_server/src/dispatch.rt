@@ -1,14 +1,11 @@
-ghost use Rattle.std.specs.Prelude.{◌≡◌, ◌≢◌, ◌⊎◌, ◌≤◌, false, true, length, Err, IfOk};
-ghost use Rattle.atom_values.specs.Counts.{Rose};
+ghost use Rattle.std.specs.Prelude.{◌≡◌, ◌≢◌, ◌⊎◌, false, true, length, Err, IfOk};
+ghost use Rattle.atom_values.specs.Counts.{HasRisen};
 ghost use Rattle.document_server.specs.Answer.{Acknowledges, ComesTo, Grows, IsAnswer, IsDone, IsOwn, LeavesAnswered};
 ghost use Rattle.document_server.specs.Answer.{OnlyReads, ReadsOrCommits, Steps};
 ghost use Rattle.document_server.specs.Reply.{IsOfArchiveOver, IsOfFeed, IsOfMember, IsOfMemberOver, IsOutcome};
 ghost use Rattle.document_server.specs.Reply.{IsOutcomeOver, disk_changed, disk_fault, no_memory};
-ghost use Rattle.feed_disk.specs.Moments.{LeavesAlone};
-ghost use Rattle.feed_disk.specs.declared.area.Area.TheVariants.{Mirror};
-ghost use Rattle.feed_journal.specs.Log.{MakesSome};
 ghost use Rattle.feed_recovery.specs.Settled.{IsAtRest, Settled};
-ghost use Rattle.feed_recovery.specs.Store.{StandsFor, call_count, is_spent};
+ghost use Rattle.feed_recovery.specs.Store.{StandsFor, is_spent};
 ghost use Rattle.http_face.specs.Reply.{HasPhrase};
 ghost use Rattle.http_face.specs.declared.request.Verb.TheVariants.{Get};
 
@@ -42,38 +39,30 @@ pub fn answer<D: Disk>(
     now: u64,
 ) -> Reply
     requires unspent { is_spent store.old ≡ false }
-    requires stands { D.told → StandsFor (D.state disk.old) store.old }
+    requires stands { D.observable → StandsFor (D.state disk.old) store.old }
     // The reply is that of the table, and the store gains the operation that the reply acknowledges and its seal; or
     // memory ran out, or the disk failed. With any disk, a document that was read from it has the length or the
     // timestamps that the store has for it, and only such a GET may have `changed`.
-    ensures answered { D.told → IsAnswer (IsOutcome store.old request.now now) store.old store.new result
-        (Rose (D.state disk.old).faults (D.state disk.new).faults) }
-    ensures over { IsAnswer (IsOutcomeOver D.told store.old request.now now) store.old store.new result
-        (Rose (D.state disk.old).faults (D.state disk.new).faults) }
-    ensures changed { result ≡ disk_changed → (request.now.verb ≡ Get) × (¬ D.told) }
+    ensures answered { D.observable → IsAnswer (IsOutcome store.old request.now now) store.old store.new result
+        (HasRisen (D.state disk.old).faults (D.state disk.new).faults) }
+    ensures over { IsAnswer (IsOutcomeOver D.observable store.old request.now now) store.old store.new result
+        (HasRisen (D.state disk.old).faults (D.state disk.new).faults) }
+    ensures changed { result ≡ disk_changed → (request.now.verb ≡ Get) × (¬ D.observable) }
     ensures memory { result.status ≡ 503 → result ≡ no_memory }
     // The status line of the reply has a phrase.
     ensures status { HasPhrase result.status }
 
-    ensures head { store.new.head ≡ store.old.head }
-    ensures failed { result ≡ disk_fault → Rose (D.state disk.old).faults (D.state disk.new).faults }
-    ensures unfailed { result ≢ disk_fault → (D.state disk.new).faults ≡ (D.state disk.old).faults }
-    ensures later { (D.state disk.old).faults ≤ (D.state disk.new).faults }
-    ensures spent { result ≡ disk_fault → is_spent store.new ≡ true }
-    ensures unspent { result ≢ disk_fault → is_spent store.new ≡ false }
+    // The store can go on unless a device call failed.
+    ensures steps { Steps D.observable (D.state disk.old) (D.state disk.new) store.old store.new
+        (result ≡ disk_fault) }
     ensures only { is_spent store.new ≡ true → result ≡ disk_fault }
-    ensures stands { result ≢ disk_fault → D.told → StandsFor (D.state disk.new) store.new }
 
     // A crash leaves the history before or with the operation that was accepted. After a reply it leaves the store's.
-    ensures leaves { D.told → LeavesAnswered (IsOutcome store.old request.now now)
+    ensures leaves { D.observable → LeavesAnswered (IsOutcome store.old request.now now)
         (D.state disk.old) (D.state disk.new) store.old store.new (result ≡ disk_fault) }
-    ensures settled { result ≢ disk_fault → D.told → IsAtRest (D.state disk.old)
+    ensures settled { result ≢ disk_fault → D.observable → IsAtRest (D.state disk.old)
         → Settled (D.state disk.new) store.new.head store.new.history (length store.new.history) }
-    ensures rests { result ≢ disk_fault → D.told → IsAtRest (D.state disk.old) → IsAtRest (D.state disk.new) }
-    ensures mirror { LeavesAlone (D.state disk.old) (D.state disk.new) Mirror }
 
-    ensures calls { MakesSome (D.state disk.old) (D.state disk.new)
-        (call_count store.old) (call_count store.new) }
     // The history grows exactly if the reply acknowledges a change.
     ensures grows { request.now.verb ≢ Get → IsDone result
         → Grows (D.state disk.old) (D.state disk.new) store.old store.new }
@@ -98,12 +87,12 @@ fn reply_of<D: Disk>(
     now: u64,
 ) -> Result<Reply, Failure>
     requires unspent { is_spent store.old ≡ false }
-    requires stands { D.told → StandsFor (D.state disk.old) store.old }
-    ensures answered { ComesTo (IsOutcomeOver D.told store.old request.now now) store.old store.new result }
+    requires stands { D.observable → StandsFor (D.state disk.old) store.old }
+    ensures answered { ComesTo (IsOutcomeOver D.observable store.old request.now now) store.old store.new result }
     ensures own { IfOk result IsOwn }
-    ensures steps { Steps D.told (D.state disk.old) (D.state disk.new) store.old store.new
+    ensures steps { Steps D.observable (D.state disk.old) (D.state disk.new) store.old store.new
         (result ≡ Err Failure.Disk) }
-    ensures leaves { ReadsOrCommits D.told (IsOutcome store.old request.now now)
+    ensures leaves { ReadsOrCommits D.observable (IsOutcome store.old request.now now)
         (D.state disk.old) (D.state disk.new) store.old store.new (result ≡ Err Failure.Disk) }
     ensures grows { request.now.verb ≢ Get → Acknowledges result
         → Grows (D.state disk.old) (D.state disk.new) store.old store.new }
@@ -132,13 +121,13 @@ fn of_feed<D: Disk>(
     now: u64,
 ) -> Result<Reply, Failure>
     requires unspent { is_spent store.old ≡ false }
-    requires stands { D.told → StandsFor (D.state disk.old) store.old }
+    requires stands { D.observable → StandsFor (D.state disk.old) store.old }
     ensures answered { ComesTo (IsOfFeed store.old request.now now request.now.verb)
         store.old store.new result }
     ensures own { IfOk result IsOwn }
-    ensures steps { Steps D.told (D.state disk.old) (D.state disk.new) store.old store.new
+    ensures steps { Steps D.observable (D.state disk.old) (D.state disk.new) store.old store.new
         (result ≡ Err Failure.Disk) }
-    ensures leaves { ReadsOrCommits D.told (IsOfFeed store.old request.now now request.now.verb)
+    ensures leaves { ReadsOrCommits D.observable (IsOfFeed store.old request.now now request.now.verb)
         (D.state disk.old) (D.state disk.new) store.old store.new (result ≡ Err Failure.Disk) }
     ensures grows { request.now.verb ≢ Get → Acknowledges result
         → Grows (D.state disk.old) (D.state disk.new) store.old store.new }
@@ -160,10 +149,10 @@ fn of_archive<D: Disk>(
     verb: Verb,
 ) -> Result<Reply, Failure>
     requires unspent { is_spent store.old ≡ false }
-    requires stands { D.told → StandsFor (D.state disk.old) store.old }
-    ensures answered { ComesTo (IsOfArchiveOver D.told store.old number verb) store.old store.new result }
+    requires stands { D.observable → StandsFor (D.state disk.old) store.old }
+    ensures answered { ComesTo (IsOfArchiveOver D.observable store.old number verb) store.old store.new result }
     ensures own { IfOk result IsOwn }
-    ensures steps { Steps D.told (D.state disk.old) (D.state disk.new) store.old store.new
+    ensures steps { Steps D.observable (D.state disk.old) (D.state disk.new) store.old store.new
         (result ≡ Err Failure.Disk) }
     ensures reads { OnlyReads (D.state disk.old) (D.state disk.new) store.old store.new }
     ensures undone { verb ≢ Get → ¬ Acknowledges result }
@@ -184,13 +173,13 @@ fn of_member<D: Disk>(
     now: u64,
 ) -> Result<Reply, Failure>
     requires unspent { is_spent store.old ≡ false }
-    requires stands { D.told → StandsFor (D.state disk.old) store.old }
-    ensures answered { ComesTo (IsOfMemberOver D.told store.old request.now now number request.now.verb)
+    requires stands { D.observable → StandsFor (D.state disk.old) store.old }
+    ensures answered { ComesTo (IsOfMemberOver D.observable store.old request.now now number request.now.verb)
         store.old store.new result }
     ensures own { IfOk result IsOwn }
-    ensures steps { Steps D.told (D.state disk.old) (D.state disk.new) store.old store.new
+    ensures steps { Steps D.observable (D.state disk.old) (D.state disk.new) store.old store.new
         (result ≡ Err Failure.Disk) }
-    ensures leaves { ReadsOrCommits D.told (IsOfMember store.old request.now now number request.now.verb)
+    ensures leaves { ReadsOrCommits D.observable (IsOfMember store.old request.now now number request.now.verb)
         (D.state disk.old) (D.state disk.new) store.old store.new (result ≡ Err Failure.Disk) }
     ensures grows { request.now.verb ≢ Get → Acknowledges result
         → Grows (D.state disk.old) (D.state disk.new) store.old store.new }

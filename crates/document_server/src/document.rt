@@ -29,10 +29,10 @@ pub(crate) fn show_archive<D: Disk>(
     number: u32,
 ) -> Result<Reply, Failure>
     requires unspent { is_spent store.old ≡ false }
-    requires stands { D.told → StandsFor (D.state disk.old) store.old }
-    ensures answered { ComesTo (IsOfArchiveOver D.told store.old number Get) store.old store.new result }
+    requires stands { D.observable → StandsFor (D.state disk.old) store.old }
+    ensures answered { ComesTo (IsOfArchiveOver D.observable store.old number Get) store.old store.new result }
     ensures own { IfOk result IsOwn }
-    ensures steps { Steps D.told (D.state disk.old) (D.state disk.new) store.old store.new
+    ensures steps { Steps D.observable (D.state disk.old) (D.state disk.new) store.old store.new
         (result ≡ Err Failure.Disk) }
     ensures reads { OnlyReads (D.state disk.old) (D.state disk.new) store.old store.new }
 {
@@ -52,12 +52,12 @@ pub(crate) fn show_member<D: Disk>(
     number: u32,
 ) -> Result<Reply, Failure>
     requires unspent { is_spent store.old ≡ false }
-    requires stands { D.told → StandsFor (D.state disk.old) store.old }
+    requires stands { D.observable → StandsFor (D.state disk.old) store.old }
     ensures answered { ComesTo
-        (IsOfState (state_of store.old.history number) (IsMemberShownOver D.told store.old number))
+        (IsOfState (state_of store.old.history number) (IsMemberShownOver D.observable store.old number))
         store.old store.new result }
     ensures own { IfOk result IsOwn }
-    ensures steps { Steps D.told (D.state disk.old) (D.state disk.new) store.old store.new
+    ensures steps { Steps D.observable (D.state disk.old) (D.state disk.new) store.old store.new
         (result ≡ Err Failure.Disk) }
     ensures reads { OnlyReads (D.state disk.old) (D.state disk.new) store.old store.new }
 {

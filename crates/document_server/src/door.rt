@@ -13,7 +13,7 @@ pub trait Door {
     type Link: Conn;
 
     /// Whether contracts can see the connections.
-    ghost told: { Type 0 };
+    ghost observable: { Type 0 };
 
     /// The connections and the count of faults.
     ghost state: { Self → DoorState };
@@ -29,7 +29,7 @@ pub trait Door {
     fn listen(&mut self, at: &[u8]) -> Result<(), Failed>
         ensures at { OnOk result (listens self.new at.now) }
         ensures only { (at : List ℕ) → only_at self.old at → only_at self.new at }
-        ensures same { told → SameLinks (state self.old) (state self.new) }
+        ensures same { observable → SameLinks (state self.old) (state self.new) }
         ensures counts { HasCause (state self.old).faults (state self.new).faults result };
 
     /// Returns the next connection, on which no reply was begun. It came in at an address at which the door listens.
@@ -37,21 +37,21 @@ pub trait Door {
     fn next(&mut self) -> Result<Option<Self::Link>, Failed>
         ensures at { (at : List ℕ) → listens self.old at → listens self.new at }
         ensures only { (at : List ℕ) → listens self.old at → only_at self.old at → only_at self.new at }
-        ensures given { IfOk result (λ given. told
+        ensures given { IfOk result (λ given. observable
             → Gives (option_map Self.Link.state given) (state self.old) (state self.new)) }
         ensures unbegun { IfOk result (λ given. IfSome given (λ link. (Self.Link.state link).begun ≡ None)) }
-        ensures err { OnErr result (told → SameLinks (state self.old) (state self.new)) }
+        ensures err { OnErr result (observable → SameLinks (state self.old) (state self.new)) }
         ensures counts { HasCause (state self.old).faults (state self.new).faults result };
 
     /// Takes back a connection that was served or that failed, and closes it. It takes no memory and doesn't fail. No
     /// more connections are given back than were given.
     fn back(&mut self, link: Self::Link)
-        requires { told → 0 < (state self.old).out }
+        requires { observable → 0 < (state self.old).out }
         ensures at { (at : List ℕ) → listens self.old at → listens self.new at }
         ensures only { (at : List ℕ) → only_at self.old at → only_at self.new at }
-        ensures back { told → state self.new ≡ with_back (state self.old) (Self.Link.state link) }
+        ensures back { observable → state self.new ≡ with_back (state self.old) (Self.Link.state link) }
         ensures faults { (state self.new).faults ≡ (state self.old).faults };
 
     /// A door whose connections contracts can see gives connections whose bytes they can see.
-    ghost tells: { told → Self.Link.told };
+    ghost tells: { observable → Self.Link.observable };
 }

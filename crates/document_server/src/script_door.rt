@@ -33,7 +33,7 @@ impl SetClock {
 }
 
 impl Clock for SetClock {
-    ghost told = { Unit {0} };
+    ghost observable = { Unit {0} };
 
     ghost coming = { λ c k. slice_index c.moments.items (min (c.given + k) (length c.moments.items - 1)) };
 
@@ -98,7 +98,7 @@ impl ScriptDoor {
 impl Door for ScriptDoor {
     type Link = ScriptConn;
 
-    ghost told = { Unit {0} };
+    ghost observable = { Unit {0} };
 
     ghost state = { λ d. record {
       left = map ⟦<ScriptConn as Conn>⟧.state (reverse d.links.items);
@@ -164,5 +164,5 @@ impl Door for ScriptDoor {
         prove!(kept.is_ok());
     }
 
-    ghost tells = { λ told. told };
+    ghost tells = { λ observable. observable };
 }

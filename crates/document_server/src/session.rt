@@ -1,19 +1,14 @@
 ghost use Rattle.std.specs.Prelude.{◌≡◌, ◌≢◌, ◌⊎◌, ◌≤◌, ℕ, List, [], length, true, false, None, Some};
 ghost use Rattle.std.specs.Prelude.{Ok, Err, IfErr, IfSome, IsSome};
-ghost use Rattle.atom_values.specs.Counts.{Rose};
+ghost use Rattle.atom_values.specs.Counts.{CountsFault, HasRisen};
 ghost use Rattle.document_server.specs.Answer.{Grows, Steps};
 ghost use Rattle.document_server.specs.Reply.{disk_fault};
-ghost use Rattle.document_server.specs.Serving.{AreLogs, CountsFrom, IsEndOf, RepliesOne, Serves, ServesFrom};
+ghost use Rattle.document_server.specs.Serving.{AreLogs, CountsFrom, EndsUnopened, EndsWithin, RepliesOne, Serves, ServesFrom};
 ghost use Rattle.document_server.specs.Serving.{ServesOne, end_of};
 ghost use Rattle.document_server.specs.Session.{connection_limit, fault_reply};
 ghost use Rattle.feed_disk.specs.Moments.{LeavesAlone};
-ghost use Rattle.feed_disk.specs.declared.area.Area.TheVariants.{Journal, Sealed, Mirror};
-ghost use Rattle.feed_journal.specs.Log.{MakesSome};
-ghost use Rattle.feed_journal.specs.Records.{records};
-ghost use Rattle.feed_recovery.specs.Faults.{IsLoadFault};
-ghost use Rattle.feed_recovery.specs.Settled.{IsAtRest, LeavesStores, Settled};
+ghost use Rattle.feed_disk.specs.declared.area.Area.TheVariants.{Mirror};
 ghost use Rattle.feed_recovery.specs.Store.{StandsFor, call_count, is_spent};
-ghost use Rattle.feed_recovery.specs.Stored.{OpensTo, Stored};
 ghost use Rattle.feed_recovery.specs.declared.fault.LoadFault.{LoadFault as Fault};
 ghost use Rattle.http_face.specs.Conn.{Reads};
 ghost use Rattle.http_face.specs.Reply.{HasPhrase};
@@ -78,36 +73,23 @@ pub fn serve<D: Disk, C: Clock, L: Door>(
     ensures serves { ((fault : Fault) → result.end ≢ End.Load fault)
         → Serves (D.state disk.old) (D.state disk.new) (C.coming clock.old) (L.state door.old)
         (L.state door.new)
-        D.told C.told L.told result.lines.items (result.end ≡ End.DiskFault) }
-    ensures most { length result.lines.items ≤ requests }
-    ensures ends { IsEndOf requests L.told (L.state door.new) result.lines.items result.end }
-    ensures returned { L.told → (L.state door.new).out ≡ (L.state door.old).out }
+        D.observable C.observable L.observable result.lines.items (result.end ≡ End.DiskFault) }
+    ensures ends { EndsWithin requests L.observable (L.state door.old) (L.state door.new)
+        result.lines.items result.end }
 
     // The door gives all connections of the session while it listens at the address.
     ensures address { L.only_at door.old listen.now → L.only_at door.new listen.now }
 
-    // A store that isn't loaded.
-    ensures refused { (fault : Fault) → result.end ≡ End.Load fault → D.told
-        → IsLoadFault (records ((D.state disk.old).content Journal))
-        (records ((D.state disk.old).content Sealed)) fault }
-    ensures only { D.told → (stored : Stored) → OpensTo (D.state disk.old).content stored
-        → (fault : Fault) → result.end ≡ End.Load fault → (fault ≡ Fault.DiskFault)
-        ⊎ (fault ≡ Fault.NoMemory) }
-    ensures safe { (result.end ≡ End.NoMemory) ⊎ ((fault : Fault) × (result.end ≡ End.Load fault)) → D.told
-        → LeavesStores (D.state disk.old) (D.state disk.new) }
-    ensures unopened { (result.end ≡ End.NoMemory) ⊎ ((fault : Fault) × (result.end ≡ End.Load fault))
-        → (result.lines.items ≡ []) × (door.new ≡ door.old) }
+    // A store that isn't loaded, or lines for which memory runs out.
+    ensures unopened { EndsUnopened D.observable (D.state disk.old) (D.state disk.new) door.old door.new
+        result.lines.items result.end }
     ensures mirror { LeavesAlone (D.state disk.old) (D.state disk.new) Mirror }
 
-    // A fault comes only where the object's count of faults rose.
-    ensures disk_fault { (result.end ≡ End.DiskFault) ⊎ (result.end ≡ End.Load Fault.DiskFault)
-        → Rose (D.state disk.old).faults (D.state disk.new).faults }
-    ensures no_hidden_disk_fault { result.end ≢ End.DiskFault → result.end ≢ End.Load Fault.DiskFault
-        → (D.state disk.new).faults ≡ (D.state disk.old).faults }
-    ensures door_fault { result.end ≡ End.DoorFault → Rose (L.state door.old).faults
-        (L.state door.new).faults }
-    ensures no_hidden_door_fault { result.end ≢ End.DoorFault
-        → (L.state door.new).faults ≡ (L.state door.old).faults }
+    // The counts of faults rose exactly where a call failed.
+    ensures disk_faults { CountsFault (D.state disk.old).faults (D.state disk.new).faults
+        ((result.end ≡ End.DiskFault) ⊎ (result.end ≡ End.Load Fault.DiskFault)) }
+    ensures door_faults { CountsFault (L.state door.old).faults (L.state door.new).faults
+        (result.end ≡ End.DoorFault) }
 {
     let mut lines = Many::new(alloc);
     let end = match serve_into(alloc, disk, clock, door, listen, requests, &mut lines) {
@@ -130,43 +112,25 @@ fn serve_into<D: Disk, C: Clock, L: Door>(
     requires empty { lines.old.items ≡ [] }
     requires some { 1 ≤ requests }
     requires few { requests ≤ connection_limit }
-    ensures serves { ((fault : Fault) → result ≢ Err (End.Load fault))
+    ensures serves { ((fault : Fault) → end_of result ≢ End.Load fault)
         → Serves (D.state disk.old) (D.state disk.new) (C.coming clock.old) (L.state door.old)
         (L.state door.new)
-        D.told C.told L.told lines.new.items (end_of result ≡ End.DiskFault) }
-    ensures most { length lines.new.items ≤ requests }
-    ensures ends { IsEndOf requests L.told (L.state door.new) lines.new.items (end_of result) }
-    ensures returned { L.told → (L.state door.new).out ≡ (L.state door.old).out }
+        D.observable C.observable L.observable lines.new.items (end_of result ≡ End.DiskFault) }
+    ensures ends { EndsWithin requests L.observable (L.state door.old) (L.state door.new)
+        lines.new.items (end_of result) }
     ensures address { L.only_at door.old listen.now → L.only_at door.new listen.now }
-
-    ensures refused { (fault : Fault) → result ≡ Err (End.Load fault) → D.told
-        → IsLoadFault (records ((D.state disk.old).content Journal))
-        (records ((D.state disk.old).content Sealed)) fault }
-    ensures only { D.told → (stored : Stored) → OpensTo (D.state disk.old).content stored
-        → (fault : Fault) → result ≡ Err (End.Load fault) → (fault ≡ Fault.DiskFault)
-        ⊎ (fault ≡ Fault.NoMemory) }
-    ensures safe { (result ≡ Err End.NoMemory) ⊎ ((fault : Fault) × (result ≡ Err (End.Load fault))) → D.told
-        → LeavesStores (D.state disk.old) (D.state disk.new) }
-    ensures unopened { (result ≡ Err End.NoMemory) ⊎ ((fault : Fault) × (result ≡ Err (End.Load fault)))
-        → (lines.new.items ≡ []) × (door.new ≡ door.old) }
+    ensures unopened { EndsUnopened D.observable (D.state disk.old) (D.state disk.new) door.old door.new
+        lines.new.items (end_of result) }
     ensures mirror { LeavesAlone (D.state disk.old) (D.state disk.new) Mirror }
-
-    ensures disk_fault { (result ≡ Err End.DiskFault) ⊎ (result ≡ Err (End.Load Fault.DiskFault))
-        → Rose (D.state disk.old).faults (D.state disk.new).faults }
-    ensures no_hidden_disk_fault { result ≢ Err End.DiskFault → result ≢ Err (End.Load Fault.DiskFault)
-        → (D.state disk.new).faults ≡ (D.state disk.old).faults }
-    ensures door_fault { result ≡ Err End.DoorFault → Rose (L.state door.old).faults
-        (L.state door.new).faults }
-    ensures no_hidden_door_fault { result ≢ Err End.DoorFault
-        → (L.state door.new).faults ≡ (L.state door.old).faults }
+    ensures disk_faults { CountsFault (D.state disk.old).faults (D.state disk.new).faults
+        ((end_of result ≡ End.DiskFault) ⊎ (end_of result ≡ End.Load Fault.DiskFault)) }
+    ensures door_faults { CountsFault (L.state door.old).faults (L.state door.new).faults
+        (end_of result ≡ End.DoorFault) }
 {
     // Their contracts are laws that the proof uses.
     stores_open_in_one_way();
     begun_images_are_whole();
     let mut store = Store::load(alloc, disk)?;
-    // The result isn't used. The contract of `calls` states the rules of the logs, and the proofs need them:
-    // the sizes of the logs are those of their payloads, and the history has room for one more operation.
-    let _ = store.calls();
     if let Err(NoMemory) = lines.reserve(requests as usize) {
         drop(store);
         return Err(End::NoMemory);
@@ -175,13 +139,13 @@ fn serve_into<D: Disk, C: Clock, L: Door>(
         drop(store);
         return Err(End::DoorFault);
     }
-    let served = serve_links(alloc, &mut store, disk, clock, door, requests, lines);
+    let served = serve_connections(alloc, &mut store, disk, clock, door, requests, lines);
     drop(store);
     served
 }
 
 /// Serves the connections that the door gives, at most `requests`.
-fn serve_links<D: Disk, C: Clock, L: Door>(
+fn serve_connections<D: Disk, C: Clock, L: Door>(
     alloc: Global,
     store: &mut Store,
     disk: &mut D,
@@ -192,32 +156,25 @@ fn serve_links<D: Disk, C: Clock, L: Door>(
 ) -> Result<(), End>
     requires unspent { is_spent store.old ≡ false }
     requires logs { AreLogs store.old }
-    requires stands { D.told → StandsFor (D.state disk.old) store.old }
-    requires settled { D.told → IsAtRest (D.state disk.old)
-        → Settled (D.state disk.old) store.old.head store.old.history (length store.old.history) }
+    requires stands { D.observable → StandsFor (D.state disk.old) store.old }
     requires empty { lines.old.items ≡ [] }
     requires few { requests ≤ connection_limit }
     requires room { requests ≤ lines.old.spare }
     ensures serves { (start : ℕ) → CountsFrom start (D.state disk.old) (D.state disk.new) store.old
         → ServesFrom start (D.state disk.old) (D.state disk.new) (C.coming clock.old) (L.state door.old)
-        (L.state door.new) D.told C.told L.told store.old lines.new.items (end_of result ≡ End.DiskFault) }
-    ensures most { length lines.new.items ≤ requests }
-    ensures ends { IsEndOf requests L.told (L.state door.new) lines.new.items (end_of result) }
-    ensures returned { L.told → (L.state door.new).out ≡ (L.state door.old).out }
+        (L.state door.new) D.observable C.observable L.observable store.old lines.new.items (end_of result ≡ End.DiskFault) }
+    ensures ends { EndsWithin requests L.observable (L.state door.old) (L.state door.new)
+        lines.new.items (end_of result) }
     ensures address { (at : List ℕ) → L.listens door.old at → L.only_at door.old at → L.only_at door.new at }
-    ensures own { IfErr result (λ end. (end ≡ End.DiskFault) ⊎ (end ≡ End.DoorFault)) }
+    ensures only_errors { IfErr result (λ end. (end ≡ End.DiskFault) ⊎ (end ≡ End.DoorFault)) }
     ensures mirror { LeavesAlone (D.state disk.old) (D.state disk.new) Mirror }
-
-    ensures disk_fault { result ≡ Err End.DiskFault → Rose (D.state disk.old).faults
-        (D.state disk.new).faults }
-    ensures no_hidden_disk_fault { result ≢ Err End.DiskFault
-        → (D.state disk.new).faults ≡ (D.state disk.old).faults }
-    ensures door_fault { result ≡ Err End.DoorFault → Rose (L.state door.old).faults
-        (L.state door.new).faults }
-    ensures no_hidden_door_fault { result ≢ Err End.DoorFault
-        → (L.state door.new).faults ≡ (L.state door.old).faults }
+    ensures disk_faults { CountsFault (D.state disk.old).faults (D.state disk.new).faults
+        (end_of result ≡ End.DiskFault) }
+    ensures door_faults { CountsFault (L.state door.old).faults (L.state door.new).faults
+        (end_of result ≡ End.DoorFault) }
 {
     // Their contracts are laws that the proof uses.
+    begun_images_are_whole();
     shown_are_served();
     served_stays_served();
     prefixes_are_lawful();
@@ -225,7 +182,7 @@ fn serve_links<D: Disk, C: Clock, L: Door>(
         let Some(mut link) = door.next()? else {
             return Ok(());
         };
-        let line = serve_link(alloc, store, disk, clock, &mut link);
+        let line = serve_connection(alloc, store, disk, clock, &mut link);
         door.back(link);
         match lines.push(line) {
             Ok(()) => {}
@@ -240,7 +197,7 @@ fn serve_links<D: Disk, C: Clock, L: Door>(
 }
 
 /// Serves a connection: reads its request, answers it and sends the reply.
-fn serve_link<D: Disk, C: Clock, K: Conn>(
+fn serve_connection<D: Disk, C: Clock, K: Conn>(
     alloc: Global,
     store: &mut Store,
     disk: &mut D,
@@ -249,33 +206,14 @@ fn serve_link<D: Disk, C: Clock, K: Conn>(
 ) -> Line
     requires unspent { is_spent store.old ≡ false }
     requires logs { AreLogs store.old }
-    requires stands { D.told → StandsFor (D.state disk.old) store.old }
+    requires stands { D.observable → StandsFor (D.state disk.old) store.old }
     requires unbegun { (K.state link.old).begun ≡ None }
     ensures serves { ServesOne (D.state disk.old) (D.state disk.new) (C.coming clock.old) (C.coming clock.new)
-        (K.state link.old) (K.state link.new) D.told C.told K.told store.old store.new result }
-    ensures head { store.new.head ≡ store.old.head }
+        (K.state link.old) (K.state link.new) D.observable C.observable K.observable store.old store.new result }
+    ensures steps { Steps D.observable (D.state disk.old) (D.state disk.new) store.old store.new
+        (is_spent store.new ≡ true) }
     ensures logs { AreLogs store.new }
-    ensures stays { is_spent store.new ≡ true → store.new.history ≡ store.old.history }
-    ensures version { result.version ≡ length store.new.history }
-    ensures calls { result.calls ≡ call_count store.new }
-    ensures makes { MakesSome (D.state disk.old) (D.state disk.new)
-        (call_count store.old) (call_count store.new) }
-    ensures grows { (store.new.history ≡ store.old.history)
-        ⊎ Grows (D.state disk.old) (D.state disk.new) store.old store.new }
-    // The connection keeps the disk's clock as the mark of the reply, if one was begun.
-    ensures begun { result.status ≢ 0 → (K.state link.new).begun ≡ Some (D.state disk.new).clock }
-
-    ensures stands { is_spent store.new ≡ false → D.told → StandsFor (D.state disk.new) store.new }
-    ensures rests { is_spent store.new ≡ false → D.told → IsAtRest (D.state disk.old)
-        → IsAtRest (D.state disk.new) }
-    ensures settled { is_spent store.new ≡ false → D.told → IsAtRest (D.state disk.old)
-        → Settled (D.state disk.new) store.new.head store.new.history (length store.new.history) }
-    ensures mirror { LeavesAlone (D.state disk.old) (D.state disk.new) Mirror }
-    ensures failed { is_spent store.new ≡ true → Rose (D.state disk.old).faults (D.state disk.new).faults }
-    ensures unfailed { is_spent store.new ≡ false → (D.state disk.new).faults ≡ (D.state disk.old).faults }
 {
-    // Its contract is a law that the proof uses.
-    begun_images_are_whole();
     let Some(reply) = reply_to(alloc, store, disk, clock, link) else {
         return line_of(store, 0, false);
     };
@@ -294,19 +232,19 @@ fn reply_to<D: Disk, C: Clock, K: Conn>(
 ) -> Option<Reply>
     requires unspent { is_spent store.old ≡ false }
     requires logs { AreLogs store.old }
-    requires stands { D.told → StandsFor (D.state disk.old) store.old }
-    ensures replies { D.told → RepliesOne (D.state disk.old) (D.state disk.new)
-        (C.coming clock.old) (C.coming clock.new) (K.state link.old) (K.state link.new) C.told K.told
+    requires stands { D.observable → StandsFor (D.state disk.old) store.old }
+    ensures replies { D.observable → RepliesOne (D.state disk.old) (D.state disk.new)
+        (C.coming clock.old) (C.coming clock.new) (K.state link.old) (K.state link.new) C.observable K.observable
         store.old store.new result }
     ensures spent { is_spent store.new ≡ true → result ≡ Some disk_fault }
-    ensures steps { Steps D.told (D.state disk.old) (D.state disk.new) store.old store.new
+    ensures steps { Steps D.observable (D.state disk.old) (D.state disk.new) store.old store.new
         (is_spent store.new ≡ true) }
     ensures grows { (store.new.history ≡ store.old.history)
         ⊎ Grows (D.state disk.old) (D.state disk.new) store.old store.new }
     // The status line of the reply has a phrase.
     ensures status { IfSome result (λ reply. HasPhrase reply.status) }
     ensures reads { Reads (K.state link.old) (K.state link.new) }
-    ensures lost { result ≡ None → Rose (K.state link.old).faults (K.state link.new).faults }
+    ensures lost { result ≡ None → HasRisen (K.state link.old).faults (K.state link.new).faults }
     ensures unfailed { IsSome result → (K.state link.new).faults ≡ (K.state link.old).faults }
 {
     // Its contract is a law that the proof uses.

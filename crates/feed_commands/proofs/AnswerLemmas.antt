@@ -1,28 +1,25 @@
 -- Each command has one answer.
-use Rattle.std.proofs.Common.{◌≡◌, inl, inr, ℕ, Bool, true, false, List, Some, None, subst, sym, ap, ◌∙◌, arith}
+use Rattle.std.proofs.Common.{◌≡◌, inl, inr, ℕ, true, false, List, Some, None, sym, ap, ◌∙◌, arith}
 use Rattle.atom_grammar.proofs.RefusalLemmas.{one_reading}
 use Rattle.feed_recovery.specs.Stored.{OpensTo, Stored}
-use Rattle.feed_commands.specs.declared.fault.Refusal.TheVariants.{BadDocument}
-use Rattle.feed_commands.specs.declared.status.Status.TheVariants.{Done}
+use Rattle.command_ends.specs.declared.fault.Refusal.TheVariants.{BadDocument}
+use Rattle.command_ends.specs.declared.status.Status.TheVariants.{Done}
 use Rattle.feed_disk.specs.declared.area.Area.{Area}
-use Rattle.feed_disk.specs.declared.area.Area.TheVariants.{Journal, Sealed, Mirror as Mirrored}
-use Rattle.feed_journal.specs.Records.{records}
+use Rattle.feed_disk.specs.declared.area.Area.TheVariants.{Journal, Sealed}
 use Rattle.feed_recovery.specs.Opening.{OpensInOneWay}
 use Rattle.tool_words.specs.declared.command.Command.{Command}
 use Rattle.tool_words.specs.declared.command.Command.TheVariants.{Init, Apply, Audit, Drill, Serve, Show, Mirror}
 use Rattle.tool_words.specs.declared.command.Show.TheVariants.{Document, Feed, Archive, Member, Pile}
-use Rattle.feed_commands.specs.Answer.{Answer}
-use Rattle.feed_commands.specs.Fault.{refusal_answer}
-use Rattle.feed_commands.specs.Show.{IsShown, IsPast, IsSummary, IsBadDocument, summary}
+use Rattle.command_ends.specs.Answer.{Answer}
+use Rattle.command_ends.specs.Fault.{refusal_answer}
+use Rattle.feed_commands.specs.Show.{IsShown, IsPast, IsSummary, IsBadDocument}
+use Rattle.command_ends.specs.Summary.{summary}
 use Rattle.feed_commands.specs.Outside.{Outside}
-use Rattle.feed_commands.specs.Run.{IsMirrorEnd, IsOfMirror, IsOfStore, OneAnswer, stored_answer}
+use Rattle.feed_commands.specs.Run.{IsOfStore, OneAnswer, stored_answer}
 use Rattle.feed_commands.specs.Stored.{IsInitAnswer}
-use Rattle.mirror_walk.specs.Holding.{KeptValue}
-use Rattle.mirror_walk.proofs.TakenLemmas.{loaded-once}
-use Rattle.feed_commands.proofs.OneAuditedLemmas.{one-audited}
-use Rattle.feed_commands.proofs.OneFetchedLemmas.{fetched-once}
-use Rattle.feed_commands.proofs.OneMirroredLemmas.{mirrored-once}
-use Rattle.feed_commands.proofs.PlaceLemmas.{place_once}
+use Rattle.mirror_commands.proofs.MirrorEndLemmas.{pile-same, walk-same}
+use Rattle.mirror_commands.proofs.OneAuditedLemmas.{one-audited}
+use Rattle.mirror_commands.proofs.PlaceLemmas.{place_once}
 
 past_once : (input : List ℕ) (one other : Answer) → IsPast input one → IsShown input other → one ≡ other
 past_once input one other p (inl q) = p.is ∙ sym q.is
@@ -67,32 +64,16 @@ of_store_once : OpensInOneWay → (command : Command) (outside : Outside) (one o
 of_store_once law command outside one other p q = p.is
     ∙ ap (stored_answer command outside) (stored_once law outside.content p.stored q.stored p.opens q.opens) ∙ sym q.is
 
--- the ends of `mirror` by the documents that were held before
-mirror-end_once : (capacity : ℕ) (base : List ℕ) (fetch report : Bool) (kept : List KeptValue) (outside : Outside)
-    (one other : Answer) → IsMirrorEnd capacity base fetch report kept outside one →
-    IsMirrorEnd capacity base fetch report kept outside other → one ≡ other
-mirror-end_once capacity base true report kept outside one other p q =
-    fetched-once report capacity base kept outside.answers one other p q
-mirror-end_once capacity base false report kept outside one other p q =
-    mirrored-once report capacity base kept outside.input one other p q
-
-of_mirror_once : (base : List ℕ) (fetch report : Bool) (capacity : ℕ) (outside : Outside) (one other : Answer) →
-    IsOfMirror base fetch report capacity outside one → IsOfMirror base fetch report capacity outside other
-    → one ≡ other
-of_mirror_once base fetch report capacity outside one other p q =
-    let same : q.kept ≡ p.kept = loaded-once base (records (outside.content Mirrored)) q.kept p.kept
-    q.loaded p.loaded in
-    mirror-end_once capacity base fetch report p.kept outside one other p.is
-    (subst (λ (ks : List KeptValue). IsMirrorEnd capacity base fetch report ks outside other) same q.is)
-
 -- a command has one answer, since the areas of a store open in one way
 pub answer_once : OpensInOneWay → OneAnswer
 answer_once law (Init name window capacity) outside one other p q = init_once outside.content one other p q
 answer_once law (Apply None) outside one other p q = of_store_once law (Apply None) outside one other p q
 answer_once law (Apply (Some window)) outside one other p q = sym p ∙ q
 answer_once law (Serve listen requests) outside one other p q = absurd p
-answer_once law (Mirror base fetch report capacity) outside one other p q =
-    of_mirror_once base fetch report capacity outside one other p q
+answer_once law (Mirror base false report capacity) outside one other p q =
+    pile-same report capacity base outside.content outside.input one other q.kept p q.loaded q.is
+answer_once law (Mirror base true report capacity) outside one other p q =
+    walk-same report capacity base outside.content outside.answers one other q.kept p q.loaded q.is
 answer_once law Audit outside one other p q = one-audited outside.input one other p q
 answer_once law (Drill seed count) outside one other p q = p ∙ sym q
 answer_once law (Show Document) outside one other p q = shown_once outside.input one other p q

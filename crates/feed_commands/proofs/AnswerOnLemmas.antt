@@ -1,12 +1,13 @@
 -- The answer of a command on a store that was loaded, and on a disk without a store.
-use Rattle.std.proofs.Common.{◌≡◌, ◌⊎◌, inl, inr, ℕ, ◌≤◌, ◌&&◌, true, false, nat_le, List, refl, sym, ◌∙◌, ap, subst, rules, tests}
+use Rattle.std.proofs.Common.{◌≡◌, ◌⊎◌, inl, inr, ℕ, ◌≤◌, ◌&&◌, true, false, nat_le, List, Result, Err, refl, sym, ◌∙◌, ap, subst, rules, tests}
 use Rattle.std.specs.Prelude.{Option, Some, None}
+use Rattle.atom_values.specs.Counts.{CountsFault}
 use Rattle.std.proofs.lemmas.Bool.{cases_lt}
 use Rattle.atom_writer.specs.Pieces.{text}
 use Rattle.feed_disk.specs.declared.area.Area.{Area}
 use Rattle.feed_disk.specs.declared.area.Area.TheVariants.{Journal, Sealed}
 use Rattle.feed_journal.specs.Records.{records}
-use Rattle.feed_recovery.specs.Documents.{IsLiveDocument, IsLiveSince, IsMemberFault, IsSealed, sealed_count}
+use Rattle.feed_recovery.specs.Documents.{IsArchiveFault, IsLiveDocument, IsLiveSince, IsMemberFault, IsSealed, sealed_count}
 use Rattle.feed_recovery.specs.Faults.{IsLoadFault}
 use Rattle.feed_recovery.specs.Opening.{Opens, OpensInOneWay, seal_of}
 use Rattle.feed_recovery.specs.Store.{StoreValue}
@@ -17,17 +18,18 @@ use Rattle.feed_recovery.specs.declared.fault.LoadFault.TheVariants as load
 use Rattle.feed_recovery.specs.declared.fault.MemberFault.{MemberFault}
 use Rattle.feed_recovery.specs.declared.fault.MemberFault.TheVariants as member
 use Rattle.feed_recovery.specs.Stored.{OpensTo, Stored, stored_of}
-use Rattle.feed_commands.specs.declared.fault.Fault.{Fault}
-use Rattle.feed_commands.specs.declared.fault.Fault.TheVariants.{Disk, Input, Refused}
-use Rattle.feed_commands.specs.declared.fault.Refusal.TheVariants.{NotSealed}
-use Rattle.feed_commands.specs.declared.status.Status.TheVariants.{Done}
-use Rattle.feed_commands.specs.Answer.{Answer}
+use Rattle.command_ends.specs.declared.fault.Fault.{Fault}
+use Rattle.command_ends.specs.declared.fault.Fault.TheVariants.{Disk, Input, Refused}
+use Rattle.command_ends.specs.declared.fault.Refusal.TheVariants.{NotSealed}
+use Rattle.command_ends.specs.declared.status.Status.TheVariants.{Done}
+use Rattle.command_ends.specs.Answer.{Answer}
 use Rattle.feed_commands.specs.Applied.{Applied}
 use Rattle.feed_commands.specs.Apply.{answer_by}
 use Rattle.feed_commands.specs.Crash.{ComesAfterLoad}
-use Rattle.feed_commands.specs.Fault.{fault_answer, IsRefusal}
-use Rattle.feed_commands.specs.StoreFaults.{archive_fault, load_fault, member_fault}
+use Rattle.command_ends.specs.Fault.{fault_answer, IsRefusal}
+use Rattle.command_ends.specs.StoreFaults.{archive_fault, load_fault, member_fault}
 use Rattle.feed_commands.specs.Stored.{IsAnswerOn, applied_store, apply_answer, archive_answer, member_answer}
+use Rattle.feed_commands.proofs.CountLemmas.{counts-as}
 use Rattle.member_rules.specs.Documents.{subscription}
 use Rattle.member_rules.specs.Head.{HeadValue}
 use Rattle.member_rules.specs.declared.operation.Op.{Op}
@@ -68,11 +70,20 @@ answer-bad content on fault is only refusal = record {
 }
 
 -- the fault of an archive is the disk's only if the disk failed, and never the input's
-pub archive-disk : (fault : ArchiveFault) → archive_fault fault ≡ Disk → fault ≡ archive.DiskFault
+archive-disk : (fault : ArchiveFault) → archive_fault fault ≡ Disk → fault ≡ archive.DiskFault
 archive-disk (archive.NotSealed number sealed) e = cc
 archive-disk archive.DiskFault e = refl
 archive-disk (archive.Changed index) e = cc
 archive-disk archive.NoMemory e = cc
+
+pub archive-counts : {T U : Type 0} (before loaded after : ℕ) (fault : ArchiveFault) → loaded ≡ before
+    → CountsFault loaded after (◌≡◌ {A = Result U ArchiveFault} (Err fault) (Err archive.DiskFault))
+    → CountsFault before after (◌≡◌ {A = Result T Fault} (Err (archive_fault fault)) (Err Disk))
+archive-counts {T = T} before loaded after fault same counts =
+    subst (λ (n : ℕ). CountsFault n after (◌≡◌ {A = Result T Fault} (Err (archive_fault fault)) (Err Disk))) same
+    (counts-as
+    (λ e. let is : fault ≡ archive.DiskFault = cc in ap (λ (f : ArchiveFault). Err (archive_fault f)) is)
+    (λ e. let is : archive_fault fault ≡ Disk = cc in ap (λ (f : ArchiveFault). Err f) (archive-disk fault is)) counts)
 
 pub archive-input : (fault : ArchiveFault) → archive_fault fault ≡ Input → ⊥
 archive-input (archive.NotSealed number sealed) e = cc
@@ -110,25 +121,37 @@ archive-unsealed store number named sealed none is_number is_sealed =
     let e = unsealed number (sealed_count store) none in rw (e, is_number, is_sealed) refl
 
 -- why an archive isn't returned
-pub archive-refused : (store : StoreValue) (number : ℕ) (fault : ArchiveFault)
-    → ((index : ℕ) → fault ≡ archive.Changed index → ⊥)
-    → ((named sealed : ℕ) → fault ≡ archive.NotSealed named sealed → (named ≡ number) × (sealed ≡ sealed_count store))
-    → (fault ≡ archive.NotSealed number (sealed_count store) → IsSealed store number → ⊥)
-    → IsRefusal (archive_fault fault)
+pub archive-refused : (store : StoreValue) (number : ℕ) (fault : ArchiveFault) → IsArchiveFault store number fault
+    → ((index : ℕ) → fault ≡ archive.Changed index → ⊥) → IsRefusal (archive_fault fault)
     → fault_answer (archive_fault fault) ≡ archive_answer number (stored_of store)
-archive-refused store number (archive.NotSealed named sealed) never numbers none refusal =
-    let is = numbers named sealed refl in
-    archive-unsealed store number named sealed
-    (none (ap (λ (n : ℕ). archive.NotSealed n sealed) is.0 ∙ ap (λ (n : ℕ). archive.NotSealed number n) is.1)) is.0 is.1
-archive-refused store number archive.DiskFault never numbers none refusal = absurd refusal
-archive-refused store number (archive.Changed index) never numbers none refusal = absurd (never index refl)
-archive-refused store number archive.NoMemory never numbers none refusal = absurd refusal
+archive-refused store number (archive.NotSealed named sealed) is never refusal =
+    archive-unsealed store number named sealed is.0 is.1 is.2
+archive-refused store number archive.DiskFault is never refusal = absurd refusal
+archive-refused store number (archive.Changed index) is never refusal = absurd (never index refl)
+archive-refused store number archive.NoMemory is never refusal = absurd refusal
 
 -- the document of a live member
 pub member-live : (store : StoreValue) (number version : ℕ) (written : List ℕ)
     → IsLiveSince store.history number version → IsLiveDocument store number written
     → record { status = Done; printed = written } ≡ member_answer number (stored_of store)
 member-live store number version written live document = rw (live.state, document.live, document.text) refl
+
+-- the fault of a member's document is the disk's only if the disk failed
+member-disk : (fault : MemberFault) → member_fault fault ≡ Disk → fault ≡ member.DiskFault
+member-disk (member.NotFound number) e = cc
+member-disk (member.Deleted number when) e = cc
+member-disk member.DiskFault e = refl
+member-disk (member.Changed index) e = cc
+member-disk member.NoMemory e = cc
+
+pub member-counts : {T U : Type 0} (before loaded after : ℕ) (fault : MemberFault) → loaded ≡ before
+    → CountsFault loaded after (◌≡◌ {A = Result U MemberFault} (Err fault) (Err member.DiskFault))
+    → CountsFault before after (◌≡◌ {A = Result T Fault} (Err (member_fault fault)) (Err Disk))
+member-counts {T = T} before loaded after fault same counts =
+    subst (λ (n : ℕ). CountsFault n after (◌≡◌ {A = Result T Fault} (Err (member_fault fault)) (Err Disk))) same
+    (counts-as
+    (λ e. let is : fault ≡ member.DiskFault = cc in ap (λ (f : MemberFault). Err (member_fault f)) is)
+    (λ e. let is : member_fault fault ≡ Disk = cc in ap (λ (f : MemberFault). Err f) (member-disk fault is)) counts)
 
 -- why a member's document isn't returned
 pub member-refused : (store : StoreValue) (number : ℕ) (fault : MemberFault) → IsMemberFault store number fault

@@ -3,7 +3,7 @@ use Rattle.std.proofs.Common.{ℕ}
 use Rattle.atom_writer.specs.declared.doc.FeedName.{FeedName}
 use Rattle.tool_words.specs.declared.command.Command.TheVariants.{Init, Show}
 use Rattle.tool_words.specs.declared.command.Show.TheVariants.{Document}
-use Rattle.feed_commands.specs.Answer.{Answer}
+use Rattle.command_ends.specs.Answer.{Answer}
 use Rattle.feed_commands.specs.Outside.{Outside}
 use Rattle.feed_commands.specs.Run.{IsGiven}
 use Rattle.feed_commands.specs.Show.{IsShown}

@@ -18,9 +18,9 @@ pub keeps-none : (s : DiskState) → KeepsPayloads s s
 keeps-none s = alone-payloads s s (alone_begins s Journal) (alone_begins s Sealed)
 
 -- no store is made, and no command that made one is done
-pub makes-none : {T : Type 0} (s : DiskState) (name : FeedName) (window capacity : ℕ) (told : Type 0) (moment : ℕ)
-    (done : Type 0) → IsDisk T s → (done → ⊥) → MakesStoreAt s s name window capacity told moment done
-makes-none s name window capacity told moment done is never = record {
+pub makes-none : {T : Type 0} (s : DiskState) (name : FeedName) (window capacity : ℕ) (observable : Type 0) (moment : ℕ)
+    (done : Type 0) → IsDisk T s → (done → ⊥) → MakesStoreAt s s name window capacity observable moment done
+makes-none s name window capacity observable moment done is never = record {
   now = moment;
   is_moment = λ _. refl;
   makes = record {
@@ -39,10 +39,10 @@ makes-none s name window capacity told moment done is never = record {
 }
 
 -- a statement on the ends at which all is done holds if there are fewer of them
-pub makes-weaker : (before after : DiskState) (name : FeedName) (window capacity : ℕ) (told : Type 0) (moment : ℕ)
-    (done less : Type 0) → (less → done) → MakesStoreAt before after name window capacity told moment done →
-    MakesStoreAt before after name window capacity told moment less
-makes-weaker before after name window capacity told moment done less h m = record {
+pub makes-weaker : (before after : DiskState) (name : FeedName) (window capacity : ℕ) (observable : Type 0) (moment : ℕ)
+    (done less : Type 0) → (less → done) → MakesStoreAt before after name window capacity observable moment done →
+    MakesStoreAt before after name window capacity observable moment less
+makes-weaker before after name window capacity observable moment done less h m = record {
   now = m.now;
   is_moment = m.is_moment;
   makes = record {
@@ -55,23 +55,23 @@ makes-weaker before after name window capacity told moment done less h m = recor
 
 -- a store that isn't loaded, of which nothing is written
 pub applies-none : {T : Type 0} (s : DiskState) (moments : ℕ → ℕ) (input rest : SourceState)
-    (told failed stopped later : Type 0) → IsDisk T s → (later → ⊥)
-    → AppliesSafely s s moments input rest told failed stopped later
-applies-none s moments input rest told failed stopped later is never = λ head operations least settled.
+    (observable failed stopped later : Type 0) → IsDisk T s → (later → ⊥)
+    → AppliesSafely s s moments input rest observable failed stopped later
+applies-none s moments input rest observable failed stopped later is never = λ head operations least settled.
     inl (never, both_stay s (OpensPast head operations least) is settled)
 
 -- a statement on the ends of `apply` holds if more of them have a failed call of the disk, and fewer one of the input,
 -- and fewer come after the load
 pub applies-weaker : (before after : DiskState) (moments : ℕ → ℕ) (input rest : SourceState)
-    (told failed stopped later more fewer less : Type 0) → (failed → more) → (fewer → stopped) → (less → later) →
-    AppliesSafely before after moments input rest told failed stopped later →
-    AppliesSafely before after moments input rest told more fewer less
-applies-weaker before after moments input rest told failed stopped later more fewer less fails stops ends safely =
+    (observable failed stopped later more fewer less : Type 0) → (failed → more) → (fewer → stopped) → (less → later) →
+    AppliesSafely before after moments input rest observable failed stopped later →
+    AppliesSafely before after moments input rest observable more fewer less
+applies-weaker before after moments input rest observable failed stopped later more fewer less fails stops ends safely =
     λ head operations least settled.
     ⊎_elim
     (λ (unloaded : (later → ⊥) × AlwaysLeavesBoth before after (OpensPast head operations least)).
     inl (λ l. unloaded.0 (ends l), unloaded.1))
-    (λ (l : LeavesApplied before after moments input rest told head operations least failed stopped). inr record {
+    (λ (l : LeavesApplied before after moments input rest observable head operations least failed stopped). inr record {
       opened = l.opened;
       opens = l.opens;
       same = l.same;

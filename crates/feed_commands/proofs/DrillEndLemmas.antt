@@ -2,10 +2,11 @@
 use Rattle.std.proofs.Common.{◌≡◌, ◌≢◌, ◌⊎◌, inl, inr, ⊎_elim, ℕ, List, ◌++◌, Option, Some, None, refl, ◌∙◌, ap, subst}
 use Rattle.std.proofs.Common.{arith}
 use Rattle.doc_source.specs.Outside.{SinkState}
-use Rattle.feed_commands.specs.Answer.{Prints}
+use Rattle.command_ends.specs.Answer.{Prints}
 use Rattle.feed_commands.specs.Drill.{EndsDrilling, drill_answer, drill_head, drill_text}
 use Rattle.feed_commands.specs.Outside.{Outside}
-use Rattle.feed_commands.specs.Run.{EndsWith, IsAlone, IsDone}
+use Rattle.feed_commands.specs.Run.{EndsWith}
+use Rattle.command_ends.specs.Ends.{IsAlone, IsDone}
 use Rattle.feed_drill.specs.Drilled.{IsDrilled, operations}
 use Rattle.feed_drill.specs.Summary.{SummaryValue, summary_of, summary_text}
 use Rattle.feed_life.specs.Life.{LifeValue}
@@ -26,11 +27,11 @@ not-failed ended done failed = ⊎_elim (λ e. absurd (omega (arith, e, failed))
     (λ e. absurd (omega (arith, e, failed))) done
 
 -- the text was printed, or the output failed
-pub drill-ends : (seed count : ℕ) (outside : Outside) (told : Type 0) (before after : SinkState) (ended : ℕ)
+pub drill-ends : (seed count : ℕ) (outside : Outside) (observable : Type 0) (before after : SinkState) (ended : ℕ)
     (text : List ℕ) → text ≡ drill_text seed count → (ended ≡ 0) ⊎ (ended ≡ 8)
-    → (told → Prints before after text) → (ended ≢ 8 → told → after.taken ≡ before.taken ++ text)
-    → EndsWith (Drill seed count) outside told before after ended
-drill-ends seed count outside told before after ended text is ends prints whole = record {
+    → (observable → Prints before after text) → (ended ≢ 8 → observable → after.taken ≡ before.taken ++ text)
+    → EndsWith (Drill seed count) outside observable before after ended
+drill-ends seed count outside observable before after ended text is ends prints whole = record {
   answer = drill_answer seed count;
   is = refl;
   status = ⊎_elim (λ e. inl e) (λ e. inr (e, inl refl)) ends;

@@ -2,11 +2,11 @@
 use Rattle.std.proofs.Common.{◌≡◌, refl}
 use Rattle.feed_commands.specs.declared.commands.lines.LinesFault.{LinesFault}
 use Rattle.feed_commands.specs.declared.commands.lines.LinesFault.TheVariants as lines
-use Rattle.feed_commands.specs.declared.fault.Fault.{Fault}
-use Rattle.feed_commands.specs.declared.fault.Fault.TheVariants.{Input, Refused}
-use Rattle.feed_commands.specs.declared.fault.Refusal.TheVariants.{TooLong}
+use Rattle.command_ends.specs.declared.fault.Fault.{Fault}
+use Rattle.command_ends.specs.declared.fault.Fault.TheVariants.{Input, Refused}
+use Rattle.command_ends.specs.declared.fault.Refusal.TheVariants.{TooLong}
 use Rattle.feed_commands.specs.Apply.{lines_fault}
-use Rattle.feed_commands.specs.Fault.{IsRefusal}
+use Rattle.command_ends.specs.Fault.{IsRefusal}
 
 -- one of the faults that end the lines is a refusal
 pub refusal-of_lines : (P : Fault → Type 0) (fault : LinesFault) → (fault ≡ lines.TooLong → P (Refused TooLong))

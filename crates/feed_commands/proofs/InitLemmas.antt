@@ -6,8 +6,8 @@ use Rattle.feed_disk.specs.declared.area.Area.{Area}
 use Rattle.feed_recovery.specs.declared.fault.InitFault.{InitFault}
 use Rattle.feed_recovery.specs.declared.fault.InitFault.TheVariants as init
 use Rattle.feed_commands.specs.Crash.{MakesStore, head_at, last_stamp}
-use Rattle.feed_commands.specs.Fault.{fault_answer, IsRefusal}
-use Rattle.feed_commands.specs.StoreFaults.{init_fault}
+use Rattle.command_ends.specs.Fault.{fault_answer, IsRefusal}
+use Rattle.command_ends.specs.StoreFaults.{init_fault}
 use Rattle.feed_commands.specs.Stored.{HasRecords, IsInitAnswer}
 
 pub init_refused : (content : Area → List ℕ) (fault : InitFault) → (fault ≡ init.AlreadyInit → HasRecords content)

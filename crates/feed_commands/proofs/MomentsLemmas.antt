@@ -42,7 +42,7 @@ module _ (s t : DiskState) (moments : ℕ → ℕ) (input rest : SourceState) (s
       more = grown.0;
       grows = grown.1;
       one_more = inl refl;
-      first = λ told. record { count = count; makes = lines told; adds = inl refl };
+      first = λ observable. record { count = count; makes = lines observable; adds = inl refl };
       read = read;
     };
     calls = calls;
@@ -62,10 +62,10 @@ module _ (s t : DiskState) (moments : ℕ → ℕ) (input rest : SourceState) (s
       more = grown.0;
       grows = grown.1;
       one_more = inr (operation, refl);
-      first = λ told. record {
+      first = λ observable. record {
         count = count;
-        makes = lines told;
-        adds = inr (with_operation made operation, next told, refl);
+        makes = lines observable;
+        adds = inr (with_operation made operation, next observable, refl);
       };
       read = read;
     };
@@ -126,8 +126,8 @@ loaded-leaves s m t moments input rest seen head operations least lines_failed l
       );
     }
 
-pub applies-safely : {told : Type 0} (s m t : DiskState) (moments : ℕ → ℕ) (input rest : SourceState)
-    (seen lines_failed lines_stopped failed stopped later : Type 0) (opened : Stored) → IsDisk told s → told
+pub applies-safely : {observable : Type 0} (s m t : DiskState) (moments : ℕ → ℕ) (input rest : SourceState)
+    (seen lines_failed lines_stopped failed stopped later : Type 0) (opened : Stored) → IsDisk observable s → observable
     → OpensInOneWay → OpensTo s.content opened
     → ((head : HeadValue) (operations : List Op) (least : ℕ) → Settled s head operations least
     → AlwaysLeavesBoth s m (OpensPast head operations least))

@@ -1,23 +1,26 @@
 -- `show pile`: how the program ends after a pile.
 use Rattle.std.proofs.Common.{◌≡◌, ◌⊎◌, inl, inr, ⊎_elim, ℕ, List, [], ◌++◌, Result, Err, refl, sym, ap, subst, ◌∙◌, append-nil, arith}
-use Rattle.atom_values.specs.Counts.{Rose}
+use Rattle.atom_values.specs.Counts.{CountsFault, HasRisen}
 use Rattle.doc_source.specs.Outside.{SinkState, TakesPrefix}
 use Rattle.feed_disk.specs.declared.area.Area.{Area}
 use Rattle.feed_recovery.specs.Stored.{OpensTo, Stored}
 use Rattle.feed_commands.specs.declared.commands.pile.PrintFault.{PrintFault}
-use Rattle.feed_commands.specs.declared.fault.Fault.{Fault}
-use Rattle.feed_commands.specs.declared.fault.Fault.TheVariants.{NoMemory, Input, Disk, BadStore, Full, Refused}
-use Rattle.feed_commands.specs.declared.status.Status.TheVariants as ends
-use Rattle.feed_commands.specs.Answer.{Prints}
-use Rattle.feed_commands.specs.Fault.{IsRefusal, fault_answer}
+use Rattle.feed_commands.specs.declared.commands.pile.PrintFault.TheVariants.{Other}
+use Rattle.command_ends.specs.declared.fault.Fault.{Fault}
+use Rattle.command_ends.specs.declared.fault.Fault.TheVariants.{NoMemory, Input, Disk, BadStore, Full, Refused}
+use Rattle.command_ends.specs.declared.status.Status.TheVariants as ends
+use Rattle.command_ends.specs.Answer.{Prints}
+use Rattle.command_ends.specs.Fault.{IsRefusal, fault_answer}
 use Rattle.feed_commands.specs.Pile.{EndsCut, MayEndPile, pile_answer, pile_of}
 use Rattle.feed_commands.specs.Outside.{Outside}
-use Rattle.feed_commands.specs.Run.{EndsWith, IsDone, IsStatus}
-use Rattle.feed_commands.specs.Status.{code_of}
+use Rattle.feed_commands.specs.Run.{EndsWith}
+use Rattle.command_ends.specs.Ends.{IsDone, IsStatus}
+use Rattle.command_ends.specs.Status.{code_of}
 use Rattle.feed_commands.specs.Stored.{IsBadStore}
 use Rattle.tool_words.specs.declared.command.Command.TheVariants.{Show}
 use Rattle.tool_words.specs.declared.command.Show.TheVariants.{Pile}
-use Rattle.feed_commands.proofs.EndLemmas.{no_done}
+use Rattle.command_ends.proofs.EndLemmas.{no_done}
+use Rattle.feed_commands.proofs.CountLemmas.{counts-as, disk_end}
 
 -- a fault under its own name
 pub failed-by : {result : Result (Unit {0}) PrintFault} {fault other : PrintFault} → result ≡ Err fault → fault ≡ other
@@ -26,11 +29,11 @@ failed-by is same =
     let failed : PrintFault → Result (Unit {0}) PrintFault = λ fault. Err fault in
     is ∙ ap failed same
 
-module _ (outside : Outside) (told : Type 0) (before after : SinkState) (ended : ℕ) where
+module _ (outside : Outside) (observable : Type 0) (before after : SinkState) (ended : ℕ) where
   -- the pile was printed
   pub ends-piled : (stored : Stored) → OpensTo outside.content stored → ended ≡ 0
-      → (told → after.taken ≡ before.taken ++ pile_of stored)
-      → EndsWith (Show Pile) outside told before after ended
+      → (observable → after.taken ≡ before.taken ++ pile_of stored)
+      → EndsWith (Show Pile) outside observable before after ended
   ends-piled stored opens done whole = record {
     answer = pile_answer stored;
     is = inl record { stored = stored; opens = opens; is = refl };
@@ -49,8 +52,8 @@ module _ (outside : Outside) (told : Type 0) (before after : SinkState) (ended :
 
   -- the output failed
   pub ends-unpiled : (stored : Stored) → OpensTo outside.content stored → ended ≡ 8
-      → (told → TakesPrefix before after (pile_of stored)) → Rose before.faults after.faults
-      → EndsWith (Show Pile) outside told before after ended
+      → (observable → TakesPrefix before after (pile_of stored)) → HasRisen before.faults after.faults
+      → EndsWith (Show Pile) outside observable before after ended
   ends-unpiled stored opens failed prefix rose = record {
     answer = pile_answer stored;
     is = inl record { stored = stored; opens = opens; is = refl };
@@ -62,8 +65,8 @@ module _ (outside : Outside) (told : Type 0) (before after : SinkState) (ended :
 
   -- the content opens to no store
   pub ends-unopened : (fault : Fault) → IsBadStore outside.content (fault_answer fault)
-      → ended ≡ code_of (fault_answer fault).status → (told → Prints before after (fault_answer fault).printed)
-      → EndsWith (Show Pile) outside told before after ended
+      → ended ≡ code_of (fault_answer fault).status → (observable → Prints before after (fault_answer fault).printed)
+      → EndsWith (Show Pile) outside observable before after ended
   ends-unopened fault bad is prints = record {
     answer = fault_answer fault;
     is = inr bad;
@@ -73,10 +76,10 @@ module _ (outside : Outside) (told : Type 0) (before after : SinkState) (ended :
   }
 
 -- memory ran out before the store was loaded: the line is all that is printed
-pub cut-at-once : (content : Area → List ℕ) (told : Type 0) (before after : SinkState) (fault : Fault) (ended : ℕ)
+pub cut-at-once : (content : Area → List ℕ) (observable : Type 0) (before after : SinkState) (fault : Fault) (ended : ℕ)
     → ended ≡ code_of (fault_answer fault).status → Prints before after (fault_answer fault).printed
-    → EndsCut content told before after ended
-cut-at-once content told before after fault ended is prints = record {
+    → EndsCut content observable before after ended
+cut-at-once content observable before after fault ended is prints = record {
   fault = fault;
   status = is;
   front = [];
@@ -96,6 +99,14 @@ only-memory Disk ended may refusal disk is = absurd (disk refl)
 only-memory (BadStore bad) ended may refusal disk is = absurd (refusal tt)
 only-memory (Full area size needed capacity) ended may refusal disk is = absurd may
 only-memory (Refused refused) ended may refusal disk is = absurd may
+
+-- the fault of the disk is what ended the pile, if its status is the disk's
+pub pile-disk : (before after ended : ℕ) (result : Result (Unit {0}) PrintFault) (fault : Fault)
+    → result ≡ Err (Other fault) → ended ≡ code_of (fault_answer fault).status
+    → CountsFault before after (result ≡ Err (Other Disk)) → CountsFault before after (ended ≡ 4)
+pile-disk before after ended result fault is same = counts-as
+    (λ e. let disk : fault ≡ Disk = cc (is, e) in same ∙ ap (λ (f : Fault). code_of (fault_answer f).status) disk)
+    (λ e. is ∙ ap (λ (f : Fault). Err (Other f)) (disk_end fault (sym same ∙ e)))
 
 -- the statuses after a pile
 abbrev pub IsPileCode : ℕ → Type 0

@@ -65,10 +65,10 @@ one-more first offer = sym (pile-split first (offer ∷ [])
     ∙ ap (λ (x : List ℕ). pile_text first ++ x) (append-nil (offer_text offer)))
 
 -- the next offer was taken
-more : (told : Type 0) (offers left : List Offer) (offer made : Offer) (before mid after : SinkState)
-    → (told → made ≡ offer) → TakesFront told offers (offer ∷ left) before mid
-    → after.taken ≡ mid.taken ++ offer_text made → TakesFront told offers left before after
-more told offers left offer made before mid after same front next = record {
+more : (observable : Type 0) (offers left : List Offer) (offer made : Offer) (before mid after : SinkState)
+    → (observable → made ≡ offer) → TakesFront observable offers (offer ∷ left) before mid
+    → after.taken ≡ mid.taken ++ offer_text made → TakesFront observable offers left before after
+more observable offers left offer made before mid after same front next = record {
   front = front.front ++ offer_text made;
   taken = took_more before mid after front.front (offer_text made) front.taken next;
   is = λ seen.
@@ -82,10 +82,10 @@ more told offers left offer made before mid after same front next = record {
 }
 
 -- a prefix of the next offer was taken
-more-prefix : (told : Type 0) (offers left : List Offer) (offer made : Offer) (before mid after : SinkState)
-    → (told → made ≡ offer) → told → TakesFront told offers (offer ∷ left) before mid
+more-prefix : (observable : Type 0) (offers left : List Offer) (offer made : Offer) (before mid after : SinkState)
+    → (observable → made ≡ offer) → observable → TakesFront observable offers (offer ∷ left) before mid
     → TakesPrefix mid after (offer_text made) → TakesPrefix before after (pile_text offers)
-more-prefix told offers left offer made before mid after same seen front prefix =
+more-prefix observable offers left offer made before mid after same seen front prefix =
     let is = front.is seen in
     takes_more before mid after front.front (offer_text made) (flat_map offer_text left) (pile_text offers)
     (ap pile_text is.split ∙ pile-split is.first (offer ∷ left)
@@ -93,10 +93,10 @@ more-prefix told offers left offer made before mid after same seen front prefix 
     ∙ ap (λ (o : Offer). front.front ++ (offer_text o ++ flat_map offer_text left)) (sym (same seen)))
     front.taken prefix
 
-module _ (told : Type 0) (stored : Stored) where
+module _ (observable : Type 0) (stored : Stored) where
   -- the first line of the pile was taken
   pub front-head : (before after : SinkState) → after.taken ≡ before.taken ++ pile_head
-      → TakesFront told (offers_of stored) (offers_of stored) before after
+      → TakesFront observable (offers_of stored) (offers_of stored) before after
   front-head before after taken = record {
     front = pile_head;
     taken = taken;
@@ -110,56 +110,56 @@ module _ (told : Type 0) (stored : Stored) where
       (sym (append-nil before.taken)) prefix
 
   front-feed-due : (before after : SinkState) → after.taken ≡ before.taken ++ pile_head
-      → TakesFront told (offers_of stored) (offer_of (subscription stored.head stored.history)
+      → TakesFront observable (offers_of stored) (offer_of (subscription stored.head stored.history)
       ∷ archives_of stored (windows_of stored.head stored.history).sealed) before after
   front-feed-due before after taken =
-      subst (λ (left : List Offer). TakesFront told (offers_of stored) left before after) (offers-are stored)
+      subst (λ (left : List Offer). TakesFront observable (offers_of stored) left before after) (offers-are stored)
       (front-head before after taken)
 
   -- the subscription document was taken
   pub front-feed : (made : Offer) (before mid after : SinkState)
       → made ≡ offer_of (subscription stored.head stored.history) → mid.taken ≡ before.taken ++ pile_head
       → after.taken ≡ mid.taken ++ offer_text made
-      → TakesFront told (offers_of stored) (archives_of stored (windows_of stored.head stored.history).sealed)
+      → TakesFront observable (offers_of stored) (archives_of stored (windows_of stored.head stored.history).sealed)
       before after
   front-feed made before mid after same head next =
-      more told (offers_of stored) _ _ made before mid after (λ _. same) (front-feed-due before mid head) next
+      more observable (offers_of stored) _ _ made before mid after (λ _. same) (front-feed-due before mid head) next
 
   pub feed-prefix : (made : Offer) (before mid after : SinkState)
-      → made ≡ offer_of (subscription stored.head stored.history) → told → mid.taken ≡ before.taken ++ pile_head
+      → made ≡ offer_of (subscription stored.head stored.history) → observable → mid.taken ≡ before.taken ++ pile_head
       → TakesPrefix mid after (offer_text made) → TakesPrefix before after (pile_text (offers_of stored))
   feed-prefix made before mid after same seen head prefix =
-      more-prefix told (offers_of stored) _ _ made before mid after (λ _. same) seen (front-feed-due before mid head)
+      more-prefix observable (offers_of stored) _ _ made before mid after (λ _. same) seen (front-feed-due before mid head)
       prefix
 
   front-archive-due : (number : ℕ) (before after : SinkState) → 0 < number
-      → TakesFront told (offers_of stored) (archives_of stored number) before after
-      → TakesFront told (offers_of stored) (offer_of (archive stored.head stored.history number)
+      → TakesFront observable (offers_of stored) (archives_of stored number) before after
+      → TakesFront observable (offers_of stored) (offer_of (archive stored.head stored.history number)
       ∷ archives_of stored (number - 1)) before after
   front-archive-due number before after some front =
-      subst (λ (left : List Offer). TakesFront told (offers_of stored) left before after)
+      subst (λ (left : List Offer). TakesFront observable (offers_of stored) left before after)
       (next-archive stored number some) front
 
   -- an archive was taken
   pub front-archive : (number : ℕ) (made : Offer) (before mid after : SinkState) → 0 < number
-      → (told → made ≡ offer_of (archive stored.head stored.history number))
-      → TakesFront told (offers_of stored) (archives_of stored number) before mid
+      → (observable → made ≡ offer_of (archive stored.head stored.history number))
+      → TakesFront observable (offers_of stored) (archives_of stored number) before mid
       → after.taken ≡ mid.taken ++ offer_text made
-      → TakesFront told (offers_of stored) (archives_of stored (number - 1)) before after
+      → TakesFront observable (offers_of stored) (archives_of stored (number - 1)) before after
   front-archive number made before mid after some same front next =
-      more told (offers_of stored) _ _ made before mid after same (front-archive-due number before mid some front) next
+      more observable (offers_of stored) _ _ made before mid after same (front-archive-due number before mid some front) next
 
   pub archive-prefix : (number : ℕ) (made : Offer) (before mid after : SinkState) → 0 < number
-      → (told → made ≡ offer_of (archive stored.head stored.history number)) → told
-      → TakesFront told (offers_of stored) (archives_of stored number) before mid
+      → (observable → made ≡ offer_of (archive stored.head stored.history number)) → observable
+      → TakesFront observable (offers_of stored) (archives_of stored number) before mid
       → TakesPrefix mid after (offer_text made) → TakesPrefix before after (pile_text (offers_of stored))
   archive-prefix number made before mid after some same seen front prefix =
-      more-prefix told (offers_of stored) _ _ made before mid after same seen
+      more-prefix observable (offers_of stored) _ _ made before mid after same seen
       (front-archive-due number before mid some front) prefix
 
   -- all documents were taken
-  pub front-whole : (number : ℕ) (before after : SinkState) → number ≤ 0 → told
-      → TakesFront told (offers_of stored) (archives_of stored number) before after
+  pub front-whole : (number : ℕ) (before after : SinkState) → number ≤ 0 → observable
+      → TakesFront observable (offers_of stored) (archives_of stored number) before after
       → after.taken ≡ before.taken ++ pile_text (offers_of stored)
   front-whole zero before after none seen front =
       let is = front.is seen in

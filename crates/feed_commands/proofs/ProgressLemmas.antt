@@ -8,9 +8,9 @@ use Rattle.std.proofs.lemmas.List.{take_at}
 use Rattle.std.proofs.Math.Seq.{take-append-add}
 use Rattle.std.proofs.lemmas.Bool.{cases_lt, false≢true}
 use Rattle.std.proofs.lemmas.List.Concat.{flat_map-append}
-use Rattle.feed_commands.specs.declared.fault.Fault.{Fault}
-use Rattle.feed_commands.specs.declared.fault.Fault.TheVariants.{Refused}
-use Rattle.feed_commands.specs.declared.fault.Refusal.TheVariants.{TooLong}
+use Rattle.command_ends.specs.declared.fault.Fault.{Fault}
+use Rattle.command_ends.specs.declared.fault.Fault.TheVariants.{Refused}
+use Rattle.command_ends.specs.declared.fault.Refusal.TheVariants.{TooLong}
 use Rattle.doc_source.specs.Outside.{SourceState}
 use Rattle.atom_values.specs.Ascii.{lf}
 use Rattle.feed_commands.specs.Line.{prefix_limit}

@@ -15,12 +15,12 @@ use Rattle.feed_recovery.specs.Store.{StoreValue, seal_count}
 use Rattle.feed_recovery.specs.declared.fault.PrepareFault.{PrepareFault}
 use Rattle.feed_recovery.specs.declared.fault.PrepareFault.TheVariants as prepare
 use Rattle.feed_recovery.specs.Stored.{Stored, seals_of, stored_of}
-use Rattle.feed_commands.specs.declared.fault.Fault.TheVariants.{Full}
+use Rattle.command_ends.specs.declared.fault.Fault.TheVariants.{Full}
 use Rattle.feed_commands.specs.Apply.{asked, refused_line, ◌>>=◌}
-use Rattle.feed_commands.specs.Fault.{IsRefusal}
+use Rattle.command_ends.specs.Fault.{IsRefusal}
 use Rattle.feed_commands.specs.Line.{line_ask}
 use Rattle.feed_commands.specs.Loaded.{line_made}
-use Rattle.feed_commands.specs.StoreFaults.{prepare_fault}
+use Rattle.command_ends.specs.StoreFaults.{prepare_fault}
 use Rattle.feed_commands.specs.Stored.{missing_seal, operation_fault, room_fault, seal_fault, stored_operation, with_operation}
 use Rattle.member_rules.specs.Coding.{operations}
 use Rattle.member_rules.specs.Head.{HeadValue}

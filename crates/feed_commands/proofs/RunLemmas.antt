@@ -1,24 +1,35 @@
 -- How a run ends, by how its command ended.
-use Rattle.std.proofs.Common.{◌≡◌, ◌⊎◌, inl, inr, ⊎_elim, ℕ, Bool, List, ◌++◌, Result, Ok, Err, IfOk, refl, sym, ◌∙◌, ap, subst, arith}
+use Rattle.std.proofs.Common.{◌≡◌, ◌⊎◌, inl, inr, ⊎_elim, ℕ, Bool, List, [], ◌++◌, Option, None, Result, Ok, Err, IfOk, refl, sym, ◌∙◌, ap, subst, arith}
 use Rattle.tool_words.specs.Words.{IsCommandOf}
 use Rattle.tool_words.specs.declared.command.Command.{Command}
 use Rattle.tool_words.specs.declared.fault.WordsFault.{WordsFault}
-use Rattle.tool_words.specs.declared.command.Command.TheVariants.{Drill, Serve, Mirror}
+use Rattle.tool_words.specs.declared.command.Command.TheVariants.{Drill, Serve, Show, Mirror}
+use Rattle.tool_words.specs.declared.command.Show.{Show as Shown}
+use Rattle.tool_words.specs.declared.command.Show.TheVariants.{Pile}
 use Rattle.tool_words.specs.declared.fault.WordsFault.TheVariants.{NoMemory, Usage}
-use Rattle.feed_commands.specs.declared.fault.Fault.{Fault}
-use Rattle.feed_commands.specs.declared.status.Status.TheVariants.{Done}
-use Rattle.feed_commands.specs.declared.status.Status.TheVariants as ends
-use Rattle.feed_commands.specs.Answer.{Prints}
-use Rattle.feed_commands.specs.Audit.{MayEndAudit}
+use Rattle.document_server.specs.Door.{DoorState}
+use Rattle.document_server.specs.declared.line.Line.{Line}
+use Rattle.feed_disk.specs.Disk.{DiskState}
+use Rattle.feed_life.specs.Life.{LifeValue}
+use Rattle.doc_source.specs.Fetch.{FetchState}
+use Rattle.command_ends.specs.declared.fault.Fault.{Fault}
+use Rattle.command_ends.specs.declared.status.Status.TheVariants.{Done}
+use Rattle.command_ends.specs.declared.status.Status.TheVariants as ends
+use Rattle.command_ends.specs.Answer.{Prints}
+use Rattle.mirror_commands.specs.Audit.{MayEndAudit}
 use Rattle.feed_commands.specs.Drill.{MayEndDrill}
-use Rattle.feed_commands.specs.Fault.{fault_answer}
-use Rattle.doc_source.specs.Outside.{SinkState}
-use Rattle.feed_commands.specs.FetchEnds.{MayEndFetched}
-use Rattle.feed_commands.specs.MirrorEnds.{MayEndMirror}
+use Rattle.command_ends.specs.Fault.{fault_answer}
+use Rattle.doc_source.specs.Outside.{SinkState, SourceState}
+use Rattle.mirror_commands.specs.FetchEnds.{MayEndFetched}
+use Rattle.mirror_commands.specs.MirrorEnds.{MayEndMirror}
 use Rattle.feed_commands.specs.Outside.{Outside}
-use Rattle.feed_commands.specs.Run.{EndsWith, IsDone, IsGiven, IsSeen, IsSeenUnfetched, IsStatus}
-use Rattle.feed_commands.specs.Status.{code_of}
-use Rattle.feed_commands.proofs.EndLemmas.{no_done}
+use Rattle.feed_commands.specs.Run.{CountsFaults, EndsWith, Fetches, IsBare, IsGiven, IsSeen, IsSeenUnfetched, IsUsageOf}
+use Rattle.feed_commands.specs.Run.{LeavesUnused, NameNone, ReadsInput, ServesNot, UsesClock, UsesDisk}
+use Rattle.command_ends.specs.Ends.{CountsOutput, IsDone, IsStatus}
+use Rattle.command_ends.specs.Status.{code_of}
+use Rattle.command_ends.proofs.EndLemmas.{no_done}
+use Rattle.feed_commands.proofs.CountLemmas.{counts-none, rises-of, shared-counts}
+use Rattle.feed_commands.proofs.PileEndLemmas.{IsPileCode}
 use Rattle.feed_commands.proofs.ServeLemmas.{IsServeCode}
 
 -- a command that is seen with its source is seen without one, if it asks none
@@ -34,21 +45,21 @@ seen-unfetched command disk_told clock_told input_told fetch_told seen = record 
 }
 
 -- a property of the command that was read is one of each command of the words
-pub read_all : (words : List (List ℕ)) (result : Result Command WordsFault) (read : Command)
-    (P : Command → Type 0) → result ≡ Ok read →
-    ((command : Command) → IsCommandOf words command → (result ≡ Ok command) ⊎ (result ≡ Err NoMemory)) →
-    P read → (command : Command) → IsCommandOf words command → P command
-read_all words result read P is only p = λ command of_words. ⊎_elim
+pub read_all : (P : Command → Type 0) {words : List (List ℕ)} {result : Result Command WordsFault} {read : Command}
+    → result ≡ Ok read
+    → ((command : Command) → IsCommandOf words command → (result ≡ Ok command) ⊎ (result ≡ Err NoMemory))
+    → P read → (command : Command) → IsCommandOf words command → P command
+read_all P {result = result} {read = read} is only p = λ command of_words. ⊎_elim
     (λ (e : result ≡ Ok command). let same : Ok read ≡ Ok command = sym is ∙ e in
     let read_is : read ≡ command = cc in subst P read_is p)
     (λ (e : result ≡ Err NoMemory). let other : Ok read ≡ Err NoMemory = sym is ∙ e in cc)
     (only command of_words)
 
-module _ (command : Command) (outside : Outside) (told : Type 0) (before after : SinkState) where
+module _ (command : Command) (outside : Outside) (observable : Type 0) (before after : SinkState) where
   -- the answer was printed
   pub ends-done : (text : List ℕ) → IsGiven command outside (record { status = Done; printed = text }) →
-      (told → Prints before after text) → (told → after.taken ≡ before.taken ++ text) →
-      EndsWith command outside told before after 0
+      (observable → Prints before after text) → (observable → after.taken ≡ before.taken ++ text) →
+      EndsWith command outside observable before after 0
   ends-done text given prints whole = record {
     answer = record { status = Done; printed = text };
     is = given.is;
@@ -60,7 +71,7 @@ module _ (command : Command) (outside : Outside) (told : Type 0) (before after :
   -- the output failed
   pub ends-unsent : (text : List ℕ) →
       IsGiven command outside (record { status = Done; printed = text }) →
-      (told → Prints before after text) → EndsWith command outside told before after 8
+      (observable → Prints before after text) → EndsWith command outside observable before after 8
   ends-unsent text given prints = record {
     answer = record { status = Done; printed = text };
     is = given.is;
@@ -72,8 +83,8 @@ module _ (command : Command) (outside : Outside) (told : Type 0) (before after :
   -- the line of a refusal was printed
   pub ends-refused : (fault : Fault) (ended : ℕ) → ended ≡ code_of (fault_answer fault).status →
       IsGiven command outside (fault_answer fault) →
-      (told → Prints before after (fault_answer fault).printed) →
-      EndsWith command outside told before after ended
+      (observable → Prints before after (fault_answer fault).printed) →
+      EndsWith command outside observable before after ended
   ends-refused fault ended e given prints = record {
     answer = fault_answer fault;
     is = given.is;
@@ -89,11 +100,21 @@ usage is same =
     let refused : WordsFault → Result Command WordsFault = λ fault. Err fault in
     is ∙ ap refused same
 
+-- the command is `show pile`
+pub show-pile : {command : Command} {shown : Shown} → command ≡ Show shown → shown ≡ Pile → command ≡ Show Pile
+show-pile is same = is ∙ ap (λ (s : Shown). Show s) same
+
+-- the command is `mirror`, with or without `--fetch`
+pub mirror-is : {command : Command} {base : List ℕ} {fetch given report : Bool} {capacity : ℕ}
+    → command ≡ Mirror base fetch report capacity → fetch ≡ given → command ≡ Mirror base given report capacity
+mirror-is {base = base} {report = report} {capacity = capacity} is same =
+    is ∙ ap (λ (f : Bool). Mirror base f report capacity) same
+
 -- words that were refused are those of no command
-pub no_command : (words : List (List ℕ)) (result : Result Command WordsFault) → result ≡ Err Usage
+pub no_command : {words : List (List ℕ)} {result : Result Command WordsFault} → result ≡ Err Usage
     → ((command : Command) → IsCommandOf words command → (result ≡ Ok command) ⊎ (result ≡ Err NoMemory))
     → (command : Command) → IsCommandOf words command → ⊥
-no_command words result is only command of_words = ⊎_elim
+no_command {result = result} is only command of_words = ⊎_elim
     (λ (e : result ≡ Ok command). let other : ◌≡◌ {A = Result Command WordsFault} (Err Usage) (Ok command) =
     sym is ∙ e in cc)
     (λ (e : result ≡ Err NoMemory). let other : ◌≡◌ {A = Result Command WordsFault} (Err Usage) (Err NoMemory) =
@@ -101,31 +122,104 @@ no_command words result is only command of_words = ⊎_elim
     (only command of_words)
 
 -- the words that were read as a command are those of that command
-pub read_as : (words : List (List ℕ)) (result : Result Command WordsFault) (read command : Command) → result ≡ Ok read
+pub read_as : (words : List (List ℕ)) {result : Result Command WordsFault} {read command : Command} → result ≡ Ok read
     → read ≡ command → IfOk result (IsCommandOf words) → IsCommandOf words command
-read_as words result read command is same found = subst (IsCommandOf words) same (rw is at found)
+read_as words is same found = subst (IsCommandOf words) same (rw is at found)
 
 -- the words are those of the command that was read
-pub read_words-of : (words : List (List ℕ)) (result : Result Command WordsFault) (read : Command) → result ≡ Ok read
+pub read_words-of : (words : List (List ℕ)) {result : Result Command WordsFault} {read : Command} → result ≡ Ok read
     → IfOk result (IsCommandOf words) → IsCommandOf words read
-read_words-of words result read is found = read_as words result read read is refl found
+read_words-of words is found = read_as words is refl found
 
 -- and of no other command
-pub read_only : (words : List (List ℕ)) (result : Result Command WordsFault) (read command : Command) → result ≡ Ok read
-    → read ≡ command
-    → ((other : Command) → IsCommandOf words other → (result ≡ Ok other) ⊎ (result ≡ Err NoMemory))
-    → (other : Command) → IsCommandOf words other → command ≡ other
-read_only words result read command is same only =
-    read_all words result read (λ other. command ≡ other) is only (sym same)
+pub read_is : {words : List (List ℕ)} {result : Result Command WordsFault} {read : Command} → result ≡ Ok read
+    → ((command : Command) → IsCommandOf words command → (result ≡ Ok command) ⊎ (result ≡ Err NoMemory))
+    → (command : Command) → IsCommandOf words command → read ≡ command
+read_is {read = read} is only = read_all (λ command. read ≡ command) is only refl
+
+-- The words, the objects and the results that a command leaves
+
+module _ {words : List (List ℕ)} {ended : ℕ} where
+  pub words-refused : NameNone words → ended ≡ 2 → IsUsageOf words ended
+  words-refused none is = record { only = λ _. none; all = λ _. inl is }
+
+  pub words-unread : ended ≡ 5 → IsUsageOf words ended
+  words-unread is = record { only = λ e. absurd (omega (arith, e, is)); all = λ _. inr is }
+
+  pub words-of : (command : Command) → IsCommandOf words command → (ended ≡ 2 → ⊥) → IsUsageOf words ended
+  words-of command of_words other = record {
+    only = λ e. absurd (other e);
+    all = λ none. absurd (none command of_words);
+  }
+
+pub unused-by : (command : Command) {words : List (List ℕ)} {same_disk same_clock same_input same_door same_fetch : Type 0}
+    → IsCommandOf words command → (¬ UsesDisk command → same_disk) → (¬ UsesClock command → same_clock)
+    → (¬ ReadsInput command → same_input) → (ServesNot words → same_door) → (¬ Fetches command → same_fetch)
+    → LeavesUnused words same_disk same_clock same_input same_door same_fetch
+unused-by command of_words disk clock input door fetch = record {
+  disk = λ unused. disk (unused command of_words);
+  clock = λ unused. clock (unused command of_words);
+  input = λ unused. input (unused command of_words);
+  door = door;
+  fetch = λ unused. fetch (unused command of_words);
+}
+
+pub bare-none : {words : List (List ℕ)} {lines : List Line} {life : Option LifeValue} → (lines ≡ []) × (life ≡ None)
+    → IsBare words lines life
+bare-none none = record { no_lines = λ _. none.0; no_life = λ _. none.1 }
+
+pub unused-all : {words : List (List ℕ)} {same_disk same_clock same_input same_door same_fetch : Type 0}
+    → same_disk → same_clock → same_input → same_door → same_fetch
+    → LeavesUnused words same_disk same_clock same_input same_door same_fetch
+unused-all disk clock input door fetch = record {
+  disk = λ _. disk;
+  clock = λ _. clock;
+  input = λ _. input;
+  door = λ _. door;
+  fetch = λ _. fetch;
+}
+
+-- no call was made but those of the output
+pub faults-none : {words : List (List ℕ)} {disk : DiskState} {door : DoorState} {fetch : FetchState} {input : SourceState}
+    {output taken : SinkState} {ended : ℕ} → (ended ≡ 4 → ⊥) → (ended ≡ 7 → ⊥) → (ended ≡ 9 → ⊥)
+    → CountsOutput output.faults taken.faults ended
+    → CountsFaults words disk disk door door fetch fetch input input output taken ended
+faults-none no_disk no_shared no_input counts = record {
+  disk_faults = counts-none no_disk;
+  input_faults = rises-of (counts-none no_input);
+  output_faults = counts;
+  door_faults = shared-counts (counts-none no_shared);
+  fetch_faults = shared-counts (counts-none no_shared);
+}
+
+-- The statuses that a command doesn't end with
+
+pub serve-other : (n : ℕ) → IsServeCode n → (n ≡ 2 → ⊥) × (n ≡ 9 → ⊥)
+serve-other n may = (λ e. omega arith, λ e. omega arith)
+
+pub pile-other : (n : ℕ) → IsPileCode n → (n ≡ 2 → ⊥) × (n ≡ 7 → ⊥) × (n ≡ 9 → ⊥)
+pile-other n may = (λ e. omega arith, λ e. omega arith, λ e. omega arith)
+
+pub mirror-other : (n : ℕ) → MayEndMirror n → (n ≡ 2 → ⊥) × (n ≡ 7 → ⊥)
+mirror-other n may = (λ e. omega arith, λ e. omega arith)
+
+pub fetched-other : (n : ℕ) → MayEndFetched n → (n ≡ 2 → ⊥) × (n ≡ 9 → ⊥)
+fetched-other n may = (λ e. omega arith, λ e. omega arith)
+
+pub audit-other : (n : ℕ) → MayEndAudit n → (n ≡ 2 → ⊥) × (n ≡ 4 → ⊥) × (n ≡ 7 → ⊥)
+audit-other n may = (λ e. omega arith, λ e. omega arith, λ e. omega arith)
+
+pub drill-other : (n : ℕ) → MayEndDrill n → (n ≡ 2 → ⊥) × (n ≡ 4 → ⊥) × (n ≡ 7 → ⊥) × (n ≡ 9 → ⊥)
+drill-other n may = (λ e. omega arith, λ e. omega arith, λ e. omega arith, λ e. omega arith)
 
 -- words of `serve` have one address and one number of requests
-pub same_serve : (P : List ℕ → ℕ → Type 0) (words : List (List ℕ)) (result : Result Command WordsFault) (read : Command)
-    (listen : List ℕ) (requests : ℕ) → result ≡ Ok read → read ≡ Serve listen requests
+pub same_serve : (P : List ℕ → ℕ → Type 0) {words : List (List ℕ)} {result : Result Command WordsFault} {read : Command}
+    {listen : List ℕ} {requests : ℕ} → result ≡ Ok read → read ≡ Serve listen requests
     → ((command : Command) → IsCommandOf words command → (result ≡ Ok command) ⊎ (result ≡ Err NoMemory))
     → P listen requests → (other : List ℕ) (number : ℕ) → IsCommandOf words (Serve other number) → P other number
-same_serve P words result read listen requests is serves only holds other number of_words =
+same_serve P {listen = listen} {requests = requests} is serves only holds other number of_words =
     let same : Serve listen requests ≡ Serve other number =
-    read_only words result read (Serve listen requests) is serves only (Serve other number) of_words in
+    sym serves ∙ read_is is only (Serve other number) of_words in
     let address : listen ≡ other = cc in
     let count : requests ≡ number = cc in
     subst (P other) count (subst (λ (at : List ℕ). P at requests) address holds)
@@ -179,28 +273,28 @@ drill-status n (inr (inl e)) = (ends.OutputFault, e)
 drill-status n (inr (inr e)) = (ends.NoMemory, e)
 
 -- the words of `drill` have one seed and one count
-pub same_drill : (P : ℕ → ℕ → Type 0) (words : List (List ℕ)) (result : Result Command WordsFault) (read : Command)
-    (seed count : ℕ) → result ≡ Ok read → read ≡ Drill seed count
+pub same_drill : (P : ℕ → ℕ → Type 0) {words : List (List ℕ)} {result : Result Command WordsFault} {read : Command}
+    {seed count : ℕ} → result ≡ Ok read → read ≡ Drill seed count
     → ((command : Command) → IsCommandOf words command → (result ≡ Ok command) ⊎ (result ≡ Err NoMemory))
     → P seed count → (other number : ℕ) → IsCommandOf words (Drill other number) → P other number
-same_drill P words result read seed count is drills only holds other number of_words =
+same_drill P {seed = seed} {count = count} is drills only holds other number of_words =
     let same : Drill seed count ≡ Drill other number =
-    read_only words result read (Drill seed count) is drills only (Drill other number) of_words in
+    sym drills ∙ read_is is only (Drill other number) of_words in
     let seed_is : seed ≡ other = cc in
     let count_is : count ≡ number = cc in
     subst (λ (s : ℕ). P s number) seed_is (subst (P seed) count_is holds)
 
 -- the words of `mirror` have one base and one capacity, and say in one way whether to fetch and to report
-pub same_mirror : (P : List ℕ → Bool → Bool → ℕ → Type 0) (words : List (List ℕ)) (result : Result Command WordsFault)
-    (read : Command) (base : List ℕ) (fetch report : Bool) (capacity : ℕ) → result ≡ Ok read
+pub same_mirror : (P : List ℕ → Bool → Bool → ℕ → Type 0) {words : List (List ℕ)} {result : Result Command WordsFault}
+    {read : Command} {base : List ℕ} {fetch report : Bool} {capacity : ℕ} → result ≡ Ok read
     → read ≡ Mirror base fetch report capacity
     → ((command : Command) → IsCommandOf words command → (result ≡ Ok command) ⊎ (result ≡ Err NoMemory))
     → P base fetch report capacity → (other : List ℕ) (asked shown : Bool) (limit : ℕ)
     → IsCommandOf words (Mirror other asked shown limit) → P other asked shown limit
-same_mirror P words result read base fetch report capacity is mirrors only holds other asked shown limit of_words =
+same_mirror P {base = base} {fetch = fetch} {report = report} {capacity = capacity} is mirrors only holds other asked shown
+    limit of_words =
     let same : Mirror base fetch report capacity ≡ Mirror other asked shown limit =
-    read_only words result read (Mirror base fetch report capacity) is mirrors only (Mirror other asked shown limit)
-    of_words in
+    sym mirrors ∙ read_is is only (Mirror other asked shown limit) of_words in
     let base_is : base ≡ other = cc in
     let fetch_is : fetch ≡ asked = cc in
     let report_is : report ≡ shown = cc in

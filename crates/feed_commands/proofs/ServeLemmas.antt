@@ -5,7 +5,7 @@ use Rattle.std.specs.Prelude.{Option}
 use Rattle.std.proofs.Math.Seq.{drop-cons}
 use Rattle.std.proofs.lemmas.Grind.{flat_map-append}
 use Rattle.std.proofs.lemmas.List.{take-append-drop, take_all}
-use Rattle.atom_values.specs.Counts.{HasCause, Rose}
+use Rattle.atom_values.specs.Counts.{CountsFault, HasCause, HasRisen}
 use Rattle.atom_values.specs.declared.memory.Failed.{Failed}
 use Rattle.doc_source.proofs.WriteLemmas.{takes_more}
 use Rattle.document_server.specs.declared.line.Line.{Line}
@@ -14,11 +14,17 @@ use Rattle.document_server.specs.declared.session.End.TheVariants as session
 use Rattle.feed_recovery.specs.declared.fault.LoadFault.{LoadFault}
 use Rattle.feed_recovery.specs.declared.fault.LoadFault.TheVariants as load
 use Rattle.feed_commands.specs.declared.commands.serve.SessionFault.{SessionFault}
-use Rattle.feed_commands.specs.Answer.{Prints}
+use Rattle.command_ends.specs.Answer.{Prints}
+use Rattle.command_ends.specs.Ends.{CountsOutput, IsDone}
+use Rattle.command_ends.specs.StoreFaults.{load_fault}
+use Rattle.command_ends.specs.declared.fault.Fault.TheVariants.{Disk, NoMemory}
+use Rattle.command_ends.proofs.AnsweredLemmas.{done-sent}
+use Rattle.command_ends.proofs.EndLemmas.{no_done, no_output}
+use Rattle.feed_commands.proofs.CountLemmas.{counts-as}
 use Rattle.doc_source.specs.Outside.{SinkState, TakesPrefix}
 use Rattle.feed_commands.specs.Serve.{IsOpened, end_fault, fault_status, fault_text, session_line, session_status, session_text}
-use Rattle.feed_commands.specs.Status.{code_of}
-use Rattle.feed_commands.proofs.PrintLemmas.{prints-from}
+use Rattle.command_ends.specs.Status.{code_of}
+use Rattle.command_ends.proofs.PrintLemmas.{prints-from}
 
 -- the lines before one, that line, and those after it
 lines-split : (lines : List Line) (i : ℕ) (d : Line) → i < length lines
@@ -59,30 +65,30 @@ fault-prefix before mid after lines i fault bytes all is taken prefix =
 
 -- the lines and the fault are those of the session
 pub session-prints : {T E : Type 0} (r : Result T E) (before after : SinkState) (shown lines : List Line)
-    (told fault : Option SessionFault) → shown ≡ lines → told ≡ fault → TakesPrefix before after
-    (session_text shown told)
-    → OnOk r (after.taken ≡ before.taken ++ session_text shown told) → HasCause before.faults after.faults r
+    (observable fault : Option SessionFault) → shown ≡ lines → observable ≡ fault → TakesPrefix before after
+    (session_text shown observable)
+    → OnOk r (after.taken ≡ before.taken ++ session_text shown observable) → HasCause before.faults after.faults r
     → Prints before after (session_text lines fault)
-session-prints r before after shown lines told fault same_lines same_fault prefix whole cause =
-    let same : session_text shown told ≡ session_text lines fault =
-    ap (λ (l : List Line). session_text l told) same_lines ∙ ap (session_text lines) same_fault in
-    subst (Prints before after) same (prints-from r before after (session_text shown told) prefix whole cause)
+session-prints r before after shown lines observable fault same_lines same_fault prefix whole cause =
+    let same : session_text shown observable ≡ session_text lines fault =
+    ap (λ (l : List Line). session_text l observable) same_lines ∙ ap (session_text lines) same_fault in
+    subst (Prints before after) same (prints-from r before after (session_text shown observable) prefix whole cause)
 
 -- the status of the session's end, or that of a failed output after the defined end
-pub session-status : (end : End) (told : Option SessionFault) (printed : Result (Unit {0}) Failed) (ended : ℕ)
-    → told ≡ end_fault end → ended ≡ code_of (session_status told printed)
+pub session-status : (end : End) (observable : Option SessionFault) (printed : Result (Unit {0}) Failed) (ended : ℕ)
+    → observable ≡ end_fault end → ended ≡ code_of (session_status observable printed)
     → (ended ≡ code_of (fault_status (end_fault end))) ⊎ ((end ≡ session.Done) × (ended ≡ 8))
-session-status session.Done told (Ok printed) ended same is =
+session-status session.Done observable (Ok printed) ended same is =
     inl (is ∙ ap (λ f. code_of (session_status f (Ok printed))) same)
-session-status session.Done told (Err failed) ended same is =
+session-status session.Done observable (Err failed) ended same is =
     inr (refl, is ∙ ap (λ f. code_of (session_status f (Err failed))) same)
-session-status (session.Load fault) told printed ended same is =
+session-status (session.Load fault) observable printed ended same is =
     inl (is ∙ ap (λ f. code_of (session_status f printed)) same)
-session-status session.DiskFault told printed ended same is =
+session-status session.DiskFault observable printed ended same is =
     inl (is ∙ ap (λ f. code_of (session_status f printed)) same)
-session-status session.DoorFault told printed ended same is =
+session-status session.DoorFault observable printed ended same is =
     inl (is ∙ ap (λ f. code_of (session_status f printed)) same)
-session-status session.NoMemory told printed ended same is =
+session-status session.NoMemory observable printed ended same is =
     inl (is ∙ ap (λ f. code_of (session_status f printed)) same)
 
 -- nothing was served
@@ -98,25 +104,25 @@ pub opened-load : (end : End) (fault : LoadFault) → IsOpened end → end ≡ s
 opened-load end fault opened is = subst IsOpened is opened
 
 -- without a fault the session came to its defined end, or memory ran out
-pub served-whole : (end : End) (told : Option SessionFault) (printed : Result (Unit {0}) Failed)
+pub served-whole : (end : End) (observable : Option SessionFault) (printed : Result (Unit {0}) Failed)
     (ended before after : ℕ)
-    → told ≡ end_fault end → ended ≡ code_of (session_status told printed)
+    → observable ≡ end_fault end → ended ≡ code_of (session_status observable printed)
     → ((fault : LoadFault) → end ≡ session.Load fault → (fault ≡ load.DiskFault) ⊎ (fault ≡ load.NoMemory))
     → (end ≡ session.DiskFault → ⊥) → (end ≡ session.Load load.DiskFault → ⊥) → (end ≡ session.DoorFault → ⊥)
-    → HasCause before after printed → ¬ Rose before after → (ended ≡ 0) ⊎ (ended ≡ 5)
-served-whole session.Done told (Ok printed) ended before after same is only disk load_disk door cause none =
+    → HasCause before after printed → ¬ HasRisen before after → (ended ≡ 0) ⊎ (ended ≡ 5)
+served-whole session.Done observable (Ok printed) ended before after same is only disk load_disk door cause none =
     inl (is ∙ ap (λ f. code_of (session_status f (Ok printed))) same)
-served-whole session.Done told (Err failed) ended before after same is only disk load_disk door cause none =
+served-whole session.Done observable (Err failed) ended before after same is only disk load_disk door cause none =
     absurd (none cause.failed)
-served-whole (session.Load fault) told printed ended before after same is only disk load_disk door cause none =
+served-whole (session.Load fault) observable printed ended before after same is only disk load_disk door cause none =
     ⊎_elim (λ e. absurd (load_disk (ap session.Load e)))
     (λ e. inr (is ∙ ap (λ f. code_of (session_status f printed)) (same ∙ ap (λ f. end_fault (session.Load f)) e)))
     (only fault refl)
-served-whole session.DiskFault told printed ended before after same is only disk load_disk door cause none =
+served-whole session.DiskFault observable printed ended before after same is only disk load_disk door cause none =
     absurd (disk refl)
-served-whole session.DoorFault told printed ended before after same is only disk load_disk door cause none =
+served-whole session.DoorFault observable printed ended before after same is only disk load_disk door cause none =
     absurd (door refl)
-served-whole session.NoMemory told printed ended before after same is only disk load_disk door cause none =
+served-whole session.NoMemory observable printed ended before after same is only disk load_disk door cause none =
     inr (is ∙ ap (λ f. code_of (session_status f printed)) same)
 
 -- The exit status says how the session ended
@@ -142,7 +148,7 @@ serve-code session.DiskFault printed = inr (inl refl)
 serve-code session.DoorFault printed = inr (inr (inr (inr (inl refl))))
 serve-code session.NoMemory printed = inr (inr (inl refl))
 
-pub disk-code : (end : End) (printed : Result (Unit {0}) Failed) → code_at end printed ≡ 4
+disk-code : (end : End) (printed : Result (Unit {0}) Failed) → code_at end printed ≡ 4
     → (end ≡ session.DiskFault) ⊎ (end ≡ session.Load load.DiskFault)
 disk-code session.Done (Ok whole) e = absurd (omega (arith, e))
 disk-code session.Done (Err failed) e = absurd (omega (arith, e))
@@ -156,7 +162,7 @@ disk-code session.DiskFault printed e = inl refl
 disk-code session.DoorFault printed e = absurd (omega (arith, e))
 disk-code session.NoMemory printed e = absurd (omega (arith, e))
 
-pub door-code : (end : End) (printed : Result (Unit {0}) Failed) → code_at end printed ≡ 7 → end ≡ session.DoorFault
+door-code : (end : End) (printed : Result (Unit {0}) Failed) → code_at end printed ≡ 7 → end ≡ session.DoorFault
 door-code session.Done (Ok whole) e = absurd (omega (arith, e))
 door-code session.Done (Err failed) e = absurd (omega (arith, e))
 door-code (session.Load load.NotInit) printed e = absurd (omega (arith, e))
@@ -168,3 +174,42 @@ door-code (session.Load load.NoMemory) printed e = absurd (omega (arith, e))
 door-code session.DiskFault printed e = absurd (omega (arith, e))
 door-code session.DoorFault printed e = refl
 door-code session.NoMemory printed e = absurd (omega (arith, e))
+
+-- The counts of faults after a session, by the exit status
+
+sent-code : (end : End) (printed : Result (Unit {0}) Failed) (before after : ℕ) → HasCause before after printed
+    → code_at end printed ≡ 8 → HasRisen before after
+sent-code session.Done (Ok whole) before after cause e = absurd (omega (arith, e))
+sent-code session.Done (Err failed) before after cause e = cause.failed
+sent-code (session.Load fault) printed before after cause e = absurd (no_output (load_fault fault) e)
+sent-code session.DiskFault printed before after cause e = absurd (omega (arith, e))
+sent-code session.DoorFault printed before after cause e = absurd (omega (arith, e))
+sent-code session.NoMemory printed before after cause e = absurd (omega (arith, e))
+
+done-code : (end : End) (printed : Result (Unit {0}) Failed) (before after : ℕ) → HasCause before after printed
+    → IsDone (code_at end printed) → after ≡ before
+done-code session.Done (Ok whole) before after cause done = cause.worked
+done-code session.Done (Err failed) before after cause done = absurd (done-sent 8 done refl)
+done-code (session.Load fault) printed before after cause done = absurd (no_done (load_fault fault) done)
+done-code session.DiskFault printed before after cause done = absurd (no_done Disk done)
+done-code session.DoorFault printed before after cause done =
+    absurd (⊎_elim (λ e. omega (arith, e)) (λ e. omega (arith, e)) done)
+done-code session.NoMemory printed before after cause done = absurd (no_done NoMemory done)
+
+module _ (end : End) (printed : Result (Unit {0}) Failed) (ended before after : ℕ) (is : ended ≡ code_at end printed) where
+  pub disk-counts : CountsFault before after ((end ≡ session.DiskFault) ⊎ (end ≡ session.Load load.DiskFault))
+      → CountsFault before after (ended ≡ 4)
+  disk-counts = counts-as
+      (λ same. is ∙ ⊎_elim (λ e. ap (λ (x : End). code_at x printed) e) (λ e. ap (λ (x : End). code_at x printed) e) same)
+      (λ e. disk-code end printed (sym is ∙ e))
+
+  pub door-counts : CountsFault before after (end ≡ session.DoorFault) → CountsFault before after (ended ≡ 7)
+  door-counts = counts-as (λ e. is ∙ ap (λ (x : End). code_at x printed) e)
+      (λ e. door-code end printed (sym is ∙ e))
+
+  pub output-counts : HasCause before after printed → CountsOutput before after ended
+  output-counts cause = record {
+    later = cause.later;
+    failed = λ e. sent-code end printed before after cause (sym is ∙ e);
+    whole = λ done. done-code end printed before after cause (subst IsDone is done);
+  }

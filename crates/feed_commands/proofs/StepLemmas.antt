@@ -2,7 +2,7 @@
 use Rattle.std.proofs.Common.{◌≡◌, ℕ, ◌+◌, List, [], ◌∷◌, ◌++◌, take, Result, Ok, ap, ◌∙◌}
 use Rattle.member_rules.specs.declared.operation.Op.{Op}
 use Rattle.member_rules.specs.Head.{HeadValue}
-use Rattle.feed_commands.specs.declared.fault.Fault.{Fault}
+use Rattle.command_ends.specs.declared.fault.Fault.{Fault}
 use Rattle.feed_commands.specs.Line.{line_ask, prefix_limit}
 use Rattle.feed_commands.specs.Apply.{asked, history_step, line_operation, ◌>>=◌}
 use Rattle.feed_commands.specs.Stored.{stored_operation, stored_step}

@@ -6,10 +6,10 @@ use Rattle.feed_disk.specs.declared.area.Area.TheVariants.{Journal, Sealed}
 use Rattle.feed_journal.specs.Records.{records}
 use Rattle.feed_recovery.specs.Opening.{AreSeals, IsJournal}
 use Rattle.feed_recovery.specs.Store.{StoreValue}
-use Rattle.feed_commands.specs.declared.fault.Fault.{Fault}
-use Rattle.feed_commands.specs.declared.fault.Fault.TheVariants.{NoMemory, Input, Disk, BadStore, Full, Refused}
+use Rattle.command_ends.specs.declared.fault.Fault.{Fault}
+use Rattle.command_ends.specs.declared.fault.Fault.TheVariants.{NoMemory, Input, Disk, BadStore, Full, Refused}
 use Rattle.feed_commands.specs.Apply.{line_operation}
-use Rattle.feed_commands.specs.Fault.{IsRefusal}
+use Rattle.command_ends.specs.Fault.{IsRefusal}
 use Rattle.feed_commands.specs.Loaded.{line_made}
 use Rattle.feed_recovery.specs.Stored.{OpensTo, Stored, stored_of}
 use Rattle.feed_commands.specs.Stored.{stored_step}

@@ -1,9 +1,9 @@
 -- A feed after each line of an input, step by step.
 use Rattle.std.specs.Prelude.{◌≡◌, ℕ, ◌+◌, ◌≤◌, List, [], ◌∷◌, ◌++◌, length, take, nat_le, if◌then◌else◌}
 use Rattle.std.specs.Prelude.{Option, Some, None, Result, Ok, Err}
-use Rattle.feed_commands.specs.declared.fault.Fault.{Fault}
-use Rattle.feed_commands.specs.declared.fault.Fault.TheVariants.{Refused}
-use Rattle.feed_commands.specs.declared.fault.Refusal.TheVariants.{TooLong}
+use Rattle.command_ends.specs.declared.fault.Fault.{Fault}
+use Rattle.command_ends.specs.declared.fault.Fault.TheVariants.{Refused}
+use Rattle.command_ends.specs.declared.fault.Refusal.TheVariants.{TooLong}
 use Rattle.feed_commands.specs.Lines.{lines as lines_of, ended_lines, input_limit}
 use Rattle.doc_source.specs.Outside.{SourceState}
 

@@ -3,19 +3,19 @@ use Rattle.std.specs.Prelude.{ℕ, ◌+◌, List, [], ◌∷◌, ◌++◌, pos, 
 use Rattle.atom_writer.specs.Pieces.{text}
 use Rattle.feed_commands.specs.declared.commands.lines.LinesFault.{LinesFault}
 use Rattle.feed_commands.specs.declared.commands.lines.LinesFault.TheVariants as lines
-use Rattle.feed_commands.specs.declared.fault.Fault.{Fault}
-use Rattle.feed_commands.specs.declared.fault.Fault.TheVariants.{NoMemory, Input, Refused}
-use Rattle.feed_commands.specs.declared.fault.Refusal.TheVariants.{TooLong, BadLine}
-use Rattle.feed_commands.specs.declared.status.Status.TheVariants.{Done}
+use Rattle.command_ends.specs.declared.fault.Fault.{Fault}
+use Rattle.command_ends.specs.declared.fault.Fault.TheVariants.{NoMemory, Input, Refused}
+use Rattle.command_ends.specs.declared.fault.Refusal.TheVariants.{TooLong, BadLine}
+use Rattle.command_ends.specs.declared.status.Status.TheVariants.{Done}
 use Rattle.member_rules.specs.declared.operation.Op.{Op}
 use Rattle.member_rules.specs.declared.ask.Ask.{Ask}
 use Rattle.member_rules.specs.declared.fault.RuleFault.{RuleFault}
 use Rattle.member_rules.specs.Head.{HeadValue}
 use Rattle.member_rules.specs.Decide.{decide}
 use Rattle.member_rules.specs.Documents.{subscription}
-use Rattle.feed_commands.specs.Answer.{Answer}
+use Rattle.command_ends.specs.Answer.{Answer}
 use Rattle.feed_commands.specs.Applied.{Applied, Step, applied}
-use Rattle.feed_commands.specs.Fault.{fault_answer, rule_fault}
+use Rattle.command_ends.specs.Fault.{fault_answer, rule_fault}
 use Rattle.feed_commands.specs.Line.{line_ask}
 
 -- the head that `apply W` uses

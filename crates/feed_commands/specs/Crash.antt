@@ -9,11 +9,11 @@ use Rattle.feed_disk.specs.Moments.{LeavesOnlyBoth}
 use Rattle.feed_disk.specs.declared.area.Area.TheVariants.{Journal, Sealed}
 use Rattle.feed_recovery.specs.Settled.{AlwaysLeavesBoth, IsInit, LeavesStores, NowBoth, OpensPast, Settled, Unused}
 use Rattle.feed_recovery.specs.Stored.{OpensTo, Stored}
-use Rattle.feed_commands.specs.declared.fault.Fault.{Fault}
-use Rattle.feed_commands.specs.declared.fault.Fault.TheVariants.{Input, Full, Refused}
-use Rattle.feed_commands.specs.declared.status.Status.TheVariants as ends
+use Rattle.command_ends.specs.declared.fault.Fault.{Fault}
+use Rattle.command_ends.specs.declared.fault.Fault.TheVariants.{Input, Full, Refused}
+use Rattle.command_ends.specs.declared.status.Status.TheVariants as ends
 use Rattle.feed_commands.specs.Applied.{IsMadeByFirst, IsMadeByRead, Step}
-use Rattle.feed_commands.specs.Status.{code_of}
+use Rattle.command_ends.specs.Status.{code_of}
 use Rattle.feed_commands.specs.Stored.{applied_store, stored_step}
 use Rattle.member_rules.specs.Head.{HeadValue}
 use Rattle.member_rules.specs.declared.operation.Op.{Op}
@@ -50,10 +50,10 @@ pub record MakesStore (before after : DiskState) (head : HeadValue) (done : Type
 
 -- The store is made at this moment of the clock. Of a store that is there already a crash leaves what it could leave
 -- before.
-pub record MakesStoreAt (before after : DiskState) (name : FeedName) (window capacity : ℕ) (told : Type 0)
+pub record MakesStoreAt (before after : DiskState) (name : FeedName) (window capacity : ℕ) (observable : Type 0)
     (moment : ℕ) (done : Type 0) : Type 0 where
   pub now : ℕ
-  pub is_moment : told → now ≡ moment
+  pub is_moment : observable → now ≡ moment
   pub makes : MakesStore before after (head_at name window capacity now) done
   pub stores : LeavesStores before after
 
@@ -74,25 +74,25 @@ pub record AddsFirstLines (step : Step Stored) (opened : Stored) (input : List �
 -- The lines of the input made this store, whose history is the opened one with more operations or none. `history` is
 -- that, with the operation of the next line if that failed on the disk. If a call on the input failed (`stopped`),
 -- these are all lines that ended before it.
-pub record AreMadeByLines (moments : ℕ → ℕ) (input rest : SourceState) (told stopped : Type 0) (opened made : Stored)
+pub record AreMadeByLines (moments : ℕ → ℕ) (input rest : SourceState) (observable stopped : Type 0) (opened made : Stored)
     (history : List Op) : Type 0 where
   pub more : List Op
   pub grows : made.history ≡ opened.history ++ more
   pub one_more : IsWithOneMore made.history history
-  pub first : told → AddsFirstLines (stored_step moments) opened input.left made history
-  pub read : stopped → told → IsMadeByRead (stored_step moments) opened input rest made
+  pub first : observable → AddsFirstLines (stored_step moments) opened input.left made history
+  pub read : stopped → observable → IsMadeByRead (stored_step moments) opened input rest made
 
 -- `apply` on a store that was loaded. Until the load's last device call a crash leaves what it could leave before; then
 -- it leaves the history that was opened, with some of the operations that the lines add. If no device call failed, it
 -- leaves all of them at the end.
-pub record LeavesApplied (before after : DiskState) (moments : ℕ → ℕ) (input rest : SourceState) (told : Type 0)
+pub record LeavesApplied (before after : DiskState) (moments : ℕ → ℕ) (input rest : SourceState) (observable : Type 0)
     (head : HeadValue) (operations : List Op) (least : ℕ) (failed stopped : Type 0) : Type 0 where
   pub opened : Stored
   pub opens : OpensTo before.content opened
   pub same : opened.head ≡ head
   pub made : Stored
   pub history : List Op
-  pub lines : AreMadeByLines moments input rest told stopped opened made history
+  pub lines : AreMadeByLines moments input rest observable stopped opened made history
   -- the moment of the last device call of the load, which comes before the four or more of each operation
   pub loaded : ℕ
   pub before_lines : after.clock < counter_limit
@@ -125,12 +125,18 @@ IsStatusAfterLoad ended =
 -- `later` says that the command ended after the load.
 abbrev pub AppliesSafely :
     DiskState → DiskState → (ℕ → ℕ) → SourceState → SourceState → Type 0 → Type 0 → Type 0 → Type 0 → Type 0
-AppliesSafely before after moments input rest told failed stopped later =
+AppliesSafely before after moments input rest observable failed stopped later =
     (head : HeadValue) (operations : List Op) (least : ℕ) → Settled before head operations least
     → (¬ later × AlwaysLeavesBoth before after (OpensPast head operations least))
-    ⊎ LeavesApplied before after moments input rest told head operations least failed stopped
+    ⊎ LeavesApplied before after moments input rest observable head operations least failed stopped
 
 -- the history to which the content opens after an `apply` that came to an answer
 abbrev pub OpensToApplied : DiskState → DiskState → (ℕ → ℕ) → List ℕ → Type 0
 OpensToApplied before after moments input =
     (stored : Stored) → OpensTo before.content stored → OpensTo after.content (applied_store moments stored input).feed
+
+-- `apply` on a store: what a crash leaves, and the history after an answer
+pub record EndsApplying (before after : DiskState) (moments : ℕ → ℕ) (input rest : SourceState)
+    (clock_told input_told failed stopped later answered : Type 0) : Type 0 where
+  pub safe : AppliesSafely before after moments input rest (clock_told × input_told) failed stopped later
+  pub opens : clock_told → input_told → answered → OpensToApplied before after moments input.left

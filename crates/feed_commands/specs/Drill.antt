@@ -1,9 +1,9 @@
 -- The life that the command `drill` runs, and its answer.
 use Rattle.std.specs.Prelude.{◌≡◌, ◌≢◌, ◌⊎◌, ℕ, List, Option, Some, None}
-use Rattle.feed_commands.specs.declared.status.Status.TheVariants as ends
-use Rattle.feed_commands.specs.Answer.{Answer}
+use Rattle.command_ends.specs.declared.status.Status.TheVariants as ends
+use Rattle.command_ends.specs.Answer.{Answer}
 use Rattle.feed_commands.specs.Apply.{test_head}
-use Rattle.feed_commands.specs.Status.{code_of}
+use Rattle.command_ends.specs.Status.{code_of}
 use Rattle.feed_drill.specs.Drilled.{IsDrilled, operations}
 use Rattle.feed_drill.specs.Summary.{summary_of, summary_text}
 use Rattle.feed_life.specs.Life.{LifeValue}

@@ -6,7 +6,7 @@ use Rattle.feed_disk.specs.Disk.{DiskState}
 use Rattle.feed_recovery.specs.Settled.{AlwaysLeavesBoth, OpensPast, Settled}
 use Rattle.feed_recovery.specs.Store.{StoreValue}
 use Rattle.feed_recovery.specs.Stored.{Stored, stored_of}
-use Rattle.feed_commands.specs.declared.fault.Fault.{Fault}
+use Rattle.command_ends.specs.declared.fault.Fault.{Fault}
 use Rattle.feed_commands.specs.Apply.{asked, ◌>>=◌}
 use Rattle.feed_commands.specs.Crash.{AreMadeByLines}
 use Rattle.feed_commands.specs.Line.{line_ask}
@@ -20,11 +20,11 @@ line_made store number now line =
 
 -- Lines were applied to a store, each with four device calls or more. Whenever the machine crashes, the history is the
 -- opened one with some of the operations that the lines add, and with all of them at the end if no device call failed.
-pub record LeavesLines (before after : DiskState) (moments : ℕ → ℕ) (input rest : SourceState) (told : Type 0)
+pub record LeavesLines (before after : DiskState) (moments : ℕ → ℕ) (input rest : SourceState) (observable : Type 0)
     (opened : Stored) (failed stopped : Type 0) : Type 0 where
   pub made : Stored
   pub history : List Op
-  pub lines : AreMadeByLines moments input rest told stopped opened made history
+  pub lines : AreMadeByLines moments input rest observable stopped opened made history
   pub calls : after.clock < counter_limit
       → before.clock + 4 * (length made.history - length opened.history) ≤ after.clock
   pub each : AlwaysLeavesBoth before after (OpensPast opened.head history (length opened.history))

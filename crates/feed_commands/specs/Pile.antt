@@ -8,12 +8,12 @@ use Rattle.doc_source.specs.Pile.{pile_text}
 use Rattle.doc_source.specs.declared.offer.Offer.{Offer}
 use Rattle.feed_disk.specs.declared.area.Area.{Area}
 use Rattle.feed_recovery.specs.Stored.{OpensTo, Stored}
-use Rattle.feed_commands.specs.declared.fault.Fault.{Fault}
-use Rattle.feed_commands.specs.declared.fault.Fault.TheVariants.{NoMemory, Disk, BadStore}
-use Rattle.feed_commands.specs.declared.status.Status.TheVariants.{Done}
-use Rattle.feed_commands.specs.Answer.{Answer, Prints}
-use Rattle.feed_commands.specs.Fault.{fault_answer}
-use Rattle.feed_commands.specs.Status.{code_of}
+use Rattle.command_ends.specs.declared.fault.Fault.{Fault}
+use Rattle.command_ends.specs.declared.fault.Fault.TheVariants.{NoMemory, Disk, BadStore}
+use Rattle.command_ends.specs.declared.status.Status.TheVariants.{Done}
+use Rattle.command_ends.specs.Answer.{Answer, Prints}
+use Rattle.command_ends.specs.Fault.{fault_answer}
+use Rattle.command_ends.specs.Status.{code_of}
 use Rattle.member_rules.specs.Chain.{chain}
 
 -- the text of a document, at the document's own address
@@ -39,11 +39,11 @@ pub record IsFront (offers left : List Offer) (front : List ℕ) : Type 0 where
   pub split : offers ≡ first ++ left
   pub is : front ≡ pile_text first
 
--- the output took that part of the pile; `told` is whether contracts can see the offers
-pub record TakesFront (told : Type 0) (offers left : List Offer) (before after : SinkState) : Type 0 where
+-- the output took that part of the pile; `observable` is whether contracts can see the offers
+pub record TakesFront (observable : Type 0) (offers left : List Offer) (before after : SinkState) : Type 0 where
   pub front : List ℕ
   pub taken : after.taken ≡ before.taken ++ front
-  pub is : told → IsFront offers left front
+  pub is : observable → IsFront offers left front
 
 -- the pile of the first documents of the store to which the content opens
 pub record IsFrontOf (content : Area → List ℕ) (front : List ℕ) : Type 0 where
@@ -54,11 +54,11 @@ pub record IsFrontOf (content : Area → List ℕ) (front : List ℕ) : Type 0 w
 
 -- A fault ended `show pile`. The output took nothing, or whole documents of the pile from its beginning, and then the
 -- fault's line, or a prefix of the line where a call on the output failed.
-pub record EndsCut (content : Area → List ℕ) (told : Type 0) (before after : SinkState) (ended : ℕ) : Type 0 where
+pub record EndsCut (content : Area → List ℕ) (observable : Type 0) (before after : SinkState) (ended : ℕ) : Type 0 where
   pub fault : Fault
   pub status : ended ≡ code_of (fault_answer fault).status
   pub front : List ℕ
-  pub is : told → (front ≡ []) ⊎ IsFrontOf content front
+  pub is : observable → (front ≡ []) ⊎ IsFrontOf content front
   pub prints : Prints (record before { taken = before.taken ++ front }) after (fault_answer fault).printed
 
 -- the faults by which it may end

@@ -1,29 +1,28 @@
 -- The answer of each command, and how the program ends.
-use Rattle.std.specs.Prelude.{◌≡◌, ◌⊎◌, ℕ, ◌≤◌, List, ◌++◌, length, ◌==◌, if◌then◌else◌, Some, None, [], Bool, true, false}
-use Rattle.atom_values.specs.Counts.{Rose}
+use Rattle.std.specs.Prelude.{◌≡◌, ◌⊎◌, ℕ, ◌≤◌, List, length, Option, Some, None, [], Bool, true, false}
+use Rattle.atom_values.specs.Counts.{CountsFault, HasRisen}
+use Rattle.document_server.specs.Door.{DoorState}
+use Rattle.document_server.specs.declared.line.Line.{Line}
 use Rattle.feed_disk.specs.Disk.{DiskState}
 use Rattle.feed_disk.specs.declared.area.Area.{Area}
 use Rattle.feed_recovery.specs.Stored.{OpensTo, Stored}
-use Rattle.feed_commands.specs.declared.commands.report_fault.ReportFault.TheVariants.{Fetch}
-use Rattle.feed_commands.specs.declared.fault.Fault.TheVariants.{NoMemory, Input, Disk}
-use Rattle.feed_commands.specs.declared.status.Status.{Status}
-use Rattle.feed_commands.specs.declared.status.Status.TheVariants as ends
+use Rattle.command_ends.specs.declared.status.Status.{Status}
+use Rattle.command_ends.specs.declared.status.Status.TheVariants as ends
 use Rattle.doc_source.specs.Fetch.{FetchState}
 use Rattle.doc_source.specs.Outside.{SourceState, SinkState}
-use Rattle.mirror_walk.specs.Holding.{KeptValue}
-use Rattle.feed_commands.specs.Answer.{Answer, Prints, usage_line}
+use Rattle.command_ends.specs.Answer.{Answer}
+use Rattle.command_ends.specs.Ends.{CountsOutput, EndsAs, RisesByFault}
 use Rattle.feed_commands.specs.Applied.{IsUnrefused}
 use Rattle.feed_commands.specs.Apply.{answer, history_step, test_head}
-use Rattle.feed_commands.specs.Audit.{IsAuditUnrefused, IsAudited}
+use Rattle.mirror_commands.specs.Audit.{IsAuditUnrefused, IsAudited}
 use Rattle.feed_commands.specs.Drill.{drill_answer}
-use Rattle.feed_commands.specs.Fault.{fault_answer}
-use Rattle.feed_commands.specs.Mirror.{IsMirrored, ReadsWithinPile}
-use Rattle.feed_commands.specs.MirrorFaults.{IsBadMirror, IsHeldIn, report_answer}
+use Rattle.feed_life.specs.Life.{LifeValue}
+use Rattle.mirror_commands.specs.FetchEnds.{IsWalkAnswer, IsWalkEnd}
+use Rattle.mirror_commands.specs.MirrorEnds.{IsMirrorUnrefused, IsPileAnswer, IsPileEnd}
 use Rattle.feed_commands.specs.Outside.{Outside}
 use Rattle.feed_commands.specs.Pile.{pile_answer}
 use Rattle.feed_commands.specs.Show.{IsShown, ReadsWithinLimit}
-use Rattle.feed_commands.specs.Status.{code_of}
-use Rattle.feed_commands.specs.Walked.{IsFetched}
+use Rattle.command_ends.specs.Status.{code_of}
 use Rattle.feed_commands.specs.Stored.{IsBadStore, IsInitAnswer, apply_answer, archive_answer, feed_answer, member_answer, stored_step}
 use Rattle.member_rules.specs.Head.{window_limit, capacity_floor, capacity_limit, title_limit}
 use Rattle.tool_words.specs.Words.{IsCommandOf, request_limit}
@@ -128,6 +127,47 @@ UsesNoClock words = (command : Command) → IsCommandOf words command → ¬ Use
 abbrev pub ReadsNoInput : List (List ℕ) → Type 0
 ReadsNoInput words = (command : Command) → IsCommandOf words command → ¬ ReadsInput command
 
+-- the words name no command
+abbrev pub NameNone : List (List ℕ) → Type 0
+NameNone words = (command : Command) → ¬ IsCommandOf words command
+
+-- only words that name no command end with the status `Usage`; they end with it, or memory ran out
+pub record IsUsageOf (words : List (List ℕ)) (ended : ℕ) : Type 0 where
+  pub only : ended ≡ code_of ends.Usage → NameNone words
+  pub all : NameNone words → (ended ≡ code_of ends.Usage) ⊎ (ended ≡ code_of ends.NoMemory)
+
+-- each object that the words' command has no use for is as it was
+pub record LeavesUnused (words : List (List ℕ)) (same_disk same_clock same_input same_door same_fetch : Type 0)
+    : Type 0 where
+  pub disk : UsesNoDisk words → same_disk
+  pub clock : UsesNoClock words → same_clock
+  pub input : ReadsNoInput words → same_input
+  pub door : ServesNot words → same_door
+  pub fetch : FetchesNot words → same_fetch
+
+-- only `serve` returns lines, and only `drill` a life
+pub record IsBare (words : List (List ℕ)) (lines : List Line) (life : Option LifeValue) : Type 0 where
+  pub no_lines : ServesNot words → lines ≡ []
+  pub no_life : DrillsNot words → life ≡ None
+
+-- The counts of faults
+
+-- The count of one of two objects that share a status. It is as it was at another status. At the shared status it rose
+-- if the command doesn't use the other object.
+pub record CountsShared (before after : ℕ) (is_returned is_alone : Type 0) : Type 0 where
+  pub later : before ≤ after
+  pub failed : is_alone → is_returned → HasRisen before after
+  pub unfailed : ¬ is_returned → after ≡ before
+
+-- the counts of all five objects; the door and the source of documents share a status
+pub record CountsFaults (words : List (List ℕ)) (disk left : DiskState) (door shut : DoorState)
+    (fetch fetched : FetchState) (input rest : SourceState) (output taken : SinkState) (ended : ℕ) : Type 0 where
+  pub disk_faults : CountsFault disk.faults left.faults (ended ≡ code_of ends.DiskFault)
+  pub input_faults : RisesByFault input.faults rest.faults (ended ≡ code_of ends.InputFault)
+  pub output_faults : CountsOutput output.faults taken.faults ended
+  pub door_faults : CountsShared door.faults shut.faults (ended ≡ code_of ends.DoorFault) (FetchesNot words)
+  pub fetch_faults : CountsShared fetch.faults fetched.faults (ended ≡ code_of ends.FetchFault) (ServesNot words)
+
 -- contracts can see all that the command's answer depends on
 pub record IsSeen (command : Command) (disk_told clock_told input_told fetch_told : Type 0) : Type 0 where
   pub answering : IsAnswering command
@@ -156,24 +196,14 @@ pub record IsOfStore (command : Command) (outside : Outside) (given : Answer) : 
   pub opens : OpensTo outside.content stored
   pub is : given ≡ stored_answer command outside stored
 
--- how `mirror` ends if it held these documents before
-abbrev pub IsMirrorEnd : ℕ → List ℕ → Bool → Bool → List KeptValue → Outside → Answer → Type 0
-IsMirrorEnd capacity base true report kept outside given = IsFetched report capacity base kept outside.answers given
-IsMirrorEnd capacity base false report kept outside given = IsMirrored report capacity base kept outside.input given
-
--- the area loads to the documents of a mirror, and `mirror` answers this of it
-pub record IsOfMirror (base : List ℕ) (fetch report : Bool) (capacity : ℕ) (outside : Outside) (given : Answer)
-    : Type 0 where
-  pub kept : List KeptValue
-  pub loaded : IsHeldIn base outside.content kept
-  pub is : IsMirrorEnd capacity base fetch report kept outside given
-
 abbrev pub IsAnswer : Command → Outside → Answer → Type 0
 IsAnswer (Init name window capacity) outside given = IsInitAnswer outside.content given
 IsAnswer (Apply (Some window)) outside given = answer (test_head window) outside.moments outside.input ≡ given
 IsAnswer (Show Document) outside given = IsShown outside.input given
-IsAnswer (Mirror base fetch report capacity) outside given =
-    IsOfMirror base fetch report capacity outside given ⊎ IsBadMirror base outside.content given
+IsAnswer (Mirror base false report capacity) outside given =
+    IsPileAnswer report capacity base outside.content outside.input given
+IsAnswer (Mirror base true report capacity) outside given =
+    IsWalkAnswer report capacity base outside.content outside.answers given
 IsAnswer Audit outside given = IsAudited outside.input given
 IsAnswer (Drill seed count) outside given = given ≡ drill_answer seed count
 IsAnswer (Serve listen requests) outside given = ⊥
@@ -185,7 +215,10 @@ abbrev pub IsDueAnswer : Command → Outside → Answer → Type 0
 IsDueAnswer (Init name window capacity) outside given = IsInitAnswer outside.content given
 IsDueAnswer (Apply (Some window)) outside given = answer (test_head window) outside.moments outside.input ≡ given
 IsDueAnswer (Show Document) outside given = IsShown outside.input given
-IsDueAnswer (Mirror base fetch report capacity) outside given = IsOfMirror base fetch report capacity outside given
+IsDueAnswer (Mirror base false report capacity) outside given =
+    IsPileEnd report capacity base outside.content outside.input given
+IsDueAnswer (Mirror base true report capacity) outside given =
+    IsWalkEnd report capacity base outside.content outside.answers given
 IsDueAnswer Audit outside given = IsAudited outside.input given
 IsDueAnswer (Drill seed count) outside given = given ≡ drill_answer seed count
 IsDueAnswer (Serve listen requests) outside given = ⊥
@@ -195,13 +228,6 @@ IsDueAnswer command outside given = IsOfStore command outside given
 pub record IsGiven (command : Command) (outside : Outside) (given : Answer) : Type 0 where
   pub is : IsAnswer command outside given
   pub due : (other : Answer) → IsDueAnswer command outside other → other ≡ given
-
--- the mirror was loaded, a call on the input failed, and nothing that was read before it is refused
-pub record IsMirrorUnrefused (base : List ℕ) (capacity : ℕ) (content : Area → List ℕ) (before after : SourceState)
-    : Type 0 where
-  pub kept : List KeptValue
-  pub loaded : IsHeldIn base content kept
-  pub reads : ReadsWithinPile capacity base kept before after
 
 -- a call on the input failed, and nothing that was read before it is refused
 abbrev pub IsUnrefusedBy : Command → (ℕ → ℕ) → (Area → List ℕ) → SourceState → SourceState → Type 0
@@ -221,53 +247,14 @@ abbrev pub OneAnswer : Type 0
 OneAnswer = (command : Command) (outside : Outside) (one other : Answer)
     → IsDueAnswer command outside one → IsDueAnswer command outside other → one ≡ other
 
--- an exit status
-abbrev pub IsStatus : ℕ → Type 0
-IsStatus ended = (status : Status) × (ended ≡ code_of status)
-
--- the exit statuses of the defined ends
-abbrev pub IsDone : ℕ → Type 0
-IsDone ended = (ended ≡ code_of ends.Done) ⊎ (ended ≡ code_of ends.Incomplete)
-
--- the exit statuses that input, clock and disk determine: the defined ends and the refusals
-abbrev pub IsDetermined : ℕ → Type 0
-IsDetermined ended =
-    (ended ≡ code_of ends.Done) ⊎ (ended ≡ code_of ends.Incomplete) ⊎ (ended ≡ code_of ends.BadStore) ⊎
-    (ended ≡ code_of ends.BadInput)
-    ⊎ (ended ≡ code_of ends.Full) ⊎ (ended ≡ code_of ends.Refused)
-
--- the exit statuses after an answer: these, and a failure of the output
-abbrev pub IsAnswered : ℕ → Type 0
-IsAnswered ended = IsDetermined ended ⊎ (ended ≡ code_of ends.OutputFault)
-
--- the command has an answer. The exit status is the answer's, or that of a failed output where the answer is a
--- defined end. The output took what the answer prints, or a prefix of it where a call on the output failed
-pub record EndsWith (command : Command) (outside : Outside) (told : Type 0) (before after : SinkState) (ended : ℕ)
-    : Type 0 where
-  pub answer : Answer
-  pub is : IsAnswer command outside answer
-  pub status :
-      (ended ≡ code_of answer.status) ⊎ ((ended ≡ code_of ends.OutputFault) × IsDone (code_of answer.status))
-  pub prints : told → Prints before after answer.printed
-  pub whole : told → IsDone ended → after.taken ≡ before.taken ++ answer.printed
+-- the command ends with its answer
+abbrev pub EndsWith : Command → Outside → Type 0 → SinkState → SinkState → ℕ → Type 0
+EndsWith command outside observable before after ended =
+    EndsAs (IsAnswer command outside) observable before after ended
 
 -- if no call on the disk, the source of documents, the input or the output failed, the exit status is the answer's, or
 -- memory ran out
 pub record IsComplete (disk later : DiskState) (fetch fetched : FetchState) (input rest : SourceState)
     (output after : SinkState) (ended : ℕ) (answered : Status) : Type 0 where
-  pub ends : ¬ Rose disk.faults later.faults → ¬ Rose fetch.faults fetched.faults → ¬ Rose input.faults rest.faults
-      → ¬ Rose output.faults after.faults → (ended ≡ code_of answered) ⊎ (ended ≡ code_of ends.NoMemory)
-
--- the exit statuses whose line says nothing of the input
-abbrev pub IsAlone : ℕ → Type 0
-IsAlone ended =
-    (ended ≡ code_of ends.Usage) ⊎ (ended ≡ code_of ends.DiskFault) ⊎ (ended ≡ code_of ends.NoMemory)
-    ⊎ (ended ≡ code_of ends.FetchFault) ⊎ (ended ≡ code_of ends.InputFault)
-
--- the line of each
-abbrev pub alone_line : ℕ → List ℕ
-alone_line ended =
-    if ended == code_of ends.Usage then usage_line
-    else (if ended == code_of ends.DiskFault then (fault_answer Disk).printed
-    else (if ended == code_of ends.NoMemory then (fault_answer NoMemory).printed
-    else (if ended == code_of ends.FetchFault then (report_answer Fetch).printed else (fault_answer Input).printed)))
+  pub ends : ¬ HasRisen disk.faults later.faults → ¬ HasRisen fetch.faults fetched.faults → ¬ HasRisen input.faults rest.faults
+      → ¬ HasRisen output.faults after.faults → (ended ≡ code_of answered) ⊎ (ended ≡ code_of ends.NoMemory)

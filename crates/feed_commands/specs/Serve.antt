@@ -1,7 +1,7 @@
 -- `serve`: the lines that are printed after a session, and how the program ends.
 use Rattle.std.specs.Prelude.{◌≡◌, ◌⊎◌, ℕ, ◌≤◌, List, [], ◌++◌, length, flat_map, codes, decimal, Option, Some, None}
 use Rattle.std.specs.Prelude.{Result, Ok, Err}
-use Rattle.atom_values.specs.Counts.{Rose}
+use Rattle.atom_values.specs.Counts.{HasRisen}
 use Rattle.atom_values.specs.declared.memory.Failed.{Failed}
 use Rattle.document_server.specs.Door.{DoorState}
 use Rattle.document_server.specs.Serving.{IsEndOf, Serves}
@@ -18,14 +18,14 @@ use Rattle.feed_recovery.specs.declared.fault.LoadFault.{LoadFault}
 use Rattle.feed_recovery.specs.declared.fault.LoadFault.TheVariants as load
 use Rattle.feed_commands.specs.declared.commands.serve.SessionFault.{SessionFault}
 use Rattle.feed_commands.specs.declared.commands.serve.SessionFault.TheVariants.{Door, Other}
-use Rattle.feed_commands.specs.declared.fault.Fault.TheVariants.{NoMemory, Disk}
-use Rattle.feed_commands.specs.declared.status.Status.{Status}
-use Rattle.feed_commands.specs.declared.status.Status.TheVariants as ends
-use Rattle.feed_commands.specs.Answer.{Answer, Prints}
-use Rattle.feed_commands.specs.Fault.{fault_answer, spaced}
+use Rattle.command_ends.specs.declared.fault.Fault.TheVariants.{NoMemory, Disk}
+use Rattle.command_ends.specs.declared.status.Status.{Status}
+use Rattle.command_ends.specs.declared.status.Status.TheVariants as ends
+use Rattle.command_ends.specs.Answer.{Answer, Prints}
+use Rattle.command_ends.specs.Fault.{fault_answer, spaced}
 use Rattle.doc_source.specs.Outside.{SinkState}
-use Rattle.feed_commands.specs.Status.{code_of}
-use Rattle.feed_commands.specs.StoreFaults.{load_fault}
+use Rattle.command_ends.specs.Status.{code_of}
+use Rattle.command_ends.specs.StoreFaults.{load_fault}
 
 -- the line of a connection: the status of its reply, and the version of the feed
 abbrev pub session_line : Line → List ℕ
@@ -69,11 +69,17 @@ IsOpened session.NoMemory = ⊥
 IsOpened _ = Unit {0}
 
 -- nothing was served: the door is as it was, and a crash leaves what it could leave before
-pub record ServesNothing (before after : DiskState) (door rest : DoorState) (told : Type 0) (lines : List Line)
+pub record ServesNothing (before after : DiskState) (door rest : DoorState) (observable : Type 0) (lines : List Line)
     : Type 0 where
   pub no_lines : lines ≡ []
   pub same_door : rest ≡ door
-  pub safe : told → LeavesStores before after
+  pub safe : observable → LeavesStores before after
+
+-- with a store that opens and no fault the program comes to the defined end, or memory ran out
+pub record IsServedWhole (before after : DiskState) (door rest : DoorState) (output taken : SinkState) (ended : ℕ)
+    : Type 0 where
+  pub ends : ¬ HasRisen before.faults after.faults → ¬ HasRisen door.faults rest.faults → ¬ HasRisen output.faults taken.faults
+      → (ended ≡ code_of ends.Done) ⊎ (ended ≡ code_of ends.NoMemory)
 
 -- How the program ends after a session of at most `requests` connections: by the end of the session, or by a failure
 -- of the output after a session that came to its defined end.
@@ -94,9 +100,5 @@ pub record EndsServing (requests : ℕ) (before after : DiskState) (moments : �
       → IsLoadFault (records (before.content Journal)) (records (before.content Sealed)) fault
   pub only : disk_told → (stored : Stored) → OpensTo before.content stored → (fault : LoadFault)
       → end ≡ session.Load fault → (fault ≡ load.DiskFault) ⊎ (fault ≡ load.NoMemory)
-
--- with a store that opens and no fault the program comes to the defined end, or memory ran out
-pub record IsServedWhole (before after : DiskState) (door rest : DoorState) (output taken : SinkState) (ended : ℕ)
-    : Type 0 where
-  pub ends : ¬ Rose before.faults after.faults → ¬ Rose door.faults rest.faults → ¬ Rose output.faults taken.faults
-      → (ended ≡ code_of ends.Done) ⊎ (ended ≡ code_of ends.NoMemory)
+  pub whole : disk_told → (stored : Stored) → OpensTo before.content stored
+      → IsServedWhole before after door rest output taken ended

@@ -12,16 +12,16 @@ use Rattle.feed_recovery.specs.Faults.{IsLoadFault}
 use Rattle.feed_recovery.specs.Opening.{journal_of, seal_of}
 use Rattle.feed_recovery.specs.Stored.{OpensTo, Stored, seals_of}
 use Rattle.feed_recovery.specs.declared.fault.LoadFault.{LoadFault}
-use Rattle.feed_commands.specs.declared.fault.BadStore.TheVariants.{AlreadyInit}
-use Rattle.feed_commands.specs.declared.fault.Fault.{Fault}
-use Rattle.feed_commands.specs.declared.fault.Fault.TheVariants.{BadStore, Full, Refused}
-use Rattle.feed_commands.specs.declared.fault.Refusal.TheVariants.{NotSealed, NoMember, DeletedMember}
-use Rattle.feed_commands.specs.declared.status.Status.TheVariants.{Done}
-use Rattle.feed_commands.specs.Answer.{Answer}
+use Rattle.command_ends.specs.declared.fault.BadStore.TheVariants.{AlreadyInit}
+use Rattle.command_ends.specs.declared.fault.Fault.{Fault}
+use Rattle.command_ends.specs.declared.fault.Fault.TheVariants.{BadStore, Full, Refused}
+use Rattle.command_ends.specs.declared.fault.Refusal.TheVariants.{NotSealed, NoMember, DeletedMember}
+use Rattle.command_ends.specs.declared.status.Status.TheVariants.{Done}
+use Rattle.command_ends.specs.Answer.{Answer}
 use Rattle.feed_commands.specs.Applied.{Applied, Step, applied}
 use Rattle.feed_commands.specs.Apply.{answer_by, line_operation, ◌>>=◌}
-use Rattle.feed_commands.specs.Fault.{fault_answer, IsRefusal}
-use Rattle.feed_commands.specs.StoreFaults.{load_fault}
+use Rattle.command_ends.specs.Fault.{fault_answer, IsRefusal}
+use Rattle.command_ends.specs.StoreFaults.{load_fault}
 use Rattle.member_rules.specs.Coding.{operations}
 use Rattle.member_rules.specs.Documents.{archive}
 use Rattle.member_rules.specs.Fold.{fold_of, state_of}

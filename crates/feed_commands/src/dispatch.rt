@@ -1,27 +1,28 @@
-ghost use Rattle.std.specs.Prelude.{◌≡◌, ◌≢◌, ◌⊎◌, ℕ, ◌≤◌, List, [], Bool, None, Err, map, string_bytes, true, false, IfOk, IfErr, IsOk};
-ghost use Rattle.atom_values.specs.Counts.{Rose};
+ghost use Rattle.std.specs.Prelude.{◌≡◌, ◌≢◌, ◌⊎◌, ℕ, List, [], Bool, None, Err, map, string_bytes, true, false, IfOk, IfErr, IsOk};
+ghost use Rattle.atom_values.specs.Counts.{CountsFault};
 ghost use Rattle.atom_writer.specs.declared.doc.FeedName.{FeedName};
 ghost use Rattle.feed_disk.specs.Moments.{LeavesAlone};
 ghost use Rattle.feed_disk.specs.declared.area.Area.TheVariants.{Mirror};
-ghost use Rattle.feed_commands.specs.declared.status.Status.TheVariants as status;
-ghost use Rattle.feed_commands.specs.Answer.{Answer, Prints};
-ghost use Rattle.feed_commands.specs.Audit.{EndsAuditing};
+ghost use Rattle.command_ends.specs.declared.status.Status.TheVariants as status;
+ghost use Rattle.command_ends.specs.Answer.{Answer, Prints};
+ghost use Rattle.mirror_commands.specs.Audit.{EndsAuditing};
 ghost use Rattle.doc_source.specs.Fetch.{FetchState};
 ghost use Rattle.feed_recovery.specs.Settled.{KeepsPayloads};
-ghost use Rattle.feed_recovery.specs.Stored.{OpensTo, Stored};
-ghost use Rattle.feed_commands.specs.Crash.{AddsNoOperation, AddsNothing, AppliesSafely, EndsAfterLoad, IsStatusAfterLoad};
-ghost use Rattle.feed_commands.specs.Crash.{MakesStoreAt, OpensToApplied};
+ghost use Rattle.feed_commands.specs.Crash.{AddsNoOperation, AddsNothing, EndsAfterLoad, EndsApplying, IsStatusAfterLoad};
+ghost use Rattle.feed_commands.specs.Crash.{MakesStoreAt};
 ghost use Rattle.feed_commands.specs.Drill.{EndsDrilling};
-ghost use Rattle.feed_commands.specs.Fault.{fault_answer, HasAnswer, IsRefusal};
-ghost use Rattle.feed_commands.specs.Run.{HasRange, IsDueAnswer, IsGiven, IsSeen, IsUnrefusedBy, IsStatus, IsAnswered};
-ghost use Rattle.feed_commands.specs.Mirroring.{EndsFetching, EndsMirroring};
+ghost use Rattle.command_ends.specs.Fault.{fault_answer, HasAnswer, IsRefusal};
+ghost use Rattle.feed_commands.specs.Run.{HasRange, IsDueAnswer, IsGiven, IsSeen, IsUnrefusedBy};
+ghost use Rattle.command_ends.specs.Ends.{IsStatus, IsAnswered};
+ghost use Rattle.mirror_commands.specs.Mirroring.{EndsFetching, EndsMirroring};
 ghost use Rattle.feed_commands.specs.Outside.{outside_of};
 ghost use Rattle.feed_commands.specs.Pile.{EndsCut};
-ghost use Rattle.feed_commands.specs.Run.{EndsWith, IsAtOnce, IsComplete, IsAlone, IsDone, IsTextual, PrintsAtOnce, alone_line};
-ghost use Rattle.feed_commands.specs.Run.{DrillsNot, FetchesNot, IsSeenUnfetched, MirrorsNot, ReadsInput, ServesNot};
-ghost use Rattle.feed_commands.specs.Run.{ReadsNoInput, UsesClock, UsesDisk, UsesNoClock, UsesNoDisk};
-ghost use Rattle.feed_commands.specs.Serve.{EndsServing, IsServedWhole};
-ghost use Rattle.feed_commands.specs.Status.{code_of};
+ghost use Rattle.feed_commands.specs.Run.{CountsFaults, EndsWith, IsAtOnce, IsBare, IsComplete, IsSeenUnfetched};
+ghost use Rattle.feed_commands.specs.Run.{IsTextual, IsUsageOf, LeavesUnused, MirrorsNot, PrintsAtOnce, ReadsInput};
+ghost use Rattle.feed_commands.specs.Run.{UsesClock, UsesDisk};
+ghost use Rattle.command_ends.specs.Ends.{IsAlone, alone_line};
+ghost use Rattle.feed_commands.specs.Serve.{EndsServing};
+ghost use Rattle.command_ends.specs.Status.{code_of};
 ghost use Rattle.tool_words.specs.Words.{IsCommandOf};
 ghost use Rattle.tool_words.specs.declared.command.Command.{Command as CommandValue};
 ghost use Rattle.tool_words.specs.declared.command.Command.TheVariants.{Init, Apply, Audit, Drill, Serve};
@@ -30,22 +31,19 @@ ghost use Rattle.tool_words.specs.declared.command.Command.TheVariants.{Mirror a
 ghost use Rattle.tool_words.specs.declared.command.Show.TheVariants.{Pile};
 
 use crate::commands::apply::apply;
-use crate::commands::audit::audit;
 use crate::commands::drill::drill;
-use crate::commands::fetched::mirror_fetched;
 use crate::commands::init::init;
-use crate::commands::mirror::mirror;
 use crate::commands::pile::show_pile;
 use crate::commands::serve::serve;
 use crate::commands::show::show;
 use crate::commands::store;
-use crate::fault::Fault;
-use crate::status::Status;
 use atom_values::{Failed, Many};
+use command_ends::{Fault, Status, print_fault};
 use doc_source::{Fetch, Sink, Source, write_all};
 use document_server::{Clock, Door, Line, MAX_CONNECTIONS};
 use feed_disk::Disk;
 use feed_life::Life;
+use mirror_commands::{audit, mirror, mirror_fetched};
 use std::alloc::Global;
 use tool_words::{Command, Show, WordsFault, read_words};
 
@@ -58,6 +56,20 @@ pub struct Ended {
     pub lines: Many<Line, MAX_CONNECTIONS>,
     /// The life that a `drill` ran, if its summary was printed. `None` for each other command.
     pub life: Option<Life>,
+}
+
+impl Ended {
+    /// The end of a command that served nothing and ran no life.
+    pub(crate) fn with_status(alloc: Global, status: Status) -> Ended
+        ensures status { result.status ≡ code_of status }
+        ensures alone { (result.lines.items ≡ []) × (result.life ≡ None) }
+    {
+        Ended {
+            status: status.code(),
+            lines: Many::new(alloc),
+            life: None,
+        }
+    }
 }
 
 /// Runs the command that the words name, and returns the exit status, which docs/FORMATS.md lists with what is
@@ -92,49 +104,37 @@ pub fn run<D: Disk, C: Clock, L: Door, F: Fetch, I: Source, O: Sink>(
 ) -> Ended
     // The exit statuses, and the words that name no command.
     ensures statuses { IsStatus result.status }
-    ensures usage { result.status ≡ code_of status.Usage
-        → (command : CommandValue) → ¬ IsCommandOf (map string_bytes words.now) command }
-    ensures foreign { ((command : CommandValue) → ¬ IsCommandOf (map string_bytes words.now) command)
-        → (result.status ≡ code_of status.Usage) ⊎ (result.status ≡ code_of status.NoMemory) }
+    ensures words { IsUsageOf (map string_bytes words.now) result.status }
 
     // If contracts can see all that the command's answer depends on: status and output are those of the answer.
     ensures answered { (command : CommandValue) → IsCommandOf (map string_bytes words.now) command
-        → IsSeen command D.told C.told I.told F.told → IsAnswered result.status
+        → IsSeen command D.observable C.observable I.observable F.observable → IsAnswered result.status
         → EndsWith command
-        (outside_of (C.coming clock.old) (I.state input.old) (D.state disk.old) (F.state fetch.old)) O.told
+        (outside_of (C.coming clock.old) (I.state input.old) (D.state disk.old) (F.state fetch.old)) O.observable
         (O.state output.old) (O.state output.new) result.status }
 
     // The other ends print their line, which says nothing of the input and of the store.
-    ensures alone { O.told → PrintsAtOnce (map string_bytes words.now) → IsAlone result.status
+    ensures alone { O.observable → PrintsAtOnce (map string_bytes words.now) → IsAlone result.status
         → Prints (O.state output.old) (O.state output.new) (alone_line result.status) }
 
     // `show pile` prints its documents as they are made. The line of a fault comes after those that were printed.
-    ensures cut { IsCommandOf (map string_bytes words.now) (ShowOf Pile) → O.told
+    ensures cut { IsCommandOf (map string_bytes words.now) (ShowOf Pile) → O.observable
         → result.status ≢ code_of status.Done → result.status ≢ code_of status.OutputFault
-        → EndsCut (D.state disk.old).content D.told (O.state output.old) (O.state output.new) result.status }
+        → EndsCut (D.state disk.old).content D.observable (O.state output.old) (O.state output.new) result.status }
 
     // A fault comes only if the object's count of faults rose, and nothing that was read before it is refused.
-    ensures disk_fault { result.status ≡ code_of status.DiskFault
-        → Rose (D.state disk.old).faults (D.state disk.new).faults }
-    ensures no_hidden_disk_fault { result.status ≢ code_of status.DiskFault
-        → (D.state disk.new).faults ≡ (D.state disk.old).faults }
-    ensures input_fault { result.status ≡ code_of status.InputFault
-        → Rose (I.state input.old).faults (I.state input.new).faults }
-    ensures no_hidden_fault { result.status ≢ code_of status.InputFault
-        → (I.state input.new).faults ≡ (I.state input.old).faults }
-    ensures output_fault { result.status ≡ code_of status.OutputFault
-        → Rose (O.state output.old).faults (O.state output.new).faults }
-    ensures output_whole { IsDone result.status
-        → (O.state output.new).faults ≡ (O.state output.old).faults }
+    ensures faults { CountsFaults (map string_bytes words.now) (D.state disk.old) (D.state disk.new)
+        (L.state door.old) (L.state door.new) (F.state fetch.old) (F.state fetch.new)
+        (I.state input.old) (I.state input.new) (O.state output.old) (O.state output.new) result.status }
     ensures first_fault { (command : CommandValue) → IsCommandOf (map string_bytes words.now) command
-        → IsSeen command D.told C.told I.told F.told → result.status ≡ code_of status.InputFault
+        → IsSeen command D.observable C.observable I.observable F.observable → result.status ≡ code_of status.InputFault
         → IsUnrefusedBy command (C.coming clock.old) (D.state disk.old).content
         (I.state input.old) (I.state input.new) }
 
     // With a command's words and no fault, the exit status is the answer's, or memory ran out. A store that opens has
     // an answer, and so has a mirror that is loaded.
     ensures complete { (command : CommandValue) → IsCommandOf (map string_bytes words.now) command
-        → IsSeen command D.told C.told I.told F.told → (given : Answer)
+        → IsSeen command D.observable C.observable I.observable F.observable → (given : Answer)
         → IsDueAnswer command
         (outside_of (C.coming clock.old) (I.state input.old) (D.state disk.old) (F.state fetch.old)) given
         → IsComplete (D.state disk.old) (D.state disk.new) (F.state fetch.old) (F.state fetch.new)
@@ -146,142 +146,103 @@ pub fn run<D: Disk, C: Clock, L: Door, F: Fetch, I: Source, O: Sink>(
     // the new store, and of a store what a crash could leave before. `apply` leaves the history before, with
     // some of the lines' operations, and with all of them at its end. Its lines are those that were read.
     // `mirror` alone reaches the mirror's area.
-    ensures safe { AddsNoOperation (map string_bytes words.now) → D.told
+    ensures safe { AddsNoOperation (map string_bytes words.now) → D.observable
         → KeepsPayloads (D.state disk.old) (D.state disk.new) }
     ensures made { (name : FeedName) (window capacity : ℕ)
-        → IsCommandOf (map string_bytes words.now) (Init name window capacity) → D.told
-        → MakesStoreAt (D.state disk.old) (D.state disk.new) name window capacity C.told
+        → IsCommandOf (map string_bytes words.now) (Init name window capacity) → D.observable
+        → MakesStoreAt (D.state disk.old) (D.state disk.new) name window capacity C.observable
         (C.coming clock.old 0)
         ((result.status ≡ code_of status.Done) ⊎ (result.status ≡ code_of status.OutputFault)) }
-    ensures applied { IsCommandOf (map string_bytes words.now) (Apply None) → D.told
-        → AppliesSafely (D.state disk.old) (D.state disk.new) (C.coming clock.old)
-        (I.state input.old) (I.state input.new) (C.told × I.told) (result.status ≡ code_of status.DiskFault)
-        (result.status ≡ code_of status.InputFault) (IsStatusAfterLoad result.status) }
-    ensures opens { IsCommandOf (map string_bytes words.now) (Apply None) → D.told → C.told → I.told
-        → IsAnswered result.status
-        → OpensToApplied (D.state disk.old) (D.state disk.new) (C.coming clock.old) (I.state input.old).left }
+    ensures applied { IsCommandOf (map string_bytes words.now) (Apply None) → D.observable
+        → EndsApplying (D.state disk.old) (D.state disk.new) (C.coming clock.old)
+        (I.state input.old) (I.state input.new) C.observable I.observable
+        (result.status ≡ code_of status.DiskFault) (result.status ≡ code_of status.InputFault)
+        (IsStatusAfterLoad result.status) (IsAnswered result.status) }
     ensures mirror { MirrorsNot (map string_bytes words.now)
         → LeavesAlone (D.state disk.old) (D.state disk.new) Mirror }
 
-    // `serve`: the session over the connections that the door gave, its lines, and what a crash leaves. No other
-    // command uses the door.
+    // `serve`: the session over the connections that the door gave, its lines, and what a crash leaves.
     ensures serves { (listen : List ℕ) (requests : ℕ)
         → IsCommandOf (map string_bytes words.now) (Serve listen requests)
         → EndsServing requests (D.state disk.old) (D.state disk.new) (C.coming clock.old)
-        (L.state door.old) (L.state door.new) D.told C.told L.told O.told
+        (L.state door.old) (L.state door.new) D.observable C.observable L.observable O.observable
         (O.state output.old) (O.state output.new) result.lines.items result.status }
-    ensures serves_whole { (listen : List ℕ) (requests : ℕ)
-        → IsCommandOf (map string_bytes words.now) (Serve listen requests) → D.told
-        → (stored : Stored) → OpensTo (D.state disk.old).content stored
-        → IsServedWhole (D.state disk.old) (D.state disk.new) (L.state door.old) (L.state door.new)
-        (O.state output.old) (O.state output.new) result.status }
     ensures address { (listen : List ℕ) (requests : ℕ)
         → IsCommandOf (map string_bytes words.now) (Serve listen requests)
         → L.only_at door.old listen → L.only_at door.new listen }
-    ensures no_lines { ServesNot (map string_bytes words.now) → result.lines.items ≡ [] }
-    ensures no_door { ServesNot (map string_bytes words.now) → door.new ≡ door.old }
-    ensures door_fault { FetchesNot (map string_bytes words.now) → result.status ≡ code_of status.DoorFault
-        → Rose (L.state door.old).faults (L.state door.new).faults }
-    ensures no_hidden_door_fault { result.status ≢ code_of status.DoorFault
-        → (L.state door.new).faults ≡ (L.state door.old).faults }
 
     // `mirror`: the offers that were given to it, what a crash leaves of its area, and the report or the
     // certificate of documents that one feed served.
     ensures mirrors { (base : List ℕ) (report : Bool) (capacity : ℕ)
-        → IsCommandOf (map string_bytes words.now) (MirrorOf base false report capacity) → D.told → I.told
+        → IsCommandOf (map string_bytes words.now) (MirrorOf base false report capacity) → D.observable → I.observable
         → EndsMirroring report capacity base (D.state disk.old) (D.state disk.new)
-        (I.state input.old) (I.state input.new) O.told
+        (I.state input.old) (I.state input.new) O.observable
         (O.state output.old) (O.state output.new) result.status }
 
-    // `mirror --fetch`: the addresses that it asks, how its walk ended, and the same. No other command uses
-    // the source.
+    // `mirror --fetch`: the addresses that it asks, how its walk ended, and the same.
     ensures fetches { (base : List ℕ) (report : Bool) (capacity : ℕ)
-        → IsCommandOf (map string_bytes words.now) (MirrorOf base true report capacity) → D.told → F.told
+        → IsCommandOf (map string_bytes words.now) (MirrorOf base true report capacity) → D.observable → F.observable
         → EndsFetching report capacity base (D.state disk.old) (D.state disk.new) (F.state fetch.old)
-        (F.state fetch.new) O.told (O.state output.old) (O.state output.new) result.status }
-    ensures no_fetch { FetchesNot (map string_bytes words.now) → fetch.new ≡ fetch.old }
-    ensures fetch_fault { ServesNot (map string_bytes words.now) → result.status ≡ code_of status.FetchFault
-        → Rose (F.state fetch.old).faults (F.state fetch.new).faults }
-    ensures no_hidden_fetch_fault { result.status ≢ code_of status.FetchFault
-        → (F.state fetch.new).faults ≡ (F.state fetch.old).faults }
+        (F.state fetch.new) O.observable (O.state output.old) (O.state output.new) result.status }
 
     // `audit`: what the status says of the certificate and the documents.
-    ensures audits { IsCommandOf (map string_bytes words.now) Audit → I.told
+    ensures audits { IsCommandOf (map string_bytes words.now) Audit → I.observable
         → EndsAuditing (I.state input.old).left result.status }
 
-    // `drill`: the life whose summary is printed. No other command has one.
+    // `drill`: the life whose summary is printed.
     ensures drills { (seed count : ℕ) → IsCommandOf (map string_bytes words.now) (Drill seed count)
         → EndsDrilling seed count result.life result.status }
-    ensures no_life { DrillsNot (map string_bytes words.now) → result.life ≡ None }
 
-    // A command that has no use for the disk, the clock or the input leaves it as it is. So do words that name no
-    // command.
-    ensures no_disk { UsesNoDisk (map string_bytes words.now) → disk.new ≡ disk.old }
-    ensures no_clock { UsesNoClock (map string_bytes words.now) → clock.new ≡ clock.old }
-    ensures no_input { ReadsNoInput (map string_bytes words.now) → input.new ≡ input.old }
+    // A command leaves each object that it has no use for as it is. So do words that name no command. Only `serve`
+    // returns lines, and only `drill` a life.
+    ensures unused { LeavesUnused (map string_bytes words.now) (disk.new ≡ disk.old) (clock.new ≡ clock.old)
+        (input.new ≡ input.old) (door.new ≡ door.old) (fetch.new ≡ fetch.old) }
+    ensures bare { IsBare (map string_bytes words.now) result.lines.items result.life }
 {
     let command = match read_words(alloc, words) {
         Ok(command) => command,
         Err(WordsFault::Usage) => {
             // The result isn't used: the status is the same, whether or not the line could be printed.
             let _ = write_all(output, USAGE);
-            return end_as(alloc, Status::Usage);
+            return Ended::with_status(alloc, Status::Usage);
         }
-        Err(WordsFault::NoMemory) => return end_with(alloc, output, Fault::NoMemory),
+        Err(WordsFault::NoMemory) => {
+            return Ended::with_status(alloc, print_fault(output, Fault::NoMemory));
+        }
     };
     match command {
         Command::Serve { listen, requests } => {
             serve(alloc, listen.slice(), requests, disk, clock, door, output)
         }
-        Command::Show(Show::Pile) => show_pile(alloc, disk, output),
+        Command::Show(Show::Pile) => Ended::with_status(alloc, show_pile(alloc, disk, output)),
         Command::Mirror {
             base,
             fetch: false,
             report,
             capacity,
-        } => mirror(alloc, &base, report, capacity, disk, input, output),
+        } => {
+            let status = mirror(alloc, &base, report, capacity, disk, input, output);
+            Ended::with_status(alloc, status)
+        }
         Command::Mirror {
             base,
             fetch: true,
             report,
             capacity,
-        } => mirror_fetched(alloc, &base, report, capacity, disk, fetch, output),
-        Command::Audit => audit(alloc, input, output),
+        } => {
+            let status = mirror_fetched(alloc, &base, report, capacity, disk, fetch, output);
+            Ended::with_status(alloc, status)
+        }
+        Command::Audit => Ended::with_status(alloc, audit(alloc, input, output)),
         Command::Drill { seed, count } => drill(alloc, seed, count, output),
         command => match answer(alloc, command, disk, clock, input) {
             Ok(text) => match write_all(output, text.as_slice()) {
-                Ok(()) => end_as(alloc, Status::Done),
-                Err(Failed) => end_as(alloc, Status::OutputFault),
+                Ok(()) => Ended::with_status(alloc, Status::Done),
+                Err(Failed) => Ended::with_status(alloc, Status::OutputFault),
             },
-            Err(fault) => end_with(alloc, output, fault),
+            Err(fault) => Ended::with_status(alloc, print_fault(output, fault)),
         },
     }
-}
-
-/// The end of a command that served nothing and ran no life.
-pub(crate) fn end_as(alloc: Global, status: Status) -> Ended
-    ensures status { result.status ≡ code_of status }
-    ensures lines { result.lines.items ≡ [] }
-    ensures life { result.life ≡ None }
-{
-    Ended {
-        status: status.code(),
-        lines: Many::new(alloc),
-        life: None,
-    }
-}
-
-/// Prints the line of a fault, in one call of the output unless the output takes only a part of it.
-pub fn end_with<O: Sink>(alloc: Global, output: &mut O, fault: Fault) -> Ended
-    ensures lines { result.lines.items ≡ [] }
-    ensures life { result.life ≡ None }
-    ensures status { result.status ≡ code_of (fault_answer fault).status }
-    ensures prints { O.told → Prints (O.state output.old) (O.state output.new) (fault_answer fault).printed }
-    ensures faults { (O.state output.old).faults ≤ (O.state output.new).faults }
-{
-    // The result isn't used: the status is that of the first fault, whether or not its line could be printed.
-    let _ = write_all(output, fault.line().as_str().as_bytes());
-    end_as(alloc, fault.status())
 }
 
 /// The line for words that name no command. Its names are those of the finished program.
@@ -300,31 +261,29 @@ fn answer<D: Disk, C: Clock, I: Source>(
     requires prints { IsAtOnce command }
     requires text { IsTextual command }
     ensures answer { (source : FetchState)
-        → IfOk result (λ written. IsSeenUnfetched command D.told C.told I.told
+        → IfOk result (λ written. IsSeenUnfetched command D.observable C.observable I.observable
         → IsGiven command (outside_of (C.coming clock.old) (I.state input.old) (D.state disk.old) source)
         record { status = status.Done; printed = written.items }) }
     ensures refused { (source : FetchState)
-        → IfErr result (λ fault. IsRefusal fault → IsSeenUnfetched command D.told C.told I.told
+        → IfErr result (λ fault. IsRefusal fault → IsSeenUnfetched command D.observable C.observable I.observable
         → IsGiven command (outside_of (C.coming clock.old) (I.state input.old) (D.state disk.old) source)
         (fault_answer fault)) }
-    ensures disk { result ≡ Err Fault.Disk → Rose (D.state disk.old).faults (D.state disk.new).faults }
-    ensures disk_faults { result ≢ Err Fault.Disk → (D.state disk.new).faults ≡ (D.state disk.old).faults }
-    ensures input { result ≡ Err Fault.Input → Rose (I.state input.old).faults (I.state input.new).faults }
-    ensures unrefused { result ≡ Err Fault.Input → IsSeenUnfetched command D.told C.told I.told
+    ensures disk_faults { CountsFault (D.state disk.old).faults (D.state disk.new).faults
+        (result ≡ Err Fault.Disk) }
+    ensures input_faults { CountsFault (I.state input.old).faults (I.state input.new).faults
+        (result ≡ Err Fault.Input) }
+    ensures unrefused { result ≡ Err Fault.Input → IsSeenUnfetched command D.observable C.observable I.observable
         → IsUnrefusedBy command (C.coming clock.old) (D.state disk.old).content
         (I.state input.old) (I.state input.new) }
-    ensures faults { result ≢ Err Fault.Input → (I.state input.new).faults ≡ (I.state input.old).faults }
-    ensures safe { AddsNothing command → D.told → KeepsPayloads (D.state disk.old) (D.state disk.new) }
-    ensures made { (name : FeedName) (window capacity : ℕ) → command ≡ Init name window capacity → D.told
-        → MakesStoreAt (D.state disk.old) (D.state disk.new) name window capacity C.told
+    ensures safe { AddsNothing command → D.observable → KeepsPayloads (D.state disk.old) (D.state disk.new) }
+    ensures made { (name : FeedName) (window capacity : ℕ) → command ≡ Init name window capacity → D.observable
+        → MakesStoreAt (D.state disk.old) (D.state disk.new) name window capacity C.observable
         (C.coming clock.old 0)
         (IsOk result) }
-    ensures applied { command ≡ Apply None → D.told
-        → AppliesSafely (D.state disk.old) (D.state disk.new) (C.coming clock.old)
-        (I.state input.old) (I.state input.new) (C.told × I.told)
-        (result ≡ Err Fault.Disk) (result ≡ Err Fault.Input) (EndsAfterLoad result) }
-    ensures opens { command ≡ Apply None → D.told → C.told → I.told → HasAnswer result
-        → OpensToApplied (D.state disk.old) (D.state disk.new) (C.coming clock.old) (I.state input.old).left }
+    ensures applied { command ≡ Apply None → D.observable
+        → EndsApplying (D.state disk.old) (D.state disk.new) (C.coming clock.old)
+        (I.state input.old) (I.state input.new) C.observable I.observable
+        (result ≡ Err Fault.Disk) (result ≡ Err Fault.Input) (EndsAfterLoad result) (HasAnswer result) }
     ensures mirror { LeavesAlone (D.state disk.old) (D.state disk.new) Mirror }
     ensures no_disk { ¬ UsesDisk command → disk.new ≡ disk.old }
     ensures no_clock { ¬ UsesClock command → clock.new ≡ clock.old }

@@ -16,20 +16,18 @@
 //! assert_eq!(rt; ended.status, 0);
 //! ```
 //!
-//! The commands are in `commands`. A command has one answer to an input, and the law in `laws.rt` says so.
+//! The commands of the mirror and the auditor are in `mirror_commands`, and the others in `commands`. A command has one
+//! answer to an input, and the law in `laws.rt` says so.
 //!
-//! Stands on `document_server` for the server, on `doc_source` for piles, the source, the input and the output, on
-//! `mirror_walk` for the mirror, on `coverage_certificate` and `coverage_auditor` for certificates, on `archive_sealer`
-//! and `atom_grammar` for the documents, and on the crates below them.
+//! Stands on `command_ends` for statuses and faults, on `mirror_commands`, on `document_server` for the server, on
+//! `feed_drill` for drills, on `doc_source` for the source, the input and the output, on `archive_sealer` and
+//! `atom_grammar` for the documents, and on the crates below them.
 #![tactic(auto)]
 
 mod commands;
 mod dispatch;
-mod fault;
 mod laws;
-mod status;
 
-pub use dispatch::{Ended, end_with, run};
-pub use fault::{BadStore, Fault, Refusal};
+pub use command_ends::{BadStore, Fault, Refusal, Status, print_fault};
+pub use dispatch::{Ended, run};
 pub use laws::commands_have_one_answer;
-pub use status::Status;

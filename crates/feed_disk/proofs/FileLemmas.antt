@@ -40,9 +40,9 @@ counts_failed s t e clock later faults more = record {
 
 -- clauses on content that nobody is told
 pub if_ok_untold : {T E : Type 0} (P : T → Type 0) (result : Result T E) → IfOk result (λ value. ⊥ → P value)
-if_ok_untold P (Ok value) = λ told. absurd told
+if_ok_untold P (Ok value) = λ observable. absurd observable
 if_ok_untold P (Err e) = tt
 
 pub on_ok_untold : {T E : Type 0} (P : Type 0) (result : Result T E) → OnOk result (⊥ → P)
-on_ok_untold P (Ok value) = λ told. absurd told
+on_ok_untold P (Ok value) = λ observable. absurd observable
 on_ok_untold P (Err e) = tt

@@ -1,7 +1,7 @@
 -- The images of a run of device calls, made from those of each call. Callers of a `Disk` prove their clauses by these.
 use Rattle.std.proofs.Common.{inl, inr, ⊎_elim, ℕ, ◌-◌, ◌<◌, ◌≤◌, ◌^◌, List, refl, sym, ◌∙◌, subst, arith, Result}
 use Rattle.std.proofs.lemmas.Bool.{cases_lt}
-use Rattle.atom_values.specs.Counts.{Rose}
+use Rattle.atom_values.specs.Counts.{HasRisen}
 use Rattle.feed_disk.specs.Disk.{DiskState, IsDisk, Passes, PassesBy, CountsCall}
 use Rattle.feed_disk.specs.Moments.{LeavesOnly, NowOnly, LeavesAlone, LeavesOnlyBoth, AlwaysLeaves}
 use Rattle.feed_disk.specs.declared.area.Area.{Area}
@@ -33,7 +33,7 @@ leaves_join s m t a P first second = record {
 }
 
 pub leaves_weaker : (s t : DiskState) (a : Area) (P Q : ℕ → List ℕ → Type 0)
-    → ((c : ℕ) (i : List ℕ) → Rose s.clock c → P c i → Q c i) → LeavesOnly s t a P → LeavesOnly s t a Q
+    → ((c : ℕ) (i : List ℕ) → HasRisen s.clock c → P c i → Q c i) → LeavesOnly s t a P → LeavesOnly s t a Q
 leaves_weaker s t a P Q to run = record {
   later = run.later;
   each = λ c i may. ⊎_elim (λ past. inl past) (λ now. inr (now.0, to c i now.0 now.1)) (run.each c i may);
@@ -41,7 +41,7 @@ leaves_weaker s t a P Q to run = record {
 }
 
 -- a moment inside the run
-pub leaves_inside : {told : Type 0} (s t : DiskState) (a : Area) (P : ℕ → List ℕ → Type 0) → IsDisk told s
+pub leaves_inside : {observable : Type 0} (s t : DiskState) (a : Area) (P : ℕ → List ℕ → Type 0) → IsDisk observable s
     → LeavesOnly s t a P → (c : ℕ) (i : List ℕ) → s.clock < c → t.image_at a c i → P c i
 leaves_inside s t a P disk run c i inside may =
     ⊎_elim (λ past. absurd (omega (arith, disk.begun a c i past))) (λ now. now.1) (run.each c i may)
@@ -117,8 +117,8 @@ always_weaker s t a P Q to run = record {
 }
 
 -- two areas together
-pub both_leave : {told : Type 0} (s t : DiskState) (a b : Area) (P Q : ℕ → List ℕ → Type 0)
-    (R : ℕ → List ℕ → List ℕ → Type 0) → IsDisk told s → LeavesOnly s t a P → LeavesOnly s t b Q
+pub both_leave : {observable : Type 0} (s t : DiskState) (a b : Area) (P Q : ℕ → List ℕ → Type 0)
+    (R : ℕ → List ℕ → List ℕ → Type 0) → IsDisk observable s → LeavesOnly s t a P → LeavesOnly s t b Q
     → ((c : ℕ) (i j : List ℕ) → P c i → Q c j → R c i j) → LeavesOnlyBoth s t a b R
 both_leave s t a b P Q R disk first second both = record {
   first = leaves_weaker s t a P (λ _ _. Unit {0}) (λ c i rose holds. tt) first;

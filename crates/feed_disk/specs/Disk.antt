@@ -1,6 +1,6 @@
 -- A disk as contracts see it: its content, its counters, and the images that a crash may leave.
 use Rattle.std.specs.Prelude.{◌≡◌, ◌⊎◌, ℕ, ◌+◌, ◌≤◌, max, List, ◌++◌, length, take, drop, Result, OnOk, OnErr}
-use Rattle.atom_values.specs.Counts.{counted, Rose}
+use Rattle.atom_values.specs.Counts.{counted, HasRisen}
 use Rattle.feed_disk.specs.declared.area.Area.{Area}
 
 -- Moment c runs from the return of device call c - 1 to the return of device call c. An image of an area is a list of
@@ -20,13 +20,13 @@ pub record DiskState : Type 1 where
   pub image_now : Area → List ℕ → Type 0
 
 -- the law of every disk
-pub record IsDisk (told : Type 0) (s : DiskState) : Type 0 where
+pub record IsDisk (observable : Type 0) (s : DiskState) : Type 0 where
   -- no moment is later than the clock
   pub begun : (a : Area) (c : ℕ) (i : List ℕ) → s.image_at a c i → c ≤ s.clock
   -- each image of now is an image of the last moment
   pub last : (a : Area) (i : List ℕ) → s.image_now a i → s.image_at a s.clock i
   -- the content is an image of now
-  pub content : told → (a : Area) → s.image_now a (s.content a)
+  pub content : observable → (a : Area) → s.image_now a (s.content a)
 
 -- a list after these items were written over it from an offset, and past its end
 abbrev pub written : {T : Type 0} → List T → ℕ → List T → List T
@@ -63,5 +63,5 @@ pub record CountsCall {T E : Type 0} (s t : DiskState) (result : Result T E) : T
   pub clock : t.clock ≡ counted s.clock
   pub later : s.clock ≤ t.clock
   pub faults : s.faults ≤ t.faults
-  pub failed : OnErr result (Rose s.faults t.faults)
+  pub failed : OnErr result (HasRisen s.faults t.faults)
   pub worked : OnOk result (t.faults ≡ s.faults)

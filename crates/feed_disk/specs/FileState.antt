@@ -18,5 +18,5 @@ pub files_are_disk : (c : DiskCounts) → IsDisk ⊥ (file_state c)
 files_are_disk c = record {
   begun = λ a moment i may. may;
   last = λ a i may. omega arith;
-  content = λ told. absurd told;
+  content = λ observable. absurd observable;
 }

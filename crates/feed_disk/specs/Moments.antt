@@ -1,13 +1,13 @@
 -- The images that a run of device calls leaves at each of its moments.
 use Rattle.std.specs.Prelude.{◌≡◌, ◌⊎◌, ℕ, ◌-◌, ◌^◌, ◌<◌, ◌≤◌, List}
-use Rattle.atom_values.specs.Counts.{Rose}
+use Rattle.atom_values.specs.Counts.{HasRisen}
 use Rattle.feed_disk.specs.Disk.{DiskState}
 use Rattle.feed_disk.specs.declared.area.Area.{Area}
 
 -- From s on, each image of the area at a moment c satisfies P c. The moments until s stay as they were.
 pub record LeavesOnly (s t : DiskState) (a : Area) (P : ℕ → List ℕ → Type 0) : Type 0 where
   pub later : s.clock ≤ t.clock
-  pub each : (c : ℕ) (i : List ℕ) → t.image_at a c i → s.image_at a c i ⊎ (Rose s.clock c × P c i)
+  pub each : (c : ℕ) (i : List ℕ) → t.image_at a c i → s.image_at a c i ⊎ (HasRisen s.clock c × P c i)
   pub keeps : (c : ℕ) (i : List ℕ) → s.image_at a c i → t.image_at a c i
 
 -- each image of now satisfies P

@@ -54,7 +54,7 @@ impl<'a, R: Files<File = File>> FileDisk<'a, R> {
 impl<R: Files<File = File>> Disk for FileDisk<'_, R> {
     ghost use Rattle.feed_disk.specs.FileState.{file_state, files_are_disk};
 
-    ghost told = { ⊥ };
+    ghost observable = { ⊥ };
 
     ghost state = { file_state };
 

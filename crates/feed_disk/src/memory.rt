@@ -121,7 +121,7 @@ impl Disk for MemoryDisk {
     ghost use Rattle.feed_disk.specs.Memory.{MemoryValue, state_of, FailsNext, worked, failed, starving, changed};
     ghost use Rattle.feed_disk.specs.declared.change.Change.TheVariants.{Write, FailedWrite, Sync};
 
-    ghost told = { Unit {0} };
+    ghost observable = { Unit {0} };
 
     ghost state = { state_of };
 

@@ -1,4 +1,4 @@
-ghost use Rattle.std.specs.Prelude.{◌≡◌, ◌<◌, ◌∷◌, [], ℕ, suc, List, IfOk, None, OnOk, Some, length};
+ghost use Rattle.std.specs.Prelude.{◌≡◌, ◌<◌, ◌∷◌, [], suc, List, IfOk, None, OnOk, Some, length};
 ghost use Rattle.atom_values.specs.Counts.{counted};
 ghost use Rattle.feed_drill.specs.Effects.{IsFed, IsOffered, IsShownFeed};
 ghost use Rattle.feed_drill.specs.Requests.{offer_crash};

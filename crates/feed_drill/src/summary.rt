@@ -1,4 +1,4 @@
-ghost use Rattle.std.specs.Prelude.{◌≡◌, ◌++◌, ◌∷◌, [], IfOk, OnOk, ℕ, List, decimal};
+ghost use Rattle.std.specs.Prelude.{◌≡◌, ◌++◌, ◌∷◌, [], IfOk, OnOk, decimal};
 ghost use Rattle.atom_values.specs.Ascii.{lf};
 ghost use Rattle.feed_drill.specs.Summary.{summary_text};
 ghost use Rattle.hex.specs.Hex.{encode_lower};

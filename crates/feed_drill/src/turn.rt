@@ -1,4 +1,4 @@
-ghost use Rattle.std.specs.Prelude.{◌≡◌, ◌≤◌, ℕ, suc, All, List, None, OnOk, length};
+ghost use Rattle.std.specs.Prelude.{◌≡◌, ◌≤◌, suc, All, List, None, OnOk, length};
 ghost use Rattle.feed_drill.specs.Drilled.{Drilled};
 ghost use Rattle.feed_drill.specs.Effects.{IsCrashed, IsDone, IsTurned, IsWish, ask_of, course_of};
 ghost use Rattle.feed_drill.specs.Turn.{clock_at};

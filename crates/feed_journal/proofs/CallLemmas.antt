@@ -29,7 +29,7 @@ module _ (s t u : DiskState) (area : Area) (payload tail : List ℕ) (at : ℕ) 
       (torn_behind list small (omega arith) (length tail) from.0 i (start from.0 from.1)
       (subst (λ (a : ℕ). Torn a (length tail) from.0 i) is_at from.2))) run
 
-  module _ {told : Type 0} (disk : IsDisk told s) (tells : told)
+  module _ {observable : Type 0} (disk : IsDisk observable s) (tells : observable)
       (content : t.content area ≡ written (s.content area) at tail)
       (certain : (i : List ℕ) → t.image_now area i → i ≡ t.content area) where
     is_staged : (d : List ℕ) → t.image_now area d → Staged list payload d

@@ -6,7 +6,7 @@ use Rattle.std.proofs.lemmas.List.{append_assoc, take_at, drop_at, drop-drop}
 use Rattle.feed_disk.specs.Disk.{DiskState, written}
 use Rattle.feed_disk.specs.declared.area.Area.{Area}
 use Rattle.feed_journal.specs.Limits.{payload_limit, payload_count_limit}
-use Rattle.feed_journal.specs.Log.{payloads_at, Follow}
+use Rattle.feed_journal.specs.Log.{LogValue, ListsPayload, payloads_at, Follow}
 use Rattle.feed_journal.specs.Records.{records, size_of, frame, tail_of, Begins}
 use Rattle.feed_journal.specs.declared.extent.Extent.{Extent}
 use Rattle.feed_journal.proofs.AppendLemmas.{begins_reads, written_staged, written_opens, appended, front-appended}
@@ -76,6 +76,17 @@ module _ (extents : List Extent) (size : ℕ) (content : List ℕ) (follow : Fol
         (extents_same 0 extents size content new follow same_front ∙ list)
         ∙ ap (λ (p : List ℕ). records content ++ p ∷ []) last_new
         ∙ sym reads_new
+
+    pub lists_new : (log : LogValue) → log.extents ≡ extents ++ record { offset = size + 4; length = length payload } ∷ []
+        → log.size ≡ size + length payload + 5 → ListsPayload payload log content new
+    lists_new log kept end = record {
+      list = reads_new;
+      listed = record {
+        list = ap (λ (l : List Extent). payloads_at l new) kept ∙ list_new;
+        long = omega (arith, end, long_new);
+      };
+      size = end ∙ size_new;
+    }
 
 -- if the content begins with its payloads' frames, so does the content after an append
 module _ (s t : DiskState) (area : Area) (size : ℕ) (payload : List ℕ) (short : length payload ≤ payload_limit)

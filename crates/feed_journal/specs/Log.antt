@@ -1,10 +1,12 @@
 -- A log as contracts see it.
-use Rattle.std.specs.Prelude.{◌≡◌, ◌⊎◌, ℕ, ◌+◌, ◌≤◌, Bool, List, [], ◌∷◌, ◌++◌, length, map, take, drop}
+use Rattle.std.specs.Prelude.{◌≡◌, ◌⊎◌, ℕ, ◌+◌, ◌<◌, ◌≤◌, Bool, List, [], ◌∷◌, ◌++◌, length, map, take, drop}
+use Rattle.std.specs.Prelude.{Result, OnOk}
+use Rattle.atom_values.specs.Counts.{HasCause}
 use Rattle.feed_disk.specs.Disk.{DiskState}
 use Rattle.feed_disk.specs.Raised.{raised}
 use Rattle.feed_disk.specs.declared.area.Area.{Area}
-use Rattle.feed_journal.specs.Limits.{payload_limit, payload_count_limit, header_length}
-use Rattle.feed_journal.specs.Records.{records, frames}
+use Rattle.feed_journal.specs.Limits.{area_limit, payload_limit, payload_count_limit, header_length}
+use Rattle.feed_journal.specs.Records.{records, frames, size_of}
 use Rattle.feed_journal.specs.declared.extent.Extent.{Extent}
 
 -- its area, its payloads' extents, its bytes up to the closed gate and with it, its device calls, whether it is spent,
@@ -45,6 +47,28 @@ pub record IsListed (log : LogValue) (content : List ℕ) : Type 0 where
   pub list : payloads_at log.extents content ≡ records content
   pub long : log.size ≤ length content
 
+-- the log takes one more payload of this length without memory, and within the limits
+pub record HasRoomFor (count : ℕ) (log : LogValue) : Type 0 where
+  pub reserved : 0 < log.spare
+  pub few : length log.extents < payload_count_limit
+  pub fits : log.size + (count + header_length) ≤ area_limit
+
+-- the log after a payload of this length was appended
+pub record IsAppended (count : ℕ) (before after : LogValue) : Type 0 where
+  pub log : after ≡ record before {
+    extents = before.extents ++ record { offset = before.size + 4; length = count } ∷ [];
+    size = before.size + count + header_length;
+    calls = after.calls;
+    spare = after.spare;
+  }
+  pub spare : before.spare ≤ after.spare + 1
+
+-- the log's list, which is that of the content, has the payload last
+pub record ListsPayload (payload : List ℕ) (log : LogValue) (before after : List ℕ) : Type 0 where
+  pub list : records after ≡ records before ++ payload ∷ []
+  pub listed : IsListed log after
+  pub size : log.size ≡ size_of (records after)
+
 -- n device calls, on the disk's clock and on the log's counter
 pub record MakesCalls (s t : DiskState) (before after n : ℕ) : Type 0 where
   pub clock : t.clock ≡ raised s.clock n
@@ -55,6 +79,12 @@ pub record MakesUpTo (s t : DiskState) (before after most : ℕ) : Type 0 where
   pub number : ℕ
   pub within : number ≤ most
   pub makes : MakesCalls s t before after number
+
+-- n device calls, or at most n if one of them failed
+pub record MakesOrFails {T E : Type 0} (s t : DiskState) (before after n : ℕ) (result : Result T E) : Type 0 where
+  pub all : OnOk result (MakesCalls s t before after n)
+  pub most : MakesUpTo s t before after n
+  pub faults : HasCause s.faults t.faults result
 
 -- any number of device calls
 abbrev pub MakesSome : DiskState → DiskState → ℕ → ℕ → Type 0

@@ -24,21 +24,20 @@ pub fn write_frame<D: Disk>(
 ) -> Result<(), Failed>
     requires gate { 0 < size }
     requires fits { size < 2 ^ 63 }
-    requires offset { D.told → size ≤ length ((D.state disk.old).content area) }
-    ensures content { OnOk result (D.told → (D.state disk.new).content area
+    requires offset { D.observable → size ≤ length ((D.state disk.old).content area) }
+    ensures content { OnOk result (D.observable → (D.state disk.new).content area
         ≡ written (written ((D.state disk.old).content area) size (tail_of framed.now))
         (size - 1) (open_gate ∷ [])) }
-    ensures certain { OnOk result (D.told → (i : List ℕ)
+    ensures certain { OnOk result (D.observable → (i : List ℕ)
         → (D.state disk.new).image_now area i → i ≡ (D.state disk.new).content area) }
     ensures moments { let before = records ((D.state disk.old).content area) in
-        D.told → size ≡ size_of before → length before < payload_count_limit
+        D.observable → size ≡ size_of before → length before < payload_count_limit
         → NowOnly (D.state disk.old) area (Begins before)
         → AlwaysLeaves (D.state disk.old) (D.state disk.new) area (IsStep before framed.now) }
     ensures others { (a : AreaValue) → a ≢ area → LeavesAlone (D.state disk.old) (D.state disk.new) a }
     ensures ok { OnOk result (MakesCalls (D.state disk.old) (D.state disk.new) calls.old calls.new 4) }
     ensures calls { MakesUpTo (D.state disk.old) (D.state disk.new) calls.old calls.new 4 }
     ensures cause { HasCause (D.state disk.old).faults (D.state disk.new).faults result }
-    ensures worked { OnOk result ((D.state disk.new).faults ≡ (D.state disk.old).faults) }
     ensures read { (D.state disk.new).bytes_read ≡ (D.state disk.old).bytes_read }
 {
     write_and_sync(disk, area, size, framed.tail(), calls)?;

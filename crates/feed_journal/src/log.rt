@@ -1,13 +1,13 @@
-ghost use Rattle.std.specs.Prelude.{◌≡◌, ◌≢◌, ◌+◌, ◌-◌, ◌*◌, ◌^◌, ◌<◌, ◌≤◌, ℕ, Bool, true, false};
+ghost use Rattle.std.specs.Prelude.{◌≡◌, ◌≢◌, ◌+◌, ◌-◌, ◌*◌, ◌<◌, ◌≤◌, ℕ, true, false};
 ghost use Rattle.std.specs.Prelude.{List, [], ◌∷◌, ◌++◌, length, take, drop, slice_get};
 ghost use Rattle.std.specs.Prelude.{OnOk, OnErr, IfOk, IsTrue, ◌↔◌};
-ghost use Rattle.atom_values.specs.Counts.{HasCause, Rose, counted};
+ghost use Rattle.atom_values.specs.Counts.{CountsFault, HasCause, counted};
 ghost use Rattle.feed_disk.specs.Moments.{AlwaysLeaves, LeavesAlone, NowOnly};
 ghost use Rattle.feed_disk.specs.Raised.{raised};
 ghost use Rattle.feed_disk.specs.declared.area.Area.{Area as AreaValue};
-ghost use Rattle.feed_journal.specs.Limits.{payload_limit, payload_count_limit, area_limit, header_length};
-ghost use Rattle.feed_journal.specs.Log.{IsListed, IsLog, MakesCalls, MakesSome, MakesUpTo, payloads_at};
-ghost use Rattle.feed_journal.specs.Log.{payload_lengths};
+ghost use Rattle.feed_journal.specs.Limits.{payload_limit, header_length};
+ghost use Rattle.feed_journal.specs.Log.{HasRoomFor, IsAppended, IsListed, IsLog, ListsPayload};
+ghost use Rattle.feed_journal.specs.Log.{MakesCalls, MakesOrFails, MakesSome, payload_lengths, payloads_at};
 ghost use Rattle.feed_journal.specs.Records.{records, size_of, padded, IsWhole, Begins, IsStep, StandsFor};
 
 use crate::append::write_frame;
@@ -68,20 +68,20 @@ impl Log {
         ensures log { IfOk result (λ log. IsLog log × (log.area ≡ area) × (log.spent ≡ false)) }
 
         // The list is the payloads of the content, which are those that it had.
-        ensures listed { IfOk result (λ log. D.told → IsListed log ((D.state disk.new).content area)) }
+        ensures listed { IfOk result (λ log. D.observable → IsListed log ((D.state disk.new).content area)) }
         ensures size { IfOk result (λ log.
-            D.told → log.size ≡ size_of (records ((D.state disk.new).content area))) }
-        ensures same { OnOk result (D.told
+            D.observable → log.size ≡ size_of (records ((D.state disk.new).content area))) }
+        ensures same { OnOk result (D.observable
             → records ((D.state disk.new).content area) ≡ records ((D.state disk.old).content area)) }
-        ensures content { OnOk result (D.told
+        ensures content { OnOk result (D.observable
             → (D.state disk.new).content area ≡ padded ((D.state disk.old).content area)) }
 
         // The content is synced. If it was whole, it begins with the list and a closed gate.
-        ensures certain { OnOk result (D.told → (i : List ℕ)
+        ensures certain { OnOk result (D.observable → (i : List ℕ)
             → (D.state disk.new).image_now area i → i ≡ (D.state disk.new).content area) }
-        ensures rests { OnOk result (D.told → IsWhole ((D.state disk.old).content area)
+        ensures rests { OnOk result (D.observable → IsWhole ((D.state disk.old).content area)
             → NowOnly (D.state disk.new) area (Begins (records ((D.state disk.new).content area)))) }
-        ensures moments { D.told → AlwaysLeaves (D.state disk.old) (D.state disk.new) area
+        ensures moments { D.observable → AlwaysLeaves (D.state disk.old) (D.state disk.new) area
             (StandsFor ((D.state disk.old).image_now area)) }
         ensures others { (a : AreaValue) → a ≢ area → LeavesAlone (D.state disk.old) (D.state disk.new) a }
 
@@ -91,11 +91,8 @@ impl Log {
 
         ensures calls { IfOk result (λ log.
             (n : ℕ) × MakesCalls (D.state disk.old) (D.state disk.new) 0 log.calls n) }
-        ensures later { (D.state disk.old).faults ≤ (D.state disk.new).faults }
-        ensures failed { result ≡ Err LogFault.DiskFault
-            → Rose (D.state disk.old).faults (D.state disk.new).faults }
-        ensures unfailed { result ≢ Err LogFault.DiskFault
-            → (D.state disk.new).faults ≡ (D.state disk.old).faults }
+        ensures faults { CountsFault (D.state disk.old).faults (D.state disk.new).faults
+            (result ≡ Err LogFault.DiskFault) }
         ensures unchanged { (index : ℕ) → result ≢ Err (LogFault.Changed index) }
     {
         let mut calls = 0;
@@ -164,53 +161,34 @@ impl Log {
     /// and the log is spent.
     pub fn append<D: Disk>(&mut self, disk: &mut D, framed: &Framed) -> Result<(), DiskFault>
         requires unspent { self.old.spent ≡ false }
-        requires reserved { 0 < self.old.spare }
-        requires few { length self.old.extents < payload_count_limit }
-        requires fits { self.old.size + (length framed.now + header_length) ≤ area_limit }
-        requires listed { D.told → IsListed self.old ((D.state disk.old).content self.old.area) }
+        requires room { HasRoomFor (length framed.now) self.old }
+        requires listed { D.observable → IsListed self.old ((D.state disk.old).content self.old.area) }
 
-        ensures ok { OnOk result (self.new ≡ record self.old {
-          extents = self.old.extents ++ record {
-            offset = self.old.size + 4;
-            length = length framed.now;
-          } ∷ [];
-          size = self.old.size + length framed.now + header_length;
-          calls = self.new.calls;
-          spare = self.new.spare;
-        }) }
-        ensures spare { OnOk result (self.old.spare ≤ self.new.spare + 1) }
+        ensures ok { OnOk result (IsAppended (length framed.now) self.old self.new) }
         ensures err { OnErr result (self.new ≡ record self.old { calls = self.new.calls; spent = true }) }
 
-        // The list has the payload last.
-        ensures list { OnOk result (D.told → records ((D.state disk.new).content self.old.area)
-            ≡ records ((D.state disk.old).content self.old.area) ++ framed.now ∷ []) }
-        ensures listed { OnOk result (D.told
-            → IsListed self.new ((D.state disk.new).content self.old.area)) }
-        ensures size { OnOk result (D.told
-            → self.new.size ≡ size_of (records ((D.state disk.new).content self.old.area))) }
+        ensures listed { OnOk result (D.observable → ListsPayload framed.now self.new
+            ((D.state disk.old).content self.old.area) ((D.state disk.new).content self.old.area)) }
         ensures rules { IsLog self.new }
 
         // If each image before began with the list and a closed gate, so does each image after, and at each
         // moment between an image had the one list or the other.
         ensures moments { let before = records ((D.state disk.old).content self.old.area) in
-            D.told → NowOnly (D.state disk.old) self.old.area (Begins before)
+            D.observable → NowOnly (D.state disk.old) self.old.area (Begins before)
             → AlwaysLeaves (D.state disk.old) (D.state disk.new) self.old.area (IsStep before framed.now) }
-        ensures rests { OnOk result (D.told
+        ensures rests { OnOk result (D.observable
             → NowOnly (D.state disk.old) self.old.area
             (Begins (records ((D.state disk.old).content self.old.area)))
             → NowOnly (D.state disk.new) self.old.area
             (Begins (records ((D.state disk.new).content self.old.area)))) }
-        ensures certain { OnOk result (D.told → (i : List ℕ)
+        ensures certain { OnOk result (D.observable → (i : List ℕ)
             → (D.state disk.new).image_now self.old.area i
             → i ≡ (D.state disk.new).content self.old.area) }
         ensures others { (a : AreaValue) → a ≢ self.old.area
             → LeavesAlone (D.state disk.old) (D.state disk.new) a }
 
-        ensures four { OnOk result
-            (MakesCalls (D.state disk.old) (D.state disk.new) self.old.calls self.new.calls 4) }
-        ensures most { MakesUpTo (D.state disk.old) (D.state disk.new) self.old.calls self.new.calls 4 }
-        ensures cause { HasCause (D.state disk.old).faults (D.state disk.new).faults result }
-        ensures worked { OnOk result ((D.state disk.new).faults ≡ (D.state disk.old).faults) }
+        ensures calls { MakesOrFails (D.state disk.old) (D.state disk.new) self.old.calls self.new.calls 4
+            result }
         ensures read { (D.state disk.new).bytes_read ≡ (D.state disk.old).bytes_read }
     {
         let size = self.size;
@@ -237,9 +215,9 @@ impl Log {
     pub fn read<D: Disk>(&mut self, disk: &mut D, index: u32) -> Result<Vec<u8>, LogFault>
         requires unspent { self.old.spent ≡ false }
         requires within { index < length self.old.extents }
-        requires listed { D.told → payloads_at self.old.extents ((D.state disk.old).content self.old.area)
+        requires listed { D.observable → payloads_at self.old.extents ((D.state disk.old).content self.old.area)
             ≡ records ((D.state disk.old).content self.old.area) }
-        ensures payload { IfOk result (λ payload. D.told
+        ensures payload { IfOk result (λ payload. D.observable
             → slice_get (records ((D.state disk.old).content self.old.area)) index ≡ Some payload.items) }
 
         // With any disk, the payload has the length that the log has for it, and a read gave all its bytes.
@@ -248,7 +226,7 @@ impl Log {
         ensures read { IfOk result (λ payload. (D.state disk.new).bytes_read
             ≡ raised (D.state disk.old).bytes_read (length payload.items)) }
 
-        ensures never { D.told → (n : ℕ) → result ≢ Err (LogFault.Changed n) }
+        ensures never { D.observable → (n : ℕ) → result ≢ Err (LogFault.Changed n) }
         ensures changed { (n : ℕ) → result ≡ Err (LogFault.Changed n) → n ≡ index }
         ensures log { result ≢ Err LogFault.DiskFault
             → self.new ≡ record self.old { calls = self.new.calls } }
@@ -258,11 +236,8 @@ impl Log {
         ensures one { OnOk result
             (MakesCalls (D.state disk.old) (D.state disk.new) self.old.calls self.new.calls 1) }
         ensures calls { MakesSome (D.state disk.old) (D.state disk.new) self.old.calls self.new.calls }
-        ensures later { (D.state disk.old).faults ≤ (D.state disk.new).faults }
-        ensures failed { result ≡ Err LogFault.DiskFault
-            → Rose (D.state disk.old).faults (D.state disk.new).faults }
-        ensures unfailed { result ≢ Err LogFault.DiskFault
-            → (D.state disk.new).faults ≡ (D.state disk.old).faults }
+        ensures faults { CountsFault (D.state disk.old).faults (D.state disk.new).faults
+            (result ≡ Err LogFault.DiskFault) }
     {
         let extent = self.extents[index as usize];
         let mut bytes = vec![in self.alloc; 0u8; extent.length as usize]?;
@@ -279,10 +254,8 @@ impl Log {
 
     /// Adds the extent of a payload of `count` bytes that was appended. Takes no memory.
     fn add_extent(&mut self, count: u32)
-        requires reserved { 0 < self.old.spare }
-        requires few { length self.old.extents < payload_count_limit }
+        requires room { HasRoomFor count self.old }
         requires small { count ≤ payload_limit }
-        requires fits { self.old.size + (count + header_length) ≤ area_limit }
         ensures log { self.new ≡ record self.old {
           extents = self.old.extents ++ record { offset = self.old.size + 4; length = count } ∷ [];
           size = self.old.size + count + header_length;
@@ -309,8 +282,8 @@ fn read_exactly<D: Disk>(
     at: u64,
     bytes: &mut Vec<u8>,
 ) -> Result<bool, Failed>
-    requires { D.told → at + length bytes.old.items ≤ length ((D.state disk.old).content area) }
-    ensures bytes { D.told → IfOk result (λ whole. IsTrue whole
+    requires { D.observable → at + length bytes.old.items ≤ length ((D.state disk.old).content area) }
+    ensures bytes { D.observable → IfOk result (λ whole. IsTrue whole
         × (bytes.new.items ≡ take (length bytes.old.items) (drop at ((D.state disk.old).content area)))) }
     ensures length { length bytes.new.items ≡ length bytes.old.items }
     ensures read { IfOk result (λ whole. whole ≡ true → (D.state disk.new).bytes_read
@@ -318,7 +291,6 @@ fn read_exactly<D: Disk>(
     ensures areas { (a : AreaValue) → LeavesAlone (D.state disk.old) (D.state disk.new) a }
     ensures calls { (D.state disk.new).clock ≡ counted (D.state disk.old).clock }
     ensures cause { HasCause (D.state disk.old).faults (D.state disk.new).faults result }
-    ensures worked { OnOk result ((D.state disk.new).faults ≡ (D.state disk.old).faults) }
 {
     let wanted = bytes.len();
     let count = disk.read(area, at, bytes.as_mut_slice())?;

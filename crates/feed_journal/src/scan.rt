@@ -1,6 +1,6 @@
-ghost use Rattle.std.specs.Prelude.{◌≡◌, ◌≢◌, ◌+◌, ◌*◌, ◌<◌, ◌≤◌, ℕ, length, drop, take, OnOk, IfOk, IfSome};
+ghost use Rattle.std.specs.Prelude.{◌≡◌, ◌≢◌, ◌+◌, ◌*◌, ◌<◌, ◌≤◌, ℕ, length, drop, take, IfOk, IfSome};
 ghost use Rattle.std.specs.Int.{w32, to_be_bytes};
-ghost use Rattle.atom_values.specs.Counts.{HasCause, Rose};
+ghost use Rattle.atom_values.specs.Counts.{CountsFault, HasCause};
 ghost use Rattle.feed_disk.specs.Moments.{LeavesAlone};
 ghost use Rattle.feed_disk.specs.Raised.{raised};
 ghost use Rattle.feed_disk.specs.declared.area.Area.{Area as AreaValue};
@@ -41,14 +41,13 @@ fn next_frame<D: Disk>(
     calls: &mut u64,
 ) -> Result<Option<u32>, Failed>
     requires fits { at + header_length < size }
-    requires size { D.told → size ≡ length ((D.state disk.old).content area) }
-    ensures found { IfOk result (λ found. D.told → IsNext (drop at ((D.state disk.old).content area)) found) }
+    requires size { D.observable → size ≡ length ((D.state disk.old).content area) }
+    ensures found { IfOk result (λ found. D.observable → IsNext (drop at ((D.state disk.old).content area)) found) }
     ensures within { IfOk result (λ found. IfSome found (λ n.
         (n ≤ payload_limit) × (at + n + header_length < size))) }
     ensures areas { (a : AreaValue) → LeavesAlone (D.state disk.old) (D.state disk.new) a }
     ensures calls { MakesCalls (D.state disk.old) (D.state disk.new) calls.old calls.new 1 }
     ensures cause { HasCause (D.state disk.old).faults (D.state disk.new).faults result }
-    ensures worked { OnOk result ((D.state disk.new).faults ≡ (D.state disk.old).faults) }
     ensures read { IfOk result (λ found.
         raised (D.state disk.old).bytes_read (header_bytes found) ≤ (D.state disk.new).bytes_read) }
 {
@@ -71,17 +70,14 @@ pub fn scan<D: Disk>(
     calls: &mut u64,
 ) -> Result<(Vec<Extent>, u64), LogFault>
     requires some { 0 < size }
-    requires size { D.told → size ≡ length ((D.state disk.old).content area) }
+    requires size { D.observable → size ≡ length ((D.state disk.old).content area) }
     ensures rules { IfOk result (λ found. KeepsLog found.0.items (found.1 + 1)) }
     ensures within { IfOk result (λ found. found.1 < size) }
     ensures scanned { IfOk result (λ found.
-        D.told → IsScanned found.0.items found.1 ((D.state disk.old).content area)) }
+        D.observable → IsScanned found.0.items found.1 ((D.state disk.old).content area)) }
     ensures areas { (a : AreaValue) → LeavesAlone (D.state disk.old) (D.state disk.new) a }
     ensures calls { MakesSome (D.state disk.old) (D.state disk.new) calls.old calls.new }
-    ensures later { (D.state disk.old).faults ≤ (D.state disk.new).faults }
-    ensures failed { result ≡ Err DiskFailed → Rose (D.state disk.old).faults (D.state disk.new).faults }
-    ensures unfailed { result ≢ Err DiskFailed
-        → (D.state disk.new).faults ≡ (D.state disk.old).faults }
+    ensures faults { CountsFault (D.state disk.old).faults (D.state disk.new).faults (result ≡ Err DiskFailed) }
     ensures unchanged { (index : ℕ) → result ≢ Err (Changed index) }
     ensures read { IfOk result (λ found. raised (D.state disk.old).bytes_read
         (header_length * length found.0.items) ≤ (D.state disk.new).bytes_read) }

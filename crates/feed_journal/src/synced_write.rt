@@ -16,10 +16,10 @@ pub fn write_and_sync<D: Disk>(
     bytes: &[u8],
     calls: &mut u64,
 ) -> Result<(), Failed>
-    requires { D.told → at ≤ length ((D.state disk.old).content area) }
-    ensures content { OnOk result (D.told
+    requires { D.observable → at ≤ length ((D.state disk.old).content area) }
+    ensures content { OnOk result (D.observable
         → (D.state disk.new).content area ≡ written ((D.state disk.old).content area) at bytes.now) }
-    ensures certain { OnOk result (D.told → (i : List ℕ)
+    ensures certain { OnOk result (D.observable → (i : List ℕ)
         → (D.state disk.new).image_now area i → i ≡ (D.state disk.new).content area) }
     ensures moments { AlwaysLeaves (D.state disk.old) (D.state disk.new) area
         (TornFrom at (length bytes.now) ((D.state disk.old).image_now area)) }
@@ -27,7 +27,6 @@ pub fn write_and_sync<D: Disk>(
     ensures ok { OnOk result (MakesCalls (D.state disk.old) (D.state disk.new) calls.old calls.new 2) }
     ensures calls { MakesUpTo (D.state disk.old) (D.state disk.new) calls.old calls.new 2 }
     ensures cause { HasCause (D.state disk.old).faults (D.state disk.new).faults result }
-    ensures worked { OnOk result ((D.state disk.new).faults ≡ (D.state disk.old).faults) }
     ensures read { (D.state disk.new).bytes_read ≡ (D.state disk.old).bytes_read }
 {
     *calls = calls.saturating_add(1);

@@ -1,7 +1,7 @@
 -- How a call leaves a fetch of a store's documents.
 use Rattle.std.proofs.Common.{◌≡◌, ◌≢◌, inl, inr, ℕ, ◌<◌, ◌≤◌, true, false, Bool, ◌||◌, List, refl, ap, sym, subst, ◌∙◌, arith}
 use Rattle.std.specs.Prelude.{Result, Ok, Err, IfOk, IfErr}
-use Rattle.atom_values.specs.Counts.{Rose, counted}
+use Rattle.atom_values.specs.Counts.{HasRisen, counted}
 use Rattle.doc_source.specs.declared.fetch.GetFault.{GetFault}
 use Rattle.doc_source.specs.declared.fetch.GetFault.TheVariants.{Failed, NoMemory}
 use Rattle.feed_disk.specs.Disk.{DiskState}
@@ -57,8 +57,8 @@ module _ {D : Type 0} (s t : DiskState) (before after : StoreFetchValue D) where
     worked = record { spent = ap is_spent is; failures = failures; faults = faults };
   }
 
-  module _ (told : Type 0) {T : Type 0} (result : Result T GetFault) where
-    pub gets-read : Reads s t before after → result ≢ Err Failed → Gets told s t before after result
+  module _ (observable : Type 0) {T : Type 0} (result : Result T GetFault) where
+    pub gets-read : Reads s t before after → result ≢ Err Failed → Gets observable s t before after result
     gets-read reads works = record {
       head = reads.head;
       history = reads.history;
@@ -73,7 +73,7 @@ module _ {D : Type 0} (s t : DiskState) (before after : StoreFetchValue D) where
           seals = record before.store.seals { calls = after.store.seals.calls; spent = true };
         }
         → after.failures ≡ before.failures → ((a : Area) → LeavesAlone s t a)
-        → s.faults ≤ t.faults → Rose s.faults t.faults → result ≡ Err Failed → Gets told s t before after result
+        → s.faults ≤ t.faults → HasRisen s.faults t.faults → result ≡ Err Failed → Gets observable s t before after result
     gets-disk unspent is failures areas later rose fails = record {
       head = ap (λ (store : StoreValue). store.head) is;
       history = ap (λ (store : StoreValue). store.history) is;
@@ -89,13 +89,13 @@ module _ {D : Type 0} (s t : DiskState) (before after : StoreFetchValue D) where
     }
 
 -- a read gave other bytes than the store has
-pub gets-changed : {D T : Type 0} (told : Type 0) (state : D → DiskState) (s : DiskState)
+pub gets-changed : {D T : Type 0} (observable : Type 0) (state : D → DiskState) (s : DiskState)
     (before read after : StoreFetchValue D) (result : Result T GetFault) →
-    Reads s (state read.disk) before read → ¬ told
+    Reads s (state read.disk) before read → ¬ observable
     → after ≡ record read { failures = counted read.failures } → result ≡ Err Failed
-    → Gets told s (state after.disk) before after result
-gets-changed {D = D} {T = T} told state s before read after result reads untold is fails =
-    subst (λ (f : StoreFetchValue D). Gets {T = T} told s (state f.disk) before f result) (sym is) record {
+    → Gets observable s (state after.disk) before after result
+gets-changed {D = D} {T = T} observable state s before read after result reads untold is fails =
+    subst (λ (f : StoreFetchValue D). Gets {T = T} observable s (state f.disk) before f result) (sym is) record {
       head = reads.head;
       history = reads.history;
       areas = reads.areas;
@@ -127,41 +127,41 @@ reads-inside {D = D} state inside before left disk view is areas faults =
     view (reads-by_calls (state inside.disk) (state disk) inside (record inside { store = left; disk = disk }) is refl
     areas faults)
 
-pub disk-inside : {D T : Type 0} (told : Type 0) (state : D → DiskState) (result : Result T GetFault)
+pub disk-inside : {D T : Type 0} (observable : Type 0) (state : D → DiskState) (result : Result T GetFault)
     (inside before : StoreFetchValue D) (left : StoreValue) (disk : D)
     → inside ≡ before → is_spent before.store ≡ false
     → left ≡ record inside.store { seals = record inside.store.seals { calls = left.seals.calls; spent = true } }
     → ((a : Area) → LeavesAlone (state inside.disk) (state disk) a)
-    → (state inside.disk).faults ≤ (state disk).faults → Rose (state inside.disk).faults (state disk).faults
+    → (state inside.disk).faults ≤ (state disk).faults → HasRisen (state inside.disk).faults (state disk).faults
     → result ≡ Err Failed
-    → Gets told (state before.disk) (state disk) before (record inside { store = left; disk = disk }) result
-disk-inside {D = D} told state result inside before left disk view unspent is areas later rose fails =
-    subst (λ (f : StoreFetchValue D). Gets told (state f.disk) (state disk) f
+    → Gets observable (state before.disk) (state disk) before (record inside { store = left; disk = disk }) result
+disk-inside {D = D} observable state result inside before left disk view unspent is areas later rose fails =
+    subst (λ (f : StoreFetchValue D). Gets observable (state f.disk) (state disk) f
     (record inside { store = left; disk = disk })
-    result) view (gets-disk (state inside.disk) (state disk) inside (record inside { store = left; disk = disk }) told
+    result) view (gets-disk (state inside.disk) (state disk) inside (record inside { store = left; disk = disk }) observable
     result (ap (λ (f : StoreFetchValue D). is_spent f.store) view ∙ unspent) is refl areas later rose fails)
 
 -- a document that was read, and that is longer than an answer may be or not
-pub gets-limited : {D T : Type 0} (told : Type 0) (state : D → DiskState) (s : DiskState)
+pub gets-limited : {D T : Type 0} (observable : Type 0) (state : D → DiskState) (s : DiskState)
     (before read after : StoreFetchValue D) (result : Result T GetFault) (limit size : ℕ)
-    → Reads s (state read.disk) before read → (told → size ≤ limit) → IfOk result (λ found. after ≡ read)
+    → Reads s (state read.disk) before read → (observable → size ≤ limit) → IfOk result (λ found. after ≡ read)
     → IfErr result (λ fault. fault ≡ Failed) → IfErr result (λ fault. limit < size)
     → IfErr result (λ fault. after ≡ record read { failures = counted read.failures })
-    → Gets told s (state after.disk) before after result
-gets-limited {D = D} {T = T} told state s before read after (Ok found) limit size reads short same fault long failures =
-    subst (λ (f : StoreFetchValue D). Gets {T = T} told s (state f.disk) before f (Ok found)) (sym same)
-    (gets-read s (state read.disk) before read told (Ok found) reads (λ e. cc))
-gets-limited told state s before read after (Err why) limit size reads short same fault long failures =
-    gets-changed told state s before read after (Err why) reads (λ tells. let within = short tells in omega
+    → Gets observable s (state after.disk) before after result
+gets-limited {D = D} {T = T} observable state s before read after (Ok found) limit size reads short same fault long failures =
+    subst (λ (f : StoreFetchValue D). Gets {T = T} observable s (state f.disk) before f (Ok found)) (sym same)
+    (gets-read s (state read.disk) before read observable (Ok found) reads (λ e. cc))
+gets-limited observable state s before read after (Err why) limit size reads short same fault long failures =
+    gets-changed observable state s before read after (Err why) reads (λ tells. let within = short tells in omega
     arith) failures
     (cc)
 
 -- the addresses asked have no part in it
-pub gets-asked : {D T : Type 0} (told : Type 0) (s t : DiskState) (before after other left : StoreFetchValue D)
+pub gets-asked : {D T : Type 0} (observable : Type 0) (s t : DiskState) (before after other left : StoreFetchValue D)
     (result : Result T GetFault) → other.store ≡ before.store → other.failures ≡ before.failures
-    → left.store ≡ after.store → left.failures ≡ after.failures → Gets told s t before after result
-    → Gets told s t other left result
-gets-asked told s t before after other left result store failures store_left failures_left gets = record {
+    → left.store ≡ after.store → left.failures ≡ after.failures → Gets observable s t before after result
+    → Gets observable s t other left result
+gets-asked observable s t before after other left result store failures store_left failures_left gets = record {
   head = ap (λ (v : StoreValue). v.head) store_left ∙ gets.head ∙ sym (ap (λ (v : StoreValue). v.head) store);
   history =
       ap (λ (v : StoreValue). v.history) store_left ∙ gets.history ∙ sym (ap (λ (v : StoreValue). v.history) store);
@@ -189,21 +189,21 @@ gets-asked told s t before after other left result store failures store_left fai
 }
 
 -- a call before which an address was put among those asked, and after which they may be others
-pub gets-put : {D T : Type 0} (told : Type 0) (state : D → DiskState) (t : DiskState)
+pub gets-put : {D T : Type 0} (observable : Type 0) (state : D → DiskState) (t : DiskState)
     (inside before after : StoreFetchValue D)
     (put : List (List ℕ)) (result : Result T GetFault) → inside ≡ before
-    → Gets told (state inside.disk) t (record inside { asked = put }) after result
-    → Gets told (state before.disk) t before after result
-gets-put {D = D} {T = T} told state t inside before after put result view gets =
-    subst (λ (f : StoreFetchValue D). Gets {T = T} told (state f.disk) t f after result) view
-    (gets-asked told (state inside.disk) t (record inside { asked = put }) after inside after result refl refl refl refl
+    → Gets observable (state inside.disk) t (record inside { asked = put }) after result
+    → Gets observable (state before.disk) t before after result
+gets-put {D = D} {T = T} observable state t inside before after put result view gets =
+    subst (λ (f : StoreFetchValue D). Gets {T = T} observable (state f.disk) t f after result) view
+    (gets-asked observable (state inside.disk) t (record inside { asked = put }) after inside after result refl refl refl refl
     gets)
 
-pub gets-taken : {D T : Type 0} (told : Type 0) (state : D → DiskState) (s : DiskState)
+pub gets-taken : {D T : Type 0} (observable : Type 0) (state : D → DiskState) (s : DiskState)
     (before inside after : StoreFetchValue D) (left : List (List ℕ)) (result : Result T GetFault) → inside ≡ after
-    → Gets told s (state after.disk) before after result
-    → Gets told s (state inside.disk) before (record inside { asked = left }) result
-gets-taken {D = D} {T = T} told state s before inside after left result view gets =
-    gets-asked told s (state inside.disk) before inside before (record inside { asked = left }) result refl
+    → Gets observable s (state after.disk) before after result
+    → Gets observable s (state inside.disk) before (record inside { asked = left }) result
+gets-taken {D = D} {T = T} observable state s before inside after left result view gets =
+    gets-asked observable s (state inside.disk) before inside before (record inside { asked = left }) result refl
     refl refl refl
-    (subst (λ (f : StoreFetchValue D). Gets {T = T} told s (state f.disk) before f result) (sym view) gets)
+    (subst (λ (f : StoreFetchValue D). Gets {T = T} observable s (state f.disk) before f result) (sym view) gets)

@@ -249,7 +249,7 @@ module _ (head : HeadValue) (history : List Op) (kept : List KeptValue) (stop : 
     walk-within : IsCrashAt (state_of before).clock stop.call after left
         → LeavesWalked head history (Some stop) kept disk left
     walk-within at =
-        let step = leaves_inside {told = Unit {0}} (state_of before) (state_of after) MirrorArea
+        let step = leaves_inside {observable = Unit {0}} (state_of before) (state_of after) MirrorArea
         (λ _. IsWalkStep (setting_by head history) kept) (memory_is_disk before) runs.leaves.moments at.moment
         ((state_of left).content MirrorArea) at.after (at.crash.among MirrorArea) in
         record {

@@ -1,7 +1,7 @@
 -- The answers of a store's documents to an address, and the state of a fetch of them afterwards.
 use Rattle.std.specs.Prelude.{◌≡◌, ◌≢◌, ◌⊎◌, ◌≤◌, ℕ, true, false, List, Option, Some, Result, Err}
 use Rattle.std.specs.Prelude.{if◌then◌else◌, bytes_eq, find, option_map}
-use Rattle.atom_values.specs.Counts.{Rose, counted}
+use Rattle.atom_values.specs.Counts.{HasRisen, counted}
 use Rattle.atom_writer.specs.Pieces.{text}
 use Rattle.chain_links.specs.Address.{printed}
 use Rattle.chain_links.specs.declared.address.Address.TheVariants.{Feed, Archive}
@@ -50,21 +50,21 @@ pub record FailedByDisk {D : Type 0} (s t : DiskState) (before after : StoreFetc
   pub spent : is_spent after.store ≡ true
   pub failures : after.failures ≡ before.failures
   pub later : s.faults ≤ t.faults
-  pub rose : Rose s.faults t.faults
+  pub rose : HasRisen s.faults t.faults
 
--- the store was spent, or the disk gave other bytes than a store has, which no disk does whose content is told
-pub record FailedByStore {D : Type 0} (told : Type 0) (s t : DiskState) (before after : StoreFetchValue D)
+-- the store was spent, or the disk gave other bytes than a store has, which no disk does whose content contracts see
+pub record FailedByStore {D : Type 0} (observable : Type 0) (s t : DiskState) (before after : StoreFetchValue D)
     : Type 0 where
-  pub cause : (is_spent before.store ≡ true) ⊎ (¬ told)
+  pub cause : (is_spent before.store ≡ true) ⊎ (¬ observable)
   pub spent : is_spent after.store ≡ is_spent before.store
   pub failures : after.failures ≡ counted before.failures
   pub faults : t.faults ≡ s.faults
 
 -- A call of a fetch. The feed stays, and so does each area of the disk. Without `Failed` the counts of failures stay.
-pub record Gets {D T : Type 0} (told : Type 0) (s t : DiskState) (before after : StoreFetchValue D)
+pub record Gets {D T : Type 0} (observable : Type 0) (s t : DiskState) (before after : StoreFetchValue D)
     (result : Result T GetFault) : Type 0 where
   pub head : after.store.head ≡ before.store.head
   pub history : after.store.history ≡ before.store.history
   pub areas : (a : Area) → LeavesAlone s t a
   pub worked : result ≢ Err Failed → Worked s t before after
-  pub failed : result ≡ Err Failed → FailedByDisk s t before after ⊎ FailedByStore told s t before after
+  pub failed : result ≡ Err Failed → FailedByDisk s t before after ⊎ FailedByStore observable s t before after

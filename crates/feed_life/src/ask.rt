@@ -43,11 +43,7 @@ pub(crate) fn open(alloc: Global, disk: &mut MemoryDisk) -> Result<Store, NoMemo
     // A law, which does nothing.
     stores_open_in_one_way();
     match Store::load(alloc, disk) {
-        Ok(store) => {
-            // The contract of `calls` says that the sizes of the logs are those of their payloads.
-            let _ = store.calls();
-            Ok(store)
-        }
+        Ok(store) => Ok(store),
         Err(_) => Err(NoMemory),
     }
 }

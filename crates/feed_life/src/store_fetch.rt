@@ -1,6 +1,6 @@
 ghost use Rattle.std.specs.Prelude.{◌≡◌, ◌≢◌, ◌≤◌, ◌<◌, ◌+◌, ◌∷◌, ◌++◌, [], true, false, Some, Err, Ok};
 ghost use Rattle.std.specs.Prelude.{IfOk, IfErr, IfSome, MatchOption, option_map, vec_len};
-ghost use Rattle.atom_values.specs.Counts.{Rose, counted};
+ghost use Rattle.atom_values.specs.Counts.{HasRisen, counted};
 ghost use Rattle.atom_writer.specs.Pieces.{text};
 ghost use Rattle.doc_source.specs.Pile.{offer_limit};
 ghost use Rattle.feed_life.specs.StoreFetch.{Gets, store_answers};
@@ -44,13 +44,13 @@ impl<D: Disk> Model for StoreFetch<D> {
       failures = f.failures;
     } };
 
-    ghost invariant = { λ f. is_spent f.store ≡ false → D.told → StandsFor (D.state f.disk) f.store };
+    ghost invariant = { λ f. is_spent f.store ≡ false → D.observable → StandsFor (D.state f.disk) f.store };
 }
 
 impl<D: Disk> StoreFetch<D> {
     /// Returns the fetch before its first call.
     pub fn new(alloc: Global, store: Store, disk: D) -> StoreFetch<D>
-        requires { is_spent store ≡ false → D.told → StandsFor (D.state disk) store }
+        requires { is_spent store ≡ false → D.observable → StandsFor (D.state disk) store }
         ensures { result ≡ record { store = store; disk = disk; asked = []; failures = 0 } }
     {
         StoreFetch {
@@ -65,7 +65,7 @@ impl<D: Disk> StoreFetch<D> {
     pub fn back(self) -> (Store, D)
         ensures store { result.0 ≡ self.store }
         ensures disk { result.1 ≡ self.disk }
-        ensures stands { is_spent result.0 ≡ false → D.told → StandsFor (D.state result.1) result.0 }
+        ensures stands { is_spent result.0 ≡ false → D.observable → StandsFor (D.state result.1) result.0 }
     {
         (self.store, self.disk)
     }
@@ -103,7 +103,7 @@ impl<D: Disk> StoreFetch<D> {
             ≡ Some (text (documents.subscription self.old.store.head self.old.store.history))) }
         ensures limit { IfOk result (λ found. IfSome found (λ bytes. vec_len bytes ≤ offer_limit)) }
         ensures asked { self.new.asked ≡ self.old.asked }
-        ensures gets { Gets D.told (D.state self.old.disk) (D.state self.new.disk) self.old self.new result }
+        ensures gets { Gets D.observable (D.state self.old.disk) (D.state self.new.disk) self.old self.new result }
     {
         let written = self.store.subscription()?;
         self.within_limit(written)
@@ -112,12 +112,12 @@ impl<D: Disk> StoreFetch<D> {
     /// Returns the archive of this number, if it is sealed.
     fn archive(&mut self, number: u32) -> Result<Option<Vec<u8>>, GetFault>
         requires { is_spent self.old.store ≡ false }
-        ensures answer { IfOk result (λ found. D.told
+        ensures answer { IfOk result (λ found. D.observable
             → MatchOption found (¬ IsSealed self.old.store number) (λ bytes. IsSealed self.old.store number
             × (bytes.items ≡ seal_of self.old.store.head self.old.store.history number))) }
         ensures limit { IfOk result (λ found. IfSome found (λ bytes. vec_len bytes ≤ offer_limit)) }
         ensures asked { self.new.asked ≡ self.old.asked }
-        ensures gets { Gets D.told (D.state self.old.disk) (D.state self.new.disk) self.old self.new result }
+        ensures gets { Gets D.observable (D.state self.old.disk) (D.state self.new.disk) self.old self.new result }
     {
         match self.store.archive(&mut self.disk, number) {
             Ok(written) => self.within_limit(written),
@@ -130,12 +130,12 @@ impl<D: Disk> StoreFetch<D> {
 
     /// Returns the document of an address, if the store has one.
     fn answer(&mut self, address: &[u8]) -> Result<Option<Vec<u8>>, GetFault>
-        ensures answer { IfOk result (λ found. D.told → option_map (λ bytes. bytes.items) found
+        ensures answer { IfOk result (λ found. D.observable → option_map (λ bytes. bytes.items) found
             ≡ store_answers self.old.store.head self.old.store.history address.now) }
         ensures limit { IfOk result (λ found. IfSome found (λ bytes. vec_len bytes ≤ offer_limit)) }
         ensures spent { is_spent self.old.store ≡ true → result ≡ Err GetFault.Failed }
         ensures asked { self.new.asked ≡ self.old.asked }
-        ensures gets { Gets D.told (D.state self.old.disk) (D.state self.new.disk) self.old self.new result }
+        ensures gets { Gets D.observable (D.state self.old.disk) (D.state self.new.disk) self.old self.new result }
     {
         if self.store.is_spent() {
             return Err(self.fail());
@@ -152,7 +152,7 @@ impl<D: Disk> StoreFetch<D> {
 }
 
 impl<D: Disk> Fetch for StoreFetch<D> {
-    ghost told = { D.told };
+    ghost observable = { D.observable };
 
     ghost state = { λ f. record {
       asked = f.asked;
@@ -164,21 +164,21 @@ impl<D: Disk> Fetch for StoreFetch<D> {
         // A spent store has no answer. An unspent one fails by a device call, or by other bytes than its own.
         ensures spent { is_spent self.old.store ≡ true → result ≢ Err GetFault.NoMemory
             → result ≡ Err GetFault.Failed }
-        ensures gets { Gets D.told (D.state self.old.disk) (D.state self.new.disk) self.old self.new result }
+        ensures gets { Gets D.observable (D.state self.old.disk) (D.state self.new.disk) self.old self.new result }
 
         // The clauses of the trait.
-        ensures asked { result ≢ Err GetFault.NoMemory → D.told
+        ensures asked { result ≢ Err GetFault.NoMemory → D.observable
             → self.new.asked ≡ self.old.asked ++ address.now ∷ [] }
-        ensures unasked { result ≡ Err GetFault.NoMemory → D.told → self.new.asked ≡ self.old.asked }
+        ensures unasked { result ≡ Err GetFault.NoMemory → D.observable → self.new.asked ≡ self.old.asked }
         ensures answers { store_answers self.new.store.head self.new.store.history
             ≡ store_answers self.old.store.head self.old.store.history }
-        ensures answer { IfOk result (λ found. D.told → option_map (λ bytes. bytes.items) found
+        ensures answer { IfOk result (λ found. D.observable → option_map (λ bytes. bytes.items) found
             ≡ store_answers self.old.store.head self.old.store.history address.now) }
         ensures limit { IfOk result (λ found. IfSome found (λ bytes. vec_len bytes ≤ offer_limit)) }
         ensures later { (D.state self.old.disk).faults + self.old.failures
             ≤ (D.state self.new.disk).faults + self.new.failures }
         ensures failed { result ≡ Err GetFault.Failed
-            → Rose ((D.state self.old.disk).faults + self.old.failures)
+            → HasRisen ((D.state self.old.disk).faults + self.old.failures)
             ((D.state self.new.disk).faults + self.new.failures) }
         ensures worked { result ≢ Err GetFault.Failed
             → (D.state self.new.disk).faults + self.new.failures

@@ -6,8 +6,8 @@ use Rattle.feed_disk.specs.declared.area.Area.TheVariants.{Journal, Sealed}
 use Rattle.feed_disk.proofs.MomentLemmas.{both_leave, both_join}
 use Rattle.feed_recovery.specs.Settled.{AlwaysLeavesBoth}
 
-pub both_always : {told : Type 0} (s t : DiskState) (P Q : List ℕ → Type 0) (R : List ℕ → List ℕ → Type 0)
-    → IsDisk told s → AlwaysLeaves s t Journal P → AlwaysLeaves s t Sealed Q
+pub both_always : {observable : Type 0} (s t : DiskState) (P Q : List ℕ → Type 0) (R : List ℕ → List ℕ → Type 0)
+    → IsDisk observable s → AlwaysLeaves s t Journal P → AlwaysLeaves s t Sealed Q
     → ((i j : List ℕ) → P i → Q j → R i j) → AlwaysLeavesBoth s t R
 both_always s t P Q R disk first second both = record {
   moments = both_leave s t Journal Sealed (λ _. P) (λ _. Q) (λ _. R) disk first.moments second.moments

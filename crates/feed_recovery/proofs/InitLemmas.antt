@@ -59,22 +59,22 @@ opens_first head is_head windows journal sealed first none = record {
 }
 
 -- the content of an unused disk is whole
-pub unused_whole : {told : Type 0} (s : DiskState) → IsDisk told s → told → Unused s → AreWhole s
+pub unused_whole : {observable : Type 0} (s : DiskState) → IsDisk observable s → observable → Unused s → AreWhole s
 unused_whole s disk tells unused =
     let here = unused (s.content Journal) (s.content Sealed) (disk.content tells Journal)
     (disk.content tells Sealed) in
     record { journal = here.journal_whole; sealed = here.sealed_whole }
 
 -- a disk that is settled with a store has a payload
-pub settled_has_payload : {told : Type 0} (s : DiskState) (head : HeadValue) (history : List Op) (least : ℕ)
-    → IsDisk told s → told → Settled s head history least → HasNoPayload s → ⊥
+pub settled_has_payload : {observable : Type 0} (s : DiskState) (head : HeadValue) (history : List Op) (least : ℕ)
+    → IsDisk observable s → observable → Settled s head history least → HasNoPayload s → ⊥
 settled_has_payload s head history least disk tells settled none =
     let past = settled (s.content Journal) (s.content Sealed) (disk.content tells Journal)
     (disk.content tells Sealed) in
     omega (arith, ap length (sym none.journal ∙ past.opens.is_journal.is))
 
 -- while the areas of an unused disk are loaded
-pub loading_leaves : {told : Type 0} (s t : DiskState) (head : HeadValue) → IsDisk told s
+pub loading_leaves : {observable : Type 0} (s t : DiskState) (head : HeadValue) → IsDisk observable s
     → AlwaysLeaves s t Journal (StandsFor (s.image_now Journal))
     → AlwaysLeaves s t Sealed (StandsFor (s.image_now Sealed)) → Unused s → AlwaysLeavesBoth s t (IsInit head)
 loading_leaves s t head disk first second unused =
@@ -89,8 +89,8 @@ loading_leaves s t head disk first second unused =
     })
 
 -- while the head is appended
-pub heading_leaves : {told : Type 0} → BegunAreWhole → (s t : DiskState) (head : HeadValue) → IsHead head
-    → HasSealed (windows_of head []) 0 → IsDisk told s → HasNoPayload s → IsAtRest s → LeavesAlone s t Sealed
+pub heading_leaves : {observable : Type 0} → BegunAreWhole → (s t : DiskState) (head : HeadValue) → IsHead head
+    → HasSealed (windows_of head []) 0 → IsDisk observable s → HasNoPayload s → IsAtRest s → LeavesAlone s t Sealed
     → AlwaysLeaves s t Journal (IsStep (records (s.content Journal)) (text_of heads head))
     → AlwaysLeavesBoth s t (IsInit head)
 heading_leaves law s t head is_head windows disk none rests alone run =

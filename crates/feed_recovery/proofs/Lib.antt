@@ -2,7 +2,7 @@
 pub mod ArchiveLemmas
 -- `Store::load`, `Store::init` and `Store::commit`: both areas at each moment
 pub mod BothLemmas
--- `Store::commit`: `most`
+-- `Store::commit`: `calls`
 pub mod CountLemmas
 -- `Store::member`: the entry that an operation's bytes set
 pub mod EntryLemmas
@@ -12,7 +12,7 @@ pub mod FaultLemmas
 pub mod HistoryLemmas
 -- `Store::init`: the store that it makes, and the disk before that
 pub mod InitLemmas
--- `Store::load`: `moments`, `settled` and `rests`
+-- `Store::load`: `moments` and `settled`
 pub mod LoadedLemmas
 -- `Store::load`: its steps, which write nothing
 pub mod ReadingLemmas
@@ -24,7 +24,7 @@ pub mod RefusalLemmas
 pub mod SealLemmas
 -- `Store::append_seal` and `Store::append_operation`: the seals
 pub mod SealListLemmas
--- `Store::commit`, `moments`, and `settled` of it, of `Store::load` and of `Store::init`
+-- `Store::commit`: `committed` and `leaves`, and `settled` of it, of `Store::load` and of `Store::init`
 pub mod SettleLemmas
 -- `Store::append_seal` and `Store::append_operation`: `stands`
 pub mod StoreLemmas

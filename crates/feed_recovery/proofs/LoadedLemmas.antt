@@ -68,8 +68,8 @@ stands_before s m t a run alone = always_joins s m t a (ImageStandsFor (s.image_
     (alone_leaves m t a (ImageStandsFor (s.image_now a)) run.now alone)
 
 -- both areas have images with the payloads that they could have before
-pub settled_stays : {told : Type 0} (s t : DiskState) (head : HeadValue) (history : List Op) (least : ℕ)
-    → IsDisk told s → AlwaysLeaves s t Journal (ImageStandsFor (s.image_now Journal))
+pub settled_stays : {observable : Type 0} (s t : DiskState) (head : HeadValue) (history : List Op) (least : ℕ)
+    → IsDisk observable s → AlwaysLeaves s t Journal (ImageStandsFor (s.image_now Journal))
     → AlwaysLeaves s t Sealed (ImageStandsFor (s.image_now Sealed)) → Settled s head history least
     → AlwaysLeavesBoth s t (OpensPast head history least)
 settled_stays s t head history least disk first second settled =
@@ -78,7 +78,7 @@ settled_stays s t head history least disk first second settled =
     (past_as head history least (s.image_now Journal) (s.image_now Sealed) settled)
 
 -- so a disk that was settled stays so
-pub payloads-leave : {told : Type 0} (s t : DiskState) → IsDisk told s → KeepsPayloads s t → LeavesStores s t
+pub payloads-leave : {observable : Type 0} (s t : DiskState) → IsDisk observable s → KeepsPayloads s t → LeavesStores s t
 payloads-leave s t disk kept = λ head history least settled.
     settled_stays s t head history least disk kept.journal kept.sealed settled
 

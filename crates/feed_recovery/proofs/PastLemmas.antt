@@ -14,7 +14,7 @@ use Rattle.member_rules.specs.Head.{HeadValue}
 use Rattle.member_rules.specs.declared.operation.Op.{Op}
 
 -- no call is made
-pub both_stay : {told : Type 0} (s : DiskState) (P : List ℕ → List ℕ → Type 0) → IsDisk told s → NowBoth s P
+pub both_stay : {observable : Type 0} (s : DiskState) (P : List ℕ → List ℕ → Type 0) → IsDisk observable s → NowBoth s P
     → AlwaysLeavesBoth s s P
 both_stay s P disk held = record {
   moments = record {
@@ -33,7 +33,7 @@ both_weaken s t P Q to run = record {
 }
 
 -- a run that leaves both areas alone
-pub both_alone : {told : Type 0} (s t : DiskState) (P : List ℕ → List ℕ → Type 0) → IsDisk told s
+pub both_alone : {observable : Type 0} (s t : DiskState) (P : List ℕ → List ℕ → Type 0) → IsDisk observable s
     → LeavesAlone s t Journal → LeavesAlone s t Sealed → NowBoth s P → AlwaysLeavesBoth s t P
 both_alone s t P disk journal sealed held = record {
   moments = both_leave s t Journal Sealed (λ _. s.image_now Journal) (λ _. s.image_now Sealed) (λ _. P) disk
@@ -89,16 +89,16 @@ leaves-more s m t head history operation least grown first second =
 -- A settled disk
 
 -- the content of a disk that leaves only stores is whole
-pub settled-whole : {told : Type 0} (s : DiskState) (head : HeadValue) (operations : List Op) (least : ℕ)
-    → IsDisk told s → told → Settled s head operations least → AreWhole s
+pub settled-whole : {observable : Type 0} (s : DiskState) (head : HeadValue) (operations : List Op) (least : ℕ)
+    → IsDisk observable s → observable → Settled s head operations least → AreWhole s
 settled-whole s head operations least disk tells settled =
     let past = settled (s.content Journal) (s.content Sealed) (disk.content tells Journal)
     (disk.content tells Sealed) in
     record { journal = past.journal_whole; sealed = past.sealed_whole }
 
 -- the store that the content opens to has the head of a settled disk
-pub settled-head : {told : Type 0} (s : DiskState) (head : HeadValue) (operations : List Op) (least : ℕ)
-    → IsDisk told s → told → OpensInOneWay → Settled s head operations least → (stored : Stored)
+pub settled-head : {observable : Type 0} (s : DiskState) (head : HeadValue) (operations : List Op) (least : ℕ)
+    → IsDisk observable s → observable → OpensInOneWay → Settled s head operations least → (stored : Stored)
     → OpensTo s.content stored → stored.head ≡ head
 settled-head s head operations least disk tells one settled stored opens =
     let past = settled (s.content Journal) (s.content Sealed) (disk.content tells Journal)

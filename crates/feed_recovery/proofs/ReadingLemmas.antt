@@ -60,9 +60,9 @@ worked_join s t u a b c first second = record {
 }
 
 -- a log can still be read after a step that worked
-pub readable_later : (told : Type 0) (s t : DiskState) (a : Area) (before after : LogValue)
-    → IsReadable told s a before → OnlyReads s t → Worked s t before after → IsReadable told t a after
-readable_later told s t a before after readable reads worked = record {
+pub readable_later : (observable : Type 0) (s t : DiskState) (a : Area) (before after : LogValue)
+    → IsReadable observable s a before → OnlyReads s t → Worked s t before after → IsReadable observable t a after
+readable_later observable s t a before after readable reads worked = record {
   area = ap (λ (l : LogValue). l.area) worked.log ∙ readable.area;
   unspent = ap (λ (l : LogValue). l.spent) worked.log ∙ readable.unspent;
   rules = subst IsLog (sym worked.log) readable.rules;
@@ -75,9 +75,9 @@ readable_later told s t a before after readable reads worked = record {
 }
 
 -- the other log too, which was lent to no call
-pub readable_alone : (told : Type 0) (s t : DiskState) (a : Area) (log : LogValue) → IsReadable told s a log
-    → OnlyReads s t → IsReadable told t a log
-readable_alone told s t a log readable reads = record {
+pub readable_alone : (observable : Type 0) (s t : DiskState) (a : Area) (log : LogValue) → IsReadable observable s a log
+    → OnlyReads s t → IsReadable observable t a log
+readable_alone observable s t a log readable reads = record {
   area = readable.area;
   unspent = readable.unspent;
   rules = readable.rules;
@@ -85,13 +85,13 @@ readable_alone told s t a log readable reads = record {
 }
 
 -- out of memory has no cause in the payloads
-pub memory_fails : (told : Type 0) (s t : DiskState) → t.faults ≡ s.faults → FailsBy told s t NoMemory
-memory_fails told s t same = record { area = tt; cause = λ tells. tt; faults = same }
+pub memory_fails : (observable : Type 0) (s t : DiskState) → t.faults ≡ s.faults → FailsBy observable s t NoMemory
+memory_fails observable s t same = record { area = tt; cause = λ tells. tt; faults = same }
 
 -- a fault of a step is that of all steps until then
-pub fails_later : (told : Type 0) (s t u : DiskState) (fault : LoadFault) → OnlyReads s t → t.faults ≡ s.faults
-    → FailsBy told t u fault → FailsBy told s u fault
-fails_later told s t u fault reads same fails = record {
+pub fails_later : (observable : Type 0) (s t u : DiskState) (fault : LoadFault) → OnlyReads s t → t.faults ≡ s.faults
+    → FailsBy observable t u fault → FailsBy observable s u fault
+fails_later observable s t u fault reads same fails = record {
   area = fails.area;
   cause = λ tells.
       subst (λ (l : List ℕ). IsLoadFault (records l) (records (s.content Sealed)) fault)
@@ -123,28 +123,28 @@ both_logs s t u a b c d (inr first) (inr second) = inr (
 )
 
 -- a payload that isn't the bytes of a head, the journal's first
-pub head_fails : (told : Type 0) (s t : DiskState) (codec : CodecFault) (payload : List ℕ) → t.faults ≡ s.faults
-    → (told → slice_get (records (s.content Journal)) 0 ≡ Some payload)
+pub head_fails : (observable : Type 0) (s t : DiskState) (codec : CodecFault) (payload : List ℕ) → t.faults ≡ s.faults
+    → (observable → slice_get (records (s.content Journal)) 0 ≡ Some payload)
     → ((at : ℕ) → codec ≡ BadField at → IsNoText heads payload × IsPlaceOfRefusal heads payload at)
-    → FailsBy told s t (fault_of 0 codec)
-head_fails told s t (BadField at) payload same there refused = record {
+    → FailsBy observable s t (fault_of 0 codec)
+head_fails observable s t (BadField at) payload same there refused = record {
   area = refl;
   cause = λ tells.
       let why = refused at refl in
       (refl, inl (refl, record { payload = payload; there = there tells; none = why.0; place = why.1 }));
   faults = same;
 }
-head_fails told s t CodecNoMemory payload same there refused =
+head_fails observable s t CodecNoMemory payload same there refused =
     record { area = tt; cause = λ tells. tt; faults = same }
 
 -- or of an operation, after these
-pub operation_fails : (told : Type 0) (s t : DiskState) (codec : CodecFault) (index : ℕ) (head : HeadValue)
+pub operation_fails : (observable : Type 0) (s t : DiskState) (codec : CodecFault) (index : ℕ) (head : HeadValue)
     (history : List Op) (payload : List ℕ) → 1 ≤ index
-    → (told → IsJournal (take index (records (s.content Journal))) head history) → t.faults ≡ s.faults
-    → (told → slice_get (records (s.content Journal)) index ≡ Some payload)
+    → (observable → IsJournal (take index (records (s.content Journal))) head history) → t.faults ≡ s.faults
+    → (observable → slice_get (records (s.content Journal)) index ≡ Some payload)
     → ((at : ℕ) → codec ≡ BadField at → IsNoText operations payload × IsPlaceOfRefusal operations payload at)
-    → FailsBy told s t (fault_of index codec)
-operation_fails told s t (BadField at) index head history payload from_one before same there refused = record {
+    → FailsBy observable s t (fault_of index codec)
+operation_fails observable s t (BadField at) index head history payload from_one before same there refused = record {
   area = refl;
   cause = λ tells. (
     refl,
@@ -162,17 +162,17 @@ operation_fails told s t (BadField at) index head history payload from_one befor
   );
   faults = same;
 }
-operation_fails told s t CodecNoMemory index head history payload from_one before same there refused =
+operation_fails observable s t CodecNoMemory index head history payload from_one before same there refused =
     record { area = tt; cause = λ tells. tt; faults = same }
 
 -- a payload that isn't the seal that it has to be, after others that are
-pub seal_fails : (told : Type 0) (s t : DiskState) (seals : LogValue) (head : HeadValue) (history : List Op) (index : ℕ)
-    (payload : List ℕ) → IsReadable told s Sealed seals → IsSealCount head history (length seals.extents)
-    → (told → IsJournal (records (s.content Journal)) head history)
-    → (told → AreSeals head history (take index (records (s.content Sealed))))
-    → (told → slice_get (records (s.content Sealed)) index ≡ Some payload)
-    → (payload ≢ seal_of head history (index + 1)) → t.faults ≡ s.faults → FailsBy told s t (BadSeal (index + 1))
-seal_fails told s t seals head history index payload readable counted is_journal before there differs same =
+pub seal_fails : (observable : Type 0) (s t : DiskState) (seals : LogValue) (head : HeadValue) (history : List Op) (index : ℕ)
+    (payload : List ℕ) → IsReadable observable s Sealed seals → IsSealCount head history (length seals.extents)
+    → (observable → IsJournal (records (s.content Journal)) head history)
+    → (observable → AreSeals head history (take index (records (s.content Sealed))))
+    → (observable → slice_get (records (s.content Sealed)) index ≡ Some payload)
+    → (payload ≢ seal_of head history (index + 1)) → t.faults ≡ s.faults → FailsBy observable s t (BadSeal (index + 1))
+seal_fails observable s t seals head history index payload readable counted is_journal before there differs same =
     let place : index ≡ index + 1 - 1 = omega arith in
     record {
       area = tt;

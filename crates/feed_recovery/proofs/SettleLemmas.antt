@@ -1,17 +1,18 @@
 -- The images that a crash leaves of a store at rest, and while a commit appends a seal and an operation.
-use Rattle.std.proofs.Common.{◌≡◌, inl, inr, ℕ, ◌≤◌, List, [], ◌∷◌, ◌++◌, length, refl, sym, ◌∙◌, subst}
-use Rattle.std.proofs.Common.{arith, length-append}
+use Rattle.std.proofs.Common.{◌≡◌, inl, inr, ℕ, ◌≤◌, List, [], ◌∷◌, ◌++◌, length, refl, sym, ◌∙◌, ap, subst}
+use Rattle.std.proofs.Common.{Result, Ok, Err, arith, length-append}
+use Rattle.std.specs.Prelude.{OnOk}
 use Rattle.std.proofs.Math.Seq.{take-append_seam, take-length}
 use Rattle.atom_writer.specs.Pieced.{text_of}
 use Rattle.feed_disk.specs.Disk.{DiskState, IsDisk}
 use Rattle.feed_disk.specs.Moments.{AlwaysLeaves, LeavesAlone}
 use Rattle.feed_disk.specs.declared.area.Area.TheVariants.{Journal, Sealed}
-use Rattle.feed_disk.proofs.MomentLemmas.{alone_leaves}
+use Rattle.feed_disk.proofs.MomentLemmas.{alone_leaves, always_joins, always_weaker}
 use Rattle.feed_journal.specs.Laws.{BegunAreWhole}
 use Rattle.feed_journal.specs.Records.{records, Begins, IsStep, IsWhole}
-use Rattle.feed_recovery.specs.Commit.{IsSealing}
+use Rattle.feed_recovery.specs.Commit.{HasCommitted, IsSealing}
 use Rattle.feed_recovery.specs.Opening.{Opens}
-use Rattle.feed_recovery.specs.Settled.{AlwaysLeavesBoth, IsAtRest, OpensPast, Settled}
+use Rattle.feed_recovery.specs.Settled.{AlwaysLeavesBoth, IsAtRest, KeepsSeals, OpensPast, Settled}
 use Rattle.feed_recovery.specs.Store.{StoreValue, StandsFor, seal_count}
 use Rattle.feed_recovery.proofs.BothLemmas.{both_always}
 use Rattle.feed_recovery.proofs.LoadedLemmas.{opens_as}
@@ -64,8 +65,8 @@ rest_settles law disk head history seals opens rests journal sealed may may' =
     (opens_as (disk.content Journal) (disk.content Sealed) journal sealed head history seals first.1 second.1 opens)
 
 -- while a seal is appended
-pub sealing_leaves : {told : Type 0} → BegunAreWhole → (s t : DiskState) (store : StoreValue) (operation : Op)
-    → IsDisk told s → StandsFor s store → IsAtRest s → LeavesAlone s t Journal
+pub sealing_leaves : {observable : Type 0} → BegunAreWhole → (s t : DiskState) (store : StoreValue) (operation : Op)
+    → IsDisk observable s → StandsFor s store → IsAtRest s → LeavesAlone s t Journal
     → AlwaysLeaves s t Sealed (IsSealing store.head store.history (records (s.content Sealed)))
     → AlwaysLeavesBoth s t (OpensPast store.head (store.history ++ operation ∷ []) (length store.history))
 sealing_leaves law s t store operation disk stands rests alone run =
@@ -85,6 +86,31 @@ sealing_leaves law s t store operation disk stands rests alone run =
       count = sealing.count;
     }))
 
+-- the seals that were there stay while a seal is appended
+pub sealing_keeps : (s t : DiskState) (head : HeadValue) (history : List Op)
+    → AlwaysLeaves s t Sealed (IsSealing head history (records (s.content Sealed)))
+    → AlwaysLeaves s t Sealed (KeepsSeals (records (s.content Sealed)))
+sealing_keeps s t head history run =
+    always_weaker s t Sealed (IsSealing head history (records (s.content Sealed)))
+    (KeepsSeals (records (s.content Sealed))) (λ i sealing. sealing.kept) run
+
+-- and while an operation is appended after it
+pub adding_keeps : (s m t : DiskState) (seals : List (List ℕ)) → AlwaysLeaves s m Sealed (KeepsSeals seals)
+    → LeavesAlone m t Sealed → AlwaysLeaves s t Sealed (KeepsSeals seals)
+adding_keeps s m t seals run alone =
+    always_joins s m t Sealed (KeepsSeals seals) run (alone_leaves m t Sealed (KeepsSeals seals) run.now alone)
+
+-- the operation was committed to the store as it was before the seal too
+pub committed_since : {T E : Type 0} (result : Result T E) (operation : Op) (before mid after : StoreValue)
+    → mid.history ≡ before.history → OnOk result (HasCommitted operation mid after)
+    → OnOk result (HasCommitted operation before after)
+committed_since (Ok value) operation before mid after same done = record {
+  history = done.history ∙ ap (λ (l : List Op). l ++ operation ∷ []) same;
+  unspent = done.unspent;
+  sealed = done.sealed;
+}
+committed_since (Err fault) operation before mid after same done = tt
+
 -- while an operation is appended, after the seal of each full window
 module _ (begun_are : BegunAreWhole) (stay : ArchivesStay) (turn : WindowsSealInTurn) (store : StoreValue)
     (operation : Op) (full : seal_count store ≡ (windows_of store.head store.history).full)
@@ -92,7 +118,7 @@ module _ (begun_are : BegunAreWhole) (stay : ArchivesStay) (turn : WindowsSealIn
   abbrev after : List Op
   after = store.history ++ operation ∷ []
 
-  pub adding_leaves : {told : Type 0} (s t : DiskState) → IsDisk told s → StandsFor s store → IsAtRest s
+  pub adding_leaves : {observable : Type 0} (s t : DiskState) → IsDisk observable s → StandsFor s store → IsAtRest s
       → LeavesAlone s t Sealed
       → AlwaysLeaves s t Journal (IsStep (records (s.content Journal)) (text_of operations operation))
       → AlwaysLeavesBoth s t (OpensPast store.head after (length store.history))

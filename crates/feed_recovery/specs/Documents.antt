@@ -1,5 +1,5 @@
 -- The archives and members that a store returns.
-use Rattle.std.specs.Prelude.{◌≡◌, ◌⊎◌, ℕ, ◌≤◌, List, ℤ, Some, length, slice_get}
+use Rattle.std.specs.Prelude.{◌≡◌, ◌⊎◌, ℕ, ◌-◌, ◌≤◌, List, ℤ, Some, length, slice_get}
 use Rattle.atom_values.specs.Entry.{EntryValue, IsEntry}
 use Rattle.atom_writer.specs.Members.{member_text}
 use Rattle.atom_writer.specs.Pieced.{text_of}
@@ -7,6 +7,9 @@ use Rattle.atom_writer.specs.declared.doc.FeedName.{FeedName}
 use Rattle.feed_disk.specs.Raised.{raised}
 use Rattle.feed_journal.specs.Log.{payload_lengths}
 use Rattle.feed_recovery.specs.Store.{StoreValue}
+use Rattle.feed_recovery.specs.declared.fault.ArchiveFault.{ArchiveFault}
+use Rattle.feed_recovery.specs.declared.fault.ArchiveFault.TheVariants as fault
+use Rattle.feed_recovery.specs.declared.fault.ArchiveFault.TheVariants.{NotSealed}
 use Rattle.feed_recovery.specs.declared.fault.MemberFault.{MemberFault}
 use Rattle.feed_recovery.specs.declared.fault.MemberFault.TheVariants.{NotFound, Deleted, DiskFault, Changed, NoMemory}
 use Rattle.member_rules.specs.Coding.{operations}
@@ -23,6 +26,14 @@ sealed_count store = (windows_of store.head store.history).sealed
 -- the archive of this number is sealed
 abbrev pub IsSealed : StoreValue → ℕ → Type 0
 IsSealed store number = (1 ≤ number) × (number ≤ sealed_count store)
+
+-- why an archive isn't returned; a read is made only of a sealed one
+abbrev pub IsArchiveFault : StoreValue → ℕ → ArchiveFault → Type 0
+IsArchiveFault store number (NotSealed named sealed) =
+    (¬ IsSealed store number) × (named ≡ number) × (sealed ≡ sealed_count store)
+IsArchiveFault store number fault.DiskFault = IsSealed store number
+IsArchiveFault store number (fault.Changed index) = IsSealed store number × (index ≡ number - 1)
+IsArchiveFault store number fault.NoMemory = IsSealed store number
 
 -- the member is live, with the entry that this operation set, counted from 1
 pub record IsLiveSince (history : List Op) (number version : ℕ) : Type 0 where

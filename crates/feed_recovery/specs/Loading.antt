@@ -1,6 +1,6 @@
 -- The steps of a load, of which none writes.
 use Rattle.std.specs.Prelude.{◌≡◌, ◌+◌, ◌≤◌, ℕ, min, false}
-use Rattle.atom_values.specs.Counts.{Rose, counter_limit}
+use Rattle.atom_values.specs.Counts.{HasRisen, counter_limit}
 use Rattle.feed_disk.specs.Disk.{DiskState}
 use Rattle.feed_disk.specs.Moments.{LeavesAlone}
 use Rattle.feed_disk.specs.declared.area.Area.{Area}
@@ -15,11 +15,11 @@ use Rattle.member_rules.specs.declared.codec.CodecFault.{CodecFault}
 use Rattle.member_rules.specs.declared.codec.CodecFault.TheVariants.{BadField, NoMemory as CodecNoMemory}
 
 -- the log of this area, of which no call failed; its list is the payloads of the content
-pub record IsReadable (told : Type 0) (disk : DiskState) (a : Area) (log : LogValue) : Type 0 where
+pub record IsReadable (observable : Type 0) (disk : DiskState) (a : Area) (log : LogValue) : Type 0 where
   pub area : log.area ≡ a
   pub unspent : log.spent ≡ false
   pub rules : IsLog log
-  pub listed : told → IsListed log (disk.content a)
+  pub listed : observable → IsListed log (disk.content a)
 
 -- each area is left alone
 pub record OnlyReads (s t : DiskState) : Type 0 where
@@ -43,7 +43,7 @@ NamesJournal NoMemory = Unit {0}
 
 -- a device call that failed raised the count of faults, and all other faults left it
 abbrev pub HasRaised : ℕ → ℕ → LoadFault → Type 0
-HasRaised before after DiskFault = Rose before after
+HasRaised before after DiskFault = HasRisen before after
 HasRaised before after NotInit = after ≡ before
 HasRaised before after (BadRecord area index at) = after ≡ before
 HasRaised before after (SealCount records seals) = after ≡ before
@@ -51,9 +51,9 @@ HasRaised before after (BadSeal index) = after ≡ before
 HasRaised before after NoMemory = after ≡ before
 
 -- a step fails by this fault, which has its cause in the payloads of the two areas or in its device calls
-pub record FailsBy (told : Type 0) (s t : DiskState) (fault : LoadFault) : Type 0 where
+pub record FailsBy (observable : Type 0) (s t : DiskState) (fault : LoadFault) : Type 0 where
   pub area : NamesJournal fault
-  pub cause : told → IsLoadFault (records (s.content Journal)) (records (s.content Sealed)) fault
+  pub cause : observable → IsLoadFault (records (s.content Journal)) (records (s.content Sealed)) fault
   pub faults : HasRaised s.faults t.faults fault
 
 -- the device calls of two logs together

@@ -5,6 +5,7 @@ use Rattle.feed_disk.specs.Moments.{AlwaysLeaves, LeavesOnlyBoth, NowOnly}
 use Rattle.feed_disk.specs.declared.area.Area.TheVariants.{Journal, Sealed}
 use Rattle.feed_journal.specs.Records.{records, Begins, IsWhole, StandsFor}
 use Rattle.feed_recovery.specs.Opening.{Opens}
+use Rattle.feed_recovery.specs.Store.{StoreValue}
 use Rattle.member_rules.specs.Head.{HeadValue}
 use Rattle.member_rules.specs.declared.operation.Op.{Op}
 
@@ -54,6 +55,11 @@ pub record AreWhole (disk : DiskState) : Type 0 where
 pub record IsAtRest (disk : DiskState) : Type 0 where
   pub journal : NowOnly disk Journal (Begins (records (disk.content Journal)))
   pub sealed : NowOnly disk Sealed (Begins (records (disk.content Sealed)))
+
+-- the disk is at rest, and a crash leaves the store with its whole history
+pub record IsSettled (disk : DiskState) (store : StoreValue) : Type 0 where
+  pub settled : Settled disk store.head store.history (length store.history)
+  pub rests : IsAtRest disk
 
 -- an image of the sealed area has these seals first
 abbrev pub KeepsSeals : List (List ℕ) → List ℕ → Type 0

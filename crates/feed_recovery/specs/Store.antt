@@ -1,5 +1,5 @@
 -- A store as contracts see it.
-use Rattle.std.specs.Prelude.{◌≡◌, ℕ, ◌+◌, ◌*◌, ◌<◌, min, Bool, ◌||◌, List, length, Option, MatchOption}
+use Rattle.std.specs.Prelude.{◌≡◌, ℕ, ◌+◌, ◌*◌, ◌<◌, min, Bool, true, ◌||◌, List, length, Option, MatchOption}
 use Rattle.atom_values.specs.Counts.{counter_limit}
 use Rattle.feed_disk.specs.Disk.{DiskState}
 use Rattle.feed_disk.specs.declared.area.Area.TheVariants.{Journal, Sealed}
@@ -60,3 +60,20 @@ pub record StandsFor (disk : DiskState) (store : StoreValue) : Type 0 where
   pub opens : Opens (disk.content Journal) (disk.content Sealed) store.head store.history (seal_count store)
   pub journal : IsListed store.journal (disk.content Journal)
   pub seals : IsListed store.seals (disk.content Sealed)
+
+-- A payload of the journal was read. Of the store only the count of calls differs, unless the device call failed: then
+-- the store is spent too.
+pub record HasReadOperation (observable : Type 0) (disk : DiskState) (before after : StoreValue) (failed : Type 0)
+    : Type 0 where
+  pub same : ¬ failed → after ≡ record before { journal = record before.journal { calls = after.journal.calls } }
+  pub spent : failed
+      → after ≡ record before { journal = record before.journal { calls = after.journal.calls; spent = true } }
+  pub stands : ¬ failed → observable → StandsFor disk after
+
+-- the same for a seal
+pub record HasReadSeal (observable : Type 0) (disk : DiskState) (before after : StoreValue) (failed : Type 0)
+    : Type 0 where
+  pub same : ¬ failed → after ≡ record before { seals = record before.seals { calls = after.seals.calls } }
+  pub spent : failed
+      → after ≡ record before { seals = record before.seals { calls = after.seals.calls; spent = true } }
+  pub stands : ¬ failed → observable → StandsFor disk after

@@ -3,11 +3,10 @@ ghost use Rattle.atom_values.specs.Counts.{HasCause};
 ghost use Rattle.feed_disk.specs.Moments.{AlwaysLeaves, LeavesAlone};
 ghost use Rattle.feed_disk.specs.declared.area.Area.{Area as AreaValue};
 ghost use Rattle.feed_disk.specs.declared.area.Area.TheVariants.{Journal, Sealed, Mirror};
-ghost use Rattle.feed_journal.specs.Log.{MakesCalls, MakesUpTo};
+ghost use Rattle.feed_journal.specs.Log.{MakesOrFails, MakesUpTo};
 ghost use Rattle.feed_journal.specs.Records.{records, IsStep};
-ghost use Rattle.feed_recovery.specs.Commit.{IsSealing, MakesSealCalls};
-ghost use Rattle.feed_recovery.specs.Settled.{AlwaysLeavesBoth, IsAtRest, KeepsSeals, OpensPast, Settled};
-ghost use Rattle.feed_recovery.specs.Documents.{sealed_count};
+ghost use Rattle.feed_recovery.specs.Commit.{HasCommitted, IsSealing, LeavesCommit, MakesSealCalls};
+ghost use Rattle.feed_recovery.specs.Settled.{IsAtRest, IsSettled};
 ghost use Rattle.feed_recovery.specs.Prepare.{Fits, HasRoom, IsDueSeal, MayCommit, SealFits, commit_calls};
 ghost use Rattle.feed_recovery.specs.Store.{KeepsStore, StandsFor, call_count, is_spent, seal_count};
 ghost use Rattle.atom_writer.specs.Pieced.{text_of};
@@ -38,35 +37,24 @@ impl Store {
         requires unspent { is_spent self.old ≡ false }
         requires prepared { MayCommit self.old ready }
         requires room { HasRoom self.old }
-        requires stands { D.told → StandsFor (D.state disk.old) self.old }
+        requires stands { D.observable → StandsFor (D.state disk.old) self.old }
         ensures version { IfOk result (λ version. version ≡ length self.old.history + 1) }
-        ensures history { OnOk result (self.new.history ≡ self.old.history ++ ready.operation ∷ []) }
+        ensures committed { OnOk result (HasCommitted ready.operation self.old self.new) }
         ensures head { self.new.head ≡ self.old.head }
-        ensures unspent { OnOk result (is_spent self.new ≡ false) }
-        // Each window that was full has its seal now, so the operation sealed it.
-        ensures sealed { OnOk result (seal_count self.new ≡ sealed_count self.new) }
-        ensures stands { OnOk result (D.told → StandsFor (D.state disk.new) self.new) }
+        ensures stands { OnOk result (D.observable → StandsFor (D.state disk.new) self.new) }
         ensures before { OnErr result ((self.new.history ≡ self.old.history) × (is_spent self.new ≡ true)) }
 
         // A crash leaves the history before or with the operation, and each seal as it was. After `Ok` it
         // leaves the operation. `Store::load` and each commit that worked leave the disk at rest.
-        ensures moments { D.told → IsAtRest (D.state disk.old)
-            → AlwaysLeavesBoth (D.state disk.old) (D.state disk.new)
-            (OpensPast self.old.head (self.old.history ++ ready.operation ∷ []) (length self.old.history)) }
-        ensures kept { D.told → IsAtRest (D.state disk.old)
-            → AlwaysLeaves (D.state disk.old) (D.state disk.new) Sealed
-            (KeepsSeals (records ((D.state disk.old).content Sealed))) }
-        ensures settled { OnOk result (D.told → IsAtRest (D.state disk.old)
-            → Settled (D.state disk.new) self.new.head self.new.history (length self.new.history)) }
-        ensures rests { OnOk result (D.told → IsAtRest (D.state disk.old) → IsAtRest (D.state disk.new)) }
+        ensures leaves { D.observable → IsAtRest (D.state disk.old)
+            → LeavesCommit ready.operation (D.state disk.old) (D.state disk.new) self.old }
+        ensures settled { OnOk result (D.observable → IsAtRest (D.state disk.old)
+            → IsSettled (D.state disk.new) self.new) }
         ensures mirror { LeavesAlone (D.state disk.old) (D.state disk.new) Mirror }
 
-        ensures calls { OnOk result (MakesCalls (D.state disk.old) (D.state disk.new)
-            (call_count self.old) (call_count self.new) (commit_calls ready.seal)) }
-        ensures most { MakesUpTo (D.state disk.old) (D.state disk.new)
-            (call_count self.old) (call_count self.new) (commit_calls ready.seal) }
-        ensures cause { HasCause (D.state disk.old).faults (D.state disk.new).faults result }
-        // A caller that has no told disk knows the rules of the store from here.
+        ensures calls { MakesOrFails (D.state disk.old) (D.state disk.new)
+            (call_count self.old) (call_count self.new) (commit_calls ready.seal) result }
+        // A caller whose disk contracts cannot see knows the rules of the store from here.
         ensures rules { KeepsStore self.old }
     {
         // Laws, which do nothing.
@@ -86,17 +74,17 @@ impl Store {
         requires due { IsDueSeal self.old seal.now }
         requires fits { SealFits self.old seal.now }
         requires room { 0 < self.old.seals.spare }
-        requires stands { D.told → StandsFor (D.state disk.old) self.old }
+        requires stands { D.observable → StandsFor (D.state disk.old) self.old }
         ensures same { self.new ≡ record self.old { seals = self.new.seals } }
         ensures unspent { OnOk result (is_spent self.new ≡ false) }
         ensures spent { OnErr result (is_spent self.new ≡ true) }
         ensures full { OnOk result
             (seal_count self.new ≡ (windows_of self.old.head self.old.history).full) }
-        ensures stands { OnOk result (D.told → StandsFor (D.state disk.new) self.new) }
-        ensures moments { D.told → IsAtRest (D.state disk.old)
+        ensures stands { OnOk result (D.observable → StandsFor (D.state disk.new) self.new) }
+        ensures moments { D.observable → IsAtRest (D.state disk.old)
             → AlwaysLeaves (D.state disk.old) (D.state disk.new) Sealed
             (IsSealing self.old.head self.old.history (records ((D.state disk.old).content Sealed))) }
-        ensures rests { OnOk result (D.told → IsAtRest (D.state disk.old) → IsAtRest (D.state disk.new)) }
+        ensures rests { OnOk result (D.observable → IsAtRest (D.state disk.old) → IsAtRest (D.state disk.new)) }
         ensures others { (a : AreaValue) → a ≢ Sealed → LeavesAlone (D.state disk.old) (D.state disk.new) a }
         ensures calls { OnOk result (MakesSealCalls seal.now (D.state disk.old) (D.state disk.new)
             self.old.seals.calls self.new.seals.calls) }
@@ -107,12 +95,12 @@ impl Store {
     {
         begun_images_are_whole();
         sealed_windows_are_full();
-        // Opens the store, so that its rules are known where there is no seal too.
-        let _ = &self.alloc;
+        // Borrowed before the early return, so that the store's rules are known there too.
+        let log = &mut self.seals;
         let Some(seal) = seal else {
             return Ok(());
         };
-        if let Err(fault) = self.seals.append(disk, seal) {
+        if let Err(fault) = log.append(disk, seal) {
             self.spent = true;
             return Err(fault);
         }
@@ -127,25 +115,20 @@ impl Store {
         requires fits { Fits self.old.journal (text_of operations ready.operation) self.old.head.capacity }
         requires full { seal_count self.old ≡ (windows_of self.old.head self.old.history).full }
         requires room { (0 < self.old.spare) × (0 < self.old.members.spare) × (0 < self.old.journal.spare) }
-        requires stands { D.told → StandsFor (D.state disk.old) self.old }
+        requires stands { D.observable → StandsFor (D.state disk.old) self.old }
         ensures version { IfOk result (λ version. version ≡ length self.old.history + 1) }
-        ensures history { OnOk result (self.new.history ≡ self.old.history ++ ready.operation ∷ []) }
+        ensures committed { OnOk result (HasCommitted ready.operation self.old self.new) }
         ensures head { self.new.head ≡ self.old.head }
         ensures seals { self.new.seals ≡ self.old.seals }
-        ensures unspent { OnOk result (is_spent self.new ≡ false) }
-        ensures sealed { OnOk result (seal_count self.new ≡ sealed_count self.new) }
-        ensures stands { OnOk result (D.told → StandsFor (D.state disk.new) self.new) }
+        ensures stands { OnOk result (D.observable → StandsFor (D.state disk.new) self.new) }
         ensures before { OnErr result ((self.new.history ≡ self.old.history) × (is_spent self.new ≡ true)) }
-        ensures moments { D.told → IsAtRest (D.state disk.old)
+        ensures moments { D.observable → IsAtRest (D.state disk.old)
             → AlwaysLeaves (D.state disk.old) (D.state disk.new) Journal
             (IsStep (records ((D.state disk.old).content Journal)) (text_of operations ready.operation)) }
-        ensures rests { OnOk result (D.told → IsAtRest (D.state disk.old) → IsAtRest (D.state disk.new)) }
+        ensures rests { OnOk result (D.observable → IsAtRest (D.state disk.old) → IsAtRest (D.state disk.new)) }
         ensures others { (a : AreaValue) → a ≢ Journal → LeavesAlone (D.state disk.old) (D.state disk.new) a }
-        ensures calls { OnOk result (MakesCalls (D.state disk.old) (D.state disk.new)
-            self.old.journal.calls self.new.journal.calls 4) }
-        ensures most { MakesUpTo (D.state disk.old) (D.state disk.new)
-            self.old.journal.calls self.new.journal.calls 4 }
-        ensures cause { HasCause (D.state disk.old).faults (D.state disk.new).faults result }
+        ensures calls { MakesOrFails (D.state disk.old) (D.state disk.new)
+            self.old.journal.calls self.new.journal.calls 4 result }
     {
         archives_stay();
         operations_are_long();

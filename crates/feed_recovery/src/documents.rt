@@ -1,5 +1,5 @@
 ghost use Rattle.std.specs.Prelude.{◌≡◌, ◌≢◌, ◌↔◌, ◌-◌, ◌≤◌, ℕ, true, false, length, slice_get, IfOk, IfErr, OnOk, IsTrue};
-ghost use Rattle.atom_values.specs.Counts.{Rose};
+ghost use Rattle.atom_values.specs.Counts.{CountsFault};
 ghost use Rattle.atom_values.specs.Entry.{EntryValue, IsEntry};
 ghost use Rattle.atom_writer.specs.Pieces.{text};
 ghost use Rattle.feed_disk.specs.Moments.{LeavesAlone};
@@ -8,11 +8,11 @@ ghost use Rattle.feed_disk.specs.declared.area.Area.{Area as AreaValue};
 ghost use Rattle.feed_disk.specs.declared.area.Area.TheVariants.{Journal};
 ghost use Rattle.feed_journal.specs.Log.{MakesCalls, MakesSome, payload_lengths};
 ghost use Rattle.feed_journal.specs.Records.{records};
-ghost use Rattle.feed_recovery.specs.Documents.{IsDocumentOf, IsEntryFault, IsLiveDocument, IsLiveSince};
-ghost use Rattle.feed_recovery.specs.Documents.{IsMemberDocument, IsMemberFault, IsSealed, IsVersion, ReadsMember};
-ghost use Rattle.feed_recovery.specs.Documents.{Sets, sealed_count};
+ghost use Rattle.feed_recovery.specs.Documents.{IsArchiveFault, IsDocumentOf, IsEntryFault, IsLiveDocument};
+ghost use Rattle.feed_recovery.specs.Documents.{IsLiveSince, IsMemberDocument, IsMemberFault, IsSealed, IsVersion};
+ghost use Rattle.feed_recovery.specs.Documents.{ReadsMember, Sets};
 ghost use Rattle.feed_recovery.specs.Opening.{seal_of};
-ghost use Rattle.feed_recovery.specs.Store.{StandsFor, call_count, is_spent};
+ghost use Rattle.feed_recovery.specs.Store.{HasReadOperation, HasReadSeal, StandsFor, call_count, is_spent};
 ghost use Rattle.member_rules.specs.Documents as documents;
 
 use crate::fault::{ArchiveFault, MemberFault};
@@ -58,16 +58,12 @@ impl Store {
     /// - `NoMemory`.
     pub fn archive<D: Disk>(&mut self, disk: &mut D, number: u32) -> Result<Vec<u8>, ArchiveFault>
         requires unspent { is_spent self.old ≡ false }
-        requires stands { D.told → StandsFor (D.state disk.old) self.old }
+        requires stands { D.observable → StandsFor (D.state disk.old) self.old }
         ensures document { IfOk result (λ written.
-            D.told → written.items ≡ seal_of self.old.head self.old.history number) }
+            D.observable → written.items ≡ seal_of self.old.head self.old.history number) }
         ensures sealed { OnOk result (IsSealed self.old number) }
-        ensures refused { (result ≡ Err (ArchiveFault.NotSealed number (sealed_count self.old)))
-            ↔ (¬ IsSealed self.old number) }
-        ensures numbers { (n sealed : ℕ) → result ≡ Err (ArchiveFault.NotSealed n sealed)
-            → (n ≡ number) × (sealed ≡ sealed_count self.old) }
-        ensures never { D.told → (index : ℕ) → result ≢ Err (ArchiveFault.Changed index) }
-        ensures changed { (index : ℕ) → result ≡ Err (ArchiveFault.Changed index) → index ≡ number - 1 }
+        ensures refused { IfErr result (IsArchiveFault self.old number) }
+        ensures never { D.observable → (index : ℕ) → result ≢ Err (ArchiveFault.Changed index) }
 
         // With any disk, the text has the length that the store has for the seal, and a read gave all its bytes.
         ensures length { IfOk result (λ written. slice_get (payload_lengths self.old.seals.extents) (number - 1)
@@ -77,24 +73,15 @@ impl Store {
 
         // No area changes, and of the store only the count of calls. After `DiskFault` it is spent.
         ensures areas { (a : AreaValue) → LeavesAlone (D.state disk.old) (D.state disk.new) a }
-        ensures same { result ≢ Err ArchiveFault.DiskFault → self.new ≡ record self.old {
-          seals = record self.old.seals { calls = self.new.seals.calls };
-        } }
-        ensures spent { result ≡ Err ArchiveFault.DiskFault → self.new ≡ record self.old {
-          seals = record self.old.seals { calls = self.new.seals.calls; spent = true };
-        } }
-        ensures stands { result ≢ Err ArchiveFault.DiskFault
-            → D.told → StandsFor (D.state disk.new) self.new }
+        ensures store { HasReadSeal D.observable (D.state disk.new) self.old self.new
+            (result ≡ Err ArchiveFault.DiskFault) }
 
         ensures one { OnOk result (MakesCalls (D.state disk.old) (D.state disk.new)
             (call_count self.old) (call_count self.new) 1) }
         ensures calls { MakesSome (D.state disk.old) (D.state disk.new)
             (call_count self.old) (call_count self.new) }
-        ensures later { (D.state disk.old).faults ≤ (D.state disk.new).faults }
-        ensures failed { result ≡ Err ArchiveFault.DiskFault
-            → Rose (D.state disk.old).faults (D.state disk.new).faults }
-        ensures unfailed { result ≢ Err ArchiveFault.DiskFault
-            → (D.state disk.new).faults ≡ (D.state disk.old).faults }
+        ensures faults { CountsFault (D.state disk.old).faults (D.state disk.new).faults
+            (result ≡ Err ArchiveFault.DiskFault) }
     {
         let sealed = self.sealed();
         if number == 0 || number > sealed {
@@ -123,8 +110,8 @@ impl Store {
     /// - `NoMemory`.
     pub fn member<D: Disk>(&mut self, disk: &mut D, number: u32) -> Result<Vec<u8>, MemberFault>
         requires unspent { is_spent self.old ≡ false }
-        requires stands { D.told → StandsFor (D.state disk.old) self.old }
-        ensures document { IfOk result (λ written. D.told → IsLiveDocument self.old number written.items) }
+        requires stands { D.observable → StandsFor (D.state disk.old) self.old }
+        ensures document { IfOk result (λ written. D.observable → IsLiveDocument self.old number written.items) }
         // With any disk, its entry has the number, the `edited` and the `updated` of the member's entry. A read gave
         // as many bytes as the store has for the operation that set that one.
         ensures entry { IfOk result (λ written. IsMemberDocument self.old number written.items) }
@@ -132,28 +119,19 @@ impl Store {
             (D.state disk.old).bytes_read (D.state disk.new).bytes_read) }
         ensures live { OnOk result ((version : ℕ) × IsLiveSince self.old.history number version) }
         ensures refused { IfErr result (IsMemberFault self.old number) }
-        ensures never { D.told → (index : ℕ) → result ≢ Err (MemberFault.Changed index) }
+        ensures never { D.observable → (index : ℕ) → result ≢ Err (MemberFault.Changed index) }
 
         // No area changes, and of the store only the count of calls. After `DiskFault` it is spent.
         ensures areas { (a : AreaValue) → LeavesAlone (D.state disk.old) (D.state disk.new) a }
-        ensures same { result ≢ Err MemberFault.DiskFault → self.new ≡ record self.old {
-          journal = record self.old.journal { calls = self.new.journal.calls };
-        } }
-        ensures spent { result ≡ Err MemberFault.DiskFault → self.new ≡ record self.old {
-          journal = record self.old.journal { calls = self.new.journal.calls; spent = true };
-        } }
-        ensures stands { result ≢ Err MemberFault.DiskFault
-            → D.told → StandsFor (D.state disk.new) self.new }
+        ensures store { HasReadOperation D.observable (D.state disk.new) self.old self.new
+            (result ≡ Err MemberFault.DiskFault) }
 
         ensures one { OnOk result (MakesCalls (D.state disk.old) (D.state disk.new)
             (call_count self.old) (call_count self.new) 1) }
         ensures calls { MakesSome (D.state disk.old) (D.state disk.new)
             (call_count self.old) (call_count self.new) }
-        ensures later { (D.state disk.old).faults ≤ (D.state disk.new).faults }
-        ensures failed { result ≡ Err MemberFault.DiskFault
-            → Rose (D.state disk.old).faults (D.state disk.new).faults }
-        ensures unfailed { result ≢ Err MemberFault.DiskFault
-            → (D.state disk.new).faults ≡ (D.state disk.old).faults }
+        ensures faults { CountsFault (D.state disk.old).faults (D.state disk.new).faults
+            (result ≡ Err MemberFault.DiskFault) }
     {
         let (updated, version) = match self.state(number) {
             State::Never => return Err(MemberFault::NotFound { number }),
@@ -181,33 +159,24 @@ impl Store {
     ) -> Result<Vec<u8>, MemberFault>
         requires unspent { is_spent self.old ≡ false }
         requires within { version ≤ length self.old.history }
-        requires stands { D.told → StandsFor (D.state disk.old) self.old }
-        ensures payload { IfOk result (λ payload. D.told
+        requires stands { D.observable → StandsFor (D.state disk.old) self.old }
+        ensures payload { IfOk result (λ payload. D.observable
             → slice_get (records ((D.state disk.old).content Journal)) version ≡ Some payload.items) }
         ensures length { IfOk result (λ payload. slice_get (payload_lengths self.old.journal.extents) version
             ≡ Some (length payload.items)) }
         ensures read { IfOk result (λ payload. (D.state disk.new).bytes_read
             ≡ raised (D.state disk.old).bytes_read (length payload.items)) }
         ensures refused { IfErr result (IsEntryFault version) }
-        ensures never { D.told → (index : ℕ) → result ≢ Err (MemberFault.Changed index) }
+        ensures never { D.observable → (index : ℕ) → result ≢ Err (MemberFault.Changed index) }
         ensures areas { (a : AreaValue) → LeavesAlone (D.state disk.old) (D.state disk.new) a }
-        ensures same { result ≢ Err MemberFault.DiskFault → self.new ≡ record self.old {
-          journal = record self.old.journal { calls = self.new.journal.calls };
-        } }
-        ensures spent { result ≡ Err MemberFault.DiskFault → self.new ≡ record self.old {
-          journal = record self.old.journal { calls = self.new.journal.calls; spent = true };
-        } }
-        ensures stands { result ≢ Err MemberFault.DiskFault
-            → D.told → StandsFor (D.state disk.new) self.new }
+        ensures store { HasReadOperation D.observable (D.state disk.new) self.old self.new
+            (result ≡ Err MemberFault.DiskFault) }
         ensures one { OnOk result (MakesCalls (D.state disk.old) (D.state disk.new)
             (call_count self.old) (call_count self.new) 1) }
         ensures calls { MakesSome (D.state disk.old) (D.state disk.new)
             (call_count self.old) (call_count self.new) }
-        ensures later { (D.state disk.old).faults ≤ (D.state disk.new).faults }
-        ensures failed { result ≡ Err MemberFault.DiskFault
-            → Rose (D.state disk.old).faults (D.state disk.new).faults }
-        ensures unfailed { result ≢ Err MemberFault.DiskFault
-            → (D.state disk.new).faults ≡ (D.state disk.old).faults }
+        ensures faults { CountsFault (D.state disk.old).faults (D.state disk.new).faults
+            (result ≡ Err MemberFault.DiskFault) }
     {
         match self.journal.read(disk, version) {
             Ok(payload) => Ok(payload),

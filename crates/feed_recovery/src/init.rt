@@ -1,5 +1,5 @@
-ghost use Rattle.std.specs.Prelude.{◌≡◌, ◌≢◌, ◌↔◌, ◌⊎◌, ◌<◌, ◌≤◌, ℕ, List, [], false, length, IfOk, OnOk, IsTrue};
-ghost use Rattle.atom_values.specs.Counts.{Rose};
+ghost use Rattle.std.specs.Prelude.{◌≡◌, ◌↔◌, ◌⊎◌, ◌<◌, ◌≤◌, ℕ, List, [], false, length, IfOk, OnOk, IsTrue};
+ghost use Rattle.atom_values.specs.Counts.{CountsFault};
 ghost use Rattle.atom_writer.specs.Pieced.{text_of};
 ghost use Rattle.feed_disk.specs.Moments.{AlwaysLeaves, LeavesAlone};
 ghost use Rattle.feed_disk.specs.declared.area.Area.TheVariants.{Journal, Sealed, Mirror};
@@ -28,27 +28,24 @@ impl Store {
     /// Errors: `AlreadyInit` exactly if the journal or the sealed area has a payload. `DiskFault` if the disk's
     /// count of faults rose. `NoMemory`, which hides no failed device call.
     pub fn init<D: Disk>(alloc: Global, disk: &mut D, head: &Head) -> Result<(), InitFault>
-        ensures opens { OnOk result (D.told
+        ensures opens { OnOk result (D.observable
             → Opens ((D.state disk.new).content Journal) ((D.state disk.new).content Sealed) head.now [] 0) }
-        ensures already { result ≡ Err InitFault.AlreadyInit → D.told → HasPayload (D.state disk.old) }
-        ensures refused { D.told → HasPayload (D.state disk.old) → (result ≡ Err InitFault.AlreadyInit)
+        ensures already { result ≡ Err InitFault.AlreadyInit → D.observable → HasPayload (D.state disk.old) }
+        ensures refused { D.observable → HasPayload (D.state disk.old) → (result ≡ Err InitFault.AlreadyInit)
             ⊎ (result ≡ Err InitFault.DiskFault) ⊎ (result ≡ Err InitFault.NoMemory) }
 
         // On an unused disk a crash leaves no payload, or the head alone. After `Ok` it leaves the head.
-        ensures moments { D.told → Unused (D.state disk.old)
+        ensures moments { D.observable → Unused (D.state disk.old)
             → AlwaysLeavesBoth (D.state disk.old) (D.state disk.new) (IsInit head.now) }
-        ensures settled { OnOk result (D.told → Unused (D.state disk.old)
+        ensures settled { OnOk result (D.observable → Unused (D.state disk.old)
             → Settled (D.state disk.new) head.now [] 0) }
         // A store that is there already is refused, and a crash leaves of it what it could leave before.
-        ensures kept { D.told → (other : HeadValue) (operations : List Operation) (least : ℕ)
+        ensures kept { D.observable → (other : HeadValue) (operations : List Operation) (least : ℕ)
             → Settled (D.state disk.old) other operations least
             → AlwaysLeavesBoth (D.state disk.old) (D.state disk.new) (OpensPast other operations least) }
         ensures mirror { LeavesAlone (D.state disk.old) (D.state disk.new) Mirror }
-        ensures later { (D.state disk.old).faults ≤ (D.state disk.new).faults }
-        ensures failed { result ≡ Err InitFault.DiskFault
-            → Rose (D.state disk.old).faults (D.state disk.new).faults }
-        ensures unfailed { result ≢ Err InitFault.DiskFault
-            → (D.state disk.new).faults ≡ (D.state disk.old).faults }
+        ensures faults { CountsFault (D.state disk.old).faults (D.state disk.new).faults
+            (result ≡ Err InitFault.DiskFault) }
     {
         begun_images_are_whole();
         sealed_windows_are_full();
@@ -73,21 +70,18 @@ fn framed_head(alloc: Global, head: &Head) -> Result<Framed, NoMemory>
 /// payload.
 fn unused_journal<D: Disk>(alloc: Global, disk: &mut D) -> Result<Log, InitFault>
     ensures log { IfOk result IsFirstLog }
-    ensures listed { IfOk result (λ log. D.told → IsListed log ((D.state disk.new).content Journal)) }
-    ensures unused { OnOk result (D.told → HasNoPayload (D.state disk.old)) }
-    ensures already { result ≡ Err InitFault.AlreadyInit → D.told → HasPayload (D.state disk.old) }
-    ensures same { OnOk result (D.told → HasNoPayload (D.state disk.new)) }
-    ensures journal { D.told → AlwaysLeaves (D.state disk.old) (D.state disk.new) Journal
+    ensures listed { IfOk result (λ log. D.observable → IsListed log ((D.state disk.new).content Journal)) }
+    ensures unused { OnOk result (D.observable → HasNoPayload (D.state disk.old)) }
+    ensures already { result ≡ Err InitFault.AlreadyInit → D.observable → HasPayload (D.state disk.old) }
+    ensures same { OnOk result (D.observable → HasNoPayload (D.state disk.new)) }
+    ensures journal { D.observable → AlwaysLeaves (D.state disk.old) (D.state disk.new) Journal
         (StandsFor ((D.state disk.old).image_now Journal)) }
-    ensures seals { D.told → AlwaysLeaves (D.state disk.old) (D.state disk.new) Sealed
+    ensures seals { D.observable → AlwaysLeaves (D.state disk.old) (D.state disk.new) Sealed
         (StandsFor ((D.state disk.old).image_now Sealed)) }
-    ensures rests { OnOk result (D.told → AreWhole (D.state disk.old) → IsAtRest (D.state disk.new)) }
+    ensures rests { OnOk result (D.observable → AreWhole (D.state disk.old) → IsAtRest (D.state disk.new)) }
     ensures mirror { LeavesAlone (D.state disk.old) (D.state disk.new) Mirror }
-    ensures later { (D.state disk.old).faults ≤ (D.state disk.new).faults }
-    ensures failed { result ≡ Err InitFault.DiskFault
-        → Rose (D.state disk.old).faults (D.state disk.new).faults }
-    ensures unfailed { result ≢ Err InitFault.DiskFault
-        → (D.state disk.new).faults ≡ (D.state disk.old).faults }
+    ensures faults { CountsFault (D.state disk.old).faults (D.state disk.new).faults
+        (result ≡ Err InitFault.DiskFault) }
 {
     let mut journal = Log::load(alloc, disk, Area::Journal)?;
     let seals = Log::load(alloc, disk, Area::Sealed)?;

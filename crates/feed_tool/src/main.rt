@@ -6,23 +6,16 @@
 //! The contract of `run` says which exit status the program ends with and which bytes it prints, as far as contracts
 //! see the content of what it is lent. They see the words, and of the system's objects only counts.
 //!
-//! `outside` has these as thin adapters. The traits that they implement are in the crates below, with objects in memory
-//! for tests.
+//! `system_edge` has these as thin adapters. The traits that they implement are in the crates below, with objects in
+//! memory for tests.
 #![tactic(auto)]
 
-mod outside;
-#[cfg(test)]
-mod tests;
-mod words;
-
-use crate::outside::system::{InputSource, OutputSink, SystemClock};
-use crate::outside::tcp::TcpDoor;
-use crate::words::given_words;
 use doc_source::HttpFetch;
-use feed_commands::{Fault, end_with, run};
+use feed_commands::{Fault, print_fault, run};
 use feed_disk::FileDisk;
 use std::io::{self, BufReader};
 use std::process::ExitCode;
+use system_edge::{InputSource, OutputSink, SystemClock, TcpDoor, given_words};
 
 /// How many bytes the program reads of its input at a time. A caller that asks for fewer gets them from this buffer.
 const INPUT_BUFFER: usize = 65_536;
@@ -38,7 +31,7 @@ fn main(rt: HostRuntime) -> ExitCode {
     let words = given_words(&rt);
     let disk = FileDisk::new(rt.alloc(), &rt, ".");
     let reader = BufReader::with_capacity(rt.alloc(), INPUT_BUFFER, rt.reader());
-    let ended = match (words, disk, reader) {
+    let status = match (words, disk, reader) {
         (Ok(words), Ok(mut disk), Ok(reader)) => run(
             rt.alloc(),
             words.as_slice(),
@@ -52,12 +45,13 @@ fn main(rt: HostRuntime) -> ExitCode {
                 bytes_read: 0,
             },
             &mut output,
-        ),
+        )
+        .status,
         (Err(error), _, _) | (_, Err(error), _) => {
-            end_with(rt.alloc(), &mut output, Fault::from(error))
+            print_fault(&mut output, Fault::from(error)).code()
         }
         // `BufReader` fails only if there is no memory for its buffer.
-        (_, _, Err(_)) => end_with(rt.alloc(), &mut output, Fault::NoMemory),
+        (_, _, Err(_)) => print_fault(&mut output, Fault::NoMemory).code(),
     };
-    ExitCode::from(ended.status)
+    ExitCode::from(status)
 }

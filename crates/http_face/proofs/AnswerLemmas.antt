@@ -34,18 +34,18 @@ module _ (left bytes rest : List ℕ) (headers : List HeaderSpan) (spans : Respo
       ap (λ (k : ℕ). answer_by k (response_fields h) all_behind) (sym at.code)
       ∙ ap (λ (fs : List (List ℕ × List ℕ)). answer_by spans.code fs all_behind) (sym at.fields)
 
-  pub result_answered : (told : Type 0) (r : Result (Option (Vec ℕ Global)) ResponseFault) →
-      (told → left ≡ bytes ++ rest) → length bytes ≤ head_limit → IsResponseWithin bytes headers spans →
+  pub result_answered : (observable : Type 0) (r : Result (Option (Vec ℕ Global)) ResponseFault) →
+      (observable → left ≡ bytes ++ rest) → length bytes ≤ head_limit → IsResponseWithin bytes headers spans →
       IsResponseAt bytes headers spans h → spans.headers ≤ field_limit →
-      IfOk r (λ found. told → answer_by spans.code parts all_behind ≡ Ok (option_map (λ v. v.items) found)) →
-      IfOk r (λ found. told → IsAnswered left (option_map (λ v. v.items) found))
-  result_answered told (Ok found) e short within at few same = λ seen. record {
+      IfOk r (λ found. observable → answer_by spans.code parts all_behind ≡ Ok (option_map (λ v. v.items) found)) →
+      IfOk r (λ found. observable → IsAnswered left (option_map (λ v. v.items) found))
+  result_answered observable (Ok found) e short within at few same = λ seen. record {
     head = h;
     behind = all_behind;
     begins = begins (e seen) short within at few;
     answer_is = answer_is at ∙ same seen;
   }
-  result_answered told (Err fault) e short within at few same = tt
+  result_answered observable (Err fault) e short within at few same = tt
 
   pub answer_bad : left ≡ bytes ++ rest → length bytes ≤ head_limit → IsResponseWithin bytes headers spans →
       IsResponseAt bytes headers spans h → spans.headers ≤ field_limit →
@@ -76,13 +76,13 @@ not_bad bytes answer x (inl (head, behind, begins, fails)) =
 not_bad bytes answer x (inr none) = none x.head x.behind x.begins
 
 -- a result that is exact in both directions
-pub only_answer : (told : Type 0) (left : List ℕ) (r : Result (Option (Vec ℕ Global)) ResponseFault) →
-    IfOk r (λ found. told → IsAnswered left (option_map (λ v. v.items) found)) →
-    (r ≡ Err BadResponse → told → IsBadResponse left) → (answer : Option (List ℕ)) → IsAnswered left answer → told →
+pub only_answer : (observable : Type 0) (left : List ℕ) (r : Result (Option (Vec ℕ Global)) ResponseFault) →
+    IfOk r (λ found. observable → IsAnswered left (option_map (λ v. v.items) found)) →
+    (r ≡ Err BadResponse → observable → IsBadResponse left) → (answer : Option (List ℕ)) → IsAnswered left answer → observable →
     IsOkAnd r (λ found. option_map (λ v. v.items) found ≡ answer) ⊎ ((r ≡ Err ConnFault) ⊎ (r ≡ Err NoMemory))
-only_answer told left (Ok found) heard refused answer spelt seen =
+only_answer observable left (Ok found) heard refused answer spelt seen =
     inl (one_response left (option_map (λ v. v.items) found) answer (heard seen) spelt)
-only_answer told left (Err ConnFault) heard refused answer spelt seen = inr (inl refl)
-only_answer told left (Err NoMemory) heard refused answer spelt seen = inr (inr refl)
-only_answer told left (Err BadResponse) heard refused answer spelt seen =
+only_answer observable left (Err ConnFault) heard refused answer spelt seen = inr (inl refl)
+only_answer observable left (Err NoMemory) heard refused answer spelt seen = inr (inr refl)
+only_answer observable left (Err BadResponse) heard refused answer spelt seen =
     absurd (not_bad left answer spelt (refused refl seen))

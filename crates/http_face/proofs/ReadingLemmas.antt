@@ -56,24 +56,24 @@ decided_fault bytes head behind fault x (inl (k, rest, begins, body)) =
 decided_fault bytes head behind fault x (inr (none, why)) = absurd (none head behind x)
 
 -- a result that is exact in both directions
-pub only_request : (told : Type 0) (left : List ℕ) (r : Result RequestValue RequestFault) →
-    IfOk r (λ request. told → IsHeard left request) →
-    IfErr r (λ fault. fault ≢ ConnFault → fault ≢ NoMemory → told → IsMisheard left fault) →
-    (request : RequestValue) → IsHeard left request → told →
+pub only_request : (observable : Type 0) (left : List ℕ) (r : Result RequestValue RequestFault) →
+    IfOk r (λ request. observable → IsHeard left request) →
+    IfErr r (λ fault. fault ≢ ConnFault → fault ≢ NoMemory → observable → IsMisheard left fault) →
+    (request : RequestValue) → IsHeard left request → observable →
     (r ≡ Ok request) ⊎ ((r ≡ Err ConnFault) ⊎ (r ≡ Err NoMemory))
-only_request told left (Ok found) heard refused request spelt seen =
+only_request observable left (Ok found) heard refused request spelt seen =
     inl (ap Ok (one_reading left found request (heard seen) spelt))
-only_request told left (Err ConnFault) heard refused request spelt seen = inr (inl refl)
-only_request told left (Err NoMemory) heard refused request spelt seen = inr (inr refl)
-only_request told left (Err BadHead) heard refused request spelt seen =
+only_request observable left (Err ConnFault) heard refused request spelt seen = inr (inl refl)
+only_request observable left (Err NoMemory) heard refused request spelt seen = inr (inr refl)
+only_request observable left (Err BadHead) heard refused request spelt seen =
     absurd (unrefused left request BadHead spelt (refused (λ e. cc) (λ e. cc) seen))
-only_request told left (Err HeadTooLarge) heard refused request spelt seen =
+only_request observable left (Err HeadTooLarge) heard refused request spelt seen =
     absurd (unrefused left request HeadTooLarge spelt (refused (λ e. cc) (λ e. cc) seen))
-only_request told left (Err (EndedEarly n)) heard refused request spelt seen =
+only_request observable left (Err (EndedEarly n)) heard refused request spelt seen =
     absurd (unrefused left request (EndedEarly n) spelt (refused (λ e. cc) (λ e. cc) seen))
-only_request told left (Err NoLength) heard refused request spelt seen =
+only_request observable left (Err NoLength) heard refused request spelt seen =
     absurd (unrefused left request NoLength spelt (refused (λ e. cc) (λ e. cc) seen))
-only_request told left (Err TwoLengths) heard refused request spelt seen =
+only_request observable left (Err TwoLengths) heard refused request spelt seen =
     absurd (unrefused left request TwoLengths spelt (refused (λ e. cc) (λ e. cc) seen))
-only_request told left (Err (BodyTooLarge n)) heard refused request spelt seen =
+only_request observable left (Err (BodyTooLarge n)) heard refused request spelt seen =
     absurd (unrefused left request (BodyTooLarge n) spelt (refused (λ e. cc) (λ e. cc) seen))

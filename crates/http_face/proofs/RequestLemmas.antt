@@ -38,16 +38,16 @@ module _ (left bytes rest : List ℕ) (headers : List HeaderSpan) (spans : Reque
       (sym at.fields)
       ∙ ap (λ (x : List ℕ). body_of (span_bytes bytes spans.method) parts (length x) all_behind) e
 
-  pub result_heard : (told : Type 0) (r : Result RequestValue RequestFault) → (told → left ≡ bytes ++ rest) →
+  pub result_heard : (observable : Type 0) (r : Result RequestValue RequestFault) → (observable → left ≡ bytes ++ rest) →
       length bytes ≤ head_limit → IsRequestWithin bytes headers spans → IsRequestAt bytes headers spans h →
       spans.headers ≤ field_limit →
       IfOk r (λ request. request.verb ≡ verb_of (span_bytes bytes spans.method)) →
       IfOk r (λ request. request.target ≡ span_bytes bytes spans.path) →
       IfOk r (λ request. request.media ≡ first_of (values_of (codes "content-type") parts)) →
-      IfOk r (λ request. told → body_of (span_bytes bytes spans.method) parts (length (bytes ++ rest)) all_behind
+      IfOk r (λ request. observable → body_of (span_bytes bytes spans.method) parts (length (bytes ++ rest)) all_behind
       ≡ Ok request.body) →
-      IfOk r (λ request. told → IsHeard left request)
-  result_heard told (Ok request) e short within at few verb target media body = λ seen. record {
+      IfOk r (λ request. observable → IsHeard left request)
+  result_heard observable (Ok request) e short within at few verb target media body = λ seen. record {
     head = h;
     behind = all_behind;
     begins = begins (e seen) short within at few;
@@ -56,16 +56,16 @@ module _ (left bytes rest : List ℕ) (headers : List HeaderSpan) (spans : Reque
     media = media ∙ ap (λ (fs : List (List ℕ × List ℕ)). first_of (values_of (codes "content-type") fs)) at.fields;
     body = body_is (e seen) at ∙ body seen;
   }
-  result_heard told (Err fault) e short within at few verb target media body = tt
+  result_heard observable (Err fault) e short within at few verb target media body = tt
 
-  pub result_refused : (told : Type 0) (r : Result RequestValue RequestFault) → (told → left ≡ bytes ++ rest) →
+  pub result_refused : (observable : Type 0) (r : Result RequestValue RequestFault) → (observable → left ≡ bytes ++ rest) →
       length bytes ≤ head_limit → IsRequestWithin bytes headers spans → IsRequestAt bytes headers spans h →
       spans.headers ≤ field_limit →
-      IfErr r (λ fault. fault ≢ ConnFault → fault ≢ NoMemory → told
+      IfErr r (λ fault. fault ≢ ConnFault → fault ≢ NoMemory → observable
       → body_of (span_bytes bytes spans.method) parts (length (bytes ++ rest)) all_behind ≡ Err fault) →
-      IfErr r (λ fault. fault ≢ ConnFault → fault ≢ NoMemory → told → IsMisheard left fault)
-  result_refused told (Ok request) e short within at few refused = tt
-  result_refused told (Err fault) e short within at few refused = λ conn memory seen.
+      IfErr r (λ fault. fault ≢ ConnFault → fault ≢ NoMemory → observable → IsMisheard left fault)
+  result_refused observable (Ok request) e short within at few refused = tt
+  result_refused observable (Err fault) e short within at few refused = λ conn memory seen.
       inl (h, all_behind, begins (e seen) short within at few, body_is (e seen) at ∙ refused conn memory seen)
 
   pub ends_unsettled : left ≡ bytes ++ rest → length bytes ≤ head_limit → IsRequestWithin bytes headers spans →

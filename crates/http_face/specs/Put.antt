@@ -21,20 +21,20 @@ abbrev pub nothing_waits : List ℕ → ℕ → PutState
 nothing_waits sent count = record { sent = sent; count = count; waiting = [] }
 
 -- a front of the waiting bytes and the text was sent, and the rest waits
-pub record HasPut (told : Type 0) (text : List ℕ) (s t : PutState) : Type 0 where
+pub record HasPut (observable : Type 0) (text : List ℕ) (s t : PutState) : Type 0 where
   pub front : List ℕ
   pub split : s.waiting ++ text ≡ front ++ t.waiting
   pub counted : t.count ≡ counted_by s.count (length front)
-  pub taken : told → t.sent ≡ s.sent ++ front
+  pub taken : observable → t.sent ≡ s.sent ++ front
 
 -- a front of the waiting bytes and the text was sent, with which `count` bytes were sent; then a call failed
-pub record IsCut (told : Type 0) (text : List ℕ) (s : PutState) (count : ℕ) (sent : List ℕ) : Type 0 where
+pub record IsCut (observable : Type 0) (text : List ℕ) (s : PutState) (count : ℕ) (sent : List ℕ) : Type 0 where
   pub front : List ℕ
   pub back : List ℕ
   pub split : s.waiting ++ text ≡ front ++ back
   pub counted : count ≡ counted_by s.count (length front)
-  pub taken : told → sent ≡ s.sent ++ front
+  pub taken : observable → sent ≡ s.sent ++ front
 
 abbrev pub Puts : {A : Type 0} → Type 0 → List ℕ → PutState → PutState → Result A CutOff → Type 0
-Puts told text s t (Ok _) = HasPut told text s t
-Puts told text s t (Err cut) = IsCut told text s cut.sent t.sent
+Puts observable text s t (Ok _) = HasPut observable text s t
+Puts observable text s t (Err cut) = IsCut observable text s cut.sent t.sent

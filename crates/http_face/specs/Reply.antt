@@ -85,9 +85,9 @@ abbrev pub reply_bytes : Reply → List ℕ
 reply_bytes reply = status_line reply.status ++ (fields_text reply ++ body_text reply.body)
 
 -- a front of the bytes was sent, and `count` is its length, or the greatest u64 for a longer front
-pub record IsCutOff (told : Type 0) (bytes : List ℕ) (count : ℕ) (before after : List ℕ) : Type 0 where
+pub record IsCutOff (observable : Type 0) (bytes : List ℕ) (count : ℕ) (before after : List ℕ) : Type 0 where
   pub front : List ℕ
   pub back : List ℕ
   pub split : bytes ≡ front ++ back
   pub counted : count ≡ min (length front) counter_limit
-  pub sent : told → after ≡ before ++ front
+  pub sent : observable → after ≡ before ++ front

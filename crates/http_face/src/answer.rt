@@ -1,7 +1,7 @@
 //! The body of a response.
 
 ghost use Rattle.std.specs.Prelude.{◌≡◌, ◌≢◌, ◌+◌, ◌≤◌, ◌<◌, ◌++◌, [], length, take, Err, IfOk, vec_len};
-ghost use Rattle.atom_values.specs.Counts.{Rose};
+ghost use Rattle.atom_values.specs.Counts.{HasRisen};
 ghost use Rattle.http_face.specs.Conn.{Reads, TakesAtMost};
 
 use crate::conn::Conn;
@@ -20,14 +20,14 @@ pub(crate) fn read_up_to<C: Conn>(
     ahead: &[u8],
     most: usize,
 ) -> Result<Vec<u8>, ResponseFault>
-    ensures bytes { IfOk result (λ body. C.told
+    ensures bytes { IfOk result (λ body. C.observable
         → body.items ≡ take most (ahead.now ++ (C.state conn.old).left)) }
     ensures within { IfOk result (λ body. vec_len body ≤ most) }
-    ensures own { result ≢ Err ResponseFault.BadResponse }
-    ensures most { C.told → TakesAtMost most (C.state conn.old) (C.state conn.new) }
+    ensures only_errors { result ≢ Err ResponseFault.BadResponse }
+    ensures most { C.observable → TakesAtMost most (C.state conn.old) (C.state conn.new) }
     ensures reads { Reads (C.state conn.old) (C.state conn.new) }
     ensures failed { result ≡ Err ResponseFault.ConnFault
-        → Rose (C.state conn.old).faults (C.state conn.new).faults }
+        → HasRisen (C.state conn.old).faults (C.state conn.new).faults }
     ensures unfailed { result ≢ Err ResponseFault.ConnFault
         → (C.state conn.new).faults ≡ (C.state conn.old).faults }
 {
@@ -53,14 +53,14 @@ fn read_on<C: Conn>(
 ) -> Result<Vec<u8>, ResponseFault>
     requires room { 0 < length chunk.old }
     requires short { vec_len body ≤ most }
-    ensures bytes { IfOk result (λ whole. C.told
+    ensures bytes { IfOk result (λ whole. C.observable
         → whole.items ≡ take most (body.items ++ (C.state conn.old).left)) }
     ensures within { IfOk result (λ whole. vec_len whole ≤ most) }
-    ensures own { result ≢ Err ResponseFault.BadResponse }
-    ensures most { C.told → TakesAtMost most (C.state conn.old) (C.state conn.new) }
+    ensures only_errors { result ≢ Err ResponseFault.BadResponse }
+    ensures most { C.observable → TakesAtMost most (C.state conn.old) (C.state conn.new) }
     ensures reads { Reads (C.state conn.old) (C.state conn.new) }
     ensures failed { result ≡ Err ResponseFault.ConnFault
-        → Rose (C.state conn.old).faults (C.state conn.new).faults }
+        → HasRisen (C.state conn.old).faults (C.state conn.new).faults }
     ensures unfailed { result ≢ Err ResponseFault.ConnFault
         → (C.state conn.new).faults ≡ (C.state conn.old).faults }
 {
@@ -82,16 +82,16 @@ fn append<C: Conn>(
 ) -> Result<usize, ResponseFault>
     ensures within { IfOk result (λ count. count ≤ length chunk.old) }
     ensures len { IfOk result (λ count. vec_len body.new ≡ vec_len body.old + count) }
-    ensures bytes { IfOk result (λ count. C.told → body.old.items ++ (C.state conn.old).left
+    ensures bytes { IfOk result (λ count. C.observable → body.old.items ++ (C.state conn.old).left
         ≡ body.new.items ++ (C.state conn.new).left) }
-    ensures end { IfOk result (λ count. C.told → count ≡ 0 → 0 < length chunk.old
+    ensures end { IfOk result (λ count. C.observable → count ≡ 0 → 0 < length chunk.old
         → (C.state conn.old).left ≡ []) }
-    ensures own { result ≢ Err ResponseFault.BadResponse }
-    ensures most { C.told → TakesAtMost (length chunk.old) (C.state conn.old) (C.state conn.new) }
-    ensures read { IfOk result (λ count. C.told → TakesAtMost count (C.state conn.old) (C.state conn.new)) }
+    ensures only_errors { result ≢ Err ResponseFault.BadResponse }
+    ensures most { C.observable → TakesAtMost (length chunk.old) (C.state conn.old) (C.state conn.new) }
+    ensures read { IfOk result (λ count. C.observable → TakesAtMost count (C.state conn.old) (C.state conn.new)) }
     ensures reads { Reads (C.state conn.old) (C.state conn.new) }
     ensures failed { result ≡ Err ResponseFault.ConnFault
-        → Rose (C.state conn.old).faults (C.state conn.new).faults }
+        → HasRisen (C.state conn.old).faults (C.state conn.new).faults }
     ensures unfailed { result ≢ Err ResponseFault.ConnFault
         → (C.state conn.new).faults ≡ (C.state conn.old).faults }
 {

@@ -1,7 +1,7 @@
 //! The body of a request.
 
 ghost use Rattle.std.specs.Prelude.{◌≡◌, ◌≢◌, ◌+◌, ◌<◌, ◌≤◌, ◌++◌, length, Ok, Err, IfOk, IfErr, OnOk};
-ghost use Rattle.atom_values.specs.Counts.{Rose};
+ghost use Rattle.atom_values.specs.Counts.{HasRisen};
 ghost use Rattle.feed_disk.specs.Raised.{RisesAtMost};
 ghost use Rattle.http_face.specs.Conn.{LastReadAfter, Reads, TakesAtMost};
 ghost use Rattle.http_face.specs.Heard.{head_limit, sized_body};
@@ -24,19 +24,19 @@ pub(crate) fn read_body<C: Conn>(
 ) -> Result<Bytes, RequestFault>
     requires head { before + length ahead.now ≤ head_limit }
     requires size { size ≤ body_limit }
-    ensures heard { IfOk result (λ body. C.told
+    ensures heard { IfOk result (λ body. C.observable
         → sized_body size (before + length (ahead.now ++ (C.state conn.old).left))
         (ahead.now ++ (C.state conn.old).left) ≡ Ok body) }
     ensures length { IfOk result (λ body. length body ≡ size) }
     ensures refused { IfErr result (λ fault. fault ≢ RequestFault.ConnFault → fault ≢ RequestFault.NoMemory
-        → C.told → sized_body size (before + length (ahead.now ++ (C.state conn.old).left))
+        → C.observable → sized_body size (before + length (ahead.now ++ (C.state conn.old).left))
         (ahead.now ++ (C.state conn.old).left) ≡ Err fault) }
-    ensures most { C.told → TakesAtMost size (C.state conn.old) (C.state conn.new) }
+    ensures most { C.observable → TakesAtMost size (C.state conn.old) (C.state conn.new) }
     ensures read { RisesAtMost size (C.state conn.old).bytes_read (C.state conn.new).bytes_read }
-    ensures needed { C.told → LastReadAfter (λ taken. length ahead.now + length taken < size)
+    ensures needed { C.observable → LastReadAfter (λ taken. length ahead.now + length taken < size)
         (C.state conn.old) (C.state conn.new) }
     ensures reads { Reads (C.state conn.old) (C.state conn.new) }
-    ensures failed { result ≡ Err RequestFault.ConnFault → Rose (C.state conn.old).faults
+    ensures failed { result ≡ Err RequestFault.ConnFault → HasRisen (C.state conn.old).faults
         (C.state conn.new).faults }
     ensures unfailed { result ≢ Err RequestFault.ConnFault
         → (C.state conn.new).faults ≡ (C.state conn.old).faults }
@@ -55,19 +55,19 @@ fn read_into<C: Conn>(
 ) -> Result<(), RequestFault>
     requires head { before + length ahead.now ≤ head_limit }
     requires size { length body.old ≤ body_limit }
-    ensures heard { OnOk result (C.told
+    ensures heard { OnOk result (C.observable
         → sized_body (length body.old) (before + length (ahead.now ++ (C.state conn.old).left))
         (ahead.now ++ (C.state conn.old).left) ≡ Ok body.new) }
-    ensures refused { IfErr result (λ fault. fault ≢ RequestFault.ConnFault → C.told
+    ensures refused { IfErr result (λ fault. fault ≢ RequestFault.ConnFault → C.observable
         → sized_body (length body.old) (before + length (ahead.now ++ (C.state conn.old).left))
         (ahead.now ++ (C.state conn.old).left) ≡ Err fault) }
-    ensures own { result ≢ Err RequestFault.NoMemory }
-    ensures most { C.told → TakesAtMost (length body.old) (C.state conn.old) (C.state conn.new) }
+    ensures only_errors { result ≢ Err RequestFault.NoMemory }
+    ensures most { C.observable → TakesAtMost (length body.old) (C.state conn.old) (C.state conn.new) }
     ensures read { RisesAtMost (length body.old) (C.state conn.old).bytes_read (C.state conn.new).bytes_read }
-    ensures needed { C.told → LastReadAfter (λ taken. length ahead.now + length taken < length body.old)
+    ensures needed { C.observable → LastReadAfter (λ taken. length ahead.now + length taken < length body.old)
         (C.state conn.old) (C.state conn.new) }
     ensures reads { Reads (C.state conn.old) (C.state conn.new) }
-    ensures failed { result ≡ Err RequestFault.ConnFault → Rose (C.state conn.old).faults
+    ensures failed { result ≡ Err RequestFault.ConnFault → HasRisen (C.state conn.old).faults
         (C.state conn.new).faults }
     ensures unfailed { result ≢ Err RequestFault.ConnFault
         → (C.state conn.new).faults ≡ (C.state conn.old).faults }

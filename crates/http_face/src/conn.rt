@@ -12,7 +12,7 @@ use feed_disk::Disk;
 /// A failed call is counted as a fault, and takes no byte.
 pub trait Conn {
     /// Whether contracts can see the bytes that are left and those that were sent.
-    ghost told: { Type 0 };
+    ghost observable: { Type 0 };
 
     /// The bytes, the counts of faults, reads and bytes read, and whether the reply was begun. Every connection
     /// counts its reads.
@@ -22,16 +22,16 @@ pub trait Conn {
     /// of the bytes. `Failed` if the call failed.
     fn read(&mut self, into: &mut [u8]) -> Result<usize, Failed>
         ensures within { IfOk result (λ count. count ≤ length into.old) }
-        ensures bytes { IfOk result (λ count. told
+        ensures bytes { IfOk result (λ count. observable
             → (state self.old).left ≡ take count into.new ++ (state self.new).left) }
-        ensures end { IfOk result (λ count. told → count ≡ 0 → 0 < length into.old
+        ensures end { IfOk result (λ count. observable → count ≡ 0 → 0 < length into.old
             → (state self.old).left ≡ []) }
-        ensures err { OnErr result (told → (state self.new).left ≡ (state self.old).left) }
+        ensures err { OnErr result (observable → (state self.new).left ≡ (state self.old).left) }
         ensures read { IfOk result (λ count. (state self.new).bytes_read
             ≡ raised (state self.old).bytes_read count) }
         ensures unread { OnErr result ((state self.new).bytes_read ≡ (state self.old).bytes_read) }
         ensures called { (state self.new).reads ≡ counted (state self.old).reads }
-        ensures before { told → (state self.new).before_read ≡ (state self.old).left }
+        ensures before { observable → (state self.new).before_read ≡ (state self.old).left }
         ensures reads { Reads (state self.old) (state self.new) }
         ensures counts { HasCause (state self.old).faults (state self.new).faults result };
 
@@ -48,9 +48,9 @@ pub trait Conn {
         requires { IsSome (state self.old).begun }
         ensures within { IfOk result (λ count. count ≤ length from.now) }
         ensures some { IfOk result (λ count. 0 < length from.now → 0 < count) }
-        ensures bytes { IfOk result (λ count. told
+        ensures bytes { IfOk result (λ count. observable
             → (state self.new).sent ≡ (state self.old).sent ++ take count from.now) }
-        ensures err { OnErr result (told → (state self.new).sent ≡ (state self.old).sent) }
+        ensures err { OnErr result (observable → (state self.new).sent ≡ (state self.old).sent) }
         ensures writes { Writes (state self.old) (state self.new) }
         ensures counts { HasCause (state self.old).faults (state self.new).faults result };
 }

@@ -16,15 +16,15 @@ pub(crate) fn read_behind<C: Conn>(
 ) -> Result<usize, Failed>
     requires { filled < length buffer.old }
     ensures within { IfOk result (λ count. filled + count ≤ length buffer.old) }
-    ensures bytes { IfOk result (λ count. C.told → take filled buffer.old ++ (C.state conn.old).left
+    ensures bytes { IfOk result (λ count. C.observable → take filled buffer.old ++ (C.state conn.old).left
         ≡ take (filled + count) buffer.new ++ (C.state conn.new).left) }
-    ensures end { IfOk result (λ count. C.told → count ≡ 0 → (C.state conn.old).left ≡ []) }
-    ensures most { IfOk result (λ count. C.told → TakesAtMost count (C.state conn.old) (C.state conn.new)) }
-    ensures err { OnErr result (C.told → (C.state conn.new).left ≡ (C.state conn.old).left) }
+    ensures end { IfOk result (λ count. C.observable → count ≡ 0 → (C.state conn.old).left ≡ []) }
+    ensures most { IfOk result (λ count. C.observable → TakesAtMost count (C.state conn.old) (C.state conn.new)) }
+    ensures err { OnErr result (C.observable → (C.state conn.new).left ≡ (C.state conn.old).left) }
     ensures read { IfOk result (λ count. (C.state conn.new).bytes_read
         ≡ raised (C.state conn.old).bytes_read count) }
     ensures unread { OnErr result ((C.state conn.new).bytes_read ≡ (C.state conn.old).bytes_read) }
-    ensures before { C.told → (C.state conn.new).before_read ≡ (C.state conn.old).left }
+    ensures before { C.observable → (C.state conn.new).before_read ≡ (C.state conn.old).left }
     ensures reads { Reads (C.state conn.old) (C.state conn.new) }
     ensures counts { HasCause (C.state conn.old).faults (C.state conn.new).faults result }
 {
@@ -40,13 +40,13 @@ pub(crate) fn fill_up<C: Conn>(
 ) -> Result<usize, Failed>
     requires { filled ≤ length buffer.old }
     ensures within { IfOk result (λ full. full ≤ length buffer.old) }
-    ensures bytes { IfOk result (λ full. C.told → take filled buffer.old ++ (C.state conn.old).left
+    ensures bytes { IfOk result (λ full. C.observable → take filled buffer.old ++ (C.state conn.old).left
         ≡ take full buffer.new ++ (C.state conn.new).left) }
-    ensures end { IfOk result (λ full. C.told → full < length buffer.old → (C.state conn.new).left ≡ []) }
-    ensures most { C.told → TakesAtMost (length buffer.old - filled) (C.state conn.old) (C.state conn.new) }
+    ensures end { IfOk result (λ full. C.observable → full < length buffer.old → (C.state conn.new).left ≡ []) }
+    ensures most { C.observable → TakesAtMost (length buffer.old - filled) (C.state conn.old) (C.state conn.new) }
     ensures read { RisesAtMost (length buffer.old - filled) (C.state conn.old).bytes_read
         (C.state conn.new).bytes_read }
-    ensures needed { C.told → LastReadAfter (λ before. filled + length before < length buffer.old)
+    ensures needed { C.observable → LastReadAfter (λ before. filled + length before < length buffer.old)
         (C.state conn.old) (C.state conn.new) }
     ensures reads { Reads (C.state conn.old) (C.state conn.new) }
     ensures counts { HasCause (C.state conn.old).faults (C.state conn.new).faults result }

@@ -1,7 +1,7 @@
 //! The head of a request.
 
 ghost use Rattle.std.specs.Prelude.{◌≡◌, ◌≢◌, ◌<◌, ◌≤◌, ◌++◌, ℕ, List, length, take, Err, IfOk, IfErr, IfSome, IsNone, OnOk};
-ghost use Rattle.atom_values.specs.Counts.{Rose};
+ghost use Rattle.atom_values.specs.Counts.{HasRisen};
 ghost use Rattle.feed_disk.specs.Raised.{RisesAtMost};
 ghost use Rattle.httparse.specs.Spans.{IsRequestWithin, IsRequestOf, RequestOverflows};
 ghost use Rattle.http_face.specs.Conn.{LastReadAfter, Reads, TakesAtMost};
@@ -47,15 +47,15 @@ pub(crate) fn read_head<C: Conn>(
     ensures complete { IfOk result (λ head.
         IsRequestOf (take head.filled buffer.new) headers.new head.spans) }
     ensures few { IfOk result (λ head. head.spans.headers ≤ field_limit) }
-    ensures bytes { IfOk result (λ head. C.told → (C.state conn.old).left
+    ensures bytes { IfOk result (λ head. C.observable → (C.state conn.old).left
         ≡ take head.filled buffer.new ++ (C.state conn.new).left) }
     ensures refused { IfErr result (λ fault. fault ≢ RequestFault.ConnFault → fault ≢ RequestFault.NoMemory
-        → C.told → HasNoHead (C.state conn.old).left × IsHeadFault (C.state conn.old).left fault) }
-    ensures most { C.told → TakesAtMost head_limit (C.state conn.old) (C.state conn.new) }
+        → C.observable → HasNoHead (C.state conn.old).left × IsHeadFault (C.state conn.old).left fault) }
+    ensures most { C.observable → TakesAtMost head_limit (C.state conn.old) (C.state conn.new) }
     ensures read { RisesAtMost head_limit (C.state conn.old).bytes_read (C.state conn.new).bytes_read }
-    ensures needed { C.told → LastReadAfter IsUnsettled (C.state conn.old) (C.state conn.new) }
+    ensures needed { C.observable → LastReadAfter IsUnsettled (C.state conn.old) (C.state conn.new) }
     ensures reads { Reads (C.state conn.old) (C.state conn.new) }
-    ensures failed { result ≡ Err RequestFault.ConnFault → Rose (C.state conn.old).faults
+    ensures failed { result ≡ Err RequestFault.ConnFault → HasRisen (C.state conn.old).faults
         (C.state conn.new).faults }
     ensures unfailed { result ≢ Err RequestFault.ConnFault
         → (C.state conn.new).faults ≡ (C.state conn.old).faults }
@@ -92,7 +92,7 @@ fn parse(
         → IsUnsettled bytes.now) }
     ensures refused { IfErr result (λ fault. fault ≢ RequestFault.NoMemory → (more : List ℕ)
         → HasNoHead (bytes.now ++ more) × IsHeadFault (bytes.now ++ more) fault) }
-    ensures own { IfErr result (λ fault. fault ≢ RequestFault.ConnFault) }
+    ensures only_errors { IfErr result (λ fault. fault ≢ RequestFault.ConnFault) }
 {
     match parse_request(bytes, headers) {
         Ok(Status::Complete(spans)) => {
@@ -119,7 +119,7 @@ fn parse_many(alloc: Global, bytes: &[u8]) -> Result<Option<RequestSpans>, Reque
         → IsUnsettled bytes.now) }
     ensures refused { IfErr result (λ fault. fault ≢ RequestFault.NoMemory → (more : List ℕ)
         → HasNoHead (bytes.now ++ more) × IsHeadFault (bytes.now ++ more) fault) }
-    ensures own { IfErr result (λ fault. fault ≢ RequestFault.ConnFault) }
+    ensures only_errors { IfErr result (λ fault. fault ≢ RequestFault.ConnFault) }
 {
     let mut headers = vec![in alloc; EMPTY_HEADER_SPAN; FIELD_ROOM]?;
     match parse_request(bytes, &mut headers) {

@@ -1,5 +1,5 @@
 ghost use Rattle.std.specs.Prelude.{◌≡◌, ◌≢◌, ◌≤◌, ◌⊎◌, ◌++◌, length, drop, map, All, IfOk, IfErr, Ok, Err};
-ghost use Rattle.atom_values.specs.Counts.{Rose};
+ghost use Rattle.atom_values.specs.Counts.{HasRisen};
 ghost use Rattle.httparse.specs.Spans.{IsWithin, IsHeaderWithin, span_bytes, header_bytes};
 ghost use Rattle.std.specs.Prelude.{codes};
 ghost use Rattle.feed_disk.specs.Raised.{RisesAtMost};
@@ -120,18 +120,18 @@ impl Copies for Request {
 ///
 /// The head is parsed anew after each read that didn't complete it.
 pub fn read_request<C: Conn>(alloc: Global, conn: &mut C) -> Result<Request, RequestFault>
-    ensures heard { IfOk result (λ request. C.told → IsHeard (C.state conn.old).left request) }
-    ensures only { (request : RequestValue) → IsHeard (C.state conn.old).left request → C.told
+    ensures heard { IfOk result (λ request. C.observable → IsHeard (C.state conn.old).left request) }
+    ensures only { (request : RequestValue) → IsHeard (C.state conn.old).left request → C.observable
         → (result ≡ Ok request) ⊎ (result ≡ Err RequestFault.ConnFault)
         ⊎ (result ≡ Err RequestFault.NoMemory) }
     ensures rules { IfOk result IsRequest }
     ensures refused { IfErr result (λ fault. fault ≢ RequestFault.ConnFault → fault ≢ RequestFault.NoMemory
-        → C.told → IsMisheard (C.state conn.old).left fault) }
-    ensures most { C.told → TakesAtMost 81_920 (C.state conn.old) (C.state conn.new) }
+        → C.observable → IsMisheard (C.state conn.old).left fault) }
+    ensures most { C.observable → TakesAtMost 81_920 (C.state conn.old) (C.state conn.new) }
     ensures read { RisesAtMost 81_920 (C.state conn.old).bytes_read (C.state conn.new).bytes_read }
-    ensures needed { C.told → LastReadAfter IsUnsettled (C.state conn.old) (C.state conn.new) }
+    ensures needed { C.observable → LastReadAfter IsUnsettled (C.state conn.old) (C.state conn.new) }
     ensures reads { Reads (C.state conn.old) (C.state conn.new) }
-    ensures failed { result ≡ Err RequestFault.ConnFault → Rose (C.state conn.old).faults
+    ensures failed { result ≡ Err RequestFault.ConnFault → HasRisen (C.state conn.old).faults
         (C.state conn.new).faults }
     ensures unfailed { result ≢ Err RequestFault.ConnFault
         → (C.state conn.new).faults ≡ (C.state conn.old).faults }
@@ -150,15 +150,15 @@ fn read_within<C: Conn>(
 ) -> Result<Request, RequestFault>
     requires room { length buffer.old ≡ head_limit }
     requires fields { field_limit ≤ length headers.old }
-    ensures heard { IfOk result (λ request. C.told → IsHeard (C.state conn.old).left request) }
+    ensures heard { IfOk result (λ request. C.observable → IsHeard (C.state conn.old).left request) }
     ensures rules { IfOk result IsRequest }
     ensures refused { IfErr result (λ fault. fault ≢ RequestFault.ConnFault → fault ≢ RequestFault.NoMemory
-        → C.told → IsMisheard (C.state conn.old).left fault) }
-    ensures most { C.told → TakesAtMost 81_920 (C.state conn.old) (C.state conn.new) }
+        → C.observable → IsMisheard (C.state conn.old).left fault) }
+    ensures most { C.observable → TakesAtMost 81_920 (C.state conn.old) (C.state conn.new) }
     ensures read { RisesAtMost 81_920 (C.state conn.old).bytes_read (C.state conn.new).bytes_read }
-    ensures needed { C.told → LastReadAfter IsUnsettled (C.state conn.old) (C.state conn.new) }
+    ensures needed { C.observable → LastReadAfter IsUnsettled (C.state conn.old) (C.state conn.new) }
     ensures reads { Reads (C.state conn.old) (C.state conn.new) }
-    ensures failed { result ≡ Err RequestFault.ConnFault → Rose (C.state conn.old).faults
+    ensures failed { result ≡ Err RequestFault.ConnFault → HasRisen (C.state conn.old).faults
         (C.state conn.new).faults }
     ensures unfailed { result ≢ Err RequestFault.ConnFault
         → (C.state conn.new).faults ≡ (C.state conn.old).faults }
@@ -191,22 +191,22 @@ fn request_of<C: Conn>(
     ensures target { IfOk result (λ request. request.target ≡ span_bytes bytes.now head.path) }
     ensures media { IfOk result (λ request. request.media
         ≡ first_of (values_of (codes "content-type") (map (header_bytes bytes.now) headers.now))) }
-    ensures body { IfOk result (λ request. C.told
+    ensures body { IfOk result (λ request. C.observable
         → body_of (span_bytes bytes.now head.method) (map (header_bytes bytes.now) headers.now)
         (length (bytes.now ++ (C.state conn.old).left)) (drop head.len bytes.now ++ (C.state conn.old).left)
         ≡ Ok request.body) }
     ensures rules { IfOk result IsRequest }
     ensures refused { IfErr result (λ fault. fault ≢ RequestFault.ConnFault → fault ≢ RequestFault.NoMemory
-        → C.told → body_of (span_bytes bytes.now head.method) (map (header_bytes bytes.now) headers.now)
+        → C.observable → body_of (span_bytes bytes.now head.method) (map (header_bytes bytes.now) headers.now)
         (length (bytes.now ++ (C.state conn.old).left)) (drop head.len bytes.now ++ (C.state conn.old).left)
         ≡ Err fault) }
-    ensures most { C.told → TakesAtMost body_limit (C.state conn.old) (C.state conn.new) }
+    ensures most { C.observable → TakesAtMost body_limit (C.state conn.old) (C.state conn.new) }
     ensures read { RisesAtMost body_limit (C.state conn.old).bytes_read (C.state conn.new).bytes_read }
-    ensures needed { C.told → LastReadAfter (λ taken. EndsWithinBody (span_bytes bytes.now head.method)
+    ensures needed { C.observable → LastReadAfter (λ taken. EndsWithinBody (span_bytes bytes.now head.method)
         (map (header_bytes bytes.now) headers.now) (drop head.len bytes.now ++ taken))
         (C.state conn.old) (C.state conn.new) }
     ensures reads { Reads (C.state conn.old) (C.state conn.new) }
-    ensures failed { result ≡ Err RequestFault.ConnFault → Rose (C.state conn.old).faults
+    ensures failed { result ≡ Err RequestFault.ConnFault → HasRisen (C.state conn.old).faults
         (C.state conn.new).faults }
     ensures unfailed { result ≢ Err RequestFault.ConnFault
         → (C.state conn.new).faults ≡ (C.state conn.old).faults }

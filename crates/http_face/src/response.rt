@@ -1,7 +1,7 @@
 //! Reads a response.
 
 ghost use Rattle.std.specs.Prelude.{◌≡◌, ◌≢◌, ◌⊎◌, ◌≤◌, ◌++◌, ℕ, List, length, take, drop, map, All, Option, Ok, Err, IfOk, IfSome, IsOkAnd, option_map, vec_len};
-ghost use Rattle.atom_values.specs.Counts.{Rose};
+ghost use Rattle.atom_values.specs.Counts.{HasRisen};
 ghost use Rattle.httparse.specs.Spans.{IsHeaderWithin, header_bytes};
 ghost use Rattle.http_face.specs.Conn.{Reads, TakesAtMost};
 ghost use Rattle.http_face.specs.Heard.{head_limit, field_limit};
@@ -34,17 +34,17 @@ pub const MAX_ANSWER: usize = 67_108_864;
 /// The head is parsed anew after each read that didn't complete it. Memory for the body is taken as its bytes
 /// come.
 pub fn read_response<C: Conn>(alloc: Global, conn: &mut C) -> Result<Option<Vec<u8>>, ResponseFault>
-    ensures answered { IfOk result (λ found. C.told
+    ensures answered { IfOk result (λ found. C.observable
         → IsAnswered (C.state conn.old).left (option_map (λ bytes. bytes.items) found)) }
-    ensures only { (answer : Option (List ℕ)) → IsAnswered (C.state conn.old).left answer → C.told
+    ensures only { (answer : Option (List ℕ)) → IsAnswered (C.state conn.old).left answer → C.observable
         → IsOkAnd result (λ found. option_map (λ bytes. bytes.items) found ≡ answer)
         ⊎ (result ≡ Err ResponseFault.ConnFault) ⊎ (result ≡ Err ResponseFault.NoMemory) }
-    ensures bad { result ≡ Err ResponseFault.BadResponse → C.told → IsBadResponse (C.state conn.old).left }
+    ensures bad { result ≡ Err ResponseFault.BadResponse → C.observable → IsBadResponse (C.state conn.old).left }
     ensures limit { IfOk result (λ found. IfSome found (λ bytes. vec_len bytes ≤ answer_limit)) }
-    ensures most { C.told → TakesAtMost 67_125_249 (C.state conn.old) (C.state conn.new) }
+    ensures most { C.observable → TakesAtMost 67_125_249 (C.state conn.old) (C.state conn.new) }
     ensures reads { Reads (C.state conn.old) (C.state conn.new) }
     ensures failed { result ≡ Err ResponseFault.ConnFault
-        → Rose (C.state conn.old).faults (C.state conn.new).faults }
+        → HasRisen (C.state conn.old).faults (C.state conn.new).faults }
     ensures unfailed { result ≢ Err ResponseFault.ConnFault
         → (C.state conn.new).faults ≡ (C.state conn.old).faults }
 {
@@ -62,14 +62,14 @@ fn read_within<C: Conn>(
 ) -> Result<Option<Vec<u8>>, ResponseFault>
     requires room { length buffer.old ≡ head_limit }
     requires fields { field_limit ≤ length headers.old }
-    ensures answered { IfOk result (λ found. C.told
+    ensures answered { IfOk result (λ found. C.observable
         → IsAnswered (C.state conn.old).left (option_map (λ bytes. bytes.items) found)) }
-    ensures bad { result ≡ Err ResponseFault.BadResponse → C.told → IsBadResponse (C.state conn.old).left }
+    ensures bad { result ≡ Err ResponseFault.BadResponse → C.observable → IsBadResponse (C.state conn.old).left }
     ensures limit { IfOk result (λ found. IfSome found (λ bytes. vec_len bytes ≤ answer_limit)) }
-    ensures most { C.told → TakesAtMost 67_125_249 (C.state conn.old) (C.state conn.new) }
+    ensures most { C.observable → TakesAtMost 67_125_249 (C.state conn.old) (C.state conn.new) }
     ensures reads { Reads (C.state conn.old) (C.state conn.new) }
     ensures failed { result ≡ Err ResponseFault.ConnFault
-        → Rose (C.state conn.old).faults (C.state conn.new).faults }
+        → HasRisen (C.state conn.old).faults (C.state conn.new).faults }
     ensures unfailed { result ≢ Err ResponseFault.ConnFault
         → (C.state conn.new).faults ≡ (C.state conn.old).faults }
 {
@@ -94,17 +94,17 @@ fn answer_of<C: Conn>(
 ) -> Result<Option<Vec<u8>>, ResponseFault>
     requires len { head.len ≤ length bytes.now }
     requires fields { All (IsHeaderWithin (length bytes.now)) headers.now }
-    ensures answered { IfOk result (λ found. C.told
+    ensures answered { IfOk result (λ found. C.observable
         → answer_by head.code (map (header_bytes bytes.now) headers.now)
         (drop head.len bytes.now ++ (C.state conn.old).left) ≡ Ok (option_map (λ bytes. bytes.items) found)) }
-    ensures bad { result ≡ Err ResponseFault.BadResponse → C.told
+    ensures bad { result ≡ Err ResponseFault.BadResponse → C.observable
         → answer_by head.code (map (header_bytes bytes.now) headers.now)
         (drop head.len bytes.now ++ (C.state conn.old).left) ≡ Err ResponseFault.BadResponse }
     ensures limit { IfOk result (λ found. IfSome found (λ bytes. vec_len bytes ≤ answer_limit)) }
-    ensures most { C.told → TakesAtMost 67_108_865 (C.state conn.old) (C.state conn.new) }
+    ensures most { C.observable → TakesAtMost 67_108_865 (C.state conn.old) (C.state conn.new) }
     ensures reads { Reads (C.state conn.old) (C.state conn.new) }
     ensures failed { result ≡ Err ResponseFault.ConnFault
-        → Rose (C.state conn.old).faults (C.state conn.new).faults }
+        → HasRisen (C.state conn.old).faults (C.state conn.new).faults }
     ensures unfailed { result ≢ Err ResponseFault.ConnFault
         → (C.state conn.new).faults ≡ (C.state conn.old).faults }
 {
@@ -127,16 +127,16 @@ fn read_answer<C: Conn>(
     extent: Option<usize>,
 ) -> Result<Option<Vec<u8>>, ResponseFault>
     requires { IfSome extent (λ size. size ≤ answer_limit) }
-    ensures answered { IfOk result (λ found. C.told
+    ensures answered { IfOk result (λ found. C.observable
         → body_within extent (ahead.now ++ (C.state conn.old).left)
         ≡ Ok (option_map (λ bytes. bytes.items) found)) }
-    ensures bad { result ≡ Err ResponseFault.BadResponse → C.told
+    ensures bad { result ≡ Err ResponseFault.BadResponse → C.observable
         → body_within extent (ahead.now ++ (C.state conn.old).left) ≡ Err ResponseFault.BadResponse }
     ensures limit { IfOk result (λ found. IfSome found (λ bytes. vec_len bytes ≤ answer_limit)) }
-    ensures most { C.told → TakesAtMost 67_108_865 (C.state conn.old) (C.state conn.new) }
+    ensures most { C.observable → TakesAtMost 67_108_865 (C.state conn.old) (C.state conn.new) }
     ensures reads { Reads (C.state conn.old) (C.state conn.new) }
     ensures failed { result ≡ Err ResponseFault.ConnFault
-        → Rose (C.state conn.old).faults (C.state conn.new).faults }
+        → HasRisen (C.state conn.old).faults (C.state conn.new).faults }
     ensures unfailed { result ≢ Err ResponseFault.ConnFault
         → (C.state conn.new).faults ≡ (C.state conn.old).faults }
 {

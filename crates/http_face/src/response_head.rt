@@ -1,7 +1,7 @@
 //! The head of a response.
 
 ghost use Rattle.std.specs.Prelude.{◌≡◌, ◌≢◌, ◌≤◌, ◌++◌, ℕ, List, length, take, Err, IfOk, IfErr, IfSome, IsNone, OnErr};
-ghost use Rattle.atom_values.specs.Counts.{Rose};
+ghost use Rattle.atom_values.specs.Counts.{HasRisen};
 ghost use Rattle.httparse.specs.Spans.{IsResponseWithin, IsResponseOf};
 ghost use Rattle.http_face.specs.Conn.{Reads, TakesAtMost};
 ghost use Rattle.http_face.specs.Heard.{head_limit, field_limit};
@@ -36,14 +36,14 @@ pub(crate) fn read_response_head<C: Conn>(
     ensures complete { IfOk result (λ head.
         IsResponseOf (take head.filled buffer.new) headers.new head.spans) }
     ensures few { IfOk result (λ head. head.spans.headers ≤ field_limit) }
-    ensures bytes { IfOk result (λ head. C.told → (C.state conn.old).left
+    ensures bytes { IfOk result (λ head. C.observable → (C.state conn.old).left
         ≡ take head.filled buffer.new ++ (C.state conn.new).left) }
     ensures bad { result ≡ Err ResponseFault.BadResponse
-        → C.told → HasNoResponseHead (C.state conn.old).left }
-    ensures most { C.told → TakesAtMost head_limit (C.state conn.old) (C.state conn.new) }
+        → C.observable → HasNoResponseHead (C.state conn.old).left }
+    ensures most { C.observable → TakesAtMost head_limit (C.state conn.old) (C.state conn.new) }
     ensures reads { Reads (C.state conn.old) (C.state conn.new) }
     ensures failed { result ≡ Err ResponseFault.ConnFault
-        → Rose (C.state conn.old).faults (C.state conn.new).faults }
+        → HasRisen (C.state conn.old).faults (C.state conn.new).faults }
     ensures unfailed { result ≢ Err ResponseFault.ConnFault
         → (C.state conn.new).faults ≡ (C.state conn.old).faults }
 {
@@ -69,7 +69,7 @@ fn parse(bytes: &[u8], headers: &mut [HeaderSpan]) -> Result<Option<ResponseSpan
     ensures complete { IfOk result (λ found. IfSome found (IsResponseOf bytes.now headers.new)) }
     ensures few { IfOk result (λ found. IfSome found (λ spans. spans.headers ≤ field_limit)) }
     ensures unfinished { IfOk result (λ found. IsNone found → HasNoResponseHead bytes.now) }
-    ensures own { IfErr result (λ fault. fault ≡ ResponseFault.BadResponse) }
+    ensures only_errors { IfErr result (λ fault. fault ≡ ResponseFault.BadResponse) }
     ensures refused { OnErr result ((more : List ℕ) → HasNoResponseHead (bytes.now ++ more)) }
 {
     match parse_response(bytes, headers) {

@@ -77,7 +77,7 @@ impl ScriptConn {
 }
 
 impl Conn for ScriptConn {
-    ghost told = { Unit {0} };
+    ghost observable = { Unit {0} };
 
     ghost state = { λ s. record {
       left = drop s.at s.bytes;

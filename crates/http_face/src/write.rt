@@ -20,9 +20,9 @@ use itoa::Buffer;
 pub fn write_reply<C: Conn>(conn: &mut C, reply: &Reply) -> Result<(), CutOff>
     requires begun { IsSome (C.state conn.old).begun }
     requires status { HasPhrase reply.now.status }
-    ensures whole { OnOk result (C.told
+    ensures whole { OnOk result (C.observable
         → (C.state conn.new).sent ≡ (C.state conn.old).sent ++ reply_bytes reply.now) }
-    ensures cut { IfErr result (λ cut. IsCutOff C.told (reply_bytes reply.now) cut.sent
+    ensures cut { IfErr result (λ cut. IsCutOff C.observable (reply_bytes reply.now) cut.sent
         (C.state conn.old).sent (C.state conn.new).sent) }
     ensures writes { Writes (C.state conn.old) (C.state conn.new) }
     ensures counts { HasCause (C.state conn.old).faults (C.state conn.new).faults result }
@@ -42,7 +42,7 @@ pub fn write_reply<C: Conn>(conn: &mut C, reply: &Reply) -> Result<(), CutOff>
 fn put_status_line<C: Conn>(conn: &mut C, waiting: &mut Waiting, status: u16) -> Result<(), CutOff>
     requires begun { IsSome (C.state conn.old).begun }
     requires phrase { HasPhrase status }
-    ensures puts { Puts C.told (status_line status) (put_state (C.state conn.old).sent waiting.old)
+    ensures puts { Puts C.observable (status_line status) (put_state (C.state conn.old).sent waiting.old)
         (put_state (C.state conn.new).sent waiting.new) result }
     ensures writes { Writes (C.state conn.old) (C.state conn.new) }
     ensures counts { HasCause (C.state conn.old).faults (C.state conn.new).faults result }
@@ -58,7 +58,7 @@ fn put_status_line<C: Conn>(conn: &mut C, waiting: &mut Waiting, status: u16) ->
 /// Puts the fields of the head, and the empty line.
 fn put_fields<C: Conn>(conn: &mut C, waiting: &mut Waiting, reply: &Reply) -> Result<(), CutOff>
     requires begun { IsSome (C.state conn.old).begun }
-    ensures puts { Puts C.told (fields_text reply.now) (put_state (C.state conn.old).sent waiting.old)
+    ensures puts { Puts C.observable (fields_text reply.now) (put_state (C.state conn.old).sent waiting.old)
         (put_state (C.state conn.new).sent waiting.new) result }
     ensures writes { Writes (C.state conn.old) (C.state conn.new) }
     ensures counts { HasCause (C.state conn.old).faults (C.state conn.new).faults result }
@@ -79,7 +79,7 @@ fn put_location<C: Conn>(
     address: &Option<Bytes>,
 ) -> Result<(), CutOff>
     requires begun { IsSome (C.state conn.old).begun }
-    ensures puts { Puts C.told (optional_header (codes "Location") address.now)
+    ensures puts { Puts C.observable (optional_header (codes "Location") address.now)
         (put_state (C.state conn.old).sent waiting.old)
         (put_state (C.state conn.new).sent waiting.new) result }
     ensures writes { Writes (C.state conn.old) (C.state conn.new) }
@@ -99,7 +99,7 @@ fn put_header<C: Conn>(
     value: &[u8],
 ) -> Result<(), CutOff>
     requires begun { IsSome (C.state conn.old).begun }
-    ensures puts { Puts C.told (header name.now value.now) (put_state (C.state conn.old).sent waiting.old)
+    ensures puts { Puts C.observable (header name.now value.now) (put_state (C.state conn.old).sent waiting.old)
         (put_state (C.state conn.new).sent waiting.new) result }
     ensures writes { Writes (C.state conn.old) (C.state conn.new) }
     ensures counts { HasCause (C.state conn.old).faults (C.state conn.new).faults result }
@@ -127,7 +127,7 @@ fn phrase(status: u16) -> &'static [u8]
 /// Puts a part after what waits. A part for which the buffer has no room is sent from where it lies.
 fn put<C: Conn>(conn: &mut C, waiting: &mut Waiting, part: &[u8]) -> Result<(), CutOff>
     requires begun { IsSome (C.state conn.old).begun }
-    ensures puts { Puts C.told part.now (put_state (C.state conn.old).sent waiting.old)
+    ensures puts { Puts C.observable part.now (put_state (C.state conn.old).sent waiting.old)
         (put_state (C.state conn.new).sent waiting.new) result }
     ensures writes { Writes (C.state conn.old) (C.state conn.new) }
     ensures counts { HasCause (C.state conn.old).faults (C.state conn.new).faults result }
@@ -145,7 +145,7 @@ fn put<C: Conn>(conn: &mut C, waiting: &mut Waiting, part: &[u8]) -> Result<(), 
 /// Sends what waits, if `size` bytes don't fit after it.
 fn make_room<C: Conn>(conn: &mut C, waiting: &mut Waiting, size: usize) -> Result<(), CutOff>
     requires begun { IsSome (C.state conn.old).begun }
-    ensures puts { Puts C.told [] (put_state (C.state conn.old).sent waiting.old)
+    ensures puts { Puts C.observable [] (put_state (C.state conn.old).sent waiting.old)
         (put_state (C.state conn.new).sent waiting.new) result }
     ensures writes { Writes (C.state conn.old) (C.state conn.new) }
     ensures counts { HasCause (C.state conn.old).faults (C.state conn.new).faults result }
@@ -161,7 +161,7 @@ fn make_room<C: Conn>(conn: &mut C, waiting: &mut Waiting, size: usize) -> Resul
 /// Sends what waits.
 fn flush<C: Conn>(conn: &mut C, waiting: &mut Waiting) -> Result<(), CutOff>
     requires begun { IsSome (C.state conn.old).begun }
-    ensures puts { Puts C.told [] (put_state (C.state conn.old).sent waiting.old)
+    ensures puts { Puts C.observable [] (put_state (C.state conn.old).sent waiting.old)
         (put_state (C.state conn.new).sent waiting.new) result }
     ensures writes { Writes (C.state conn.old) (C.state conn.new) }
     ensures counts { HasCause (C.state conn.old).faults (C.state conn.new).faults result }
@@ -176,7 +176,7 @@ fn flush<C: Conn>(conn: &mut C, waiting: &mut Waiting) -> Result<(), CutOff>
 fn send<C: Conn>(conn: &mut C, waiting: &mut Waiting, bytes: &[u8]) -> Result<(), CutOff>
     requires begun { IsSome (C.state conn.old).begun }
     requires empty { waiting.old.filled ≡ 0 }
-    ensures puts { Puts C.told bytes.now (put_state (C.state conn.old).sent waiting.old)
+    ensures puts { Puts C.observable bytes.now (put_state (C.state conn.old).sent waiting.old)
         (put_state (C.state conn.new).sent waiting.new) result }
     ensures writes { Writes (C.state conn.old) (C.state conn.new) }
     ensures counts { HasCause (C.state conn.old).faults (C.state conn.new).faults result }
@@ -189,9 +189,9 @@ fn send<C: Conn>(conn: &mut C, waiting: &mut Waiting, bytes: &[u8]) -> Result<()
 fn write_all<C: Conn>(conn: &mut C, bytes: &[u8], sent: u64) -> Result<u64, CutOff>
     requires begun { IsSome (C.state conn.old).begun }
     ensures sent { IfOk result (λ all. all ≡ counted_by sent (length bytes.now)) }
-    ensures whole { OnOk result (C.told → (C.state conn.new).sent ≡ (C.state conn.old).sent ++ bytes.now) }
+    ensures whole { OnOk result (C.observable → (C.state conn.new).sent ≡ (C.state conn.old).sent ++ bytes.now) }
     ensures cut { IfErr result (λ cut.
-        IsCut C.told bytes.now (nothing_waits (C.state conn.old).sent sent)
+        IsCut C.observable bytes.now (nothing_waits (C.state conn.old).sent sent)
         cut.sent (C.state conn.new).sent) }
     ensures writes { Writes (C.state conn.old) (C.state conn.new) }
     ensures counts { HasCause (C.state conn.old).faults (C.state conn.new).faults result }

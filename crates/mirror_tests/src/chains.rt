@@ -45,9 +45,9 @@ fn offer_given<D: Disk>(
     given: Given,
 ) -> String
     requires unspent { is_spent mirror.old ≡ false }
-    requires stands { D.told → StandsFor (D.state disk.old) mirror.old }
+    requires stands { D.observable → StandsFor (D.state disk.old) mirror.old }
     ensures unspent { is_spent mirror.new ≡ false }
-    ensures stands { D.told → StandsFor (D.state disk.new) mirror.new }
+    ensures stands { D.observable → StandsFor (D.state disk.new) mirror.new }
 {
     let bytes = bytes(rt, alloc, feed, given);
     let address = address(rt, alloc, given);
@@ -64,9 +64,9 @@ fn expect_step<D: Disk>(
     step: &Step,
 )
     requires unspent { is_spent mirror.old ≡ false }
-    requires stands { D.told → StandsFor (D.state disk.old) mirror.old }
+    requires stands { D.observable → StandsFor (D.state disk.old) mirror.old }
     ensures unspent { is_spent mirror.new ≡ false }
-    ensures stands { D.told → StandsFor (D.state disk.new) mirror.new }
+    ensures stands { D.observable → StandsFor (D.state disk.new) mirror.new }
 {
     let (given, answer, shown) = step;
     let answered = offer_given(rt, alloc, mirror, disk, feed, *given);
@@ -155,7 +155,7 @@ fn digest(rt: &impl Abort, alloc: Global, mirror: &Mirror, address: Address) -> 
 
 /// The first missing document; the first and the last operation and the `prev` of the best subscription
 /// document; the feed's title; and the digests of that document, of archives 1 and 2, and of a member.
-fn told(rt: &impl Abort, alloc: Global, mirror: &Mirror) -> String
+fn observable(rt: &impl Abort, alloc: Global, mirror: &Mirror) -> String
     requires { is_spent mirror.now ≡ false }
 {
     let wanted = mirror.wanted();
@@ -193,8 +193,8 @@ fn expect_told<D: Disk>(rt: &impl Abort, alloc: Global, disk: &mut D, feed: &Fee
     let mut mirror = load(rt, alloc, disk, CAPACITY);
     for (given, expected) in &TOLD {
         offer_given(rt, alloc, &mut mirror, disk, feed, *given);
-        let told = told(rt, alloc, &mirror);
-        assert!(rt; told.as_str() == *expected, "{told}");
+        let observable = observable(rt, alloc, &mirror);
+        assert!(rt; observable.as_str() == *expected, "{observable}");
     }
     drop(mirror);
 }

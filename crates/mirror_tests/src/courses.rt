@@ -66,7 +66,7 @@ fn fill<D: Disk>(
     course: &mut Course,
 ) -> String
     requires unspent { is_spent mirror.old ≡ false }
-    requires stands { D.told → StandsFor (D.state disk.old) mirror.old }
+    requires stands { D.observable → StandsFor (D.state disk.old) mirror.old }
 {
     match offer_all(rt, mirror, disk, offers, course) {
         Ok(()) => fill_titles(rt, alloc, mirror, disk, course),
@@ -87,7 +87,7 @@ fn fill_titles<D: Disk>(
     course: &mut Course,
 ) -> String
     requires unspent { is_spent mirror.old ≡ false }
-    requires stands { D.told → StandsFor (D.state disk.old) mirror.old }
+    requires stands { D.observable → StandsFor (D.state disk.old) mirror.old }
 {
     let mut entries = Vec::new(alloc);
     let read = read_entries(rt, mirror, disk, &mut entries);
@@ -111,9 +111,9 @@ fn offer_all<D: Disk>(
     course: &mut Course,
 ) -> Result<(), Offered>
     requires unspent { is_spent mirror.old ≡ false }
-    requires stands { D.told → StandsFor (D.state disk.old) mirror.old }
+    requires stands { D.observable → StandsFor (D.state disk.old) mirror.old }
     ensures unspent { OnOk result (is_spent mirror.new ≡ false) }
-    ensures stands { OnOk result (D.told → StandsFor (D.state disk.new) mirror.new) }
+    ensures stands { OnOk result (D.observable → StandsFor (D.state disk.new) mirror.new) }
 {
     for offer in offers {
         let (address, bytes) = (offer.address.slice(), offer.bytes.slice());
@@ -135,7 +135,7 @@ pub fn read_entries<D: Disk>(
     entries: &mut Vec<Entry>,
 ) -> Result<(), LogFault>
     requires unspent { is_spent mirror.old ≡ false }
-    requires stands { D.told → StandsFor (D.state disk.old) mirror.old }
+    requires stands { D.observable → StandsFor (D.state disk.old) mirror.old }
 {
     let outcome = mirror.outcome().expect(rt, "memory");
     if let Outcome::Complete { live, .. } = outcome {
@@ -160,10 +160,10 @@ fn next_entry<D: Disk>(
 ) -> Result<Option<Entry>, LogFault>
     requires unspent { is_spent mirror.old ≡ false }
     requires listed { IsTrue mirror.old.listed }
-    requires stands { D.told → StandsFor (D.state disk.old) mirror.old }
+    requires stands { D.observable → StandsFor (D.state disk.old) mirror.old }
     ensures unspent { OnOk result (is_spent mirror.new ≡ false) }
     ensures listed { OnOk result (IsTrue mirror.new.listed) }
-    ensures stands { OnOk result (D.told → StandsFor (D.state disk.new) mirror.new) }
+    ensures stands { OnOk result (D.observable → StandsFor (D.state disk.new) mirror.new) }
 {
     let Some(number) = mirror.next_live(after) else {
         return Ok(None);

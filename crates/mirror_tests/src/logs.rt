@@ -102,9 +102,9 @@ fn append_answer<D: Disk>(
     answers: &mut String,
 )
     requires unspent { is_spent mirror.old ≡ false }
-    requires stands { D.told → StandsFor (D.state disk.old) mirror.old }
+    requires stands { D.observable → StandsFor (D.state disk.old) mirror.old }
     ensures unspent { is_spent mirror.new ≡ false }
-    ensures stands { D.told → StandsFor (D.state disk.new) mirror.new }
+    ensures stands { D.observable → StandsFor (D.state disk.new) mirror.new }
 {
     let (address, bytes) = (given.address.slice(), given.bytes.slice());
     let answer = offer(rt, alloc, mirror, disk, address, bytes);
@@ -169,9 +169,9 @@ fn offered_to_empty(
     case: &Case,
 ) -> (String, Vec<u8>, String) {
     let mut disk = disk_of(rt, alloc, b"", 0);
-    let told = offered(rt, alloc, &mut disk, feed, case);
+    let observable = offered(rt, alloc, &mut disk, feed, case);
     drop(disk);
-    told
+    observable
 }
 
 #[test]

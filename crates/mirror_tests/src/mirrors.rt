@@ -75,7 +75,7 @@ fn is_disk_fault(answer: &Result<Accepted, Offered>) -> bool
 pub fn load<D: Disk>(rt: &impl Abort, alloc: Global, disk: &mut D, capacity: u64) -> Mirror
     requires { capacity ≤ area_limit }
     ensures unspent { is_spent result ≡ false }
-    ensures stands { D.told → StandsFor (D.state disk.new) result }
+    ensures stands { D.observable → StandsFor (D.state disk.new) result }
 {
     let base = base(rt, alloc, "http://feed.example/");
     Mirror::load(alloc, disk, base, capacity).expect(rt, "a mirror")
@@ -91,9 +91,9 @@ pub fn offer<D: Disk>(
     bytes: &[u8],
 ) -> String
     requires unspent { is_spent mirror.old ≡ false }
-    requires stands { D.told → StandsFor (D.state disk.old) mirror.old }
+    requires stands { D.observable → StandsFor (D.state disk.old) mirror.old }
     ensures unspent { is_spent mirror.new ≡ false }
-    ensures stands { D.told → StandsFor (D.state disk.new) mirror.new }
+    ensures stands { D.observable → StandsFor (D.state disk.new) mirror.new }
 {
     assert!(rt; bytes.len() <= MAX_DOCUMENT);
     let answer = mirror.offer(disk, address, bytes);

@@ -190,9 +190,9 @@ fn accepted<D: Disk>(
     bytes: &[u8],
 ) -> Accepted
     requires unspent { is_spent mirror.old ≡ false }
-    requires stands { D.told → StandsFor (D.state disk.old) mirror.old }
+    requires stands { D.observable → StandsFor (D.state disk.old) mirror.old }
     ensures unspent { is_spent mirror.new ≡ false }
-    ensures stands { D.told → StandsFor (D.state disk.new) mirror.new }
+    ensures stands { D.observable → StandsFor (D.state disk.new) mirror.new }
 {
     assert!(rt; bytes.len() <= MAX_DOCUMENT);
     mirror.offer(disk, address, bytes).expect(rt, "an answer")
@@ -209,9 +209,9 @@ fn offer_drawn<D: Disk>(
     drawn: &mut Drawn,
 )
     requires unspent { is_spent mirror.old ≡ false }
-    requires stands { D.told → StandsFor (D.state disk.old) mirror.old }
+    requires stands { D.observable → StandsFor (D.state disk.old) mirror.old }
     ensures unspent { is_spent mirror.new ≡ false }
-    ensures stands { D.told → StandsFor (D.state disk.new) mirror.new }
+    ensures stands { D.observable → StandsFor (D.state disk.new) mirror.new }
 {
     let bytes = bytes(rt, alloc, feed, given);
     let address = address(rt, alloc, given);

@@ -226,9 +226,9 @@ fn expect_step<D: Disk>(
     step: &Step,
 )
     requires unspent { is_spent mirror.old ≡ false }
-    requires stands { D.told → StandsFor (D.state disk.old) mirror.old }
+    requires stands { D.observable → StandsFor (D.state disk.old) mirror.old }
     ensures unspent { is_spent mirror.new ≡ false }
-    ensures stands { D.told → StandsFor (D.state disk.new) mirror.new }
+    ensures stands { D.observable → StandsFor (D.state disk.new) mirror.new }
 {
     let (address, made, answer, shown) = step;
     let document = document(rt, alloc, made);

@@ -375,9 +375,9 @@ fn walk_on<D: Disk>(
     fetch: &mut PileFetch,
 ) -> String
     requires unspent { is_spent mirror.old ≡ false }
-    requires stands { D.told → StandsFor (D.state disk.old) mirror.old }
+    requires stands { D.observable → StandsFor (D.state disk.old) mirror.old }
     ensures unspent { is_spent mirror.new ≡ false }
-    ensures stands { D.told → StandsFor (D.state disk.new) mirror.new }
+    ensures stands { D.observable → StandsFor (D.state disk.new) mirror.new }
 {
     let outcome = mirror.walk(disk, fetch);
     assert!(rt; !is_disk_fault(&outcome));
@@ -397,9 +397,9 @@ fn walk_over<D: Disk>(
     failing: u64,
 ) -> String
     requires unspent { is_spent mirror.old ≡ false }
-    requires stands { D.told → StandsFor (D.state disk.old) mirror.old }
+    requires stands { D.observable → StandsFor (D.state disk.old) mirror.old }
     ensures unspent { is_spent mirror.new ≡ false }
-    ensures stands { D.told → StandsFor (D.state disk.new) mirror.new }
+    ensures stands { D.observable → StandsFor (D.state disk.new) mirror.new }
 {
     let mut fetch = source(rt, alloc, feeds, found, failing);
     let text = walk_on(rt, alloc, mirror, disk, &mut fetch);

@@ -25,8 +25,8 @@ use Rattle.mirror_walk.specs.declared.walk.WalkFault.{WalkFault}
 use Rattle.mirror_walk.specs.declared.walk.WalkFault.TheVariants as faults
 use Rattle.mirror_walk.specs.Accept.{Answer}
 use Rattle.mirror_walk.specs.Holding.{KeptValue, first_missing}
-use Rattle.mirror_walk.specs.Mirror.{IsAtRest, MirrorValue}
-use Rattle.mirror_walk.specs.Visit.{HasAsked, IsVisit, IsVisitStep, KeepsSetting, VisitsByAnswer, VisitsByAnswers}
+use Rattle.mirror_walk.specs.Mirror.{IsAtRest, KeepsSetting, MirrorValue}
+use Rattle.mirror_walk.specs.Visit.{HasAsked, IsVisit, IsVisitStep, VisitsByAnswer, VisitsByAnswers}
 use Rattle.mirror_walk.specs.Visit.{HasVisited, asks_left, counted_answer, tally_of}
 use Rattle.mirror_walk.specs.Walk.{Exchange, IsAnswered, IsWalkStep, WalkSetting, Walks, setting_by}
 use Rattle.mirror_walk.specs.Walk.WalkEnding.{cut_short}
@@ -150,12 +150,12 @@ pub record IsStepAbove (setting : WalkSetting) (kept : List KeptValue) (least : 
   pub above : AreAbove least step.asked
 
 -- the walk so far, by what the source answered: `address` is the next one
-pub record HasGone (told seen : Type 0) (s m : DiskState) (before between : FetchState) (mirror : MirrorValue)
+pub record HasGone (observable seen : Type 0) (s m : DiskState) (before between : FetchState) (mirror : MirrorValue)
     (now : List KeptValue) (address : Address) (tally : Tally) : Type 0 where
   pub source : Exchange seen before between
   pub so_far : IsSoFar (setting_by mirror source.answers) mirror.kept now address [] source.asked tally
   pub above : AreAbove (asks_left address + 1) so_far.asked
-  pub moments : told → IsAtRest s mirror.kept → LeavesOnly s m MirrorArea
+  pub moments : observable → IsAtRest s mirror.kept → LeavesOnly s m MirrorArea
       (λ _. IsStepAbove (setting_by mirror source.answers) mirror.kept (asks_left address + 1))
 
 -- the address was asked after others
@@ -170,12 +170,12 @@ asked-after asked texts text (Err faults.NoMemory) (inl is) =
 asked-after asked texts text (Err faults.NoMemory) (inr is) = inr (ap (λ (l : List (List ℕ)). asked ++ l) is)
 
 -- one more visit
-module _ (told seen : Type 0) (s m t : DiskState) (before between after : FetchState) (one two : MirrorValue)
+module _ (observable seen : Type 0) (s m t : DiskState) (before between after : FetchState) (one two : MirrorValue)
     (address : Address) (tally : Tally) (keeps : KeepsSetting s m one two)
     (same : between.answers ≡ before.answers) (is_address : IsAddress address)
-    (gone : HasGone told seen s m before between one two.kept address tally) (left : List KeptValue)
+    (gone : HasGone observable seen s m before between one two.kept address tally) (left : List KeptValue)
     (result : Result Visit WalkFault)
-    (visit : VisitsByAnswer told seen m t between after two address left result) where
+    (visit : VisitsByAnswer observable seen m t between after two address left result) where
   abbrev pub own : List ℕ
   own = printed one.base address
 
@@ -294,7 +294,7 @@ module _ (told seen : Type 0) (s m t : DiskState) (before between after : FetchS
             address below (is_address, omega arith);
       }
 
-  pub moments-above : told → IsAtRest s one.kept → IsAtRest m two.kept
+  pub moments-above : observable → IsAtRest s one.kept → IsAtRest m two.kept
       → AlwaysLeaves s t MirrorArea (IsStepAbove setting one.kept (asks_left address))
   moments-above tells rest still =
       let run = visit.moments tells still in
@@ -310,14 +310,14 @@ module _ (told seen : Type 0) (s m t : DiskState) (before between after : FetchS
       }
 
   -- `Mirror::visit_all`: an image where the walk ends
-  pub moments-ended : told → IsAtRest s one.kept → IsAtRest m two.kept
+  pub moments-ended : observable → IsAtRest s one.kept → IsAtRest m two.kept
       → AlwaysLeaves s t MirrorArea (IsWalkStep setting one.kept)
   moments-ended tells rest still =
       always_weaker s t MirrorArea (IsStepAbove setting one.kept (asks_left address)) (IsWalkStep setting one.kept)
       (λ i is. is.step) (moments-above tells rest still)
 
   -- and where it goes on
-  pub moments-on : (next : Address) → asks_left next < asks_left address → told → IsAtRest s one.kept
+  pub moments-on : (next : Address) → asks_left next < asks_left address → observable → IsAtRest s one.kept
       → IsAtRest m two.kept
       → LeavesOnly s t MirrorArea (λ _. IsStepAbove setting one.kept (asks_left next + 1))
   moments-on next fewer tells rest still =
@@ -338,10 +338,10 @@ module _ (told seen : Type 0) (s m t : DiskState) (before between after : FetchS
 
   -- the same at each end of the walk, if the disk is at rest before the visit
 
-  module _ (rests : told → IsAtRest s one.kept → IsAtRest m two.kept) where
+  module _ (rests : observable → IsAtRest s one.kept → IsAtRest m two.kept) where
     ended : (given : Result Visits WalkFault)
         → HasVisited setting one.kept left [] source-more.asked given
-        → VisitsByAnswers told seen s t before after one left given
+        → VisitsByAnswers observable seen s t before after one left given
     ended given visited = record {
       source = source-more;
       visited = visited;
@@ -357,24 +357,24 @@ module _ (told seen : Type 0) (s m t : DiskState) (before between after : FetchS
         is asked-more
 
     pub ended-fault : (fault : WalkFault) → result ≡ Err fault
-        → VisitsByAnswers told seen s t before after one left (Err fault)
+        → VisitsByAnswers observable seen s t before after one left (Err fault)
     ended-fault fault is = ended (Err fault) (ends-fault setting one.kept two.kept address [] gone.source.asked tally
         so_far-more fault left source-more.asked (visit-at (Err fault) is) (asked-at (Err fault) is))
 
-    pub ended-nowhere : result ≡ Ok visits.NotThere → VisitsByAnswers told seen s t before after one left
+    pub ended-nowhere : result ≡ Ok visits.NotThere → VisitsByAnswers observable seen s t before after one left
         (Ok record { tally = one_asked tally; refused = None })
     ended-nowhere is = ended _ (ends-nowhere setting one.kept two.kept address [] gone.source.asked tally so_far-more
         left source-more.asked (visit-at (Ok visits.NotThere) is) (asked-at (Ok visits.NotThere) is))
 
     pub ended-refused : (why : Offered) → result ≡ Ok (visits.Refused why)
-        → VisitsByAnswers told seen s t before after one left
+        → VisitsByAnswers observable seen s t before after one left
         (Ok record { tally = one_asked tally; refused = Some record { address = address; why = why } })
     ended-refused why is = ended _ (ends-refused setting one.kept two.kept address [] gone.source.asked tally
         so_far-more why left source-more.asked (visit-at (Ok (visits.Refused why)) is)
         (asked-at (Ok (visits.Refused why)) is))
 
     pub ended-done : (answer : Accepted) → result ≡ Ok (visits.Accepted answer) → first_missing left ≡ None
-        → VisitsByAnswers told seen s t before after one left
+        → VisitsByAnswers observable seen s t before after one left
         (Ok record { tally = counted_answer (one_asked tally) answer; refused = None })
     ended-done answer is none = ended _ (visits-done setting one.kept two.kept address [] gone.source.asked tally
         so_far-more left answer (visit-at (Ok (visits.Accepted answer)) is) source-more.asked
@@ -382,7 +382,7 @@ module _ (told seen : Type 0) (s m t : DiskState) (before between after : FetchS
 
     pub goes-further : (answer : Accepted) → result ≡ Ok (visits.Accepted answer) → (next : Address)
         → first_missing left ≡ Some next → asks_left next < asks_left address
-        → HasGone told seen s t before after one left next (counted_answer (one_asked tally) answer)
+        → HasGone observable seen s t before after one left next (counted_answer (one_asked tally) answer)
     unfolding visits-more
     goes-further answer is next missing fewer = record {
       source = source-more;
@@ -394,10 +394,10 @@ module _ (told seen : Type 0) (s m t : DiskState) (before between after : FetchS
     }
 
 -- before the first visit
-pub gone-none : (told seen : Type 0) (s : DiskState) (source : FetchState) (mirror : MirrorValue)
-    → HasGone told seen s s source source mirror mirror.kept Feed (tally_of [] [])
+pub gone-none : (observable seen : Type 0) (s : DiskState) (source : FetchState) (mirror : MirrorValue)
+    → HasGone observable seen s s source source mirror mirror.kept Feed (tally_of [] [])
 unfolding visits-begin
-gone-none told seen s source mirror = record {
+gone-none observable seen s source mirror = record {
   source = record {
     asked = [];
     answers = source.answers;

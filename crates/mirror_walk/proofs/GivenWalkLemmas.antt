@@ -19,16 +19,16 @@ use Rattle.mirror_walk.specs.Offers.{AreServed, AreTakenOf, Offering}
 use Rattle.mirror_walk.specs.Visit.{IsVisitsResult, VisitsByAnswers}
 use Rattle.mirror_walk.specs.Walk.{HasWalked, IsServedBy, IsWalkResult, IsWalkStep, WalkEnding}
 use Rattle.mirror_walk.specs.Walk.{WalksByAnswers, setting_by, setting_of}
-use Rattle.mirror_walk.proofs.VisitsLemmas.{err-again}
+use Rattle.mirror_walk.proofs.PassedLemmas.{err-again}
 use Rattle.mirror_walk.proofs.WalkServedLemmas.{visited-cut, visited-served}
 use Rattle.chain_links.specs.declared.address.Address.{Address}
 use Rattle.mirror_walk.specs.declared.answer.Accepted.{Accepted}
 
-module _ (told seen : Type 0) (s t : DiskState) (before after : FetchState) (mirror : MirrorValue)
+module _ (observable seen : Type 0) (s t : DiskState) (before after : FetchState) (mirror : MirrorValue)
     (now : List KeptValue) where
   -- `Mirror::walk`: the clause `walked`, and for the crates above
   pub seen-walked : (given : Result Walked WalkFault)
-      → WalksByAnswers told seen s t before after mirror now given → seen
+      → WalksByAnswers observable seen s t before after mirror now given → seen
       → HasWalked (setting_of mirror before) mirror.kept now before.asked after.asked given
   seen-walked given walks sees =
       subst (λ (f : List ℕ → Option (List ℕ)). HasWalked (setting_by mirror f) mirror.kept now before.asked
@@ -46,7 +46,7 @@ module _ (told seen : Type 0) (s t : DiskState) (before after : FetchState) (mir
 
   -- the clause `moments`
   pub seen-moments : (given : Result Walked WalkFault)
-      → WalksByAnswers told seen s t before after mirror now given → told → seen → IsAtRest s mirror.kept
+      → WalksByAnswers observable seen s t before after mirror now given → observable → seen → IsAtRest s mirror.kept
       → AlwaysLeaves s t MirrorArea (IsWalkStep (setting_of mirror before) mirror.kept)
   seen-moments given walks tells sees rest =
       subst (λ (f : List ℕ → Option (List ℕ)). AlwaysLeaves s t MirrorArea
@@ -61,8 +61,8 @@ module _ (told seen : Type 0) (s t : DiskState) (before after : FetchState) (mir
   fault-result asked accepted left ending faults.DiskFault is = is
   fault-result asked accepted left ending faults.NoMemory is = is
 
-  pub walks-fault : (fault : WalkFault) → VisitsByAnswers told seen s t before after mirror now (Err fault)
-      → WalksByAnswers told seen s t before after mirror now (Err fault)
+  pub walks-fault : (fault : WalkFault) → VisitsByAnswers observable seen s t before after mirror now (Err fault)
+      → WalksByAnswers observable seen s t before after mirror now (Err fault)
   walks-fault fault visits = record {
     source = visits.source;
     walked = record {
@@ -79,10 +79,10 @@ module _ (told seen : Type 0) (s t : DiskState) (before after : FetchState) (mir
     moments = visits.moments;
   }
 
-  module _ (made : Visits) (visits : VisitsByAnswers told seen s t before after mirror now (Ok made)) where
+  module _ (made : Visits) (visits : VisitsByAnswers observable seen s t before after mirror now (Ok made)) where
     module _ (left : List KeptValue) (same : left ≡ now) where
       -- and where there is no memory for the outcome
-      pub walks-cut-short : WalksByAnswers told seen s t before after mirror left (Err faults.NoMemory)
+      pub walks-cut-short : WalksByAnswers observable seen s t before after mirror left (Err faults.NoMemory)
       walks-cut-short = record {
         source = visits.source;
         walked = visited-cut (setting_by mirror visits.source.answers) mirror.kept now left [] visits.source.asked
@@ -90,7 +90,7 @@ module _ (told seen : Type 0) (s t : DiskState) (before after : FetchState) (mir
         moments = visits.moments;
       }
 
-      pub walks-done : (outcome : Outcome) → outcome ≡ outcome_of now → WalksByAnswers told seen s t before after
+      pub walks-done : (outcome : Outcome) → outcome ≡ outcome_of now → WalksByAnswers observable seen s t before after
           mirror left (Ok record {
             asked = made.tally.asked;
             taken = made.tally.taken;

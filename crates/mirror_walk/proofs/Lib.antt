@@ -6,7 +6,11 @@ pub mod RoomLemmas
 pub mod WalkLemmas
 -- serves `Mirror::walk`: a walk so far, and how it goes on
 pub mod WalkRunLemmas
--- serves `Mirror::walk`: one visit of a walk, and how visits join
+-- serves the calls that pass a fault on
+pub mod PassedLemmas
+-- serves `Mirror::offer` and `Mirror::walk`: what calls keep, and how they join
+pub mod SoundLemmas
+-- serves `Mirror::walk`: one visit of a walk
 pub mod VisitLemmas
 -- serves `Mirror::visit`
 pub mod VisitAnswerLemmas

@@ -7,7 +7,7 @@ use Rattle.std.specs.Prelude.{slice_get, IfErr}
 use Rattle.std.proofs.Math.Seq.{take-suc}
 use Rattle.std.proofs.lemmas.Option.{slice_get_within, get_or_from_slice_get}
 use Rattle.atom_grammar.specs.Refusal.{IsNoDocument, IsPlaceOfRefusal}
-use Rattle.atom_values.specs.Counts.{Rose}
+use Rattle.atom_values.specs.Counts.{CountsFault}
 use Rattle.feed_disk.specs.Disk.{DiskState}
 use Rattle.feed_disk.specs.Moments.{AlwaysLeaves, LeavesAlone}
 use Rattle.feed_disk.specs.declared.area.Area.{Area}
@@ -43,9 +43,9 @@ worked_join s t u a b c first second = record {
 }
 
 -- a log can still be read after a step that worked
-pub readable_later : (told : Type 0) (s t : DiskState) (before after : LogValue) → IsReadable told s before
-    → OnlyReads s t → Worked s t before after → IsReadable told t after
-readable_later told s t before after readable reads worked = record {
+pub readable_later : (observable : Type 0) (s t : DiskState) (before after : LogValue) → IsReadable observable s before
+    → OnlyReads s t → Worked s t before after → IsReadable observable t after
+readable_later observable s t before after readable reads worked = record {
   area = ap (λ (l : LogValue). l.area) worked.log ∙ readable.area;
   unspent = ap (λ (l : LogValue). l.spent) worked.log ∙ readable.unspent;
   rules = subst IsLog (sym worked.log) readable.rules;
@@ -57,9 +57,9 @@ readable_later told s t before after readable reads worked = record {
 }
 
 -- a fault of a step is that of all steps until then
-pub fails_later : (told : Type 0) (base : List ℕ) (s t u : DiskState) (fault : MirrorFault) → OnlyReads s t
-    → t.faults ≡ s.faults → FailsBy told base t u fault → FailsBy told base s u fault
-fails_later told base s t u fault reads same fails = record {
+pub fails_later : (observable : Type 0) (base : List ℕ) (s t u : DiskState) (fault : MirrorFault) → OnlyReads s t
+    → t.faults ≡ s.faults → FailsBy observable base t u fault → FailsBy observable base s u fault
+fails_later observable base s t u fault reads same fails = record {
   cause = λ tells. subst (λ (l : List ℕ). IsMirrorFault base (records l) fault)
       (reads.areas MirrorArea).content
       (fails.cause tells);
@@ -67,26 +67,25 @@ fails_later told base s t u fault reads same fails = record {
 }
 
 -- a fault of the log
-pub log_fails : (told : Type 0) (base : List ℕ) (s t : DiskState) (log : LogFault)
-    → (told → (n : ℕ) → log ≢ Changed n) → (log ≡ LogDiskFault → Rose s.faults t.faults)
-    → (log ≢ LogDiskFault → t.faults ≡ s.faults) → FailsBy told base s t (fault_of log)
-log_fails told base s t LogDiskFault never failed unfailed = record
-    { cause = λ tells. tt; faults = failed refl }
-log_fails told base s t (Changed index) never failed unfailed = record {
-  cause = λ tells. absurd (never tells index refl);
-  faults = unfailed (λ is. cc);
-}
-log_fails told base s t LogNoMemory never failed unfailed =
-    record { cause = λ tells. tt; faults = unfailed (λ is. cc) }
+pub log_fails : {T : Type 0} (observable : Type 0) (base : List ℕ) (s t : DiskState) (log : LogFault)
+    → (observable → (n : ℕ) → (let given : Result T LogFault = Err log in given) ≢ Err (Changed n))
+    → CountsFault s.faults t.faults ((let given : Result T LogFault = Err log in given) ≡ Err LogDiskFault)
+    → FailsBy observable base s t (fault_of log)
+log_fails observable base s t LogDiskFault never counts =
+    record { cause = λ tells. tt; faults = counts.failed refl }
+log_fails observable base s t (Changed index) never counts =
+    record { cause = λ tells. absurd (never tells index refl); faults = counts.unfailed (λ e. cc) }
+log_fails observable base s t LogNoMemory never counts =
+    record { cause = λ tells. tt; faults = counts.unfailed (λ e. cc) }
 
 -- a payload that is no document, after others that were taken
-pub unread_fails : (told : Type 0) (base : List ℕ) (s t : DiskState) (kept : List KeptValue) (index at : ℕ)
+pub unread_fails : (observable : Type 0) (base : List ℕ) (s t : DiskState) (kept : List KeptValue) (index at : ℕ)
     (payload : List ℕ) → IsLoadedOf base (payloads_of kept) kept
-    → (told → take index (records (s.content MirrorArea)) ≡ payloads_of kept)
-    → (told → slice_get (records (s.content MirrorArea)) index ≡ Some payload)
+    → (observable → take index (records (s.content MirrorArea)) ≡ payloads_of kept)
+    → (observable → slice_get (records (s.content MirrorArea)) index ≡ Some payload)
     → IsNoDocument payload × IsPlaceOfRefusal payload at → t.faults ≡ s.faults
-    → FailsBy told base s t (BadRecord index at)
-unread_fails told base s t kept index at payload loaded before there refused same = record {
+    → FailsBy observable base s t (BadRecord index at)
+unread_fails observable base s t kept index at payload loaded before there refused same = record {
   cause = λ tells. record {
     kept = kept;
     before = subst (λ (ps : List (List ℕ)). IsLoadedOf base ps kept) (sym (before tells)) loaded;
@@ -98,13 +97,13 @@ unread_fails told base s t kept index at payload loaded before there refused sam
 }
 
 -- a document that isn't taken
-pub unfit_fails : (told : Type 0) (base : List ℕ) (s t : DiskState) (kept : List KeptValue) (index : ℕ)
+pub unfit_fails : (observable : Type 0) (base : List ℕ) (s t : DiskState) (kept : List KeptValue) (index : ℕ)
     (payload : List ℕ) (given : KeptValue) (fault : MirrorFault) → IsLoadedOf base (payloads_of kept) kept
-    → (told → take index (records (s.content MirrorArea)) ≡ payloads_of kept)
-    → (told → slice_get (records (s.content MirrorArea)) index ≡ Some payload)
+    → (observable → take index (records (s.content MirrorArea)) ≡ payloads_of kept)
+    → (observable → slice_get (records (s.content MirrorArea)) index ≡ Some payload)
     → IsKeptOf payload given → t.faults ≡ s.faults → IsUnfit base kept index given (length payload) fault
-    → FailsBy told base s t fault
-unfit_fails told base s t kept index payload given (OtherBase other) loaded before there read same unfit =
+    → FailsBy observable base s t fault
+unfit_fails observable base s t kept index payload given (OtherBase other) loaded before there read same unfit =
     record {
       cause = λ tells. record {
         payload = payload;
@@ -117,7 +116,7 @@ unfit_fails told base s t kept index payload given (OtherBase other) loaded befo
       };
       faults = same;
     }
-unfit_fails told base s t kept index payload given (BadRecord number at) loaded before there read same unfit
+unfit_fails observable base s t kept index payload given (BadRecord number at) loaded before there read same unfit
     = record {
       cause = λ tells. subst (λ (n : ℕ). IsMirrorFault base (records (s.content MirrorArea)) (BadRecord n at))
           (sym unfit.0) (record {
@@ -129,22 +128,22 @@ unfit_fails told base s t kept index payload given (BadRecord number at) loaded 
           });
       faults = same;
     }
-unfit_fails told base s t kept index payload given DiskFault loaded before there read same unfit = absurd
+unfit_fails observable base s t kept index payload given DiskFault loaded before there read same unfit = absurd
     unfit
-unfit_fails told base s t kept index payload given NoMemory loaded before there read same unfit =
+unfit_fails observable base s t kept index payload given NoMemory loaded before there read same unfit =
     record { cause = λ tells. tt; faults = same }
 
-pub unfit_all : (told : Type 0) (base : List ℕ) (s t : DiskState) (kept : List KeptValue) (index size : ℕ)
+pub unfit_all : (observable : Type 0) (base : List ℕ) (s t : DiskState) (kept : List KeptValue) (index size : ℕ)
     (payload : List ℕ) (given : KeptValue) (result : Result KeptValue MirrorFault)
     → IsLoadedOf base (payloads_of kept) kept
-    → (told → take index (records (s.content MirrorArea)) ≡ payloads_of kept)
-    → (told → slice_get (records (s.content MirrorArea)) index ≡ Some payload)
+    → (observable → take index (records (s.content MirrorArea)) ≡ payloads_of kept)
+    → (observable → slice_get (records (s.content MirrorArea)) index ≡ Some payload)
     → IsKeptOf payload given → t.faults ≡ s.faults → size ≡ length payload
-    → IfErr result (IsUnfit base kept index given size) → IfErr result (FailsBy told base s t)
-unfit_all told base s t kept index size payload given (Ok admitted) loaded before there read same is unfit =
+    → IfErr result (IsUnfit base kept index given size) → IfErr result (FailsBy observable base s t)
+unfit_all observable base s t kept index size payload given (Ok admitted) loaded before there read same is unfit =
     tt
-unfit_all told base s t kept index size payload given (Err fault) loaded before there read same is unfit =
-    unfit_fails told base s t kept index payload given fault loaded before there read same
+unfit_all observable base s t kept index size payload given (Err fault) loaded before there read same is unfit =
+    unfit_fails observable base s t kept index payload given fault loaded before there read same
     (subst (λ (n : ℕ). IsUnfit base kept index given n fault) is unfit)
 
 -- one more item of a list

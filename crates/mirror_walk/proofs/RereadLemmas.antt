@@ -1,10 +1,10 @@
 -- The documents that a mirror reads back.
 use Rattle.std.proofs.Common.{◌≡◌, ◌≢◌, ◌⊎◌, inl, inr, ℕ, List, Option, Some, None, Result, Ok, Err}
-use Rattle.std.proofs.Common.{false}
+use Rattle.std.proofs.Common.{false, true}
 use Rattle.std.proofs.Common.{refl, sym, ap, subst, ◌∙◌}
 use Rattle.std.proofs.Common.{◌==◌}
 use Rattle.std.specs.List.{find}
-use Rattle.std.specs.Prelude.{IfSome, IsSome, MatchOption, slice_get}
+use Rattle.std.specs.Prelude.{IfSome, IsErrAnd, IsSome, MatchOption, slice_get}
 use Rattle.std.proofs.lemmas.Option.{MatchOption-at_some}
 use Rattle.atom_values.specs.Entry.{EntryValue}
 use Rattle.atom_writer.specs.Doc.{DocValue, IsDoc}
@@ -18,16 +18,17 @@ use Rattle.feed_disk.specs.declared.area.Area.TheVariants.{Mirror as MirrorArea}
 use Rattle.feed_journal.specs.Log.{IsListed, LogValue}
 use Rattle.feed_journal.specs.Records.{records}
 use Rattle.feed_journal.specs.declared.fault.LogFault.{LogFault}
-use Rattle.feed_journal.specs.declared.fault.LogFault.TheVariants.{Changed, NoMemory}
+use Rattle.feed_journal.specs.declared.fault.LogFault.TheVariants.{Changed, DiskFault, NoMemory}
 use Rattle.mirror_walk.specs.declared.mirror.Reread.{Reread}
 use Rattle.member_rules.specs.Shows.{all_items, entry_of, live_of}
 use Rattle.mirror_walk.specs.declared.held.EntryPlace.{EntryPlace}
 use Rattle.mirror_walk.specs.Holding.{KeptValue, chain_of, payloads_of}
 use Rattle.mirror_walk.specs.Index.{HasEntryAt}
 use Rattle.mirror_walk.specs.Listing.{live_at}
-use Rattle.mirror_walk.specs.Rereading.{HasEntryIn}
+use Rattle.mirror_walk.specs.Rereading.{HasEntryIn, HasReadBack, IsSpentBy, KeepsAllBut}
 use Rattle.mirror_walk.specs.Mirror.{IsHeldAt, KeepsMirror, MirrorValue, StandsFor, is_spent}
 use Rattle.mirror_walk.proofs.EntriesLemmas.{find-place}
+use Rattle.mirror_walk.proofs.PassedLemmas.{err-again, err-of}
 use Rattle.mirror_walk.proofs.TakenLemmas.{loaded-at, payload-at}
 
 module _ (s : DiskState) (mirror : MirrorValue) (keeps : KeepsMirror mirror)
@@ -150,3 +151,32 @@ entry-same last item one other first second =
     let found : Some (KeptItem one) ≡ Some (KeptItem other) =
     sym first.entry_is ∙ ap (λ (r : Reread). slice_get r.document.items item) reread ∙ second.entry_is in
     cc
+
+-- documents were read back, and the fault is passed on
+pub read-passed : {T U : Type 0} (observable : Type 0) (s : DiskState) (before after : MirrorValue)
+    (result : Result U LogFault) (fault : LogFault) → IsErrAnd result (λ given. given ≡ fault)
+    → HasReadBack observable s before after ((let given : Result T LogFault = Err fault in given) ≡ Err DiskFault)
+    → HasReadBack observable s before after (result ≡ Err DiskFault)
+read-passed observable s before after result fault passed read =
+    let is = err-of result fault passed in
+    record {
+      same = λ other. read.same (λ e. other (is ∙ err-again fault DiskFault e));
+      spent = λ e. read.spent (err-again fault DiskFault (sym is ∙ e));
+      stands = λ other. read.stands (λ e. other (is ∙ err-again fault DiskFault e));
+    }
+
+-- the log read a payload, or a device call failed
+pub read-by : (observable : Type 0) (s t : DiskState) (mirror now : MirrorValue) (log : LogValue)
+    (reread : Option Reread) (failed : Type 0) → mirror ≡ now → LeavesAlone s t MirrorArea
+    → (¬ failed → log ≡ record mirror.log { calls = log.calls })
+    → (failed → log ≡ record mirror.log { calls = log.calls; spent = true }) → (observable → StandsFor s mirror)
+    → (observable → MatchOption reread (Unit {0}) (IsHeldAt mirror.kept))
+    → HasReadBack observable t now (record mirror { log = log; reread = reread }) failed
+read-by observable s t mirror now log reread failed same alone keeps spends stands held =
+    let with_log = λ (l : LogValue). let m : MirrorValue = record mirror { log = l; reread = reread } in m in
+    record {
+      same = λ other. subst (λ (m : MirrorValue). KeepsAllBut m (with_log log)) same (ap with_log (keeps other));
+      spent = λ is. subst (λ (m : MirrorValue). IsSpentBy m (with_log log)) same (ap with_log (spends is));
+      stands = λ other tells.
+          stands-reread s t mirror log reread alone (keeps other) (stands tells) (held tells);
+    }

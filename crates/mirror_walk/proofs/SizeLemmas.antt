@@ -9,7 +9,7 @@ use Rattle.atom_writer.specs.Pieces.{author_piece, declaration_piece, id_piece, 
 use Rattle.atom_writer.specs.Pieces.{name_pieces}
 use Rattle.atom_writer.specs.Pieces.{open_piece, pieces, place_pieces, text, title_piece, updated_piece}
 use Rattle.feed_journal.specs.Limits.{header_length, payload_limit}
-use Rattle.feed_journal.specs.Log.{Follow, LogValue, payload_lengths}
+use Rattle.feed_journal.specs.Log.{Follow, IsAppended, LogValue, payload_lengths}
 use Rattle.feed_journal.specs.Records.{size_of}
 use Rattle.feed_journal.specs.declared.extent.Extent.{Extent}
 use Rattle.mirror_walk.specs.Accept.{IsKeptOf}
@@ -103,13 +103,9 @@ size-more (k ∷ kept) given = omega (arith, size-more kept given)
 pub keeps-taken : (base : List ℕ) (kept : List KeptValue) (given : KeptValue) (payload : List ℕ)
     (log after : LogValue)
     → KeepsDocuments base kept log → IsKeptOf payload given → IsNext base kept given
-    → after ≡ record log {
-      extents = log.extents ++ record { offset = log.size + 4; length = length payload } ∷ [];
-      size = log.size + length payload + header_length;
-      calls = after.calls;
-      spare = after.spare;
-    } → KeepsDocuments base (kept ++ given ∷ []) after
-keeps-taken base kept given payload log after keeps read next is =
+    → IsAppended (length payload) log after → KeepsDocuments base (kept ++ given ∷ []) after
+keeps-taken base kept given payload log after keeps read next appended =
+    let is = appended.log in
     let counted : length payload ≡ length (text given.document) = ap length read.text in
     record {
       lengths = ap (λ (l : LogValue). payload_lengths l.extents) is

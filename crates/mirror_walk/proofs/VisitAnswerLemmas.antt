@@ -133,14 +133,14 @@ module _ (mirror : MirrorValue) (address : Address) (bytes : List ℕ) (left : L
   offered-visit (Err NoMemory) is kept = kept (λ e. cc) (λ e. cc)
 
 -- the visit of an address that isn't asked, or at which no document is found
-module _ (told seen : Type 0) (s : DiskState) (source : FetchState) (mirror : MirrorValue) (address : Address)
-    (leaves : (answers : List ℕ → Option (List ℕ)) → told → IsAtRest s mirror.kept
+module _ (observable seen : Type 0) (s : DiskState) (source : FetchState) (mirror : MirrorValue) (address : Address)
+    (leaves : (answers : List ℕ → Option (List ℕ)) → observable → IsAtRest s mirror.kept
     → AlwaysLeaves s s MirrorArea (IsVisitStep (setting_by mirror answers) mirror.kept address)) where
   abbrev own : List ℕ
   own = printed mirror.base address
 
   -- there was no memory for the address
-  pub fails-unasked : VisitsByAnswer told seen s s source source mirror address mirror.kept (Err faults.NoMemory)
+  pub fails-unasked : VisitsByAnswer observable seen s s source source mirror address mirror.kept (Err faults.NoMemory)
   fails-unasked = record {
     found = source.answers own;
     found_is = λ sees. refl;
@@ -155,7 +155,7 @@ module _ (told seen : Type 0) (s : DiskState) (source : FetchState) (mirror : Mi
     -- the source gave no answer
     pub fetch-fails : (fault : GetFault) → (fault ≢ gets.NoMemory → seen → later.asked ≡ source.asked ++ there ∷ [])
         → (fault ≡ gets.NoMemory → seen → later.asked ≡ source.asked)
-        → VisitsByAnswer told seen s s source later mirror address mirror.kept (Err (get_fault fault))
+        → VisitsByAnswer observable seen s s source later mirror address mirror.kept (Err (get_fault fault))
     fetch-fails gets.Failed asked unasked = record {
       found = source.answers own;
       found_is = λ sees. refl;
@@ -177,7 +177,7 @@ module _ (told seen : Type 0) (s : DiskState) (source : FetchState) (mirror : Mi
 
     -- the source has no document there
     pub finds-none : (seen → later.asked ≡ source.asked ++ there ∷ []) → (seen → source.answers there ≡ None)
-        → VisitsByAnswer told seen s s source later mirror address mirror.kept (Ok visits.NotThere)
+        → VisitsByAnswer observable seen s s source later mirror address mirror.kept (Ok visits.NotThere)
     finds-none asked none = record {
       found = None;
       found_is = λ sees. sym (none sees) ∙ ap source.answers is;

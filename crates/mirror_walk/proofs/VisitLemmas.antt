@@ -1,44 +1,19 @@
--- One step of a walk, and how steps join.
+-- One step of a walk, and the addresses that are left after it.
 use Rattle.std.proofs.Common.{◌≡◌, inl, inr, ℕ, ◌-◌, ◌<◌, ◌≤◌, List, Option, Some, None}
 use Rattle.std.proofs.Common.{IsSome, Ok, refl, sym, ap, subst, ◌∙◌, arith, option_map}
 use Rattle.chain_links.specs.Address.{IsAddress, printed}
 use Rattle.chain_links.specs.declared.address.Address.{Address}
 use Rattle.chain_links.specs.declared.address.Address.TheVariants.{Feed, Archive, Member}
-use Rattle.feed_disk.specs.Disk.{DiskState}
-use Rattle.feed_disk.proofs.MomentLemmas.{alone_begins, alone_joins}
 use Rattle.mirror_walk.specs.declared.answer.Accepted.{Accepted}
 use Rattle.mirror_walk.specs.Accept.{AnswersDocument}
 use Rattle.mirror_walk.specs.Holding.{KeptValue, best_of, first_missing, gap_from}
 use Rattle.mirror_walk.specs.Mirror.{MirrorValue}
-use Rattle.mirror_walk.specs.Visit.{IsNextOf, KeepsSetting, StaysSound, asks_left}
+use Rattle.mirror_walk.specs.Visit.{IsNextOf, asks_left}
 use Rattle.mirror_walk.specs.Walk.{IsAnswered, setting_by}
 use Rattle.mirror_walk.proofs.GapLemmas.{gap-found}
 use Rattle.mirror_walk.proofs.NewLemmas.{IsFilled, archive-accepted, feed-accepted}
 use Rattle.mirror_walk.proofs.WalkLemmas.{next-gap}
 use Rattle.mirror_walk.proofs.RoomLemmas.{within-accepted}
-
--- how visits join
-
-pub setting-begins : (s : DiskState) (mirror : MirrorValue) → KeepsSetting s s mirror mirror
-setting-begins s mirror = record { base = refl; capacity = refl; others = λ a other. alone_begins s a }
-
-pub setting-joins : (s m t : DiskState) (one two three : MirrorValue) → KeepsSetting s m one two
-    → KeepsSetting m t two three → KeepsSetting s t one three
-setting-joins s m t one two three first second = record {
-  base = second.base ∙ first.base;
-  capacity = second.capacity ∙ first.capacity;
-  others = λ a other. alone_joins s m t a (first.others a other) (second.others a other);
-}
-
-pub sound-joins : (told : Type 0) (s m t : DiskState) (one two three : MirrorValue) → StaysSound told s m one
-    two
-    → StaysSound told m t two three → StaysSound told s t one three
-sound-joins told s m t one two three first second = record {
-  unspent = second.unspent;
-  stands = second.stands;
-  rests = λ tells rest. second.rests tells (first.rests tells rest);
-  most = omega (arith, first.most, second.most);
-}
 
 -- the number of addresses left falls with each accepted document
 

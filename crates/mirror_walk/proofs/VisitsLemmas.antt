@@ -17,11 +17,12 @@ use Rattle.mirror_walk.specs.declared.walk.Visits.{Visits}
 use Rattle.mirror_walk.specs.declared.walk.WalkFault.{WalkFault}
 use Rattle.mirror_walk.specs.declared.walk.WalkFault.TheVariants as faults
 use Rattle.mirror_walk.specs.Holding.{KeptValue, first_missing}
-use Rattle.mirror_walk.specs.Visit.{HasAsked, HasVisited, IsVisit, IsVisitsResult, counted_answer, tally_of}
+use Rattle.mirror_walk.specs.Visit.{CountsFaults, HasAsked, HasVisited, IsVisit, IsVisitsResult, counted_answer, tally_of}
 use Rattle.mirror_walk.specs.Walk.{EndsAt, HasRefusal, IsAnswered, WalkEnding, WalkSetting}
 use Rattle.std.specs.Prelude.{IsErrAnd}
 use Rattle.mirror_walk.specs.Walk.WalkEnding.{nothing_wanted, not_there, refused, fetch_failed, filled}
 use Rattle.mirror_walk.specs.Walk.WalkEnding.{cut_short}
+use Rattle.mirror_walk.proofs.PassedLemmas.{counts-passed}
 use Rattle.mirror_walk.proofs.WalkRunLemmas.{Reaches, reaches-more, tally-more, walks-at, walks-before}
 
 -- the visits so far: `now` is held, and `address` is the next one
@@ -208,13 +209,12 @@ module _ (setting : WalkSetting) (kept now : List KeptValue) (address : Address)
     result = refl;
   }
 
--- a fault that is passed on
-pub err-of : {T : Type 0} (result : Result T WalkFault) (fault : WalkFault)
-    → IsErrAnd result (λ given. given ≡ fault) → result ≡ Err fault
-err-of (Ok value) fault is = absurd is
-err-of (Err given) fault is = ap (λ (f : WalkFault). Err f) is
-
--- the same fault of another result
-pub err-again : {T U : Type 0} (one other : WalkFault) → (let result : Result T WalkFault = Err one in result)
-    ≡ Err other → (let result : Result U WalkFault = Err one in result) ≡ Err other
-err-again one other e = let is : one ≡ other = cc in ap (λ (f : WalkFault). Err f) is
+-- the counts of faults of a result that passes a fault on
+pub counts-again : {T U : Type 0} (disk disk' source source' : ℕ) (result : Result U WalkFault) (fault : WalkFault)
+    → IsErrAnd result (λ given. given ≡ fault)
+    → CountsFaults disk disk' source source' (let given : Result T WalkFault = Err fault in given)
+    → CountsFaults disk disk' source source' result
+counts-again disk disk' source source' result fault passed counts = record {
+  disk_counts = counts-passed disk disk' result fault faults.DiskFault passed counts.disk_counts;
+  source_counts = counts-passed source source' result fault faults.FetchFault passed counts.source_counts;
+}

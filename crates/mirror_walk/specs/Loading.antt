@@ -1,6 +1,6 @@
 -- The steps of a load, of which none writes.
 use Rattle.std.specs.Prelude.{◌≡◌, ◌≢◌, ◌≤◌, ℕ, List, Ok, false}
-use Rattle.atom_values.specs.Counts.{Rose}
+use Rattle.atom_values.specs.Counts.{HasRisen}
 use Rattle.feed_disk.specs.Disk.{DiskState}
 use Rattle.feed_disk.specs.Moments.{LeavesAlone}
 use Rattle.feed_disk.specs.declared.area.Area.{Area}
@@ -20,11 +20,11 @@ use Rattle.mirror_walk.specs.Holding.{KeptValue}
 use Rattle.mirror_walk.specs.Loaded.{IsMirrorFault}
 
 -- the log of the mirror's area, of which no call failed; its list is the payloads of the content
-pub record IsReadable (told : Type 0) (disk : DiskState) (log : LogValue) : Type 0 where
+pub record IsReadable (observable : Type 0) (disk : DiskState) (log : LogValue) : Type 0 where
   pub area : log.area ≡ Mirror
   pub unspent : log.spent ≡ false
   pub rules : IsLog log
-  pub listed : told → IsListed log (disk.content Mirror)
+  pub listed : observable → IsListed log (disk.content Mirror)
 
 -- each area is left alone
 pub record OnlyReads (s t : DiskState) : Type 0 where
@@ -38,14 +38,14 @@ pub record Worked (s t : DiskState) (before after : LogValue) : Type 0 where
 
 -- a device call that failed raised the count of faults, and all other faults left it
 abbrev pub HasRaised : ℕ → ℕ → MirrorFault → Type 0
-HasRaised before after DiskFault = Rose before after
+HasRaised before after DiskFault = HasRisen before after
 HasRaised before after (OtherBase other) = after ≡ before
 HasRaised before after (BadRecord index at) = after ≡ before
 HasRaised before after NoMemory = after ≡ before
 
 -- a step fails by this fault, which has its cause in the payloads of the area or in its device calls
-pub record FailsBy (told : Type 0) (base : List ℕ) (s t : DiskState) (fault : MirrorFault) : Type 0 where
-  pub cause : told → IsMirrorFault base (records (s.content Mirror)) fault
+pub record FailsBy (observable : Type 0) (base : List ℕ) (s t : DiskState) (fault : MirrorFault) : Type 0 where
+  pub cause : observable → IsMirrorFault base (records (s.content Mirror)) fault
   pub faults : HasRaised s.faults t.faults fault
 
 -- the fault of the log; a payload that is shorter than it was is bad at its start

@@ -1,9 +1,10 @@
 -- A mirror over the log of its area, as contracts see it.
-use Rattle.std.specs.Prelude.{◌≡◌, ◌⊎◌, ℕ, ◌+◌, ◌*◌, ◌≤◌, Bool, false, List, [], ◌∷◌, ◌++◌, map, length, slice_get}
+use Rattle.std.specs.Prelude.{◌≡◌, ◌≢◌, ◌⊎◌, ℕ, ◌+◌, ◌*◌, ◌≤◌, Bool, false, List, [], ◌∷◌, ◌++◌, map, length, slice_get}
 use Rattle.std.specs.Prelude.{Option}
 use Rattle.std.specs.Prelude.{Some, Ok, MatchOption}
 use Rattle.feed_disk.specs.Disk.{DiskState}
-use Rattle.feed_disk.specs.Moments.{NowOnly}
+use Rattle.feed_disk.specs.Moments.{LeavesAlone, NowOnly}
+use Rattle.feed_disk.specs.declared.area.Area.{Area}
 use Rattle.feed_disk.specs.declared.area.Area.TheVariants.{Mirror as MirrorArea}
 use Rattle.feed_journal.specs.Limits.{area_limit}
 use Rattle.feed_journal.specs.Log.{IsListed, IsLog, LogValue, payload_lengths}
@@ -27,6 +28,13 @@ pub record MirrorValue : Type 0 where
 -- a device call failed, so the mirror has to be loaded again
 abbrev pub is_spent : MirrorValue → Bool
 is_spent mirror = mirror.log.spent
+
+-- a mirror as it is loaded: it has this base and this capacity, and hasn't listed the live entries
+pub record IsNewlyLoaded (base : List ℕ) (capacity : ℕ) (mirror : MirrorValue) : Type 0 where
+  pub base_is : mirror.base ≡ base
+  pub capacity_is : mirror.capacity ≡ capacity
+  pub unlisted : mirror.listed ≡ false
+  pub unspent : is_spent mirror ≡ false
 
 -- the log has the texts of the documents, and each document was taken after those before it
 pub record KeepsDocuments (base : List ℕ) (kept : List KeptValue) (log : LogValue) : Type 0 where
@@ -65,6 +73,20 @@ take_calls = 4
 -- the calls of the disk's clock are at most those of the documents that were taken
 abbrev pub TakesFew : DiskState → DiskState → List KeptValue → List KeptValue → Type 0
 TakesFew before after kept now = after.clock + take_calls * length kept ≤ before.clock + take_calls * length now
+
+-- the base and the capacity of the mirror stay, and all other areas of the disk
+pub record KeepsSetting (s t : DiskState) (before after : MirrorValue) : Type 0 where
+  pub base : after.base ≡ before.base
+  pub capacity : after.capacity ≡ before.capacity
+  pub others : (a : Area) → a ≢ MirrorArea → LeavesAlone s t a
+
+-- no device call failed: the mirror is of use, the disk is at rest again if it was, and its calls are those of
+-- the documents that were taken
+pub record StaysSound (observable : Type 0) (s t : DiskState) (before after : MirrorValue) : Type 0 where
+  pub unspent : is_spent after ≡ false
+  pub stands : observable → StandsFor t after
+  pub rests : observable → IsAtRest s before.kept → IsAtRest t after.kept
+  pub most : TakesFew s t before.kept after.kept
 
 -- a whole image of the area, which loads to these documents
 pub record LoadsTo (base : List ℕ) (kept : List KeptValue) (image : List ℕ) : Type 0 where

@@ -2,8 +2,9 @@
 use Rattle.std.specs.Prelude.{◌≡◌, ℕ, true, Option, Some, slice_get}
 use Rattle.atom_values.specs.Entry.{EntryValue}
 use Rattle.deleted_entries.specs.declared.item.Item.TheVariants.{Kept as KeptItem}
+use Rattle.feed_disk.specs.Disk.{DiskState}
 use Rattle.mirror_walk.specs.declared.mirror.Reread.{Reread}
-use Rattle.mirror_walk.specs.Mirror.{MirrorValue}
+use Rattle.mirror_walk.specs.Mirror.{MirrorValue, StandsFor}
 
 -- the document of this index was read back last
 pub record HasReread (mirror : MirrorValue) (index : ℕ) : Type 0 where
@@ -29,3 +30,10 @@ IsSpentBy before after =
       log = record before.log { calls = after.log.calls; spent = true };
       reread = after.reread;
     }
+
+-- Documents were read back. The mirror can go on, unless a device call failed.
+pub record HasReadBack (observable : Type 0) (disk : DiskState) (before after : MirrorValue) (failed : Type 0)
+    : Type 0 where
+  pub same : ¬ failed → KeepsAllBut before after
+  pub spent : failed → IsSpentBy before after
+  pub stands : ¬ failed → observable → StandsFor disk after

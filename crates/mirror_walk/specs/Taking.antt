@@ -45,6 +45,10 @@ abbrev pub IsTakeStep : MirrorValue → KeptValue → List ℕ → Type 0
 IsTakeStep mirror given image =
     LoadsTo mirror.base mirror.kept image ⊎ LoadsTo mirror.base (mirror.kept ++ given ∷ []) image
 
+-- the mirror is as it was, but for the number of payloads that its log takes without memory
+abbrev pub HasOnlyMoreRoom : MirrorValue → MirrorValue → Type 0
+HasOnlyMoreRoom before after = after ≡ record before { log = record before.log { spare = after.log.spare } }
+
 -- the area has no room for this many bytes, or memory ran out
 abbrev pub IsNoRoom : MirrorValue → ℕ → Offered → Type 0
 IsNoRoom mirror needed (Full size more capacity) =

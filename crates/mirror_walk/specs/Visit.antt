@@ -1,7 +1,7 @@
 -- One step of a walk: an address is asked, and the document found there is offered to the mirror.
-use Rattle.std.specs.Prelude.{◌≡◌, ◌≢◌, ◌⊎◌, ℕ, ◌+◌, ◌≤◌, min, List, [], ◌∷◌, ◌++◌, length, map, Some, Result}
-use Rattle.std.specs.Prelude.{Ok, Err, IsSome, Option, count_by, false}
-use Rattle.atom_values.specs.Counts.{Rose}
+use Rattle.std.specs.Prelude.{◌≡◌, ◌≢◌, ◌⊎◌, ℕ, ◌+◌, min, List, [], ◌∷◌, ◌++◌, length, map, Some, Result}
+use Rattle.std.specs.Prelude.{Ok, Err, IsSome, Option, count_by}
+use Rattle.atom_values.specs.Counts.{CountsFault}
 use Rattle.atom_writer.specs.Doc.{archive_limit}
 use Rattle.chain_links.specs.Address.{printed}
 use Rattle.chain_links.specs.declared.address.Address.{Address}
@@ -9,9 +9,8 @@ use Rattle.chain_links.specs.declared.address.Address.TheVariants.{Feed, Archive
 use Rattle.doc_source.specs.declared.fetch.GetFault.{GetFault}
 use Rattle.doc_source.specs.declared.fetch.GetFault.TheVariants as gets
 use Rattle.feed_disk.specs.Disk.{DiskState}
-use Rattle.feed_disk.specs.Moments.{AlwaysLeaves, LeavesAlone}
+use Rattle.feed_disk.specs.Moments.{AlwaysLeaves}
 use Rattle.doc_source.specs.Fetch.{FetchState}
-use Rattle.feed_disk.specs.declared.area.Area.{Area}
 use Rattle.feed_disk.specs.declared.area.Area.TheVariants.{Mirror as MirrorArea}
 use Rattle.mirror_walk.specs.declared.answer.Accepted.{Accepted}
 use Rattle.mirror_walk.specs.declared.answer.Accepted.TheVariants.{Taken, Known, Stale}
@@ -24,7 +23,7 @@ use Rattle.mirror_walk.specs.declared.walk.WalkFault.{WalkFault}
 use Rattle.mirror_walk.specs.declared.walk.WalkFault.TheVariants as faults
 use Rattle.mirror_walk.specs.Accept.{Answer}
 use Rattle.mirror_walk.specs.Holding.{KeptValue, best_of, first_missing}
-use Rattle.mirror_walk.specs.Mirror.{IsAtRest, LoadsTo, MirrorValue, StandsFor, TakesFew, is_spent}
+use Rattle.mirror_walk.specs.Mirror.{IsAtRest, LoadsTo, MirrorValue}
 use Rattle.mirror_walk.specs.Walk.{EndsAt, Exchange, HasRefusal, IsAnswered, IsWalkStep, WalkEnding, WalkSetting}
 use Rattle.mirror_walk.specs.Walk.{WalksFromFeed, is_known, is_stale, is_taken, setting_by}
 use Rattle.mirror_walk.specs.Walk.WalkEnding.{not_there, refused, fetch_failed, filled, cut_short}
@@ -64,30 +63,11 @@ HasAsked before after address (Err (faults.Full size needed capacity)) = after �
 HasAsked before after address (Err faults.DiskFault) = after ≡ before ++ address ∷ []
 HasAsked before after address (Err faults.NoMemory) = (after ≡ before) ⊎ (after ≡ before ++ address ∷ [])
 
--- the base and the capacity of the mirror stay, and all other areas of the disk
-pub record KeepsSetting (s t : DiskState) (before after : MirrorValue) : Type 0 where
-  pub base : after.base ≡ before.base
-  pub capacity : after.capacity ≡ before.capacity
-  pub others : (a : Area) → a ≢ MirrorArea → LeavesAlone s t a
-
--- no device call failed: the mirror is of use, the disk is at rest again if it was, and its calls are those of
--- the documents that were taken
-pub record StaysSound (told : Type 0) (s t : DiskState) (before after : MirrorValue) : Type 0 where
-  pub unspent : is_spent after ≡ false
-  pub stands : told → StandsFor t after
-  pub rests : told → IsAtRest s before.kept → IsAtRest t after.kept
-  pub most : TakesFew s t before.kept after.kept
-
--- the counts of faults of the disk and of the source: each rose where its fault is the result, and stayed
--- otherwise
+-- the counts of faults of the disk and of the source
 pub record CountsFaults {T : Type 0} (disk disk' source source' : ℕ) (result : Result T WalkFault) : Type 0
   where
-    pub disk_later : disk ≤ disk'
-    pub disk_failed : result ≡ Err faults.DiskFault → Rose disk disk'
-    pub disk_worked : result ≢ Err faults.DiskFault → disk' ≡ disk
-    pub source_later : source ≤ source'
-    pub source_failed : result ≡ Err faults.FetchFault → Rose source source'
-    pub source_worked : result ≢ Err faults.FetchFault → source' ≡ source
+    pub disk_counts : CountsFault disk disk' (result ≡ Err faults.DiskFault)
+    pub source_counts : CountsFault source source' (result ≡ Err faults.FetchFault)
 
 -- an image that loads to the documents held, or to those after the document at this address was taken
 pub record LoadsToTaken (setting : WalkSetting) (kept : List KeptValue) (address : Address) (image : List ℕ)
@@ -102,7 +82,7 @@ IsVisitStep setting kept address image = LoadsTo setting.base kept image ⊎ Loa
 
 -- A visit by the answer that the source gave, which is its own where contracts see it (`seen`): what is held then, the
 -- result, the addresses asked, and the images that a crash at a moment of the visit leaves
-pub record VisitsByAnswer (told seen : Type 0) (s t : DiskState) (before after : FetchState) (mirror : MirrorValue)
+pub record VisitsByAnswer (observable seen : Type 0) (s t : DiskState) (before after : FetchState) (mirror : MirrorValue)
     (address : Address) (left : List KeptValue) (result : Result Visit WalkFault) : Type 0 where
   pub found : Option (List ℕ)
   pub found_is : seen → found ≡ before.answers (printed mirror.base address)
@@ -110,7 +90,7 @@ pub record VisitsByAnswer (told seen : Type 0) (s t : DiskState) (before after :
   pub texts : List (List ℕ)
   pub texts_are : seen → after.asked ≡ before.asked ++ texts
   pub asked : HasAsked [] texts (printed mirror.base address) result
-  pub moments : told → IsAtRest s mirror.kept
+  pub moments : observable → IsAtRest s mirror.kept
       → AlwaysLeaves s t MirrorArea (IsVisitStep (setting_by mirror (λ _. found)) mirror.kept address)
 
 -- the next address is the feed's at the beginning, and else that of the first missing document
@@ -161,9 +141,9 @@ pub record HasVisited (setting : WalkSetting) (kept now : List KeptValue) (befor
   pub result : IsVisitsResult asked accepted ending given
 
 -- the walk up to its end, by what the source answered
-pub record VisitsByAnswers (told seen : Type 0) (s t : DiskState) (before after : FetchState) (mirror : MirrorValue)
+pub record VisitsByAnswers (observable seen : Type 0) (s t : DiskState) (before after : FetchState) (mirror : MirrorValue)
     (now : List KeptValue) (given : Result Visits WalkFault) : Type 0 where
   pub source : Exchange seen before after
   pub visited : HasVisited (setting_by mirror source.answers) mirror.kept now [] source.asked given
-  pub moments : told → IsAtRest s mirror.kept
+  pub moments : observable → IsAtRest s mirror.kept
       → AlwaysLeaves s t MirrorArea (IsWalkStep (setting_by mirror source.answers) mirror.kept)

@@ -3,8 +3,8 @@
 --
 -- A walk asks for the feed's document, and then for the first missing document, again and again.
 use Rattle.std.specs.Prelude.{◌≡◌, ◌≢◌, ◌⊎◌, ℕ, ◌<◌, ◌^◌, All, List, [], ◌∷◌, ◌++◌, length, map, take, Option}
-use Rattle.std.specs.Prelude.{Some, None, Result, Ok, Err, count_by, unwrap_or, Bool, true, false}
-use Rattle.chain_links.specs.Address.{printed}
+use Rattle.std.specs.Prelude.{Some, None, IfSome, Result, Ok, Err, count_by, unwrap_or, Bool, true, false}
+use Rattle.chain_links.specs.Address.{IsAddress, printed}
 use Rattle.chain_links.specs.declared.address.Address.{Address}
 use Rattle.chain_links.specs.declared.address.Address.TheVariants.{Feed, Archive}
 use Rattle.doc_source.specs.Fetch.{FetchState}
@@ -22,7 +22,7 @@ use Rattle.mirror_walk.specs.declared.walk.WalkFault.TheVariants as faults
 use Rattle.mirror_walk.specs.declared.walk.Walked.{Walked}
 use Rattle.mirror_walk.specs.Accept.{Answer, IsAnswerWithin, IsForRoom}
 use Rattle.mirror_walk.specs.Holding.{archive_at, first_missing}
-use Rattle.mirror_walk.specs.Listing.{outcome_of}
+use Rattle.mirror_walk.specs.Listing.{HasAddress, outcome_of}
 use Rattle.mirror_walk.specs.Mirror.{IsAtRest, LoadsTo, MirrorValue}
 use Rattle.mirror_walk.specs.Offers.{AreTakenOf, Offering}
 use Rattle.member_rules.specs.Head.{HeadValue}
@@ -196,12 +196,12 @@ pub record Exchange (seen : Type 0) (before after : FetchState) : Type 0 where
 
 -- A walk over any source, by what the source answered in this call: the documents held afterwards, the result, and the
 -- images of the mirror's area that a crash at a moment of the call leaves. The images are those of a disk that contracts
--- see (`told`) and that was at rest.
-pub record WalksByAnswers (told seen : Type 0) (s t : DiskState) (before after : FetchState)
+-- see (`observable`) and that was at rest.
+pub record WalksByAnswers (observable seen : Type 0) (s t : DiskState) (before after : FetchState)
     (mirror : MirrorValue) (now : List KeptValue) (given : Result Walked WalkFault) : Type 0 where
   pub source : Exchange seen before after
   pub walked : HasWalked (setting_by mirror source.answers) mirror.kept now [] source.asked given
-  pub moments : told → IsAtRest s mirror.kept
+  pub moments : observable → IsAtRest s mirror.kept
       → AlwaysLeaves s t MirrorArea (IsWalkStep (setting_by mirror source.answers) mirror.kept)
 
 -- each number is below the one before it, and the first one is below `high`
@@ -228,3 +228,8 @@ WalksAskOnce = (setting : WalkSetting) (kept : List KeptValue) (offers : List Of
 abbrev pub IsServedBy : HeadValue → List Op → (List ℕ → Option (List ℕ)) → Type 0
 IsServedBy head history answers =
     (address bytes : List ℕ) → answers address ≡ Some bytes → Served head history address bytes
+
+-- the addresses that a walk's result names are those of documents
+pub record NamesAddresses (walked : Walked) : Type 0 where
+  pub refused : IfSome walked.refused (λ refusal. IsAddress refusal.address)
+  pub missing : HasAddress walked.outcome

@@ -1,6 +1,6 @@
 ghost use Rattle.std.specs.Prelude.{◌≡◌, ◌≢◌, ◌≤◌, ◌<◌, ℕ, false, length, Err, IfOk, IsSome};
 ghost use Rattle.std.specs.Prelude.{◌⊎◌, ◌↔◌, IfErr, IsTrue, List, OnOk, Some};
-ghost use Rattle.atom_values.specs.Counts.{Rose};
+ghost use Rattle.atom_values.specs.Counts.{CountsFault};
 ghost use Rattle.atom_values.specs.Entry.{EntryValue};
 ghost use Rattle.atom_writer.specs.Doc.{DocValue, IsDoc};
 ghost use Rattle.atom_writer.specs.Pieces.{text};
@@ -13,7 +13,7 @@ ghost use Rattle.mirror_walk.specs.Holding.{chain_of};
 ghost use Rattle.mirror_walk.specs.Listing.{IsShownAt, live_at};
 ghost use Rattle.mirror_walk.specs.Mirror.{StandsFor, is_spent};
 ghost use Rattle.mirror_walk.specs.Published.{HoldsServed};
-ghost use Rattle.mirror_walk.specs.Rereading.{HasEntryIn, HasReread, KeepsAllBut, IsSpentBy};
+ghost use Rattle.mirror_walk.specs.Rereading.{HasEntryIn, HasReadBack, HasReread};
 
 use crate::mirror::{Mirror, Reread};
 use atom_grammar::{MAX_DOCUMENT, ReadFault, read_doc};
@@ -46,15 +46,15 @@ impl Mirror {
         requires unspent { is_spent self.old ≡ false }
         requires listed { IsTrue self.old.listed }
         requires live { IsSome (live_at self.old.kept number) }
-        requires stands { D.told → StandsFor (D.state disk.old) self.old }
-        ensures entry { IfOk result (λ entry. D.told → live_at self.old.kept number ≡ Some entry) }
+        requires stands { D.observable → StandsFor (D.state disk.old) self.old }
+        ensures entry { IfOk result (λ entry. D.observable → live_at self.old.kept number ≡ Some entry) }
         // If one feed served all documents held, the entry counts in the chain of the best one.
-        ensures published { IfOk result (λ entry. D.told → (head : HeadValue) (history : List Op)
+        ensures published { IfOk result (λ entry. D.observable → (head : HeadValue) (history : List Op)
             → self.old.base ≡ head.name.base → HoldsServed head history self.old.kept
             → Counts (chain_of self.old.kept) number entry) }
         // On any disk, the entry has this member's number.
         ensures number { IfOk result (λ entry. entry.number ≡ number) }
-        ensures never { D.told → (index : ℕ) → result ≢ Err (LogFault.Changed index) }
+        ensures never { D.observable → (index : ℕ) → result ≢ Err (LogFault.Changed index) }
         // On any disk, the index is that of the document that shows the member.
         ensures changed { (index : ℕ) → result ≡ Err (LogFault.Changed index)
             → IsShownAt self.old.kept number index }
@@ -62,16 +62,11 @@ impl Mirror {
         // No area changes, and of the mirror only the count of calls and the document that was read back
         // last. After `DiskFault` it is spent.
         ensures areas { (a : AreaValue) → LeavesAlone (D.state disk.old) (D.state disk.new) a }
-        ensures same { result ≢ Err LogFault.DiskFault → KeepsAllBut self.old self.new }
-        ensures spent { result ≡ Err LogFault.DiskFault → IsSpentBy self.old self.new }
-        ensures stands { result ≢ Err LogFault.DiskFault
-            → D.told → StandsFor (D.state disk.new) self.new }
+        ensures mirror { HasReadBack D.observable (D.state disk.new) self.old self.new
+            (result ≡ Err LogFault.DiskFault) }
 
-        ensures later { (D.state disk.old).faults ≤ (D.state disk.new).faults }
-        ensures failed { result ≡ Err LogFault.DiskFault
-            → Rose (D.state disk.old).faults (D.state disk.new).faults }
-        ensures unfailed { result ≢ Err LogFault.DiskFault
-            → (D.state disk.new).faults ≡ (D.state disk.old).faults }
+        ensures faults { CountsFault (D.state disk.old).faults (D.state disk.new).faults
+            (result ≡ Err LogFault.DiskFault) }
     {
         let place = self.held.entry_place(number);
         let index = place.document as u32;
@@ -90,20 +85,15 @@ impl Mirror {
     fn read_back<D: Disk>(&mut self, disk: &mut D, index: u32) -> Result<(), LogFault>
         requires unspent { is_spent self.old ≡ false }
         requires within { index < length self.old.kept }
-        requires stands { D.told → StandsFor (D.state disk.old) self.old }
+        requires stands { D.observable → StandsFor (D.state disk.old) self.old }
         ensures there { OnOk result (HasReread self.new index) }
-        ensures never { D.told → (n : ℕ) → result ≢ Err (LogFault.Changed n) }
+        ensures never { D.observable → (n : ℕ) → result ≢ Err (LogFault.Changed n) }
         ensures changed { (n : ℕ) → result ≡ Err (LogFault.Changed n) → n ≡ index }
         ensures areas { (a : AreaValue) → LeavesAlone (D.state disk.old) (D.state disk.new) a }
-        ensures same { result ≢ Err LogFault.DiskFault → KeepsAllBut self.old self.new }
-        ensures spent { result ≡ Err LogFault.DiskFault → IsSpentBy self.old self.new }
-        ensures stands { result ≢ Err LogFault.DiskFault
-            → D.told → StandsFor (D.state disk.new) self.new }
-        ensures later { (D.state disk.old).faults ≤ (D.state disk.new).faults }
-        ensures failed { result ≡ Err LogFault.DiskFault
-            → Rose (D.state disk.old).faults (D.state disk.new).faults }
-        ensures unfailed { result ≢ Err LogFault.DiskFault
-            → (D.state disk.new).faults ≡ (D.state disk.old).faults }
+        ensures mirror { HasReadBack D.observable (D.state disk.new) self.old self.new
+            (result ≡ Err LogFault.DiskFault) }
+        ensures faults { CountsFault (D.state disk.old).faults (D.state disk.new).faults
+            (result ≡ Err LogFault.DiskFault) }
     {
         if self.has_reread(index) {
             return Ok(());

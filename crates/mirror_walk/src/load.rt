@@ -1,6 +1,6 @@
-ghost use Rattle.std.specs.Prelude.{◌≡◌, ◌≢◌, ◌⊎◌, ◌↔◌, ◌≤◌, ◌<◌, ℕ, true, false, List, length, take};
-ghost use Rattle.std.specs.Prelude.{slice_get, IfOk, IfErr, IsTrue, None, OnOk, Some};
-ghost use Rattle.atom_values.specs.Counts.{Rose};
+ghost use Rattle.std.specs.Prelude.{◌≡◌, ◌≢◌, ◌⊎◌, ◌↔◌, ◌≤◌, ◌<◌, true, false, List, length, take};
+ghost use Rattle.std.specs.Prelude.{slice_get, IfOk, IfErr, IsTrue, OnOk, Some};
+ghost use Rattle.atom_values.specs.Counts.{CountsFault};
 ghost use Rattle.atom_writer.specs.Pieces.{text};
 ghost use Rattle.feed_disk.specs.Moments.{AlwaysLeaves, LeavesAlone};
 ghost use Rattle.feed_disk.specs.declared.area.Area.{Area as AreaValue};
@@ -13,7 +13,7 @@ ghost use Rattle.mirror_walk.specs.Checks.{IsNew};
 ghost use Rattle.mirror_walk.specs.Holding.{KeptValue, payloads_of};
 ghost use Rattle.mirror_walk.specs.Loaded.{IsLoadedOf, IsMirrorFault};
 ghost use Rattle.mirror_walk.specs.Loading.{FailsBy, IsNext, IsReadable, IsUnfit, OnlyReads, Worked};
-ghost use Rattle.mirror_walk.specs.Mirror.{IsAtRest, KeepsDocuments, StandsFor, is_spent};
+ghost use Rattle.mirror_walk.specs.Mirror.{IsAtRest, IsNewlyLoaded, KeepsDocuments, StandsFor};
 ghost use Rattle.mirror_walk.specs.Refused.{IsRefusal, Refuses, RefusesAt};
 
 use crate::answer::Offered;
@@ -44,41 +44,35 @@ impl Mirror {
         capacity: u64,
     ) -> Result<Mirror, MirrorFault>
         requires { capacity ≤ area_limit }
-        ensures base { IfOk result (λ mirror. mirror.base ≡ base) }
-        ensures capacity { IfOk result (λ mirror. mirror.capacity ≡ capacity) }
-        ensures unlisted { IfOk result (λ mirror. mirror.listed ≡ false) }
-        ensures fresh { IfOk result (λ mirror. is_spent mirror ≡ false) }
-        ensures loaded { IfOk result (λ mirror. D.told
+        ensures begins { IfOk result (IsNewlyLoaded base capacity) }
+        ensures loaded { IfOk result (λ mirror. D.observable
             → IsLoadedOf base (records ((D.state disk.old).content MirrorArea)) mirror.kept) }
         // On any disk, each document held was taken after those before it.
         ensures taken { IfOk result (λ mirror. IsLoadedOf base (payloads_of mirror.kept) mirror.kept) }
-        ensures stands { IfOk result (λ mirror. D.told → StandsFor (D.state disk.new) mirror) }
+        ensures stands { IfOk result (λ mirror. D.observable → StandsFor (D.state disk.new) mirror) }
         // An area whose payloads are taken in order is loaded, unless a device call fails or memory runs out.
-        ensures only { D.told → (kept : List KeptValue)
+        ensures only { D.observable → (kept : List KeptValue)
             → IsLoadedOf base (records ((D.state disk.old).content MirrorArea)) kept
             → IfErr result (λ fault. (fault ≡ MirrorFault.DiskFault) ⊎ (fault ≡ MirrorFault.NoMemory)) }
-        ensures refused { IfErr result (λ fault. D.told
+        ensures refused { IfErr result (λ fault. D.observable
             → IsMirrorFault base (records ((D.state disk.old).content MirrorArea)) fault) }
         // On any disk, the fault is one of a load of some log: a payload that is read short is a bad record
         // of its own index at 0.
         ensures refusal { IfErr result (IsRefusal base) }
-        ensures same { OnOk result (D.told → (a : AreaValue)
+        ensures same { OnOk result (D.observable → (a : AreaValue)
             → records ((D.state disk.new).content a) ≡ records ((D.state disk.old).content a)) }
 
         // A crash at any moment of the load, whatever it returns, leaves the payloads of an image that a
         // crash before it could leave. After `Ok` of a whole area it leaves the documents that are held.
-        ensures moments { D.told → AlwaysLeaves (D.state disk.old) (D.state disk.new) MirrorArea
+        ensures moments { D.observable → AlwaysLeaves (D.state disk.old) (D.state disk.new) MirrorArea
             (ImageStandsFor ((D.state disk.old).image_now MirrorArea)) }
-        ensures rests { IfOk result (λ mirror. D.told → IsWhole ((D.state disk.old).content MirrorArea)
+        ensures rests { IfOk result (λ mirror. D.observable → IsWhole ((D.state disk.old).content MirrorArea)
             → IsAtRest (D.state disk.new) mirror.kept) }
         ensures others { (a : AreaValue) → a ≢ MirrorArea
             → LeavesAlone (D.state disk.old) (D.state disk.new) a }
 
-        ensures later { (D.state disk.old).faults ≤ (D.state disk.new).faults }
-        ensures failed { result ≡ Err MirrorFault.DiskFault
-            → Rose (D.state disk.old).faults (D.state disk.new).faults }
-        ensures unfailed { result ≢ Err MirrorFault.DiskFault
-            → (D.state disk.new).faults ≡ (D.state disk.old).faults }
+        ensures faults { CountsFault (D.state disk.old).faults (D.state disk.new).faults
+            (result ≡ Err MirrorFault.DiskFault) }
     {
         let log = Log::load(alloc, disk, Area::Mirror)?;
         let mirror = reopen(alloc, disk, log, base, capacity)?;
@@ -94,17 +88,14 @@ fn reopen<D: Disk>(
     base: Base,
     capacity: u64,
 ) -> Result<Mirror, MirrorFault>
-    requires log { IsReadable D.told (D.state disk.old) log }
+    requires log { IsReadable D.observable (D.state disk.old) log }
     requires capacity { capacity ≤ area_limit }
-    ensures base { IfOk result (λ mirror. mirror.base ≡ base) }
-    ensures capacity { IfOk result (λ mirror. mirror.capacity ≡ capacity) }
-    ensures unlisted { IfOk result (λ mirror. mirror.listed ≡ false) }
-    ensures fresh { IfOk result (λ mirror. is_spent mirror ≡ false) }
+    ensures begins { IfOk result (IsNewlyLoaded base capacity) }
     ensures taken { IfOk result (λ mirror. IsLoadedOf base (payloads_of mirror.kept) mirror.kept) }
-    ensures stands { IfOk result (λ mirror. D.told → StandsFor (D.state disk.new) mirror) }
+    ensures stands { IfOk result (λ mirror. D.observable → StandsFor (D.state disk.new) mirror) }
     ensures worked { OnOk result ((D.state disk.new).faults ≡ (D.state disk.old).faults) }
     ensures reads { OnlyReads (D.state disk.old) (D.state disk.new) }
-    ensures fault { IfErr result (FailsBy D.told base (D.state disk.old) (D.state disk.new)) }
+    ensures fault { IfErr result (FailsBy D.observable base (D.state disk.old) (D.state disk.new)) }
     ensures refused { IfErr result (Refuses base log.extents) }
 {
     let held = held_of(alloc, disk, &mut log, base)?;
@@ -124,15 +115,15 @@ fn held_of<D: Disk>(
     log: &mut Log,
     base: Base,
 ) -> Result<Held, MirrorFault>
-    requires { IsReadable D.told (D.state disk.old) log.old }
+    requires { IsReadable D.observable (D.state disk.old) log.old }
     ensures base { IfOk result (λ held. held.base ≡ base) }
     ensures unlisted { IfOk result (λ held. held.listed ≡ false) }
     ensures documents { IfOk result (λ held. KeepsDocuments base held.kept log.new) }
-    ensures payloads { IfOk result (λ held. D.told
+    ensures payloads { IfOk result (λ held. D.observable
         → records ((D.state disk.old).content MirrorArea) ≡ payloads_of held.kept) }
     ensures worked { OnOk result (Worked (D.state disk.old) (D.state disk.new) log.old log.new) }
     ensures reads { OnlyReads (D.state disk.old) (D.state disk.new) }
-    ensures fault { IfErr result (FailsBy D.told base (D.state disk.old) (D.state disk.new)) }
+    ensures fault { IfErr result (FailsBy D.observable base (D.state disk.old) (D.state disk.new)) }
     ensures refused { IfErr result (Refuses base log.old.extents) }
 {
     let mut held = Held::new(alloc, base);
@@ -151,22 +142,22 @@ fn document_of<D: Disk>(
     held: &Held,
     index: u32,
 ) -> Result<Kept, MirrorFault>
-    requires log { IsReadable D.told (D.state disk.old) log.old }
+    requires log { IsReadable D.observable (D.state disk.old) log.old }
     requires within { index < length log.old.extents }
     requires count { length held.now.kept ≡ index }
     requires loaded { IsLoadedOf held.now.base (payloads_of held.now.kept) held.now.kept }
-    requires before { D.told
+    requires before { D.observable
         → take index (records ((D.state disk.old).content MirrorArea)) ≡ payloads_of held.now.kept }
     ensures document { IfOk result (λ given. IsKeptOf (text given.document) given) }
     ensures next { IfOk result (IsNext held.now.base held.now.kept) }
     ensures new { IfOk result (λ given. IsNew held.now.kept given.document) }
-    ensures payload { IfOk result (λ given. D.told
+    ensures payload { IfOk result (λ given. D.observable
         → slice_get (records ((D.state disk.old).content MirrorArea)) index ≡ Some (text given.document)) }
     ensures length { IfOk result (λ given.
         slice_get (payload_lengths log.old.extents) index ≡ Some (length (text given.document))) }
     ensures worked { OnOk result (Worked (D.state disk.old) (D.state disk.new) log.old log.new) }
     ensures reads { OnlyReads (D.state disk.old) (D.state disk.new) }
-    ensures fault { IfErr result (FailsBy D.told held.now.base (D.state disk.old) (D.state disk.new)) }
+    ensures fault { IfErr result (FailsBy D.observable held.now.base (D.state disk.old) (D.state disk.new)) }
     ensures refused { IfErr result (RefusesAt held.now.base held.now.kept log.old.extents index) }
 {
     let payload = log.read(disk, index)?;

@@ -1,8 +1,7 @@
-ghost use Rattle.std.specs.Prelude.{◌≡◌, ◌≢◌, ◌⊎◌, ◌≤◌, ◌<◌, ◌+◌, ◌++◌, ◌∷◌, [], false, true, List, length};
+ghost use Rattle.std.specs.Prelude.{◌≡◌, ◌≢◌, ◌⊎◌, ◌≤◌, ◌+◌, ◌++◌, ◌∷◌, [], false, true, List, length};
 ghost use Rattle.std.specs.Prelude.{Err, IfErr, IfOk, Ok, OnOk};
-ghost use Rattle.atom_values.specs.Counts.{Rose};
-ghost use Rattle.feed_disk.specs.Moments.{AlwaysLeaves, LeavesAlone};
-ghost use Rattle.feed_disk.specs.declared.area.Area.{Area as AreaValue};
+ghost use Rattle.atom_values.specs.Counts.{CountsFault};
+ghost use Rattle.feed_disk.specs.Moments.{AlwaysLeaves};
 ghost use Rattle.feed_disk.specs.declared.area.Area.TheVariants.{Mirror as MirrorArea};
 ghost use Rattle.feed_journal.specs.Limits.{header_length};
 ghost use Rattle.member_rules.specs.Head.{HeadValue};
@@ -10,9 +9,9 @@ ghost use Rattle.member_rules.specs.Served.{Served};
 ghost use Rattle.member_rules.specs.declared.operation.Op.{Op};
 ghost use Rattle.mirror_walk.specs.Accept.{IsAnswerWithin, IsForRoom, IsKeptOf, accept_within};
 ghost use Rattle.mirror_walk.specs.Holding.{KeptValue};
-ghost use Rattle.mirror_walk.specs.Mirror.{IsAtRest, IsOfferStep, StandsFor, TakesFew, is_spent};
+ghost use Rattle.mirror_walk.specs.Mirror.{IsAtRest, IsOfferStep, KeepsSetting, StandsFor, StaysSound, is_spent};
 ghost use Rattle.mirror_walk.specs.Offers.{AreServed, AreTakenOf, Offering};
-ghost use Rattle.mirror_walk.specs.Taking.{IsChecked, IsNoRoom, IsTakenNext, IsTakeStep};
+ghost use Rattle.mirror_walk.specs.Taking.{HasOnlyMoreRoom, IsChecked, IsNoRoom, IsTakenNext, IsTakeStep};
 
 use crate::answer::{Accepted, Offered};
 use crate::kept::{Kept, kept_of};
@@ -66,7 +65,7 @@ impl Mirror {
         bytes: &[u8],
     ) -> Result<Accepted, Offered>
         requires unspent { is_spent self.old ≡ false }
-        requires stands { D.told → StandsFor (D.state disk.old) self.old }
+        requires stands { D.observable → StandsFor (D.state disk.old) self.old }
         requires size { length bytes.now ≤ MAX_DOCUMENT }
         // The answer, and what is held afterwards, unless memory runs out or a device call fails.
         ensures answer { (result ≡ Err Offered.NoMemory) ⊎ (result ≡ Err Offered.DiskFault)
@@ -76,37 +75,24 @@ impl Mirror {
         ensures first_fit { (given : KeptValue) → IsKeptOf bytes.now given
             → (result ≡ accept_within self.old.capacity self.old.base self.old.kept address.now given)
             ⊎ (result ≡ Err Offered.NoMemory) ⊎ (result ≡ Err Offered.DiskFault) }
-        ensures kept { result ≢ Ok Accepted.Taken → result ≢ Err Offered.DiskFault
-            → self.new.kept ≡ self.old.kept }
-        // Only the room that the log has for one more payload may differ. What `entry` reads by stays: the
-        // places of the payloads, the list of the live entries and the document that was read back last.
-        ensures unchanged { result ≢ Ok Accepted.Taken → result ≢ Err Offered.DiskFault → self.new
-            ≡ record self.old { log = record self.old.log { spare = self.new.log.spare } } }
-        ensures unmoved { result ≢ Ok Accepted.Taken → result ≢ Err Offered.DiskFault
-            → disk.new ≡ disk.old }
-        ensures base { self.new.base ≡ self.old.base }
-        ensures capacity { self.new.capacity ≡ self.old.capacity }
-        ensures unspent { result ≢ Err Offered.DiskFault → is_spent self.new ≡ false }
+        // Only the room that the log has for one more payload may differ. What is held stays, and what `entry`
+        // reads by: the places of the payloads, the list of the live entries and the document that was read
+        // back last.
+        ensures unchanged { result ≢ Ok Accepted.Taken → result ≢ Err Offered.DiskFault
+            → HasOnlyMoreRoom self.old self.new × (disk.new ≡ disk.old) }
+        ensures setting { KeepsSetting (D.state disk.old) (D.state disk.new) self.old self.new }
+        // The mirror can go on unless a device call failed.
+        ensures sound { result ≢ Err Offered.DiskFault
+            → StaysSound D.observable (D.state disk.old) (D.state disk.new) self.old self.new }
         ensures spent { result ≡ Err Offered.DiskFault → is_spent self.new ≡ true }
-        ensures stands { result ≢ Err Offered.DiskFault → D.told → StandsFor (D.state disk.new) self.new }
 
         // A crash at any moment of the call leaves the documents held before, or those and the new one.
         // `Mirror::load` of a whole area and each offer without a failed device call leave the disk at rest.
-        ensures moments { D.told → IsAtRest (D.state disk.old) self.old.kept
+        ensures moments { D.observable → IsAtRest (D.state disk.old) self.old.kept
             → AlwaysLeaves (D.state disk.old) (D.state disk.new) MirrorArea
             (IsOfferStep self.old address.now bytes.now) }
-        ensures rests { result ≢ Err Offered.DiskFault
-            → D.told → IsAtRest (D.state disk.old) self.old.kept → IsAtRest (D.state disk.new) self.new.kept }
-        ensures others { (a : AreaValue) → a ≢ MirrorArea
-            → LeavesAlone (D.state disk.old) (D.state disk.new) a }
-        ensures most { result ≢ Err Offered.DiskFault
-            → TakesFew (D.state disk.old) (D.state disk.new) self.old.kept self.new.kept }
-
-        ensures later { (D.state disk.old).faults ≤ (D.state disk.new).faults }
-        ensures failed { result ≡ Err Offered.DiskFault
-            → Rose (D.state disk.old).faults (D.state disk.new).faults }
-        ensures unfailed { result ≢ Err Offered.DiskFault
-            → (D.state disk.new).faults ≡ (D.state disk.old).faults }
+        ensures faults { CountsFault (D.state disk.old).faults (D.state disk.new).faults
+            (result ≡ Err Offered.DiskFault) }
 
         // If one feed served all documents that were offered, none is refused.
         ensures served { (head : HeadValue) (history : List Op) (offers : List Offering)
@@ -167,32 +153,21 @@ impl Mirror {
         framed: &Framed,
     ) -> Result<Accepted, Offered>
         requires unspent { is_spent self.old ≡ false }
-        requires stands { D.told → StandsFor (D.state disk.old) self.old }
+        requires stands { D.observable → StandsFor (D.state disk.old) self.old }
         requires taken { IsTakenNext self.old given framed.now }
         ensures answers { (result ≡ Ok Accepted.Taken) ⊎ (result ≡ Err Offered.NoMemory)
             ⊎ (result ≡ Err Offered.DiskFault) }
         ensures kept { OnOk result (self.new.kept ≡ self.old.kept ++ given ∷ []) }
-        ensures unchanged { result ≡ Err Offered.NoMemory → self.new
-            ≡ record self.old { log = record self.old.log { spare = self.new.log.spare } } }
-        ensures unmoved { result ≡ Err Offered.NoMemory → disk.new ≡ disk.old }
-        ensures base { self.new.base ≡ self.old.base }
-        ensures capacity { self.new.capacity ≡ self.old.capacity }
-        ensures unspent { result ≢ Err Offered.DiskFault → is_spent self.new ≡ false }
+        ensures unchanged { result ≡ Err Offered.NoMemory
+            → HasOnlyMoreRoom self.old self.new × (disk.new ≡ disk.old) }
+        ensures setting { KeepsSetting (D.state disk.old) (D.state disk.new) self.old self.new }
+        ensures sound { result ≢ Err Offered.DiskFault
+            → StaysSound D.observable (D.state disk.old) (D.state disk.new) self.old self.new }
         ensures spent { result ≡ Err Offered.DiskFault → is_spent self.new ≡ true }
-        ensures stands { result ≢ Err Offered.DiskFault → D.told → StandsFor (D.state disk.new) self.new }
-        ensures moments { D.told → IsAtRest (D.state disk.old) self.old.kept
+        ensures moments { D.observable → IsAtRest (D.state disk.old) self.old.kept
             → AlwaysLeaves (D.state disk.old) (D.state disk.new) MirrorArea (IsTakeStep self.old given) }
-        ensures rests { result ≢ Err Offered.DiskFault
-            → D.told → IsAtRest (D.state disk.old) self.old.kept → IsAtRest (D.state disk.new) self.new.kept }
-        ensures others { (a : AreaValue) → a ≢ MirrorArea
-            → LeavesAlone (D.state disk.old) (D.state disk.new) a }
-        ensures most { result ≢ Err Offered.DiskFault
-            → TakesFew (D.state disk.old) (D.state disk.new) self.old.kept self.new.kept }
-        ensures later { (D.state disk.old).faults ≤ (D.state disk.new).faults }
-        ensures failed { result ≡ Err Offered.DiskFault
-            → Rose (D.state disk.old).faults (D.state disk.new).faults }
-        ensures unfailed { result ≢ Err Offered.DiskFault
-            → (D.state disk.new).faults ≡ (D.state disk.old).faults }
+        ensures faults { CountsFault (D.state disk.old).faults (D.state disk.new).faults
+            (result ≡ Err Offered.DiskFault) }
     {
         begun_images_are_whole();
         self.log.reserve()?;

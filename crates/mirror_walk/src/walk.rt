@@ -1,18 +1,16 @@
-ghost use Rattle.std.specs.Prelude.{◌≡◌, ◌≢◌, ◌+◌, ◌-◌, ◌≤◌, ◌<◌, ◌^◌, List, None, Err, IfOk, IsTrue};
+ghost use Rattle.std.specs.Prelude.{◌≡◌, ◌≢◌, ◌+◌, ◌-◌, ◌<◌, ◌^◌, List, None, Err, IfOk, IsTrue};
 ghost use Rattle.std.specs.Prelude.{IfSome, false, true};
-ghost use Rattle.atom_values.specs.Counts.{Rose};
 ghost use Rattle.chain_links.specs.Address.{IsAddress};
-ghost use Rattle.feed_disk.specs.Moments.{AlwaysLeaves, LeavesAlone};
-ghost use Rattle.feed_disk.specs.declared.area.Area.{Area as AreaValue};
+ghost use Rattle.feed_disk.specs.Moments.{AlwaysLeaves};
 ghost use Rattle.feed_disk.specs.declared.area.Area.TheVariants.{Mirror as MirrorArea};
 ghost use Rattle.member_rules.specs.Head.{HeadValue};
 ghost use Rattle.member_rules.specs.declared.operation.Op.{Op};
 ghost use Rattle.mirror_walk.specs.Listing.{is_complete, outcome_of};
-ghost use Rattle.mirror_walk.specs.Mirror.{IsAtRest, StandsFor, TakesFew, is_spent};
+ghost use Rattle.mirror_walk.specs.Mirror.{IsAtRest, KeepsSetting, StandsFor, StaysSound, is_spent};
 ghost use Rattle.mirror_walk.specs.Offers.{AreServed, AreTakenOf, Offering};
-ghost use Rattle.mirror_walk.specs.Visit.{CountsFaults, KeepsSetting, StaysSound, VisitsByAnswer};
+ghost use Rattle.mirror_walk.specs.Visit.{CountsFaults, VisitsByAnswer};
 ghost use Rattle.mirror_walk.specs.Visit.{VisitsByAnswers, counted_answer, visit_of};
-ghost use Rattle.mirror_walk.specs.Walk.{HasWalked, IsServedBy, IsWalkStep, WalksByAnswers, setting_of};
+ghost use Rattle.mirror_walk.specs.Walk.{HasWalked, IsServedBy, IsWalkStep, NamesAddresses, WalksByAnswers, setting_of};
 
 use crate::answer::{Accepted, Offered, Outcome};
 use crate::mirror::Mirror;
@@ -198,52 +196,36 @@ impl Mirror {
         fetch: &mut F,
     ) -> Result<Walked, WalkFault>
         requires unspent { is_spent self.old ≡ false }
-        requires stands { D.told → StandsFor (D.state disk.old) self.old }
+        requires stands { D.observable → StandsFor (D.state disk.old) self.old }
         // Over a source whose answers contracts can see: the addresses asked, what is held, and the result.
-        ensures walked { F.told → HasWalked (setting_of self.old (F.state fetch.old))
+        ensures walked { F.observable → HasWalked (setting_of self.old (F.state fetch.old))
             self.old.kept self.new.kept (F.state fetch.old).asked (F.state fetch.new).asked result }
         // Over any source: the outcome is that of the documents held afterwards.
         ensures outcome { IfOk result (λ walked. walked.outcome ≡ outcome_of self.new.kept) }
         ensures listed { IfOk result (λ walked.
             IsTrue (is_complete walked.outcome) → IsTrue self.new.listed) }
-        ensures address { IfOk result (λ walked.
-            IfSome walked.refused (λ refusal. IsAddress refusal.address)) }
-        ensures base { self.new.base ≡ self.old.base }
-        ensures capacity { self.new.capacity ≡ self.old.capacity }
-        ensures unspent { result ≢ Err WalkFault.DiskFault → is_spent self.new ≡ false }
+        ensures addresses { IfOk result NamesAddresses }
+        ensures setting { KeepsSetting (D.state disk.old) (D.state disk.new) self.old self.new }
+        // The mirror can go on unless a device call failed.
+        ensures sound { result ≢ Err WalkFault.DiskFault
+            → StaysSound D.observable (D.state disk.old) (D.state disk.new) self.old self.new }
         ensures spent { result ≡ Err WalkFault.DiskFault → is_spent self.new ≡ true }
-        ensures stands { result ≢ Err WalkFault.DiskFault → D.told → StandsFor (D.state disk.new) self.new }
 
         // A crash at any moment leaves the documents held before and the first few of those that are taken.
-        ensures moments { D.told → F.told → IsAtRest (D.state disk.old) self.old.kept
+        ensures moments { D.observable → F.observable → IsAtRest (D.state disk.old) self.old.kept
             → AlwaysLeaves (D.state disk.old) (D.state disk.new) MirrorArea
             (IsWalkStep (setting_of self.old (F.state fetch.old)) self.old.kept) }
         // Over any source: the same, by what the source answered in this call.
-        ensures by_answers { WalksByAnswers D.told F.told (D.state disk.old) (D.state disk.new)
+        ensures by_answers { WalksByAnswers D.observable F.observable (D.state disk.old) (D.state disk.new)
             (F.state fetch.old) (F.state fetch.new) self.old self.new.kept result }
-        ensures rests { result ≢ Err WalkFault.DiskFault
-            → D.told → IsAtRest (D.state disk.old) self.old.kept → IsAtRest (D.state disk.new) self.new.kept }
-        ensures others { (a : AreaValue) → a ≢ MirrorArea
-            → LeavesAlone (D.state disk.old) (D.state disk.new) a }
-
-        ensures most { result ≢ Err WalkFault.DiskFault
-            → TakesFew (D.state disk.old) (D.state disk.new) self.old.kept self.new.kept }
 
         // The source's answers stay. The counts of faults rose exactly where a call failed.
         ensures answers { (F.state fetch.new).answers ≡ (F.state fetch.old).answers }
-        ensures later { (D.state disk.old).faults ≤ (D.state disk.new).faults }
-        ensures failed { result ≡ Err WalkFault.DiskFault
-            → Rose (D.state disk.old).faults (D.state disk.new).faults }
-        ensures unfailed { result ≢ Err WalkFault.DiskFault
-            → (D.state disk.new).faults ≡ (D.state disk.old).faults }
-        ensures fetch_later { (F.state fetch.old).faults ≤ (F.state fetch.new).faults }
-        ensures fetch_failed { result ≡ Err WalkFault.FetchFault
-            → Rose (F.state fetch.old).faults (F.state fetch.new).faults }
-        ensures fetch_unfailed { result ≢ Err WalkFault.FetchFault
-            → (F.state fetch.new).faults ≡ (F.state fetch.old).faults }
+        ensures faults { CountsFaults (D.state disk.old).faults (D.state disk.new).faults
+            (F.state fetch.old).faults (F.state fetch.new).faults result }
 
         // If one feed served all documents held and all that the source has, the walk ends without a refusal.
-        ensures served { F.told → (head : HeadValue) (history : List Op) (offers : List Offering)
+        ensures served { F.observable → (head : HeadValue) (history : List Op) (offers : List Offering)
             → self.old.base ≡ head.name.base → AreServed head history offers
             → AreTakenOf self.old.base offers self.old.kept
             → IsServedBy head history (F.state fetch.old).answers
@@ -268,14 +250,14 @@ impl Mirror {
         fetch: &mut F,
     ) -> Result<Visits, WalkFault>
         requires unspent { is_spent self.old ≡ false }
-        requires stands { D.told → StandsFor (D.state disk.old) self.old }
-        ensures visited { VisitsByAnswers D.told F.told (D.state disk.old) (D.state disk.new)
+        requires stands { D.observable → StandsFor (D.state disk.old) self.old }
+        ensures visited { VisitsByAnswers D.observable F.observable (D.state disk.old) (D.state disk.new)
             (F.state fetch.old) (F.state fetch.new) self.old self.new.kept result }
         ensures address { IfOk result (λ made.
             IfSome made.refused (λ refusal. IsAddress refusal.address)) }
         ensures setting { KeepsSetting (D.state disk.old) (D.state disk.new) self.old self.new }
         ensures sound { result ≢ Err WalkFault.DiskFault
-            → StaysSound D.told (D.state disk.old) (D.state disk.new) self.old self.new }
+            → StaysSound D.observable (D.state disk.old) (D.state disk.new) self.old self.new }
         ensures spent { result ≡ Err WalkFault.DiskFault → is_spent self.new ≡ true }
         ensures answers { (F.state fetch.new).answers ≡ (F.state fetch.old).answers }
         ensures faults { CountsFaults (D.state disk.old).faults (D.state disk.new).faults
@@ -314,13 +296,13 @@ impl Mirror {
         address: Address,
     ) -> Result<Visit, WalkFault>
         requires unspent { is_spent self.old ≡ false }
-        requires stands { D.told → StandsFor (D.state disk.old) self.old }
+        requires stands { D.observable → StandsFor (D.state disk.old) self.old }
         requires address { IsAddress address }
-        ensures visited { VisitsByAnswer D.told F.told (D.state disk.old) (D.state disk.new)
+        ensures visited { VisitsByAnswer D.observable F.observable (D.state disk.old) (D.state disk.new)
             (F.state fetch.old) (F.state fetch.new) self.old address self.new.kept result }
         ensures setting { KeepsSetting (D.state disk.old) (D.state disk.new) self.old self.new }
         ensures sound { result ≢ Err WalkFault.DiskFault
-            → StaysSound D.told (D.state disk.old) (D.state disk.new) self.old self.new }
+            → StaysSound D.observable (D.state disk.old) (D.state disk.new) self.old self.new }
         ensures spent { result ≡ Err WalkFault.DiskFault → is_spent self.new ≡ true }
         ensures answers { (F.state fetch.new).answers ≡ (F.state fetch.old).answers }
         ensures faults { CountsFaults (D.state disk.old).faults (D.state disk.new).faults

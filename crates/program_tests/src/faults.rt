@@ -4,7 +4,7 @@ use crate::certificates::MIRROR;
 use crate::runs::{APPLY, Run, expect_end};
 use atom_values::Many;
 use doc_source::ListSink;
-use feed_commands::{Fault, end_with};
+use feed_commands::{Fault, print_fault};
 
 const FAULT: &[u8] = b"input fault\n";
 
@@ -77,7 +77,6 @@ fn reports_each_failing_call(rt: HostRuntime) {
 #[test]
 fn a_lack_of_memory_is_reported(rt: HostRuntime) {
     let mut output = ListSink::new(rt.alloc(), Many::new(rt.alloc()));
-    let ended = end_with(rt.alloc(), &mut output, Fault::NoMemory);
-    assert!(rt; (ended.status, output.bytes()) == (5, b"no memory\n".as_slice()));
-    drop((output, ended));
+    let status = print_fault(&mut output, Fault::NoMemory);
+    assert!(rt; (status.code(), output.bytes()) == (5, b"no memory\n".as_slice()));
 }

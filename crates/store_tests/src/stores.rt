@@ -68,9 +68,9 @@ pub fn head(rt: &impl Abort, alloc: Global, window: u32, capacity: u64) -> Head
 /// Makes the operation of an ask. Returns its member's number, the version that was prepared and the new version.
 fn change<D: Disk>(rt: &impl Abort, store: &mut Store, disk: &mut D, ask: Ask) -> (u32, u32, u32)
     requires unspent { is_spent store.old ≡ false }
-    requires stands { D.told → StandsFor (D.state disk.old) store.old }
+    requires stands { D.observable → StandsFor (D.state disk.old) store.old }
     ensures unspent { is_spent store.new ≡ false }
-    ensures stands { D.told → StandsFor (D.state disk.new) store.new }
+    ensures stands { D.observable → StandsFor (D.state disk.new) store.new }
 {
     let ready = store.prepare(ask, NOW).expect(rt, "an operation");
     let (number, prepared) = (ready.number(), ready.version());
@@ -87,9 +87,9 @@ pub fn add<D: Disk>(
     title: &[u8],
 ) -> (u32, u32, u32)
     requires unspent { is_spent store.old ≡ false }
-    requires stands { D.told → StandsFor (D.state disk.old) store.old }
+    requires stands { D.observable → StandsFor (D.state disk.old) store.old }
     ensures unspent { is_spent store.new ≡ false }
-    ensures stands { D.told → StandsFor (D.state disk.new) store.new }
+    ensures stands { D.observable → StandsFor (D.state disk.new) store.new }
 {
     let title = AtomText::of(alloc, title).expect(rt, "a title");
     change(rt, store, disk, Ask::Create(Draft::titled(alloc, title)))

@@ -32,7 +32,7 @@ impl ChangedDisk<'_> {
 }
 
 impl Disk for ChangedDisk<'_> {
-    ghost told = { ⊥ };
+    ghost observable = { ⊥ };
 
     // No proof reads the number of bytes read, so it is the greatest one, which stays.
     ghost state = { λ d. file_state (record {

@@ -107,7 +107,7 @@ fn write_within<D: Disk>(disk: &mut D, area: Area, at: u64, from: &[u8]) -> Resu
 }
 
 impl Disk for WatchedDisk<'_> {
-    ghost told = { ⊥ };
+    ghost observable = { ⊥ };
 
     // No proof reads the number of bytes read, so it is the greatest one, which stays.
     ghost state = { λ d. file_state (record {
@@ -175,7 +175,7 @@ struct WatchedConn<'a> {
 }
 
 impl Conn for WatchedConn<'_> {
-    ghost told = { ⊥ };
+    ghost observable = { ⊥ };
 
     // Counters at their limit stay, so the connection needn't keep them.
     ghost state = { λ s. record {
@@ -223,7 +223,7 @@ struct WatchedDoor<'a> {
 impl<'a> Door for WatchedDoor<'a> {
     type Link = WatchedConn<'a>;
 
-    ghost told = { ⊥ };
+    ghost observable = { ⊥ };
 
     ghost state = { λ _. record { left = []; back = []; out = 0; faults = 0 } };
 

@@ -78,7 +78,7 @@ pub fn reply_to<D: Disk>(
     bytes: &[u8],
 ) -> Vec<u8>
     requires unspent { is_spent store.old ≡ false }
-    requires stands { D.told → StandsFor (D.state disk.old) store.old }
+    requires stands { D.observable → StandsFor (D.state disk.old) store.old }
 {
     let mut conn = conn_of(rt, alloc, bytes, 0);
     let request = read_request(alloc, &mut conn).expect(rt, "a request");

@@ -1,22 +1,22 @@
-ghost use Rattle.std.specs.Prelude.{◌≡◌, ◌≢◌, ℕ, ◌≤◌, ◌<◌, ◌+◌, ◌∷◌, [], ◌++◌, List, length, Some, None, Ok, Err, IfOk, IfErr, OnOk};
-ghost use Rattle.atom_values.specs.Counts.{Rose};
+ghost use Rattle.std.specs.Prelude.{◌≡◌, ◌≢◌, ℕ, ◌≤◌, ◌<◌, ◌+◌, ◌∷◌, [], ◌++◌, List, Some, None, Ok, Err, IfOk, IfErr, OnOk};
+ghost use Rattle.atom_values.specs.Counts.{CountsFault};
 ghost use Rattle.member_rules.specs.declared.operation.Op.{Op};
 ghost use Rattle.member_rules.specs.Head.{window_limit};
 ghost use Rattle.member_rules.specs.History.{IsLawful, MayFollow, history_limit};
 ghost use Rattle.member_rules.specs.Table.{IsTableOf};
-ghost use Rattle.feed_commands.specs.declared.status.Status.TheVariants as status;
+ghost use Rattle.command_ends.specs.declared.status.Status.TheVariants as status;
 ghost use Rattle.feed_commands.specs.Applied.{IsUnrefused};
 ghost use Rattle.feed_commands.specs.Apply.{applied_history, asked, answer, history_step, test_head};
-ghost use Rattle.feed_commands.specs.Fault.{fault_answer, IsRefusal};
+ghost use Rattle.command_ends.specs.Fault.{fault_answer, IsRefusal};
 ghost use Rattle.feed_commands.specs.Line.{line_ask};
 
 use crate::commands::line::line_ask;
 use crate::commands::lines::{Lines, LinesFault};
-use crate::fault::{Fault, Refusal};
 use archive_sealer::subscription;
 use atom_values::{AtomText, NoMemory, Stamp};
 use atom_writer::{FeedName, write_doc};
 use chain_links::Base;
+use command_ends::{Fault, Refusal};
 use deleted_entries::FeedId;
 use doc_source::Source;
 use document_server::Clock;
@@ -84,18 +84,18 @@ pub fn history_of<C: Clock, I: Source>(
     clock: &mut C,
     input: &mut I,
 ) -> Result<Vec<Op>, Fault>
-    ensures history { IfOk result (λ history. I.told → C.told
+    ensures history { IfOk result (λ history. I.observable → C.observable
         → applied_history head.now (C.coming clock.old) (I.state input.old).left
         ≡ record { feed = history.items; fault = None }) }
     ensures lawful { IfOk result (λ history. IsLawful head.now history.items) }
-    ensures refused { IfErr result (λ fault. IsRefusal fault → I.told → C.told
+    ensures refused { IfErr result (λ fault. IsRefusal fault → I.observable → C.observable
         → (applied_history head.now (C.coming clock.old) (I.state input.old).left).fault ≡ Some fault) }
-    ensures input { result ≡ Err Fault.Input → Rose (I.state input.old).faults (I.state input.new).faults }
-    ensures unrefused { result ≡ Err Fault.Input → I.told → C.told
+    ensures input_faults { CountsFault (I.state input.old).faults (I.state input.new).faults
+        (result ≡ Err Fault.Input) }
+    ensures unrefused { result ≡ Err Fault.Input → I.observable → C.observable
         → IsUnrefused (history_step head.now (C.coming clock.old)) [] (I.state input.old)
         (I.state input.new) }
     ensures no_disk { result ≢ Err Fault.Disk }
-    ensures faults { result ≢ Err Fault.Input → (I.state input.new).faults ≡ (I.state input.old).faults }
 {
     let mut lines = Lines::new(alloc)?;
     let mut members = Members::new(alloc, head.created);
@@ -121,13 +121,13 @@ fn operation_of<C: Clock>(
     line: &[u8],
 ) -> Result<Op, Fault>
     requires { members.now.operations < history_limit }
-    ensures operation { IfOk result (λ operation. C.told → (history : List Op)
+    ensures operation { IfOk result (λ operation. C.observable → (history : List Op)
         → IsTableOf members.now head.now.created history
         → asked head.now history number (C.coming clock.old 0) (line_ask line.now) ≡ Ok operation) }
-    ensures refused { IfErr result (λ fault. IsRefusal fault → C.told → (history : List Op)
+    ensures refused { IfErr result (λ fault. IsRefusal fault → C.observable → (history : List Op)
         → IsTableOf members.now head.now.created history
         → asked head.now history number (C.coming clock.old 0) (line_ask line.now) ≡ Err fault) }
-    ensures own { result ≢ Err Fault.Input }
+    ensures only_errors { result ≢ Err Fault.Input }
     ensures no_disk { result ≢ Err Fault.Disk }
     ensures follows { IfOk result (λ operation. (history : List Op)
         → IsTableOf members.now head.now.created history
@@ -135,7 +135,7 @@ fn operation_of<C: Clock>(
     ensures lawful { IfOk result (λ operation. (history : List Op)
         → IsTableOf members.now head.now.created history
         → IsLawful head.now history → IsLawful head.now (history ++ operation ∷ [])) }
-    ensures moment { OnOk result (C.told → (k : ℕ) → C.coming clock.new k ≡ C.coming clock.old (k + 1)) }
+    ensures moment { OnOk result (C.observable → (k : ℕ) → C.coming clock.new k ≡ C.coming clock.old (k + 1)) }
 {
     let Some(ask) = line_ask(alloc, line)? else {
         return Err(Fault::Refused(Refusal::BadLine { line: number }));
@@ -154,17 +154,17 @@ pub fn apply<C: Clock, I: Source>(
     input: &mut I,
 ) -> Result<Vec<u8>, Fault>
     requires { (1 ≤ window) × (window ≤ window_limit) }
-    ensures answer { IfOk result (λ written. I.told → C.told
+    ensures answer { IfOk result (λ written. I.observable → C.observable
         → answer (test_head window) (C.coming clock.old) (I.state input.old).left
         ≡ record { status = status.Done; printed = written.items }) }
-    ensures refused { IfErr result (λ fault. IsRefusal fault → I.told → C.told
+    ensures refused { IfErr result (λ fault. IsRefusal fault → I.observable → C.observable
         → answer (test_head window) (C.coming clock.old) (I.state input.old).left ≡ fault_answer fault) }
-    ensures input { result ≡ Err Fault.Input → Rose (I.state input.old).faults (I.state input.new).faults }
-    ensures unrefused { result ≡ Err Fault.Input → I.told → C.told
+    ensures input_faults { CountsFault (I.state input.old).faults (I.state input.new).faults
+        (result ≡ Err Fault.Input) }
+    ensures unrefused { result ≡ Err Fault.Input → I.observable → C.observable
         → IsUnrefused (history_step (test_head window) (C.coming clock.old)) [] (I.state input.old)
         (I.state input.new) }
     ensures no_disk { result ≢ Err Fault.Disk }
-    ensures faults { result ≢ Err Fault.Input → (I.state input.new).faults ≡ (I.state input.old).faults }
 {
     let head = test_head(alloc, window)?;
     match history_of(alloc, &head, clock, input) {

@@ -1,19 +1,19 @@
 ghost use Rattle.std.specs.Prelude.{◌≡◌, ◌≢◌, ◌⊎◌, ◌++◌, [], IfOk, None, Some};
-ghost use Rattle.atom_values.specs.Counts.{Rose};
-ghost use Rattle.feed_commands.specs.declared.status.Status.TheVariants as status;
-ghost use Rattle.feed_commands.specs.Answer.{Answer, Prints};
+ghost use Rattle.atom_values.specs.Counts.{CountsFault, HasRisen};
+ghost use Rattle.command_ends.specs.declared.status.Status.TheVariants as status;
+ghost use Rattle.command_ends.specs.Answer.{Prints};
 ghost use Rattle.feed_commands.specs.Drill.{EndsDrilling, MayEndDrill, drill_head, drill_text};
 ghost use Rattle.feed_commands.specs.Outside.{Outside};
-ghost use Rattle.feed_commands.specs.Run.{EndsWith, IsAlone, IsAnswered, IsDone, alone_line};
-ghost use Rattle.feed_commands.specs.Status.{code_of};
+ghost use Rattle.feed_commands.specs.Run.{EndsWith};
+ghost use Rattle.command_ends.specs.Ends.{CountsOutput, IsAlone, IsAnswered, alone_line};
+ghost use Rattle.command_ends.specs.Status.{code_of};
 ghost use Rattle.feed_drill.specs.Drilled.{IsDrilled};
 ghost use Rattle.tool_words.specs.declared.command.Command.TheVariants.{Drill as DrillOf};
 
 use crate::commands::apply::test_head;
-use crate::dispatch::{Ended, end_as, end_with};
-use crate::fault::Fault;
-use crate::status::Status;
+use crate::dispatch::Ended;
 use atom_values::{Failed, Many, NoMemory};
+use command_ends::{Fault, Status, print_fault};
 use doc_source::{Sink, write_all};
 use feed_life::Life;
 use std::alloc::Global;
@@ -27,20 +27,17 @@ pub fn drill<O: Sink>(alloc: Global, seed: u64, count: u32, output: &mut O) -> E
     ensures statuses { MayEndDrill result.status }
     ensures drills { EndsDrilling seed count result.life result.status }
     ensures answered { IsAnswered result.status → (outside : Outside)
-        → EndsWith (DrillOf seed count) outside O.told (O.state output.old) (O.state output.new)
+        → EndsWith (DrillOf seed count) outside O.observable (O.state output.old) (O.state output.new)
         result.status }
-    ensures alone { O.told → IsAlone result.status
+    ensures alone { O.observable → IsAlone result.status
         → Prints (O.state output.old) (O.state output.new) (alone_line result.status) }
-    ensures output_fault { result.status ≡ code_of status.OutputFault
-        → Rose (O.state output.old).faults (O.state output.new).faults }
-    ensures output_whole { IsDone result.status
-        → (O.state output.new).faults ≡ (O.state output.old).faults }
-    ensures complete { ¬ Rose (O.state output.old).faults (O.state output.new).faults
+    ensures output_faults { CountsOutput (O.state output.old).faults (O.state output.new).faults result.status }
+    ensures complete { ¬ HasRisen (O.state output.old).faults (O.state output.new).faults
         → (result.status ≡ code_of status.Done) ⊎ (result.status ≡ code_of status.NoMemory) }
 {
     match drilled(alloc, seed, count) {
         Ok((life, text)) => end_drilled(alloc, output, life, text.as_slice()),
-        Err(NoMemory) => end_with(alloc, output, Fault::NoMemory),
+        Err(NoMemory) => Ended::with_status(alloc, print_fault(output, Fault::NoMemory)),
     }
 }
 
@@ -67,13 +64,11 @@ fn end_drilled<O: Sink>(alloc: Global, output: &mut O, life: Life, text: &[u8]) 
     ensures lines { result.lines.items ≡ [] }
     ensures ends { ((result.status ≡ code_of status.Done) × (result.life ≡ Some life))
         ⊎ ((result.status ≡ code_of status.OutputFault) × (result.life ≡ None)) }
-    ensures prints { O.told → Prints (O.state output.old) (O.state output.new) text.now }
-    ensures whole { result.status ≢ code_of status.OutputFault → O.told
+    ensures prints { O.observable → Prints (O.state output.old) (O.state output.new) text.now }
+    ensures whole { result.status ≢ code_of status.OutputFault → O.observable
         → (O.state output.new).taken ≡ (O.state output.old).taken ++ text.now }
-    ensures fault { result.status ≡ code_of status.OutputFault
-        → Rose (O.state output.old).faults (O.state output.new).faults }
-    ensures no_fault { result.status ≢ code_of status.OutputFault
-        → (O.state output.new).faults ≡ (O.state output.old).faults }
+    ensures output_faults { CountsFault (O.state output.old).faults (O.state output.new).faults
+        (result.status ≡ code_of status.OutputFault) }
 {
     match write_all(output, text) {
         Ok(()) => Ended {
@@ -83,7 +78,7 @@ fn end_drilled<O: Sink>(alloc: Global, output: &mut O, life: Life, text: &[u8]) 
         },
         Err(Failed) => {
             drop(life);
-            end_as(alloc, Status::OutputFault)
+            Ended::with_status(alloc, Status::OutputFault)
         }
     }
 }

@@ -1,16 +1,16 @@
 ghost use Rattle.std.specs.Prelude.{◌≡◌, ◌≢◌, ◌≤◌, length, min, pos, Err, IfOk, IfErr, IsOk};
-ghost use Rattle.atom_values.specs.Counts.{Rose};
+ghost use Rattle.atom_values.specs.Counts.{CountsFault};
 ghost use Rattle.feed_disk.specs.Moments.{LeavesAlone};
 ghost use Rattle.feed_disk.specs.declared.area.Area.TheVariants.{Mirror};
-ghost use Rattle.feed_commands.specs.declared.status.Status.TheVariants as status;
+ghost use Rattle.command_ends.specs.declared.status.Status.TheVariants as status;
 ghost use Rattle.member_rules.specs.Head.{capacity_floor, capacity_limit, title_limit, window_limit};
 ghost use Rattle.feed_commands.specs.Crash.{MakesStoreAt};
-ghost use Rattle.feed_commands.specs.Fault.{fault_answer, IsRefusal};
+ghost use Rattle.command_ends.specs.Fault.{fault_answer, IsRefusal};
 ghost use Rattle.feed_commands.specs.Stored.{IsInitAnswer};
 
-use crate::fault::Fault;
 use atom_values::Stamp;
 use atom_writer::FeedName;
+use command_ends::Fault;
 use document_server::Clock;
 use feed_disk::Disk;
 use feed_recovery::Store;
@@ -34,16 +34,16 @@ pub fn init<D: Disk, C: Clock>(
     requires capacity { (capacity_floor ≤ capacity) × (capacity ≤ capacity_limit) }
     requires title { length name.title ≤ title_limit }
     requires author { length name.author ≤ title_limit }
-    ensures answer { IfOk result (λ written. D.told → IsInitAnswer (D.state disk.old).content
+    ensures answer { IfOk result (λ written. D.observable → IsInitAnswer (D.state disk.old).content
         record { status = status.Done; printed = written.items }) }
-    ensures refused { IfErr result (λ fault. IsRefusal fault → D.told
+    ensures refused { IfErr result (λ fault. IsRefusal fault → D.observable
         → IsInitAnswer (D.state disk.old).content (fault_answer fault)) }
-    ensures makes { D.told → MakesStoreAt (D.state disk.old) (D.state disk.new) name window capacity C.told
+    ensures makes { D.observable → MakesStoreAt (D.state disk.old) (D.state disk.new) name window capacity C.observable
         (C.coming clock.old 0) (IsOk result) }
     ensures mirror { LeavesAlone (D.state disk.old) (D.state disk.new) Mirror }
-    ensures disk { result ≡ Err Fault.Disk → Rose (D.state disk.old).faults (D.state disk.new).faults }
-    ensures disk_faults { result ≢ Err Fault.Disk → (D.state disk.new).faults ≡ (D.state disk.old).faults }
-    ensures own { result ≢ Err Fault.Input }
+    ensures disk_faults { CountsFault (D.state disk.old).faults (D.state disk.new).faults
+        (result ≡ Err Fault.Disk) }
+    ensures only_errors { result ≢ Err Fault.Input }
 {
     let printed = Vec::from_slice(alloc, b"ready\n")?;
     let head = Head {

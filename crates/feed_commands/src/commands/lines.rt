@@ -1,6 +1,6 @@
-ghost use Rattle.std.specs.Prelude.{◌≡◌, ◌≢◌, ◌+◌, ◌<◌, ◌≤◌, ◌++◌, [], length, take, drop, false, true, OnOk, OnErr, IfOk, MatchOption};
+ghost use Rattle.std.specs.Prelude.{◌≡◌, ◌+◌, ◌<◌, ◌≤◌, ◌++◌, [], length, take, drop, false, true, OnOk, OnErr, IfOk, MatchOption};
 ghost use Rattle.atom_values.specs.Ascii.{lf};
-ghost use Rattle.atom_values.specs.Counts.{HasCause, Rose};
+ghost use Rattle.atom_values.specs.Counts.{CountsFault, HasCause};
 ghost use Rattle.feed_commands.specs.Lines.{KnowsEnd, FindsLine, HasNoLf, IsTooLong, StopsAmid, TakesEnd, TakesAll, ReadsMore, IsSpent, allowance, stream, with_prefix};
 ghost use Rattle.tool_words.specs.Line.{IsFirst};
 
@@ -11,7 +11,7 @@ use std::alloc::{AllocError, Global};
 use std::marker::Model;
 
 /// How many bytes of lines an input may have.
-pub const INPUT_LIMIT: u64 = 1_073_741_824;
+const INPUT_LIMIT: u64 = 1_073_741_824;
 
 const LF: u8 = b'\n';
 
@@ -111,19 +111,17 @@ impl Lines {
     /// `TooLong`: the input has more than `INPUT_LIMIT` bytes, and all lines that lie within the limit were given.
     /// `Input`: a call on the input failed. After an error the reader's state is unspecified.
     pub fn next<I: Source>(&mut self, input: &mut I) -> Result<bool, LinesFault>
-        requires { I.told → KnowsEnd self.old (I.state input.old) }
-        ensures found { result ≡ Ok true → I.told
+        requires { I.observable → KnowsEnd self.old (I.state input.old) }
+        ensures found { result ≡ Ok true → I.observable
             → FindsLine self.old (I.state input.old) self.new (I.state input.new) }
         ensures progress { result ≡ Ok true → allowance self.new < allowance self.old }
-        ensures none { result ≡ Ok false → I.told → stream self.old (I.state input.old) ≡ [] }
-        ensures too_long { result ≡ Err LinesFault.TooLong → I.told → IsTooLong self.old (I.state input.old) }
-        ensures input { result ≡ Err LinesFault.Input
-            → Rose (I.state input.old).faults (I.state input.new).faults }
-        ensures amid { result ≡ Err LinesFault.Input → I.told
+        ensures none { result ≡ Ok false → I.observable → stream self.old (I.state input.old) ≡ [] }
+        ensures too_long { result ≡ Err LinesFault.TooLong → I.observable → IsTooLong self.old (I.state input.old) }
+        ensures input_faults { CountsFault (I.state input.old).faults (I.state input.new).faults
+            (result ≡ Err LinesFault.Input) }
+        ensures amid { result ≡ Err LinesFault.Input → I.observable
             → StopsAmid self.old (I.state input.old) (I.state input.new) }
-        ensures knows { OnOk result (I.told → KnowsEnd self.new (I.state input.new)) }
-        ensures faults { result ≢ Err LinesFault.Input
-            → (I.state input.new).faults ≡ (I.state input.old).faults }
+        ensures knows { OnOk result (I.observable → KnowsEnd self.new (I.state input.new)) }
     {
         self.clear_line();
         loop {
@@ -168,23 +166,21 @@ impl Lines {
     /// Reads the next bytes into the buffer, which is used up, and returns whether there were some.
     fn fill<I: Source>(&mut self, input: &mut I) -> Result<bool, LinesFault>
         requires used { self.old.ahead ≡ [] }
-        requires knows { I.told → KnowsEnd self.old (I.state input.old) }
+        requires knows { I.observable → KnowsEnd self.old (I.state input.old) }
         ensures line { self.new.line ≡ self.old.line }
         ensures more { result ≡ Ok true → ReadsMore self.old self.new }
-        ensures bytes { result ≡ Ok true → I.told
+        ensures bytes { result ≡ Ok true → I.observable
             → (I.state input.old).left ≡ stream self.new (I.state input.new) }
         ensures spent { result ≡ Ok false → allowance self.new ≡ allowance self.old }
-        ensures end { result ≡ Ok false → I.told
+        ensures end { result ≡ Ok false → I.observable
             → IsSpent self.new (I.state input.old) (I.state input.new) }
         ensures too_long { result ≡ Err LinesFault.TooLong
-            → (self.old.allowed ≡ 0) × (I.told → 0 < length (I.state input.old).left) }
-        ensures input { result ≡ Err LinesFault.Input
-            → Rose (I.state input.old).faults (I.state input.new).faults }
+            → (self.old.allowed ≡ 0) × (I.observable → 0 < length (I.state input.old).left) }
+        ensures input_faults { CountsFault (I.state input.old).faults (I.state input.new).faults
+            (result ≡ Err LinesFault.Input) }
         ensures amid { result ≡ Err LinesFault.Input → (self.old.ended ≡ false)
-            × (I.told → (I.state input.new).left ≡ (I.state input.old).left) }
-        ensures knows { OnOk result (I.told → KnowsEnd self.new (I.state input.new)) }
-        ensures faults { result ≢ Err LinesFault.Input
-            → (I.state input.new).faults ≡ (I.state input.old).faults }
+            × (I.observable → (I.state input.new).left ≡ (I.state input.old).left) }
+        ensures knows { OnOk result (I.observable → KnowsEnd self.new (I.state input.new)) }
     {
         if self.ended {
             return Ok(false);
@@ -209,10 +205,10 @@ impl Lines {
 fn read_front<I: Source>(input: &mut I, buffer: &mut [u8], room: usize) -> Result<usize, Failed>
     requires { room ≤ length buffer.old }
     ensures within { IfOk result (λ count. count ≤ room) }
-    ensures bytes { IfOk result (λ count. I.told
+    ensures bytes { IfOk result (λ count. I.observable
         → (I.state input.old).left ≡ take count buffer.new ++ (I.state input.new).left) }
-    ensures end { IfOk result (λ count. I.told → count ≡ 0 → 0 < room → (I.state input.old).left ≡ []) }
-    ensures err { OnErr result (I.told → (I.state input.new).left ≡ (I.state input.old).left) }
+    ensures end { IfOk result (λ count. I.observable → count ≡ 0 → 0 < room → (I.state input.old).left ≡ []) }
+    ensures err { OnErr result (I.observable → (I.state input.new).left ≡ (I.state input.old).left) }
     ensures counts { HasCause (I.state input.old).faults (I.state input.new).faults result }
 {
     input.read(&mut buffer[..room])
@@ -220,13 +216,12 @@ fn read_front<I: Source>(input: &mut I, buffer: &mut [u8], room: usize) -> Resul
 
 /// Reads one byte past the limit, to learn whether the input ends there.
 fn probe<I: Source>(input: &mut I) -> Result<(), LinesFault>
-    ensures end { OnOk result (I.told → ((I.state input.old).left ≡ []) × ((I.state input.new).left ≡ [])) }
-    ensures too_long { result ≡ Err LinesFault.TooLong → I.told → 0 < length (I.state input.old).left }
-    ensures input { result ≡ Err LinesFault.Input
-        → Rose (I.state input.old).faults (I.state input.new).faults }
-    ensures amid { result ≡ Err LinesFault.Input → I.told
+    ensures end { OnOk result (I.observable → ((I.state input.old).left ≡ []) × ((I.state input.new).left ≡ [])) }
+    ensures too_long { result ≡ Err LinesFault.TooLong → I.observable → 0 < length (I.state input.old).left }
+    ensures input_faults { CountsFault (I.state input.old).faults (I.state input.new).faults
+        (result ≡ Err LinesFault.Input) }
+    ensures amid { result ≡ Err LinesFault.Input → I.observable
         → (I.state input.new).left ≡ (I.state input.old).left }
-    ensures faults { result ≢ Err LinesFault.Input → (I.state input.new).faults ≡ (I.state input.old).faults }
 {
     match input.read(&mut [0u8; 1])? {
         0 => Ok(()),

@@ -1,5 +1,5 @@
-ghost use Rattle.std.specs.Prelude.{◌≡◌, ◌≢◌, ◌⊎◌, ◌++◌, ℕ, List, [], false, Ok, Err, IfOk, IfErr, OnOk, None};
-ghost use Rattle.atom_values.specs.Counts.{HasCause, Rose};
+ghost use Rattle.std.specs.Prelude.{◌≡◌, ◌≢◌, ◌⊎◌, ◌++◌, ℕ, List, [], false, Ok, Err, IfOk, IfErr, OnOk};
+ghost use Rattle.atom_values.specs.Counts.{CountsFault, HasCause, HasRisen};
 ghost use Rattle.doc_source.specs.Fetch.{FetchState};
 ghost use Rattle.doc_source.specs.Outside.{SourceState, TakesPrefix};
 ghost use Rattle.doc_source.specs.Pile.{offer_text};
@@ -11,23 +11,22 @@ ghost use Rattle.feed_recovery.specs.Documents.{IsSealed};
 ghost use Rattle.feed_recovery.specs.Settled.{KeepsPayloads};
 ghost use Rattle.feed_recovery.specs.Store.{StandsFor, is_spent};
 ghost use Rattle.feed_recovery.specs.Stored.{OpensTo, Stored, stored_of};
-ghost use Rattle.feed_commands.specs.declared.fault.Fault.{Fault as FaultValue};
-ghost use Rattle.feed_commands.specs.declared.status.Status.TheVariants as status;
-ghost use Rattle.feed_commands.specs.Fault.{fault_answer, IsRefusal};
+ghost use Rattle.command_ends.specs.declared.fault.Fault.{Fault as FaultValue};
+ghost use Rattle.command_ends.specs.declared.status.Status.TheVariants as status;
+ghost use Rattle.command_ends.specs.Fault.{fault_answer, IsRefusal};
 ghost use Rattle.feed_commands.specs.Outside.{outside_of};
 ghost use Rattle.feed_commands.specs.Pile.{EndsCut, IsFrontOf, MayEndPile, TakesFront, offer_of, offers_of, pile_of};
-ghost use Rattle.feed_commands.specs.Run.{EndsWith, IsAnswered};
-ghost use Rattle.feed_commands.specs.Status.{code_of};
+ghost use Rattle.feed_commands.specs.Run.{EndsWith};
+ghost use Rattle.command_ends.specs.Ends.{CountsOutput, IsAnswered};
+ghost use Rattle.command_ends.specs.Status.{code_of};
 ghost use Rattle.feed_commands.specs.Stored.{IsBadStore};
 ghost use Rattle.member_rules.specs.Documents.{archive, subscription};
 ghost use Rattle.tool_words.specs.declared.command.Command.TheVariants.{Show as ShowOf};
 ghost use Rattle.tool_words.specs.declared.command.Show.TheVariants.{Pile};
 
-use crate::dispatch::{Ended, end_as, end_with};
-use crate::fault::Fault;
-use crate::status::Status;
 use atom_values::{Bytes, Failed};
 use chain_links::Address;
+use command_ends::{Fault, Status, print_fault};
 use doc_source::{Offer, Sink, write_offer, write_pile_head};
 use feed_disk::Disk;
 use feed_recovery::{LoadFault, Store};
@@ -67,7 +66,7 @@ impl From<Fault> for PrintFault {
 impl From<LoadFault> for PrintFault {
     ghost use Rattle.std.specs.Prelude.{◌≡◌};
     ghost use Rattle.feed_commands.specs.declared.commands.pile.PrintFault.TheVariants.{Other};
-    ghost use Rattle.feed_commands.specs.StoreFaults.{load_fault};
+    ghost use Rattle.command_ends.specs.StoreFaults.{load_fault};
 
     ghost from_gives = { λ fault e. e ≡ Other (load_fault fault) };
 
@@ -79,37 +78,30 @@ impl From<LoadFault> for PrintFault {
 /// Prints the documents of the store as a pile: the subscription document and all sealed archives, newest first. Each
 /// is printed as soon as it is made, so one document at a time is in memory beside the store. If a fault ends the pile,
 /// the fault's line comes after the documents that were printed before.
-pub fn show_pile<D: Disk, O: Sink>(alloc: Global, disk: &mut D, output: &mut O) -> Ended
-    ensures answered { D.told → IsAnswered result.status
+pub fn show_pile<D: Disk, O: Sink>(alloc: Global, disk: &mut D, output: &mut O) -> Status
+    ensures answered { D.observable → IsAnswered (code_of result)
         → (moments : ℕ → ℕ) (input : SourceState) (source : FetchState)
-        → EndsWith (ShowOf Pile) (outside_of moments input (D.state disk.old) source) O.told
-        (O.state output.old) (O.state output.new) result.status }
-    ensures cut { O.told → result.status ≢ code_of status.Done → result.status ≢ code_of status.OutputFault
-        → EndsCut (D.state disk.old).content D.told (O.state output.old) (O.state output.new) result.status }
-    ensures complete { D.told → (stored : Stored) → OpensTo (D.state disk.old).content stored
-        → ¬ Rose (D.state disk.old).faults (D.state disk.new).faults
-        → ¬ Rose (O.state output.old).faults (O.state output.new).faults
-        → (result.status ≡ code_of status.Done) ⊎ (result.status ≡ code_of status.NoMemory) }
-    ensures statuses { (result.status ≡ code_of status.Done) ⊎ (result.status ≡ code_of status.DiskFault)
-        ⊎ (result.status ≡ code_of status.NoMemory) ⊎ (result.status ≡ code_of status.BadStore)
-        ⊎ (result.status ≡ code_of status.OutputFault) }
-    ensures disk_fault { result.status ≡ code_of status.DiskFault
-        → Rose (D.state disk.old).faults (D.state disk.new).faults }
-    ensures no_hidden_disk_fault { result.status ≢ code_of status.DiskFault
-        → (D.state disk.new).faults ≡ (D.state disk.old).faults }
-    ensures output_fault { result.status ≡ code_of status.OutputFault
-        → Rose (O.state output.old).faults (O.state output.new).faults }
-    ensures output_whole { result.status ≡ code_of status.Done
-        → (O.state output.new).faults ≡ (O.state output.old).faults }
-    ensures safe { D.told → KeepsPayloads (D.state disk.old) (D.state disk.new) }
+        → EndsWith (ShowOf Pile) (outside_of moments input (D.state disk.old) source) O.observable
+        (O.state output.old) (O.state output.new) (code_of result) }
+    ensures cut { O.observable → code_of result ≢ code_of status.Done → code_of result ≢ code_of status.OutputFault
+        → EndsCut (D.state disk.old).content D.observable (O.state output.old) (O.state output.new) (code_of result) }
+    ensures complete { D.observable → (stored : Stored) → OpensTo (D.state disk.old).content stored
+        → ¬ HasRisen (D.state disk.old).faults (D.state disk.new).faults
+        → ¬ HasRisen (O.state output.old).faults (O.state output.new).faults
+        → (code_of result ≡ code_of status.Done) ⊎ (code_of result ≡ code_of status.NoMemory) }
+    ensures statuses { (code_of result ≡ code_of status.Done) ⊎ (code_of result ≡ code_of status.DiskFault)
+        ⊎ (code_of result ≡ code_of status.NoMemory) ⊎ (code_of result ≡ code_of status.BadStore)
+        ⊎ (code_of result ≡ code_of status.OutputFault) }
+    ensures disk_faults { CountsFault (D.state disk.old).faults (D.state disk.new).faults
+        (code_of result ≡ code_of status.DiskFault) }
+    ensures output_faults { CountsOutput (O.state output.old).faults (O.state output.new).faults (code_of result) }
+    ensures safe { D.observable → KeepsPayloads (D.state disk.old) (D.state disk.new) }
     ensures mirror { LeavesAlone (D.state disk.old) (D.state disk.new) Mirror }
-    ensures lines { result.lines.items ≡ [] }
-    ensures life { result.life ≡ None }
 {
     match print_pile(alloc, disk, output) {
-        Ok(()) => end_as(alloc, Status::Done),
-        Err(PrintFault::Output) => end_as(alloc, Status::OutputFault),
-        Err(PrintFault::Other(fault)) => end_with(alloc, output, fault),
+        Ok(()) => Status::Done,
+        Err(PrintFault::Output) => Status::OutputFault,
+        Err(PrintFault::Other(fault)) => print_fault(output, fault),
     }
 }
 
@@ -119,29 +111,25 @@ fn print_pile<D: Disk, O: Sink>(
     disk: &mut D,
     output: &mut O,
 ) -> Result<(), PrintFault>
-    ensures whole { OnOk result (D.told → (stored : Stored) × OpensTo (D.state disk.old).content stored
-        × (O.told → (O.state output.new).taken ≡ (O.state output.old).taken ++ pile_of stored)) }
-    ensures prefix { result ≡ Err PrintFault.Output → D.told
+    ensures whole { OnOk result (D.observable → (stored : Stored) × OpensTo (D.state disk.old).content stored
+        × (O.observable → (O.state output.new).taken ≡ (O.state output.old).taken ++ pile_of stored)) }
+    ensures prefix { result ≡ Err PrintFault.Output → D.observable
         → (stored : Stored) × OpensTo (D.state disk.old).content stored
-        × (O.told → TakesPrefix (O.state output.old) (O.state output.new) (pile_of stored)) }
-    ensures cut { (fault : FaultValue) → result ≡ Err (PrintFault.Other fault) → O.told → (front : List ℕ)
+        × (O.observable → TakesPrefix (O.state output.old) (O.state output.new) (pile_of stored)) }
+    ensures cut { (fault : FaultValue) → result ≡ Err (PrintFault.Other fault) → O.observable → (front : List ℕ)
         × ((O.state output.new).taken ≡ (O.state output.old).taken ++ front)
-        × (D.told → (front ≡ []) ⊎ IsFrontOf (D.state disk.old).content front) }
-    ensures refused { (fault : FaultValue) → result ≡ Err (PrintFault.Other fault) → IsRefusal fault → D.told
+        × (D.observable → (front ≡ []) ⊎ IsFrontOf (D.state disk.old).content front) }
+    ensures refused { (fault : FaultValue) → result ≡ Err (PrintFault.Other fault) → IsRefusal fault → D.observable
         → IsBadStore (D.state disk.old).content (fault_answer fault) × (output.new ≡ output.old) }
-    ensures opened { (fault : FaultValue) → result ≡ Err (PrintFault.Other fault) → D.told
+    ensures opened { (fault : FaultValue) → result ≡ Err (PrintFault.Other fault) → D.observable
         → (stored : Stored) → OpensTo (D.state disk.old).content stored → ¬ IsRefusal fault }
     ensures faults { (fault : FaultValue) → result ≡ Err (PrintFault.Other fault) → MayEndPile fault }
-    ensures safe { D.told → KeepsPayloads (D.state disk.old) (D.state disk.new) }
+    ensures safe { D.observable → KeepsPayloads (D.state disk.old) (D.state disk.new) }
     ensures mirror { LeavesAlone (D.state disk.old) (D.state disk.new) Mirror }
-    ensures disk { result ≡ Err (PrintFault.Other Fault.Disk)
-        → Rose (D.state disk.old).faults (D.state disk.new).faults }
-    ensures disk_faults { result ≢ Err (PrintFault.Other Fault.Disk)
-        → (D.state disk.new).faults ≡ (D.state disk.old).faults }
-    ensures output { result ≡ Err PrintFault.Output
-        → Rose (O.state output.old).faults (O.state output.new).faults }
-    ensures output_faults { result ≢ Err PrintFault.Output
-        → (O.state output.new).faults ≡ (O.state output.old).faults }
+    ensures disk_faults { CountsFault (D.state disk.old).faults (D.state disk.new).faults
+        (result ≡ Err (PrintFault.Other Fault.Disk)) }
+    ensures output_faults { CountsFault (O.state output.old).faults (O.state output.new).faults
+        (result ≡ Err PrintFault.Output) }
 {
     let mut store = Store::load(alloc, disk)?;
     let printed = print_documents(alloc, &mut store, disk, output);
@@ -157,26 +145,22 @@ fn print_documents<D: Disk, O: Sink>(
     output: &mut O,
 ) -> Result<(), PrintFault>
     requires unspent { is_spent store.old ≡ false }
-    requires stands { D.told → StandsFor (D.state disk.old) store.old }
-    ensures whole { OnOk result (D.told → O.told
+    requires stands { D.observable → StandsFor (D.state disk.old) store.old }
+    ensures whole { OnOk result (D.observable → O.observable
         → (O.state output.new).taken ≡ (O.state output.old).taken ++ pile_of (stored_of store.old)) }
-    ensures prefix { result ≡ Err PrintFault.Output → D.told → O.told
+    ensures prefix { result ≡ Err PrintFault.Output → D.observable → O.observable
         → TakesPrefix (O.state output.old) (O.state output.new) (pile_of (stored_of store.old)) }
-    ensures cut { (fault : FaultValue) → result ≡ Err (PrintFault.Other fault) → O.told
+    ensures cut { (fault : FaultValue) → result ≡ Err (PrintFault.Other fault) → O.observable
         → (left : List OfferValue)
-        × TakesFront D.told (offers_of (stored_of store.old)) left (O.state output.old) (O.state output.new) }
-    ensures opened { (fault : FaultValue) → result ≡ Err (PrintFault.Other fault) → D.told
+        × TakesFront D.observable (offers_of (stored_of store.old)) left (O.state output.old) (O.state output.new) }
+    ensures opened { (fault : FaultValue) → result ≡ Err (PrintFault.Other fault) → D.observable
         → ¬ IsRefusal fault }
     ensures faults { (fault : FaultValue) → result ≡ Err (PrintFault.Other fault) → MayEndPile fault }
     ensures areas { (a : AreaValue) → LeavesAlone (D.state disk.old) (D.state disk.new) a }
-    ensures disk { result ≡ Err (PrintFault.Other Fault.Disk)
-        → Rose (D.state disk.old).faults (D.state disk.new).faults }
-    ensures disk_faults { result ≢ Err (PrintFault.Other Fault.Disk)
-        → (D.state disk.new).faults ≡ (D.state disk.old).faults }
-    ensures output { result ≡ Err PrintFault.Output
-        → Rose (O.state output.old).faults (O.state output.new).faults }
-    ensures output_faults { result ≢ Err PrintFault.Output
-        → (O.state output.new).faults ≡ (O.state output.old).faults }
+    ensures disk_faults { CountsFault (D.state disk.old).faults (D.state disk.new).faults
+        (result ≡ Err (PrintFault.Other Fault.Disk)) }
+    ensures output_faults { CountsFault (O.state output.old).faults (O.state output.new).faults
+        (result ≡ Err PrintFault.Output) }
 {
     write_pile_head(output)?;
     print_offer(output, feed_offer(alloc, store)?)?;
@@ -190,8 +174,8 @@ fn print_documents<D: Disk, O: Sink>(
 
 /// Prints an offer of a pile, and drops it.
 fn print_offer<O: Sink>(output: &mut O, offer: Offer) -> Result<(), Failed>
-    ensures prefix { O.told → TakesPrefix (O.state output.old) (O.state output.new) (offer_text offer) }
-    ensures whole { OnOk result (O.told
+    ensures prefix { O.observable → TakesPrefix (O.state output.old) (O.state output.new) (offer_text offer) }
+    ensures whole { OnOk result (O.observable
         → (O.state output.new).taken ≡ (O.state output.old).taken ++ offer_text offer) }
     ensures counts { HasCause (O.state output.old).faults (O.state output.new).faults result }
 {
@@ -224,20 +208,19 @@ fn archive_offer<D: Disk>(
     number: u32,
 ) -> Result<Offer, Fault>
     requires unspent { is_spent store.old ≡ false }
-    requires stands { D.told → StandsFor (D.state disk.old) store.old }
+    requires stands { D.observable → StandsFor (D.state disk.old) store.old }
     requires sealed { IsSealed store.old number }
-    ensures offer { IfOk result (λ offer. D.told
+    ensures offer { IfOk result (λ offer. D.observable
         → offer ≡ offer_of (archive store.old.head store.old.history number)) }
     ensures head { store.new.head ≡ store.old.head }
     ensures history { store.new.history ≡ store.old.history }
     ensures unspent { OnOk result (is_spent store.new ≡ false) }
-    ensures stands { OnOk result (D.told → StandsFor (D.state disk.new) store.new) }
-    ensures opened { IfErr result (λ fault. D.told → ¬ IsRefusal fault) }
+    ensures stands { OnOk result (D.observable → StandsFor (D.state disk.new) store.new) }
+    ensures opened { IfErr result (λ fault. D.observable → ¬ IsRefusal fault) }
     ensures faults { IfErr result MayEndPile }
     ensures areas { (a : AreaValue) → LeavesAlone (D.state disk.old) (D.state disk.new) a }
-    ensures disk { result ≡ Err Fault.Disk → Rose (D.state disk.old).faults (D.state disk.new).faults }
-    ensures disk_faults { result ≢ Err Fault.Disk
-        → (D.state disk.new).faults ≡ (D.state disk.old).faults }
+    ensures disk_faults { CountsFault (D.state disk.old).faults (D.state disk.new).faults
+        (result ≡ Err Fault.Disk) }
 {
     let address = store
         .head()

@@ -1,19 +1,18 @@
-ghost use Rattle.std.specs.Prelude.{◌≡◌, ◌≢◌, ◌⊎◌, ◌≤◌, ◌++◌, [], OnOk, None};
-ghost use Rattle.atom_values.specs.Counts.{HasCause, Rose};
+ghost use Rattle.std.specs.Prelude.{◌≡◌, ◌⊎◌, ◌≤◌, ◌++◌, OnOk, None};
+ghost use Rattle.atom_values.specs.Counts.{CountsFault, HasCause};
 ghost use Rattle.feed_disk.specs.Moments.{LeavesAlone};
 ghost use Rattle.feed_disk.specs.declared.area.Area.TheVariants.{Mirror};
 ghost use Rattle.doc_source.specs.Outside.{TakesPrefix};
 ghost use Rattle.document_server.specs.Session.{connection_limit};
-ghost use Rattle.feed_recovery.specs.Stored.{OpensTo, Stored};
-ghost use Rattle.feed_commands.specs.declared.status.Status.TheVariants as status;
-ghost use Rattle.feed_commands.specs.Serve.{EndsServing, IsServedWhole, end_fault, session_answer};
+ghost use Rattle.command_ends.specs.declared.status.Status.TheVariants as status;
+ghost use Rattle.command_ends.specs.Ends.{CountsOutput};
+ghost use Rattle.feed_commands.specs.Serve.{EndsServing, end_fault, session_answer};
 ghost use Rattle.feed_commands.specs.Serve.{session_line, session_status, session_text};
-ghost use Rattle.feed_commands.specs.Status.{code_of};
+ghost use Rattle.command_ends.specs.Status.{code_of};
 
 use crate::dispatch::Ended;
-use crate::fault::{Fault, FaultLine, line_of, line_of_numbers};
-use crate::status::Status;
 use atom_values::Failed;
+use command_ends::{Fault, FaultLine, Status, line_of, line_of_numbers};
 use doc_source::{Sink, write_all};
 use document_server::{Clock, Door, End, Line};
 use feed_disk::Disk;
@@ -77,27 +76,17 @@ pub fn serve<D: Disk, C: Clock, L: Door, O: Sink>(
     requires some { 1 ≤ requests }
     requires few { requests ≤ connection_limit }
     ensures serves { EndsServing requests (D.state disk.old) (D.state disk.new) (C.coming clock.old)
-        (L.state door.old) (L.state door.new) D.told C.told L.told O.told
+        (L.state door.old) (L.state door.new) D.observable C.observable L.observable O.observable
         (O.state output.old) (O.state output.new) result.lines.items result.status }
     ensures address { L.only_at door.old listen.now → L.only_at door.new listen.now }
-    ensures complete { D.told → (stored : Stored) → OpensTo (D.state disk.old).content stored
-        → IsServedWhole (D.state disk.old) (D.state disk.new) (L.state door.old) (L.state door.new)
-        (O.state output.old) (O.state output.new) result.status }
     ensures statuses { (result.status ≡ code_of status.Done) ⊎ (result.status ≡ code_of status.DiskFault)
         ⊎ (result.status ≡ code_of status.NoMemory) ⊎ (result.status ≡ code_of status.BadStore)
         ⊎ (result.status ≡ code_of status.DoorFault) ⊎ (result.status ≡ code_of status.OutputFault) }
-    ensures disk_fault { result.status ≡ code_of status.DiskFault
-        → Rose (D.state disk.old).faults (D.state disk.new).faults }
-    ensures no_hidden_disk_fault { result.status ≢ code_of status.DiskFault
-        → (D.state disk.new).faults ≡ (D.state disk.old).faults }
-    ensures door_fault { result.status ≡ code_of status.DoorFault
-        → Rose (L.state door.old).faults (L.state door.new).faults }
-    ensures no_hidden_door_fault { result.status ≢ code_of status.DoorFault
-        → (L.state door.new).faults ≡ (L.state door.old).faults }
-    ensures output_fault { result.status ≡ code_of status.OutputFault
-        → Rose (O.state output.old).faults (O.state output.new).faults }
-    ensures output_whole { result.status ≡ code_of status.Done
-        → (O.state output.new).faults ≡ (O.state output.old).faults }
+    ensures disk_faults { CountsFault (D.state disk.old).faults (D.state disk.new).faults
+        (result.status ≡ code_of status.DiskFault) }
+    ensures door_faults { CountsFault (L.state door.old).faults (L.state door.new).faults
+        (result.status ≡ code_of status.DoorFault) }
+    ensures output_faults { CountsOutput (O.state output.old).faults (O.state output.new).faults result.status }
     ensures mirror { LeavesAlone (D.state disk.old) (D.state disk.new) Mirror }
     ensures life { result.life ≡ None }
 {
@@ -130,9 +119,9 @@ fn print_session<O: Sink>(
     lines: &[Line],
     fault: Option<SessionFault>,
 ) -> Result<(), Failed>
-    ensures prefix { O.told
+    ensures prefix { O.observable
         → TakesPrefix (O.state output.old) (O.state output.new) (session_text lines.now fault) }
-    ensures whole { OnOk result (O.told
+    ensures whole { OnOk result (O.observable
         → (O.state output.new).taken ≡ (O.state output.old).taken ++ session_text lines.now fault) }
     ensures counts { HasCause (O.state output.old).faults (O.state output.new).faults result }
 {

@@ -1,14 +1,13 @@
 ghost use Rattle.std.specs.Prelude.{◌≡◌, ◌≢◌, ◌⊎◌, ◌≤◌, ◌<◌, length, Err, IfOk, IfErr};
-ghost use Rattle.atom_values.specs.Counts.{Rose};
-ghost use Rattle.feed_commands.specs.declared.fault.Fault.TheVariants.{Refused};
-ghost use Rattle.feed_commands.specs.declared.fault.Refusal.TheVariants.{TooLong};
-ghost use Rattle.feed_commands.specs.declared.status.Status.TheVariants as status;
-ghost use Rattle.feed_commands.specs.Fault.{fault_answer, IsRefusal};
+ghost use Rattle.atom_values.specs.Counts.{CountsFault};
+ghost use Rattle.command_ends.specs.declared.fault.Fault.TheVariants.{Refused};
+ghost use Rattle.command_ends.specs.declared.fault.Refusal.TheVariants.{TooLong};
+ghost use Rattle.command_ends.specs.declared.status.Status.TheVariants as status;
+ghost use Rattle.command_ends.specs.Fault.{fault_answer, IsRefusal};
 ghost use Rattle.feed_commands.specs.Show.{IsShown, ReadsWithinLimit};
 
-use crate::commands::summary::summary;
-use crate::fault::{Fault, Refusal};
 use atom_grammar::{MAX_DOCUMENT, ReadFault, read_doc};
+use command_ends::{Fault, Refusal, summary};
 use doc_source::Source;
 use std::alloc::Global;
 
@@ -17,15 +16,15 @@ const BUFFER: usize = 65_536;
 
 /// Returns the summary of the document that the input is. The input is read to its end first.
 pub fn show<I: Source>(alloc: Global, input: &mut I) -> Result<Vec<u8>, Fault>
-    ensures shown { IfOk result (λ written. I.told
+    ensures shown { IfOk result (λ written. I.observable
         → IsShown (I.state input.old).left record { status = status.Done; printed = written.items }) }
-    ensures refused { IfErr result (λ fault. IsRefusal fault → I.told
+    ensures refused { IfErr result (λ fault. IsRefusal fault → I.observable
         → IsShown (I.state input.old).left (fault_answer fault)) }
-    ensures input { result ≡ Err Fault.Input → Rose (I.state input.old).faults (I.state input.new).faults }
-    ensures within { result ≡ Err Fault.Input → I.told
+    ensures input_faults { CountsFault (I.state input.old).faults (I.state input.new).faults
+        (result ≡ Err Fault.Input) }
+    ensures within { result ≡ Err Fault.Input → I.observable
         → ReadsWithinLimit (I.state input.old) (I.state input.new) }
     ensures no_disk { result ≢ Err Fault.Disk }
-    ensures faults { result ≢ Err Fault.Input → (I.state input.new).faults ≡ (I.state input.old).faults }
 {
     let bytes = read_to_end(alloc, input)?;
     let read = read_doc(alloc, bytes.as_slice());
@@ -46,15 +45,15 @@ pub fn show<I: Source>(alloc: Global, input: &mut I) -> Result<Vec<u8>, Fault>
 /// Returns all bytes of the input, if they are no more than a document may have. Reads at most one buffer more of a
 /// longer input.
 fn read_to_end<I: Source>(alloc: Global, input: &mut I) -> Result<Vec<u8>, Fault>
-    ensures bytes { IfOk result (λ bytes. I.told → bytes.items ≡ (I.state input.old).left) }
+    ensures bytes { IfOk result (λ bytes. I.observable → bytes.items ≡ (I.state input.old).left) }
     ensures room { IfOk result (λ bytes. length bytes.items ≤ MAX_DOCUMENT) }
-    ensures own { IfErr result (λ fault.
+    ensures only_errors { IfErr result (λ fault.
         (fault ≡ Fault.NoMemory) ⊎ (fault ≡ Fault.Input) ⊎ (fault ≡ Refused TooLong)) }
-    ensures past { result ≡ Err (Refused TooLong) → I.told → MAX_DOCUMENT < length (I.state input.old).left }
-    ensures input { result ≡ Err Fault.Input → Rose (I.state input.old).faults (I.state input.new).faults }
-    ensures within { result ≡ Err Fault.Input → I.told
+    ensures past { result ≡ Err (Refused TooLong) → I.observable → MAX_DOCUMENT < length (I.state input.old).left }
+    ensures input_faults { CountsFault (I.state input.old).faults (I.state input.new).faults
+        (result ≡ Err Fault.Input) }
+    ensures within { result ≡ Err Fault.Input → I.observable
         → ReadsWithinLimit (I.state input.old) (I.state input.new) }
-    ensures faults { result ≢ Err Fault.Input → (I.state input.new).faults ≡ (I.state input.old).faults }
 {
     let mut buffer = vec![in alloc; 0; BUFFER]?;
     let mut bytes = Vec::new(alloc);

@@ -1,16 +1,15 @@
 ghost use Rattle.std.specs.Prelude.{◌≡◌, ◌≢◌, ◌+◌, ◌<◌, ◌≤◌, false, ◌∷◌, [], ◌++◌, length, Some, None, Ok, Err, IfOk, IfErr};
 ghost use Rattle.std.specs.Prelude.{OnOk, OnErr};
-ghost use Rattle.atom_values.specs.Counts.{Rose, counter_limit};
+ghost use Rattle.atom_values.specs.Counts.{CountsFault, counter_limit};
 ghost use Rattle.feed_disk.specs.Moments.{LeavesAlone};
 ghost use Rattle.feed_disk.specs.declared.area.Area.TheVariants.{Mirror};
-ghost use Rattle.feed_recovery.specs.Settled.{AlwaysLeavesBoth, IsAtRest, OpensPast, Settled};
+ghost use Rattle.feed_recovery.specs.Settled.{AlwaysLeavesBoth, IsAtRest, IsSettled, KeepsPayloads, OpensPast, Settled};
 ghost use Rattle.feed_recovery.specs.Store.{StandsFor, is_spent};
 ghost use Rattle.feed_recovery.specs.Stored.{OpensTo, Stored, stored_of};
-ghost use Rattle.feed_commands.specs.declared.status.Status.TheVariants as status;
+ghost use Rattle.command_ends.specs.declared.status.Status.TheVariants as status;
 ghost use Rattle.feed_commands.specs.Applied.{IsUnrefused};
-ghost use Rattle.feed_recovery.specs.Settled.{KeepsPayloads};
-ghost use Rattle.feed_commands.specs.Crash.{AppliesSafely, EndsAfterLoad, OpensToApplied};
-ghost use Rattle.feed_commands.specs.Fault.{fault_answer, HasAnswer, IsRefusal};
+ghost use Rattle.feed_commands.specs.Crash.{EndsAfterLoad, EndsApplying};
+ghost use Rattle.command_ends.specs.Fault.{fault_answer, HasAnswer, IsRefusal};
 ghost use Rattle.feed_commands.specs.Loaded.{LeavesLines, line_made};
 ghost use Rattle.feed_commands.specs.Stored.{IsAnswerOn, applied_store, apply_answer, archive_answer};
 ghost use Rattle.feed_commands.specs.Stored.{feed_answer, member_answer, stored_step, with_operation};
@@ -18,7 +17,7 @@ ghost use Rattle.member_rules.specs.declared.operation.Op.{Op};
 
 use crate::commands::line::line_ask;
 use crate::commands::lines::Lines;
-use crate::fault::{Fault, Refusal};
+use command_ends::{Fault, Refusal};
 use doc_source::Source;
 use document_server::Clock;
 use feed_disk::Disk;
@@ -33,26 +32,23 @@ pub fn apply<D: Disk, C: Clock, I: Source>(
     clock: &mut C,
     input: &mut I,
 ) -> Result<Vec<u8>, Fault>
-    ensures answer { IfOk result (λ written. D.told → C.told → I.told → IsAnswerOn (D.state disk.old).content
+    ensures answer { IfOk result (λ written. D.observable → C.observable → I.observable → IsAnswerOn (D.state disk.old).content
         (apply_answer (C.coming clock.old) (I.state input.old).left)
         record { status = status.Done; printed = written.items }) }
-    ensures refused { IfErr result (λ fault. IsRefusal fault → D.told → C.told → I.told
+    ensures refused { IfErr result (λ fault. IsRefusal fault → D.observable → C.observable → I.observable
         → IsAnswerOn (D.state disk.old).content (apply_answer (C.coming clock.old) (I.state input.old).left)
         (fault_answer fault)) }
-    ensures applied { D.told → AppliesSafely (D.state disk.old) (D.state disk.new)
-        (C.coming clock.old) (I.state input.old) (I.state input.new) (C.told × I.told)
-        (result ≡ Err Fault.Disk) (result ≡ Err Fault.Input) (EndsAfterLoad result) }
-    ensures opens { D.told → C.told → I.told → HasAnswer result
-        → OpensToApplied (D.state disk.old) (D.state disk.new)
-        (C.coming clock.old) (I.state input.old).left }
+    ensures applied { D.observable → EndsApplying (D.state disk.old) (D.state disk.new) (C.coming clock.old)
+        (I.state input.old) (I.state input.new) C.observable I.observable
+        (result ≡ Err Fault.Disk) (result ≡ Err Fault.Input) (EndsAfterLoad result) (HasAnswer result) }
     ensures mirror { LeavesAlone (D.state disk.old) (D.state disk.new) Mirror }
-    ensures disk { result ≡ Err Fault.Disk → Rose (D.state disk.old).faults (D.state disk.new).faults }
-    ensures disk_faults { result ≢ Err Fault.Disk → (D.state disk.new).faults ≡ (D.state disk.old).faults }
-    ensures input { result ≡ Err Fault.Input → Rose (I.state input.old).faults (I.state input.new).faults }
-    ensures unrefused { result ≡ Err Fault.Input → D.told → C.told → I.told → (stored : Stored)
+    ensures disk_faults { CountsFault (D.state disk.old).faults (D.state disk.new).faults
+        (result ≡ Err Fault.Disk) }
+    ensures input_faults { CountsFault (I.state input.old).faults (I.state input.new).faults
+        (result ≡ Err Fault.Input) }
+    ensures unrefused { result ≡ Err Fault.Input → D.observable → C.observable → I.observable → (stored : Stored)
         × OpensTo (D.state disk.old).content stored
         × IsUnrefused (stored_step (C.coming clock.old)) stored (I.state input.old) (I.state input.new) }
-    ensures faults { result ≢ Err Fault.Input → (I.state input.new).faults ≡ (I.state input.old).faults }
 {
     stores_open_in_one_way();
     let mut store = Store::load(alloc, disk)?;
@@ -78,28 +74,28 @@ fn apply_lines<D: Disk, C: Clock, I: Source>(
     input: &mut I,
 ) -> Result<(), Fault>
     requires unspent { is_spent store.old ≡ false }
-    requires stands { D.told → StandsFor (D.state disk.old) store.old }
-    ensures made { OnOk result (D.told → C.told → I.told
+    requires stands { D.observable → StandsFor (D.state disk.old) store.old }
+    ensures made { OnOk result (D.observable → C.observable → I.observable
         → applied_store (C.coming clock.old) (stored_of store.old) (I.state input.old).left
         ≡ record { feed = stored_of store.new; fault = None }) }
-    ensures refused { IfErr result (λ fault. IsRefusal fault → D.told → C.told → I.told
+    ensures refused { IfErr result (λ fault. IsRefusal fault → D.observable → C.observable → I.observable
         → applied_store (C.coming clock.old) (stored_of store.old) (I.state input.old).left
         ≡ record { feed = stored_of store.new; fault = Some fault }) }
     ensures unspent { OnOk result (is_spent store.new ≡ false) }
-    ensures stands { result ≢ Err Fault.Disk → D.told → StandsFor (D.state disk.new) store.new }
-    ensures leaves { D.told → IsAtRest (D.state disk.old)
+    ensures stands { result ≢ Err Fault.Disk → D.observable → StandsFor (D.state disk.new) store.new }
+    ensures leaves { D.observable → IsAtRest (D.state disk.old)
         → Settled (D.state disk.old) store.old.head store.old.history (length store.old.history)
         → LeavesLines (D.state disk.old) (D.state disk.new) (C.coming clock.old) (I.state input.old)
-        (I.state input.new) (C.told × I.told) (stored_of store.old)
+        (I.state input.new) (C.observable × I.observable) (stored_of store.old)
         (result ≡ Err Fault.Disk) (result ≡ Err Fault.Input) }
     ensures mirror { LeavesAlone (D.state disk.old) (D.state disk.new) Mirror }
-    ensures disk { result ≡ Err Fault.Disk → Rose (D.state disk.old).faults (D.state disk.new).faults }
-    ensures disk_faults { result ≢ Err Fault.Disk → (D.state disk.new).faults ≡ (D.state disk.old).faults }
-    ensures input { result ≡ Err Fault.Input → Rose (I.state input.old).faults (I.state input.new).faults }
-    ensures unrefused { result ≡ Err Fault.Input → D.told → C.told → I.told
+    ensures disk_faults { CountsFault (D.state disk.old).faults (D.state disk.new).faults
+        (result ≡ Err Fault.Disk) }
+    ensures input_faults { CountsFault (I.state input.old).faults (I.state input.new).faults
+        (result ≡ Err Fault.Input) }
+    ensures unrefused { result ≡ Err Fault.Input → D.observable → C.observable → I.observable
         → IsUnrefused (stored_step (C.coming clock.old)) (stored_of store.old) (I.state input.old)
         (I.state input.new) }
-    ensures faults { result ≢ Err Fault.Input → (I.state input.new).faults ≡ (I.state input.old).faults }
 {
     let mut lines = Lines::new(alloc)?;
     let opened = store.version();
@@ -120,37 +116,35 @@ fn apply_line<D: Disk>(
     line: &[u8],
 ) -> Result<(), Fault>
     requires unspent { is_spent store.old ≡ false }
-    requires stands { D.told → StandsFor (D.state disk.old) store.old }
-    ensures made { OnOk result (D.told → line_made store.old number now line.now ≡ Ok (stored_of store.new)) }
-    ensures refused { IfErr result (λ fault. IsRefusal fault → D.told
+    requires stands { D.observable → StandsFor (D.state disk.old) store.old }
+    ensures made { OnOk result (D.observable → line_made store.old number now line.now ≡ Ok (stored_of store.new)) }
+    ensures refused { IfErr result (λ fault. IsRefusal fault → D.observable
         → line_made store.old number now line.now ≡ Err fault) }
     ensures head { store.new.head ≡ store.old.head }
     ensures grows { OnOk result (length store.new.history ≡ length store.old.history + 1) }
     ensures unspent { OnOk result (is_spent store.new ≡ false) }
-    ensures stands { OnOk result (D.told → StandsFor (D.state disk.new) store.new) }
+    ensures stands { OnOk result (D.observable → StandsFor (D.state disk.new) store.new) }
     ensures same { result ≢ Err Fault.Disk → OnErr result ((stored_of store.new ≡ stored_of store.old)
-        × (D.told → StandsFor (D.state disk.new) store.new)) }
+        × (D.observable → StandsFor (D.state disk.new) store.new)) }
     ensures untouched { result ≢ Err Fault.Disk → OnErr result (disk.new ≡ disk.old) }
 
     // A crash leaves the history before or with the operation of the line, which took four device calls or more.
-    ensures leaves { OnOk result (D.told → IsAtRest (D.state disk.old) → (operation : Op)
+    ensures leaves { OnOk result (D.observable → IsAtRest (D.state disk.old) → (operation : Op)
         × (store.new.history ≡ store.old.history ++ operation ∷ [])
         × AlwaysLeavesBoth (D.state disk.old) (D.state disk.new)
         (OpensPast store.old.head (store.old.history ++ operation ∷ []) (length store.old.history))) }
-    ensures settled { OnOk result (D.told → IsAtRest (D.state disk.old)
-        → Settled (D.state disk.new) store.new.head store.new.history (length store.new.history)) }
-    ensures rests { OnOk result (D.told → IsAtRest (D.state disk.old) → IsAtRest (D.state disk.new)) }
+    ensures settled { OnOk result (D.observable → IsAtRest (D.state disk.old) → IsSettled (D.state disk.new) store.new) }
     ensures calls { OnOk result ((D.state disk.new).clock < counter_limit
         → (D.state disk.old).clock + 4 ≤ (D.state disk.new).clock) }
-    ensures failed { result ≡ Err Fault.Disk → D.told → IsAtRest (D.state disk.old) → (operation : Op)
+    ensures failed { result ≡ Err Fault.Disk → D.observable → IsAtRest (D.state disk.old) → (operation : Op)
         × (line_made store.old number now line.now ≡ Ok (with_operation (stored_of store.old) operation))
         × (store.new.history ≡ store.old.history)
         × AlwaysLeavesBoth (D.state disk.old) (D.state disk.new)
         (OpensPast store.old.head (store.old.history ++ operation ∷ []) (length store.old.history)) }
     ensures mirror { LeavesAlone (D.state disk.old) (D.state disk.new) Mirror }
-    ensures disk { result ≡ Err Fault.Disk → Rose (D.state disk.old).faults (D.state disk.new).faults }
-    ensures disk_faults { result ≢ Err Fault.Disk → (D.state disk.new).faults ≡ (D.state disk.old).faults }
-    ensures own { result ≢ Err Fault.Input }
+    ensures disk_faults { CountsFault (D.state disk.old).faults (D.state disk.new).faults
+        (result ≡ Err Fault.Disk) }
+    ensures only_errors { result ≢ Err Fault.Input }
 {
     let Some(ask) = line_ask(alloc, line)? else {
         return Err(Fault::Refused(Refusal::BadLine { line: number }));
@@ -166,15 +160,15 @@ fn apply_line<D: Disk>(
 
 /// Returns the text of the store's subscription document.
 pub fn show_feed<D: Disk>(alloc: Global, disk: &mut D) -> Result<Vec<u8>, Fault>
-    ensures answer { IfOk result (λ written. D.told → IsAnswerOn (D.state disk.old).content feed_answer
+    ensures answer { IfOk result (λ written. D.observable → IsAnswerOn (D.state disk.old).content feed_answer
         record { status = status.Done; printed = written.items }) }
-    ensures refused { IfErr result (λ fault. IsRefusal fault → D.told
+    ensures refused { IfErr result (λ fault. IsRefusal fault → D.observable
         → IsAnswerOn (D.state disk.old).content feed_answer (fault_answer fault)) }
-    ensures safe { D.told → KeepsPayloads (D.state disk.old) (D.state disk.new) }
+    ensures safe { D.observable → KeepsPayloads (D.state disk.old) (D.state disk.new) }
     ensures mirror { LeavesAlone (D.state disk.old) (D.state disk.new) Mirror }
-    ensures disk { result ≡ Err Fault.Disk → Rose (D.state disk.old).faults (D.state disk.new).faults }
-    ensures disk_faults { result ≢ Err Fault.Disk → (D.state disk.new).faults ≡ (D.state disk.old).faults }
-    ensures own { result ≢ Err Fault.Input }
+    ensures disk_faults { CountsFault (D.state disk.old).faults (D.state disk.new).faults
+        (result ≡ Err Fault.Disk) }
+    ensures only_errors { result ≢ Err Fault.Input }
 {
     stores_open_in_one_way();
     let mut store = Store::load(alloc, disk)?;
@@ -185,16 +179,16 @@ pub fn show_feed<D: Disk>(alloc: Global, disk: &mut D) -> Result<Vec<u8>, Fault>
 
 /// Returns the text of an archive of the store.
 pub fn show_archive<D: Disk>(alloc: Global, number: u32, disk: &mut D) -> Result<Vec<u8>, Fault>
-    ensures answer { IfOk result (λ written. D.told → IsAnswerOn (D.state disk.old).content
+    ensures answer { IfOk result (λ written. D.observable → IsAnswerOn (D.state disk.old).content
         (archive_answer number)
         record { status = status.Done; printed = written.items }) }
-    ensures refused { IfErr result (λ fault. IsRefusal fault → D.told
+    ensures refused { IfErr result (λ fault. IsRefusal fault → D.observable
         → IsAnswerOn (D.state disk.old).content (archive_answer number) (fault_answer fault)) }
-    ensures safe { D.told → KeepsPayloads (D.state disk.old) (D.state disk.new) }
+    ensures safe { D.observable → KeepsPayloads (D.state disk.old) (D.state disk.new) }
     ensures mirror { LeavesAlone (D.state disk.old) (D.state disk.new) Mirror }
-    ensures disk { result ≡ Err Fault.Disk → Rose (D.state disk.old).faults (D.state disk.new).faults }
-    ensures disk_faults { result ≢ Err Fault.Disk → (D.state disk.new).faults ≡ (D.state disk.old).faults }
-    ensures own { result ≢ Err Fault.Input }
+    ensures disk_faults { CountsFault (D.state disk.old).faults (D.state disk.new).faults
+        (result ≡ Err Fault.Disk) }
+    ensures only_errors { result ≢ Err Fault.Input }
 {
     stores_open_in_one_way();
     let mut store = Store::load(alloc, disk)?;
@@ -205,16 +199,16 @@ pub fn show_archive<D: Disk>(alloc: Global, number: u32, disk: &mut D) -> Result
 
 /// Returns the document of a live member of the store.
 pub fn show_member<D: Disk>(alloc: Global, number: u32, disk: &mut D) -> Result<Vec<u8>, Fault>
-    ensures answer { IfOk result (λ written. D.told → IsAnswerOn (D.state disk.old).content
+    ensures answer { IfOk result (λ written. D.observable → IsAnswerOn (D.state disk.old).content
         (member_answer number)
         record { status = status.Done; printed = written.items }) }
-    ensures refused { IfErr result (λ fault. IsRefusal fault → D.told
+    ensures refused { IfErr result (λ fault. IsRefusal fault → D.observable
         → IsAnswerOn (D.state disk.old).content (member_answer number) (fault_answer fault)) }
-    ensures safe { D.told → KeepsPayloads (D.state disk.old) (D.state disk.new) }
+    ensures safe { D.observable → KeepsPayloads (D.state disk.old) (D.state disk.new) }
     ensures mirror { LeavesAlone (D.state disk.old) (D.state disk.new) Mirror }
-    ensures disk { result ≡ Err Fault.Disk → Rose (D.state disk.old).faults (D.state disk.new).faults }
-    ensures disk_faults { result ≢ Err Fault.Disk → (D.state disk.new).faults ≡ (D.state disk.old).faults }
-    ensures own { result ≢ Err Fault.Input }
+    ensures disk_faults { CountsFault (D.state disk.old).faults (D.state disk.new).faults
+        (result ≡ Err Fault.Disk) }
+    ensures only_errors { result ≢ Err Fault.Input }
 {
     stores_open_in_one_way();
     let mut store = Store::load(alloc, disk)?;

@@ -13,8 +13,8 @@ no_fault x P r is (inr (inl other)) = absurd (let e = is in let f = other in cc)
 no_fault x P r is (inr (inr other)) = absurd (let e = is in let f = other in cc)
 
 pub returns-in-Ok-clause-only : goal.returns-in-Ok-clause-only
-returns-in-Ok-clause-only g c = λ answer is told.
-    inl (no_fault c.in-Ok.found _ (Ok c.in-Ok.found) refl (c.in-Ok.ensures.only answer is told))
+returns-in-Ok-clause-only g c = λ answer is observable.
+    inl (no_fault c.in-Ok.found _ (Ok c.in-Ok.found) refl (c.in-Ok.ensures.only answer is observable))
 
 pub returns-in-Ok-clause-bad : goal.returns-in-Ok-clause-bad
-returns-in-Ok-clause-bad g c = λ told bad. absurd (not_bad _ _ (c.in-Ok.ensures.answered told) bad)
+returns-in-Ok-clause-bad g c = λ observable bad. absurd (not_bad _ _ (c.in-Ok.ensures.answered observable) bad)

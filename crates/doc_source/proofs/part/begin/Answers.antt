@@ -13,7 +13,7 @@ use Rattle.doc_source.proofs.part.begin.Goals as goal
 
 pub returns-in_err-end-clause-takes : goal.returns-in_err-end-clause-takes
 returns-in_err-end-clause-takes g c =
-    let told' = g.S.Source.told in
+    let observable' = g.S.Source.observable in
     let used = c.args.used in
     let old = c.args.intake.now in
     let mid = c.read_head.new.intake in
@@ -21,14 +21,14 @@ returns-in_err-end-clause-takes g c =
     let s0 = g.S.Source.state c.args.source.now in
     let s1 = g.S.Source.state c.read_head.new.source in
     let s2 = g.S.Source.state c.find_line.new.source in
-    let first = takes_if _ told' old mid s0 s1 (λ t. (t, tt)) c.in_ok-head.ensures.takes in
+    let first = takes_if _ observable' old mid s0 s1 (λ t. (t, tt)) c.in_ok-head.ensures.takes in
     let p = err_from_is_err_and c.from_residual-in_err-end.result c.from_residual-in_err-end.ensures.1 in
-    rw (p.1, p.2) (takes_both _ old mid now s0 s1 s2 (takes_if told' _ old mid s0 s1 (λ t. t.0) first)
+    rw (p.1, p.2) (takes_both _ old mid now s0 s1 s2 (takes_if observable' _ old mid s0 s1 (λ t. t.0) first)
     c.in_err-end.ensures.takes)
 
 pub returns-in_err-end-clause-refused : goal.returns-in_err-end-clause-refused
 returns-in_err-end-clause-refused g c =
-    let told' = g.S.Source.told in
+    let observable' = g.S.Source.observable in
     let used = c.args.used in
     let old = c.args.intake.now in
     let mid = c.read_head.new.intake in
@@ -36,14 +36,14 @@ returns-in_err-end-clause-refused g c =
     let s0 = g.S.Source.state c.args.source.now in
     let s1 = g.S.Source.state c.read_head.new.source in
     let s2 = g.S.Source.state c.find_line.new.source in
-    let first = takes_if _ told' old mid s0 s1 (λ t. (t, tt)) c.in_ok-head.ensures.takes in
+    let first = takes_if _ observable' old mid s0 s1 (λ t. (t, tt)) c.in_ok-head.ensures.takes in
     let p = err_from_is_err_and c.from_residual-in_err-end.result c.from_residual-in_err-end.ensures.1 in
-    rw (p.1, p.2) (λ told. answer_before told' used old mid s0 s1 (Err c.in_err-end.field-0.0) told first
-    (c.in_err-end.ensures.refused told))
+    rw (p.1, p.2) (λ observable. answer_before observable' used old mid s0 s1 (Err c.in_err-end.field-0.0) observable first
+    (c.in_err-end.ensures.refused observable))
 
 pub parse_line-requires : goal.parse_line-requires
 parse_line-requires g c =
-    let told' = g.S.Source.told in
+    let observable' = g.S.Source.observable in
     let used = c.args.used in
     let old = c.args.intake.now in
     let mid = c.read_head.new.intake in
@@ -51,9 +51,9 @@ parse_line-requires g c =
     let s0 = g.S.Source.state c.args.source.now in
     let s1 = g.S.Source.state c.read_head.new.source in
     let s2 = g.S.Source.state c.find_line.new.source in
-    let first = takes_if _ told' old mid s0 s1 (λ t. (t, tt)) c.in_ok-head.ensures.takes in
-    let second = takes_if _ told' mid now s1 s2 (λ t. (t, tt)) c.in_ok-end.ensures.takes in
-    let both = takes_both told' old mid now s0 s1 s2 first second in
+    let first = takes_if _ observable' old mid s0 s1 (λ t. (t, tt)) c.in_ok-head.ensures.takes in
+    let second = takes_if _ observable' mid now s1 s2 (λ t. (t, tt)) c.in_ok-end.ensures.takes in
+    let both = takes_both observable' old mid now s0 s1 s2 first second in
     let head = c.in_ok-head.head in
     let end = c.in-Some.end in
     let bytes = c.ahead-ahead.ensures.bytes in
@@ -63,8 +63,8 @@ parse_line-requires g c =
     subst (λ (x : List ℕ). HasNoLf (take (end - head) (drop head x))) (sym bytes) (line_no_lf head end now.ahead ends)
 
 pub returns-in_default-parse_line-clause-refused : goal.returns-in_default-parse_line-clause-refused
-returns-in_default-parse_line-clause-refused g c = λ told.
-    let told' = g.S.Source.told in
+returns-in_default-parse_line-clause-refused g c = λ observable.
+    let observable' = g.S.Source.observable in
     let used = c.args.used in
     let old = c.args.intake.now in
     let mid = c.read_head.new.intake in
@@ -72,9 +72,9 @@ returns-in_default-parse_line-clause-refused g c = λ told.
     let s0 = g.S.Source.state c.args.source.now in
     let s1 = g.S.Source.state c.read_head.new.source in
     let s2 = g.S.Source.state c.find_line.new.source in
-    let first = takes_if _ told' old mid s0 s1 (λ t. (t, tt)) c.in_ok-head.ensures.takes in
-    let second = takes_if _ told' mid now s1 s2 (λ t. (t, tt)) c.in_ok-end.ensures.takes in
-    let both = takes_both told' old mid now s0 s1 s2 first second in
+    let first = takes_if _ observable' old mid s0 s1 (λ t. (t, tt)) c.in_ok-head.ensures.takes in
+    let second = takes_if _ observable' mid now s1 s2 (λ t. (t, tt)) c.in_ok-end.ensures.takes in
+    let both = takes_both observable' old mid now s0 s1 s2 first second in
     let head = c.in_ok-head.head in
     let end = c.in-Some.end in
     let bytes = c.ahead-ahead.ensures.bytes in
@@ -84,7 +84,7 @@ returns-in_default-parse_line-clause-refused g c = λ told.
     let line = take (end - head) (drop head now.ahead) in
     let more = drop (end + 1) now.ahead in
     let saw = seen_part used head old s0 now.ahead s2.left c.in_ok-head.ensures.len has
-    (seen told' used old now s0 s2 told both c.requires.sum c.ahead-ahead.ensures.within) in
+    (seen observable' used old now s0 s2 observable both c.requires.sum c.ahead-ahead.ensures.within) in
     let parts = seen_as used old s0 (head_at used ++ drop head now.ahead)
     (head_at used ++ (line ++ (lf ∷ more))) s2.left
     (ap (λ (x : List ℕ). head_at used ++ x) (line_parts head end now.ahead ends)) saw in
@@ -94,7 +94,7 @@ returns-in_default-parse_line-clause-refused g c = λ told.
 
 pub returns-in_err-address-clause-takes : goal.returns-in_err-address-clause-takes
 returns-in_err-address-clause-takes g c =
-    let told' = g.S.Source.told in
+    let observable' = g.S.Source.observable in
     let used = c.args.used in
     let old = c.args.intake.now in
     let mid = c.read_head.new.intake in
@@ -102,9 +102,9 @@ returns-in_err-address-clause-takes g c =
     let s0 = g.S.Source.state c.args.source.now in
     let s1 = g.S.Source.state c.read_head.new.source in
     let s2 = g.S.Source.state c.find_line.new.source in
-    let first = takes_if _ told' old mid s0 s1 (λ t. (t, tt)) c.in_ok-head.ensures.takes in
-    let second = takes_if _ told' mid now s1 s2 (λ t. (t, tt)) c.in_ok-end.ensures.takes in
-    let both = takes_both told' old mid now s0 s1 s2 first second in
+    let first = takes_if _ observable' old mid s0 s1 (λ t. (t, tt)) c.in_ok-head.ensures.takes in
+    let second = takes_if _ observable' mid now s1 s2 (λ t. (t, tt)) c.in_ok-end.ensures.takes in
+    let both = takes_both observable' old mid now s0 s1 s2 first second in
     let head = c.in_ok-head.head in
     let end = c.in-Some.end in
     let bytes = c.ahead-ahead.ensures.bytes in
@@ -112,11 +112,11 @@ returns-in_err-address-clause-takes g c =
     let has : HasHead used now.ahead = subst (HasHead used) (sym second.ahead)
     (has_head_more used mid.ahead second.read c.in_ok-head.ensures.head) in
     let p = err_from_is_err_and c.from_residual-in_err-address.result c.from_residual-in_err-address.ensures.1 in
-    rw (p.1, p.2) (takes_if told' _ old now s0 s2 (λ t. t.0) both)
+    rw (p.1, p.2) (takes_if observable' _ old now s0 s2 (λ t. t.0) both)
 
 pub returns-clause-part : goal.returns-clause-part
 returns-clause-part g c =
-    let told' = g.S.Source.told in
+    let observable' = g.S.Source.observable in
     let used = c.args.used in
     let old = c.args.intake.now in
     let mid = c.read_head.new.intake in
@@ -124,9 +124,9 @@ returns-clause-part g c =
     let s0 = g.S.Source.state c.args.source.now in
     let s1 = g.S.Source.state c.read_head.new.source in
     let s2 = g.S.Source.state c.find_line.new.source in
-    let first = takes_if _ told' old mid s0 s1 (λ t. (t, tt)) c.in_ok-head.ensures.takes in
-    let second = takes_if _ told' mid now s1 s2 (λ t. (t, tt)) c.in_ok-end.ensures.takes in
-    let both = takes_both told' old mid now s0 s1 s2 first second in
+    let first = takes_if _ observable' old mid s0 s1 (λ t. (t, tt)) c.in_ok-head.ensures.takes in
+    let second = takes_if _ observable' mid now s1 s2 (λ t. (t, tt)) c.in_ok-end.ensures.takes in
+    let both = takes_both observable' old mid now s0 s1 s2 first second in
     let head = c.in_ok-head.head in
     let end = c.in-Some.end in
     let bytes = c.ahead-ahead.ensures.bytes in
@@ -143,7 +143,7 @@ returns-clause-part g c =
 
 pub returns-clause-takes : goal.returns-clause-takes
 returns-clause-takes g c =
-    let told' = g.S.Source.told in
+    let observable' = g.S.Source.observable in
     let used = c.args.used in
     let old = c.args.intake.now in
     let mid = c.read_head.new.intake in
@@ -151,9 +151,9 @@ returns-clause-takes g c =
     let s0 = g.S.Source.state c.args.source.now in
     let s1 = g.S.Source.state c.read_head.new.source in
     let s2 = g.S.Source.state c.find_line.new.source in
-    let first = takes_if _ told' old mid s0 s1 (λ t. (t, tt)) c.in_ok-head.ensures.takes in
-    let second = takes_if _ told' mid now s1 s2 (λ t. (t, tt)) c.in_ok-end.ensures.takes in
-    let both = takes_both told' old mid now s0 s1 s2 first second in
+    let first = takes_if _ observable' old mid s0 s1 (λ t. (t, tt)) c.in_ok-head.ensures.takes in
+    let second = takes_if _ observable' mid now s1 s2 (λ t. (t, tt)) c.in_ok-end.ensures.takes in
+    let both = takes_both observable' old mid now s0 s1 s2 first second in
     let head = c.in_ok-head.head in
     let end = c.in-Some.end in
     let bytes = c.ahead-ahead.ensures.bytes in
@@ -176,6 +176,6 @@ returns-clause-takes g c =
     let text : part_text used part ++ after.ahead ≡ now.ahead =
     ap (λ (x : List ℕ). part_text used part ++ x) rest
     ∙ line_used used head end now.ahead part c.in_ok-head.ensures.len has ends is c.new.ensures.items in
-    takes_if told' _ old (with_part used (Some part) after) s0 s2 (λ t. t.0)
-    (takes_as told' old now (with_part used (Some part) after) s0 s2 both text
+    takes_if observable' _ old (with_part used (Some part) after) s0 s2 (λ t. t.0)
+    (takes_as observable' old now (with_part used (Some part) after) s0 s2 both text
     (ap (λ (x : IntakeState). x.taken) c.consume.ensures) (ap (λ (x : IntakeState). x.limit) c.consume.ensures))

@@ -39,7 +39,7 @@ begins_line-requires g c =
     subst HasNoLf (sym slice) no_lf
 
 pub returns-then-not-begins_line-clause-refused : goal.returns-then-not-begins_line-clause-refused
-returns-then-not-begins_line-clause-refused g c = λ told.
+returns-then-not-begins_line-clause-refused g c = λ observable.
     let used = c.args.used in
     let head = c.args.head in
     let before = c.args.intake.now in
@@ -53,7 +53,7 @@ returns-then-not-begins_line-clause-refused g c = λ told.
     c.loop-end.invariant.within c.loop-end.invariant.no_lf
     (subst (λ (x : List ℕ). HasNoLf (drop c.loop-end.searched x)) bytes c.in_default.ensures) in
     let saw = seen_part used head before source now.ahead rest.left c.requires.len has
-    (seen g.S.Source.told used before now source rest told c.loop-end.invariant.takes c.requires.sum
+    (seen g.S.Source.observable used before now source rest observable c.loop-end.invariant.takes c.requires.sum
     c.ahead-ahead.ensures.within) in
     let slice : take (length c.ahead-ahead.result.now - head) (drop head c.ahead-ahead.result.now)
     ≡ drop head now.ahead = take_rest c.ahead-ahead.result.now head ∙ ap (drop head) bytes in
@@ -109,7 +109,7 @@ returns-in_err-fill-clause-open g c = λ _.
     (line_open used head now.ahead c.requires.len has no_lf begins)
 
 pub returns-in-End-clause-refused : goal.returns-in-End-clause-refused
-returns-in-End-clause-refused g c = λ told.
+returns-in-End-clause-refused g c = λ observable.
     let used = c.args.used in
     let head = c.args.head in
     let before = c.args.intake.now in
@@ -125,16 +125,16 @@ returns-in-End-clause-refused g c = λ told.
     let len : length c.ahead-ahead.result.now ≡ length now.ahead = ap length bytes in
     let part : length (drop head now.ahead) ≡ length now.ahead - head = length-drop head now.ahead in
     let saw = seen_part used head before source now.ahead rest.left c.requires.len has
-    (seen g.S.Source.told used before now source rest told c.loop-end.invariant.takes c.requires.sum
+    (seen g.S.Source.observable used before now source rest observable c.loop-end.invariant.takes c.requires.sum
     c.ahead-ahead.ensures.within) in
     let is : c.fill.result ≡ Ok End = let r = c.in_ok-fill.was in let e = c.in-End.is in cc in
     let some : 0 < length (drop head now.ahead) =
     omega (arith, c.if-searched-head.false, len, part, c.loop-end.invariant.after, c.loop-end.invariant.within) in
     rw c.bad_offer-in-End.ensures (line_ends_amid used before source (drop head now.ahead) rest.left saw
-    (c.fill.ensures.end is told) no_lf some)
+    (c.fill.ensures.end is observable) no_lf some)
 
 pub returns-in-Limit-clause-refused : goal.returns-in-Limit-clause-refused
-returns-in-Limit-clause-refused g c = λ told.
+returns-in-Limit-clause-refused g c = λ observable.
     let used = c.args.used in
     let head = c.args.head in
     let before = c.args.intake.now in
@@ -148,7 +148,7 @@ returns-in-Limit-clause-refused g c = λ told.
     c.loop-end.invariant.within c.loop-end.invariant.no_lf
     (subst (λ (x : List ℕ). HasNoLf (drop c.loop-end.searched x)) bytes c.in_default.ensures) in
     let saw = seen_part used head before source now.ahead rest.left c.requires.len has
-    (seen g.S.Source.told used before now source rest told c.loop-end.invariant.takes c.requires.sum
+    (seen g.S.Source.observable used before now source rest observable c.loop-end.invariant.takes c.requires.sum
     c.ahead-ahead.ensures.within) in
     let slice : take (length c.ahead-ahead.result.now - head) (drop head c.ahead-ahead.result.now)
     ≡ drop head now.ahead = take_rest c.ahead-ahead.result.now head ∙ ap (drop head) bytes in
@@ -158,12 +158,12 @@ returns-in-Limit-clause-refused g c = λ told.
     let same : c.fill.new.self ≡ now =
     c.fill.ensures.stays (λ e. absurd (let f : ◌≡◌ {A = Result Filled Failed} (Ok Limit) (Ok More) = sym is
     ∙ e in cc)) in
-    let all = seen_all g.S.Source.told used before now source rest c.loop-end.invariant.takes c.requires.sum
+    let all = seen_all g.S.Source.observable used before now source rest c.loop-end.invariant.takes c.requires.sum
     (c.fill.ensures.limit is) in (
       c.limit.ensures ∙ ap (λ (x : IntakeState). x.limit) same ∙ c.loop-end.invariant.takes.limit,
       line_too_long used before source (drop head now.ahead) rest.left saw
           (sym (ap length (head_split used head now.ahead c.requires.len has)) ∙ all)
-          (c.fill.ensures.goes_on is told) no_lf begins,
+          (c.fill.ensures.goes_on is observable) no_lf begins,
     )
 
 pub loop-end-preserved : goal.loop-end-preserved
@@ -184,7 +184,7 @@ loop-end-preserved g c =
     let part : length (drop head now.ahead) ≡ length now.ahead - head = length-drop head now.ahead in
     let is : c.fill.result ≡ Ok More = let r = c.in_ok-fill.was in let e = c.in-More.is in cc in
     let takes = c.fill.ensures.takes in
-    let told = g.S.Source.told in
+    let observable = g.S.Source.observable in
     let after = g.S.Source.state c.fill.new.source in
     let front : take (length c.ahead-ahead.result.now) c.fill.new.self.ahead ≡ now.ahead =
     ap (take (length c.ahead-ahead.result.now)) takes.ahead
@@ -193,8 +193,8 @@ loop-end-preserved g c =
       after = omega (arith, len, c.loop-end.invariant.after, c.loop-end.invariant.within);
       within = omega (arith, len, ap length takes.ahead, length-append now.ahead takes.read);
       no_lf = subst (λ (x : List ℕ). HasNoLf (drop head x)) (sym front) no_lf;
-      takes = takes_both told before now c.fill.new.self source rest after c.loop-end.invariant.takes
-          (takes_if _ told now c.fill.new.self rest after
+      takes = takes_both observable before now c.fill.new.self source rest after c.loop-end.invariant.takes
+          (takes_if _ observable now c.fill.new.self rest after
           (λ t. (
             t,
             λ e. absurd (let f : ◌≡◌ {A = Result Filled Failed} (Ok More) (Ok Limit) = sym is

@@ -9,7 +9,7 @@ invariant-loop-end g l = record {
   after : l.head ≤ l.searched;
   within : l.searched ≤ length l.intake.ahead;
   no_lf : HasNoLf (drop l.head (take l.searched l.intake.ahead));
-  takes : TakesMore g.S.Source.told l.fn.intake l.intake (g.S.Source.state l.fn.source) (g.S.Source.state l.source);
+  takes : TakesMore g.S.Source.observable l.fn.intake l.intake (g.S.Source.state l.fn.source) (g.S.Source.state l.source);
   read : RisesAtMost (l.intake.taken - l.fn.intake.taken) (g.S.Source.state l.fn.source).bytes_read
       (g.S.Source.state l.source).bytes_read;
   faults : (g.S.Source.state l.source).faults ≡ (g.S.Source.state l.fn.source).faults;

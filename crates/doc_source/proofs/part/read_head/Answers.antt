@@ -22,7 +22,7 @@ pub returns-then-used-gt0-clause-head : goal.returns-then-used-gt0-clause-head
 returns-then-used-gt0-clause-head g c = needs_no_head c.args.used c.args.intake.now.ahead c.if-used-gt0.true
 
 pub returns-then-not-starts_with-clause-refused : goal.returns-then-not-starts_with-clause-refused
-returns-then-not-starts_with-clause-refused g c = λ told.
+returns-then-not-starts_with-clause-refused g c = λ observable.
     let source = g.S.Source.state c.args.source.now in
     let rest = g.S.Source.state c.loop-intake.source in
     let none : c.args.used ≡ 0 = omega (arith, c.if-used-gt0.false) in
@@ -30,7 +30,7 @@ returns-then-not-starts_with-clause-refused g c = λ told.
     omega (arith, c.loop-intake-test.true, ap length c.ahead.ensures.bytes) in
     let begins = ap (λ (x : List ℕ). starts_with nat_eq pile_head x) (sym c.ahead-in-loop-intake.ensures.bytes)
     ∙ sym c.starts_with.ensures.value ∙ c.if-not-starts_with.true in
-    let saw = seen g.S.Source.told c.args.used c.args.intake.now c.loop-intake.intake source rest told
+    let saw = seen g.S.Source.observable c.args.used c.args.intake.now c.loop-intake.intake source rest observable
     c.loop-intake.invariant.takes c.requires.sum c.ahead.ensures.within in
     head_unfit c.args.used c.args.intake.now source c.loop-intake.intake.ahead rest.left none saw short begins
 
@@ -47,19 +47,19 @@ returns-in_err-fill-clause-open g c = λ _.
     (head_open c.args.used c.loop-intake.intake.ahead none short begins)
 
 pub returns-in-End-clause-refused : goal.returns-in-End-clause-refused
-returns-in-End-clause-refused g c = λ told.
+returns-in-End-clause-refused g c = λ observable.
     let source = g.S.Source.state c.args.source.now in
     let rest = g.S.Source.state c.loop-intake.source in
     let none : c.args.used ≡ 0 = omega (arith, c.if-used-gt0.false) in
     let short : length c.loop-intake.intake.ahead < length pile_head =
     omega (arith, c.loop-intake-test.true, ap length c.ahead.ensures.bytes) in
     head_ends c.args.used c.args.intake.now source c.loop-intake.intake.ahead rest.left none
-    (seen g.S.Source.told c.args.used c.args.intake.now c.loop-intake.intake source rest told
+    (seen g.S.Source.observable c.args.used c.args.intake.now c.loop-intake.intake source rest observable
     c.loop-intake.invariant.takes c.requires.sum c.ahead.ensures.within)
-    (c.fill.ensures.end (let r = c.in_ok-fill.was in let e = c.in-End.is in cc) told) short
+    (c.fill.ensures.end (let r = c.in_ok-fill.was in let e = c.in-End.is in cc) observable) short
 
 pub returns-in-Limit-clause-refused : goal.returns-in-Limit-clause-refused
-returns-in-Limit-clause-refused g c = λ told.
+returns-in-Limit-clause-refused g c = λ observable.
     let source = g.S.Source.state c.args.source.now in
     let rest = g.S.Source.state c.loop-intake.source in
     let none : c.args.used ≡ 0 = omega (arith, c.if-used-gt0.false) in
@@ -71,13 +71,13 @@ returns-in-Limit-clause-refused g c = λ told.
     let same : c.fill.new.self ≡ c.loop-intake.intake =
     c.fill.ensures.stays (λ e. absurd (let f : ◌≡◌ {A = Result Filled Failed} (Ok Limit) (Ok More) = sym is
     ∙ e in cc)) in
-    let full = seen_all g.S.Source.told c.args.used c.args.intake.now c.loop-intake.intake source rest
+    let full = seen_all g.S.Source.observable c.args.used c.args.intake.now c.loop-intake.intake source rest
     c.loop-intake.invariant.takes c.requires.sum (c.fill.ensures.limit is) in
-    let saw = seen g.S.Source.told c.args.used c.args.intake.now c.loop-intake.intake source rest told
+    let saw = seen g.S.Source.observable c.args.used c.args.intake.now c.loop-intake.intake source rest observable
     c.loop-intake.invariant.takes c.requires.sum c.ahead.ensures.within in (
       c.limit.ensures ∙ ap (λ (x : IntakeState). x.limit) same ∙ c.loop-intake.invariant.takes.limit,
       head_too_long c.args.used c.args.intake.now source c.loop-intake.intake.ahead rest.left none saw full
-          (c.fill.ensures.goes_on is told) short begins,
+          (c.fill.ensures.goes_on is observable) short begins,
     )
 
 pub returns-then-starts_with-clause-head : goal.returns-then-starts_with-clause-head
@@ -88,14 +88,14 @@ returns-then-starts_with-clause-head g c =
     ∙ sym c.starts_with-2.ensures.value ∙ c.if-starts_with.true)
 
 pub returns-else-starts_with-clause-refused : goal.returns-else-starts_with-clause-refused
-returns-else-starts_with-clause-refused g c = λ told.
+returns-else-starts_with-clause-refused g c = λ observable.
     let source = g.S.Source.state c.args.source.now in
     let rest = g.S.Source.state c.loop-intake.source in
     let none : c.args.used ≡ 0 = omega (arith, c.if-used-gt0.false) in
     let long : length pile_head ≤ length c.loop-intake.intake.ahead =
     omega (arith, c.loop-intake-test.false, ap length c.ahead.ensures.bytes) in
     head_other c.args.used c.args.intake.now source c.loop-intake.intake.ahead rest.left none
-    (seen g.S.Source.told c.args.used c.args.intake.now c.loop-intake.intake source rest told
+    (seen g.S.Source.observable c.args.used c.args.intake.now c.loop-intake.intake source rest observable
     c.loop-intake.invariant.takes c.requires.sum c.ahead.ensures.within) long
     (ap (λ (x : List ℕ). starts_with nat_eq x pile_head) (sym c.ahead-2.ensures.bytes)
     ∙ sym c.starts_with-2.ensures.value ∙ c.if-starts_with.false)

@@ -11,10 +11,10 @@ loop-sent-preserved g c =
     let rest = c.split_at.ensures.back in
     record {
       within = omega (arith, c.in_ok-sent.ensures.within, ap length rest, length-drop sent bytes);
-      taken = λ told.
-          c.in_ok-sent.ensures.bytes told
+      taken = λ observable.
+          c.in_ok-sent.ensures.bytes observable
           ∙ ap (λ (x : List ℕ). (g.K.Sink.state c.loop-sent.sink).taken ++ take count x) rest
-          ∙ ap (λ (x : List ℕ). x ++ take count (drop sent bytes)) (c.loop-sent.invariant.taken told)
+          ∙ ap (λ (x : List ℕ). x ++ take count (drop sent bytes)) (c.loop-sent.invariant.taken observable)
           ∙ append_assoc before (take sent bytes) (take count (drop sent bytes))
           ∙ ap (λ (x : List ℕ). before ++ x) (sym (take-add sent count bytes));
       faults = c.in_ok-sent.ensures.counts.worked ∙ c.loop-sent.invariant.faults;

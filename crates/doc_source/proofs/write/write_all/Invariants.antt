@@ -4,7 +4,7 @@ use Rattle.doc_source.proofs.write.write_all.Given as goal
 abbrev pub invariant-loop-sent : goal.invariant-loop-sent
 invariant-loop-sent g l = record {
   within : l.sent ≤ length l.bytes;
-  taken : g.K.Sink.told → (g.K.Sink.state l.sink).taken ≡ (g.K.Sink.state l.fn.sink).taken ++ take l.sent l.bytes;
+  taken : g.K.Sink.observable → (g.K.Sink.state l.sink).taken ≡ (g.K.Sink.state l.fn.sink).taken ++ take l.sent l.bytes;
   faults : (g.K.Sink.state l.sink).faults ≡ (g.K.Sink.state l.fn.sink).faults;
 }
 

@@ -17,7 +17,7 @@ pub returns-in-Ok-clause-leaves : goal.returns-in-Ok-clause-leaves
 returns-in-Ok-clause-leaves g c =
     let old = c.args.store.now in
     let prepared = c.prepare.new.self in
-    leaves-roomy old prepared _ _ _ _ c.prepare.ensures.same g.D.Disk.told _ _
+    leaves-roomy old prepared _ _ _ _ c.prepare.ensures.same g.D.Disk.observable _ _
     (is-asked old prepared _ _ _ _ c.prepare.ensures.same c.args.ask c.args.now c.in-Ok.ready c.in-Ok.ensures.decided
     c.in-Ok.ensures.commits) _ _ c.commit.new.store _ c.commit.ensures.leaves
 
@@ -31,7 +31,7 @@ returns-in_ok-refused-in-Err-clause-answered g c =
 
 pub returns-in-Ok-clause-steps : goal.returns-in-Ok-clause-steps
 returns-in-Ok-clause-steps g c =
-    steps-roomy c.args.store.now c.prepare.new.self _ _ _ _ c.prepare.ensures.same g.D.Disk.told _ _
+    steps-roomy c.args.store.now c.prepare.new.self _ _ _ _ c.prepare.ensures.same g.D.Disk.observable _ _
     c.commit.new.store _ c.commit.ensures.steps
 
 pub returns-in-Ok-clause-grows : goal.returns-in-Ok-clause-grows
@@ -41,10 +41,10 @@ returns-in-Ok-clause-grows g c = λ done.
 
 pub returns-in_ok-refused-in-Err-clause-steps : goal.returns-in_ok-refused-in-Err-clause-steps
 returns-in_ok-refused-in-Err-clause-steps g c =
-    steps-refused c.args.store.now c.prepare.new.self _ _ _ _ c.prepare.ensures.same g.D.Disk.told _ _ (worked _ _)
+    steps-refused c.args.store.now c.prepare.new.self _ _ _ _ c.prepare.ensures.same g.D.Disk.observable _ _ (worked _ _)
     c.requires.unspent c.requires.stands
 
 pub returns-in_ok-refused-in-Err-clause-leaves : goal.returns-in_ok-refused-in-Err-clause-leaves
 returns-in_ok-refused-in-Err-clause-leaves g c =
-    inl (reads-refused c.args.store.now c.prepare.new.self _ _ _ _ c.prepare.ensures.same g.D.Disk.told _ ⊥
+    inl (reads-refused c.args.store.now c.prepare.new.self _ _ _ _ c.prepare.ensures.same g.D.Disk.observable _ ⊥
     (λ is. is) c.requires.unspent c.requires.stands)

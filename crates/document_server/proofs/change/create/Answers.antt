@@ -14,7 +14,7 @@ returns-in-Ok-clause-answered g c =
 
 pub returns-in-Ok-clause-leaves : goal.returns-in-Ok-clause-leaves
 returns-in-Ok-clause-leaves g c =
-    commits-as g.D.Disk.told _ _
+    commits-as g.D.Disk.observable _ _
     (λ given. sent-read c.args.store.now c.args.request.now (λ draft. Create draft) c.args.now c.in-Ok.draft given
     (subst (IsReadAs c.args.request.now) c.in-Ok.is c.in_ok-draft.ensures.read))
     _ _ c.args.store.now c.change.new.store _ c.change.ensures.leaves

@@ -17,6 +17,6 @@ returns-in-None-clause-answered g c =
 
 pub returns-in-None-clause-leaves : goal.returns-in-None-clause-leaves
 returns-in-None-clause-leaves g c =
-    commits-as g.D.Disk.told _ _
+    commits-as g.D.Disk.observable _ _
     (λ given. present-is _ _ given (ap absent_reply (sym c.state.ensures) ∙ sym c.absent.ensures.reply ∙ c.in-None.is))
     _ _ c.args.store.now c.change.new.store _ c.change.ensures.leaves

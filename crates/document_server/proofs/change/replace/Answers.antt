@@ -21,7 +21,7 @@ returns-in-Ok-clause-answered g c =
 
 pub returns-in-Ok-clause-leaves : goal.returns-in-Ok-clause-leaves
 returns-in-Ok-clause-leaves g c =
-    commits-as g.D.Disk.told _ _ (λ given is. present-is _ _ given
+    commits-as g.D.Disk.observable _ _ (λ given is. present-is _ _ given
     (ap absent_reply (sym c.state.ensures) ∙ sym c.absent.ensures.reply ∙ c.in_default.is)
     (sent-read c.args.store.now c.args.request.now
     (λ draft. Replace c.args.number draft) c.args.now c.in-Ok.draft given

@@ -5,8 +5,8 @@ use Rattle.http_face.specs.declared.reply.Reply.{Reply}
 use Rattle.document_server.specs.Answer.{ComesTo}
 use Rattle.document_server.specs.Reply.{IsOutcomeOver}
 use Rattle.document_server.proofs.ChangedLemmas.{changed-get}
-use Rattle.document_server.proofs.OverLemmas.{answer-changed, answer-told, comes-err}
-use Rattle.document_server.proofs.StepLemmas.{failed_by, worked}
+use Rattle.document_server.proofs.OverLemmas.{answer-changed, answer-observable, comes-err}
+use Rattle.document_server.proofs.StepLemmas.{changed-undisk, failed_by, memory-undisk, steps-as, worked}
 use Rattle.feed_recovery.specs.Store.{seal_count}
 use Rattle.feed_recovery.proofs.SettleLemmas.{rest_settles}
 use Rattle.document_server.proofs.LeaveLemmas.{leaves-answered, leaves-failing}
@@ -21,112 +21,124 @@ no_change : (result : Result Reply Failure) (failure : Failure) → result ≡ E
 no_change result failure gives is same = failed_by failure Changed Disk is (λ clash. cc) (sym gives ∙ same)
 
 pub returns-in-Ok-clause-leaves : goal.returns-in-Ok-clause-leaves
-returns-in-Ok-clause-leaves g c = λ told.
+returns-in-Ok-clause-leaves g c = λ observable.
     leaves-failing _ _ _ c.args.store.now c.reply_of.new.store _ _
     (λ e. absurd (worked _ _ (sym c.in-Ok.is ∙ e)))
     (leaves-answered c.begun_images_are_whole.ensures _ _ _ c.args.store.now c.reply_of.new.store _
-    (g.met.D.Disk.is_disk c.args.disk.now) (c.requires.stands told) told c.reply_of.ensures.leaves)
+    (g.met.D.Disk.is_disk c.args.disk.now) (c.requires.stands observable) observable c.reply_of.ensures.leaves)
 
 pub returns-in-Ok-clause-settled : goal.returns-in-Ok-clause-settled
-returns-in-Ok-clause-settled g c = λ works told rests.
+returns-in-Ok-clause-settled g c = λ works observable rests.
     let steps = c.reply_of.ensures.steps in
     let no_fault : c.reply_of.result ≢ Err Disk = λ e. worked _ _ (sym c.in-Ok.is ∙ e) in
     rest_settles c.begun_images_are_whole.ensures (g.D.Disk.state c.reply_of.new.disk) c.reply_of.new.store.head
-    c.reply_of.new.store.history (seal_count c.reply_of.new.store) (steps.stands no_fault told).opens
-    (steps.rests no_fault told rests)
+    c.reply_of.new.store.history (seal_count c.reply_of.new.store) (steps.stands no_fault observable).opens
+    (steps.rests no_fault observable rests)
 
 pub returns-in-Err-Disk-clause-leaves : goal.returns-in-Err-Disk-clause-leaves
-returns-in-Err-Disk-clause-leaves g c = λ told.
+returns-in-Err-Disk-clause-leaves g c = λ observable.
     leaves-failing _ _ _ c.args.store.now c.reply_of.new.store _ _ (λ e. c.line.ensures)
     (leaves-answered c.begun_images_are_whole.ensures _ _ _ c.args.store.now c.reply_of.new.store _
-    (g.met.D.Disk.is_disk c.args.disk.now) (c.requires.stands told) told c.reply_of.ensures.leaves)
+    (g.met.D.Disk.is_disk c.args.disk.now) (c.requires.stands observable) observable c.reply_of.ensures.leaves)
 
 pub returns-in-Err-NoMemory-clause-leaves : goal.returns-in-Err-NoMemory-clause-leaves
-returns-in-Err-NoMemory-clause-leaves g c = λ told.
+returns-in-Err-NoMemory-clause-leaves g c = λ observable.
     leaves-failing _ _ _ c.args.store.now c.reply_of.new.store _ _
     (λ e. absurd (no_memory _ _ c.in-Err-NoMemory.is c.in-Err-NoMemory.field-0-is e))
     (leaves-answered c.begun_images_are_whole.ensures _ _ _ c.args.store.now c.reply_of.new.store _
-    (g.met.D.Disk.is_disk c.args.disk.now) (c.requires.stands told) told c.reply_of.ensures.leaves)
+    (g.met.D.Disk.is_disk c.args.disk.now) (c.requires.stands observable) observable c.reply_of.ensures.leaves)
 
 pub returns-in-Err-Changed-clause-leaves : goal.returns-in-Err-Changed-clause-leaves
-returns-in-Err-Changed-clause-leaves g c = λ told.
+returns-in-Err-Changed-clause-leaves g c = λ observable.
     leaves-failing _ _ _ c.args.store.now c.reply_of.new.store _ _
     (λ e. absurd (no_change _ _ c.in-Err-Changed.is c.in-Err-Changed.field-0-is e))
     (leaves-answered c.begun_images_are_whole.ensures _ _ _ c.args.store.now c.reply_of.new.store _
-    (g.met.D.Disk.is_disk c.args.disk.now) (c.requires.stands told) told c.reply_of.ensures.leaves)
+    (g.met.D.Disk.is_disk c.args.disk.now) (c.requires.stands observable) observable c.reply_of.ensures.leaves)
 
 pub returns-in-Err-NoMemory-clause-settled : goal.returns-in-Err-NoMemory-clause-settled
-returns-in-Err-NoMemory-clause-settled g c = λ works told rests.
+returns-in-Err-NoMemory-clause-settled g c = λ works observable rests.
     let steps = c.reply_of.ensures.steps in
     let no_fault = no_memory _ _ c.in-Err-NoMemory.is c.in-Err-NoMemory.field-0-is in
     rest_settles c.begun_images_are_whole.ensures (g.D.Disk.state c.reply_of.new.disk) c.reply_of.new.store.head
-    c.reply_of.new.store.history (seal_count c.reply_of.new.store) (steps.stands no_fault told).opens
-    (steps.rests no_fault told rests)
+    c.reply_of.new.store.history (seal_count c.reply_of.new.store) (steps.stands no_fault observable).opens
+    (steps.rests no_fault observable rests)
 
 pub returns-in-Err-Changed-clause-settled : goal.returns-in-Err-Changed-clause-settled
-returns-in-Err-Changed-clause-settled g c = λ works told rests.
+returns-in-Err-Changed-clause-settled g c = λ works observable rests.
     let steps = c.reply_of.ensures.steps in
     let no_fault = no_change _ _ c.in-Err-Changed.is c.in-Err-Changed.field-0-is in
     rest_settles c.begun_images_are_whole.ensures (g.D.Disk.state c.reply_of.new.disk) c.reply_of.new.store.head
-    c.reply_of.new.store.history (seal_count c.reply_of.new.store) (steps.stands no_fault told).opens
-    (steps.rests no_fault told rests)
+    c.reply_of.new.store.history (seal_count c.reply_of.new.store) (steps.stands no_fault observable).opens
+    (steps.rests no_fault observable rests)
 
-pub returns-in-Err-NoMemory-clause-stands : goal.returns-in-Err-NoMemory-clause-stands
-returns-in-Err-NoMemory-clause-stands g c = λ works told.
-    c.reply_of.ensures.steps.stands (no_memory _ _ c.in-Err-NoMemory.is c.in-Err-NoMemory.field-0-is) told
+pub returns-in-Ok-clause-steps : goal.returns-in-Ok-clause-steps
+returns-in-Ok-clause-steps g c =
+    steps-as _ _ _ _ _ _ _ (λ e. absurd (worked _ _ (sym c.in-Ok.is ∙ e))) (λ is. absurd (c.in-Ok.ensures.own.undisk is))
+    c.reply_of.ensures.steps
 
-pub returns-in-Err-Changed-clause-stands : goal.returns-in-Err-Changed-clause-stands
-returns-in-Err-Changed-clause-stands g c = λ works told.
-    c.reply_of.ensures.steps.stands (no_change _ _ c.in-Err-Changed.is c.in-Err-Changed.field-0-is) told
+pub returns-in-Err-Disk-clause-steps : goal.returns-in-Err-Disk-clause-steps
+returns-in-Err-Disk-clause-steps g c =
+    steps-as _ _ _ _ _ _ _ (λ e. c.line.ensures) (λ is. c.in-Err-Disk.is ∙ ap Err c.in-Err-Disk.field-0-is)
+    c.reply_of.ensures.steps
+
+pub returns-in-Err-NoMemory-clause-steps : goal.returns-in-Err-NoMemory-clause-steps
+returns-in-Err-NoMemory-clause-steps g c =
+    steps-as _ _ _ _ _ _ _ (λ e. absurd (no_memory _ _ c.in-Err-NoMemory.is c.in-Err-NoMemory.field-0-is e))
+    (λ is. absurd (memory-undisk (sym c.line-in-Err-NoMemory.ensures ∙ is))) c.reply_of.ensures.steps
+
+pub returns-in-Err-Changed-clause-steps : goal.returns-in-Err-Changed-clause-steps
+returns-in-Err-Changed-clause-steps g c =
+    steps-as _ _ _ _ _ _ _ (λ e. absurd (no_change _ _ c.in-Err-Changed.is c.in-Err-Changed.field-0-is e))
+    (λ is. absurd (changed-undisk (sym c.line-in-Err-Changed.ensures ∙ is))) c.reply_of.ensures.steps
 
 pub returns-in-Ok-clause-over : goal.returns-in-Ok-clause-over
 returns-in-Ok-clause-over g c =
     inl (subst
-    (ComesTo (IsOutcomeOver g.D.Disk.told c.args.store.now c.args.request.now c.args.now)
+    (ComesTo (IsOutcomeOver g.D.Disk.observable c.args.store.now c.args.request.now c.args.now)
     c.args.store.now c.reply_of.new.store) c.in-Ok.is c.reply_of.ensures.answered)
 
 pub returns-in-Ok-clause-answered : goal.returns-in-Ok-clause-answered
-returns-in-Ok-clause-answered g c = λ told.
-    answer-told g.D.Disk.told told c.args.store.now c.args.request.now c.args.now c.reply_of.new.store
+returns-in-Ok-clause-answered g c = λ observable.
+    answer-observable g.D.Disk.observable observable c.args.store.now c.args.request.now c.args.now c.reply_of.new.store
     c.in-Ok.reply _ (returns-in-Ok-clause-over g c)
 
 pub returns-in-Ok-clause-changed : goal.returns-in-Ok-clause-changed
 returns-in-Ok-clause-changed g c = λ is.
-    changed-get c.args.store.now g.D.Disk.told c.args.request.now c.args.now c.reply_of.new.store
+    changed-get c.args.store.now g.D.Disk.observable c.args.request.now c.args.now c.reply_of.new.store
     c.in-Ok.reply _ (returns-in-Ok-clause-over g c) is
 
 pub returns-in-Err-Disk-clause-over : goal.returns-in-Err-Disk-clause-over
 returns-in-Err-Disk-clause-over g c =
     let fails = c.in-Err-Disk.is ∙ ap Err c.in-Err-Disk.field-0-is in
     let steps = c.reply_of.ensures.steps in
-    inr (inr (c.line.ensures, steps.rose fails, steps.stays fails, steps.spent fails))
+    inr (inr (c.line.ensures, steps.faults.failed fails, steps.stays fails, steps.spent fails))
 
 pub returns-in-Err-Disk-clause-answered : goal.returns-in-Err-Disk-clause-answered
-returns-in-Err-Disk-clause-answered g c = λ told.
-    answer-told g.D.Disk.told told c.args.store.now c.args.request.now c.args.now c.reply_of.new.store
+returns-in-Err-Disk-clause-answered g c = λ observable.
+    answer-observable g.D.Disk.observable observable c.args.store.now c.args.request.now c.args.now c.reply_of.new.store
     c.line.result _ (returns-in-Err-Disk-clause-over g c)
 
 pub returns-in-Err-Disk-clause-changed : goal.returns-in-Err-Disk-clause-changed
 returns-in-Err-Disk-clause-changed g c = λ is.
-    changed-get c.args.store.now g.D.Disk.told c.args.request.now c.args.now c.reply_of.new.store
+    changed-get c.args.store.now g.D.Disk.observable c.args.request.now c.args.now c.reply_of.new.store
     c.line.result _ (returns-in-Err-Disk-clause-over g c) is
 
 pub returns-in-Err-Changed-clause-over : goal.returns-in-Err-Changed-clause-over
 returns-in-Err-Changed-clause-over g c =
     answer-changed _ c.args.store.now c.reply_of.new.store c.line-in-Err-Changed.result _
     c.line-in-Err-Changed.ensures
-    (comes-err (IsOutcomeOver g.D.Disk.told c.args.store.now c.args.request.now c.args.now)
+    (comes-err (IsOutcomeOver g.D.Disk.observable c.args.store.now c.args.request.now c.args.now)
     c.args.store.now c.reply_of.new.store c.reply_of.result _ Changed c.in-Err-Changed.is c.in-Err-Changed.field-0-is
     c.reply_of.ensures.answered)
 
 pub returns-in-Err-Changed-clause-answered : goal.returns-in-Err-Changed-clause-answered
-returns-in-Err-Changed-clause-answered g c = λ told.
-    answer-told g.D.Disk.told told c.args.store.now c.args.request.now c.args.now c.reply_of.new.store
+returns-in-Err-Changed-clause-answered g c = λ observable.
+    answer-observable g.D.Disk.observable observable c.args.store.now c.args.request.now c.args.now c.reply_of.new.store
     c.line-in-Err-Changed.result _ (returns-in-Err-Changed-clause-over g c)
 
 pub returns-in-Err-Changed-clause-changed : goal.returns-in-Err-Changed-clause-changed
 returns-in-Err-Changed-clause-changed g c = λ is.
-    changed-get c.args.store.now g.D.Disk.told c.args.request.now c.args.now c.reply_of.new.store
+    changed-get c.args.store.now g.D.Disk.observable c.args.request.now c.args.now c.reply_of.new.store
     c.line-in-Err-Changed.result _ (returns-in-Err-Changed-clause-over g c) is
 
 pub returns-in-Err-NoMemory-clause-over : goal.returns-in-Err-NoMemory-clause-over
@@ -134,17 +146,17 @@ returns-in-Err-NoMemory-clause-over g c =
     inr (inl (
       c.line-in-Err-NoMemory.ensures,
       comes-err
-          (IsOutcomeOver g.D.Disk.told c.args.store.now c.args.request.now c.args.now) c.args.store.now
+          (IsOutcomeOver g.D.Disk.observable c.args.store.now c.args.request.now c.args.now) c.args.store.now
           c.reply_of.new.store c.reply_of.result _ NoMemory c.in-Err-NoMemory.is c.in-Err-NoMemory.field-0-is
           c.reply_of.ensures.answered,
     ))
 
 pub returns-in-Err-NoMemory-clause-answered : goal.returns-in-Err-NoMemory-clause-answered
-returns-in-Err-NoMemory-clause-answered g c = λ told.
-    answer-told g.D.Disk.told told c.args.store.now c.args.request.now c.args.now c.reply_of.new.store
+returns-in-Err-NoMemory-clause-answered g c = λ observable.
+    answer-observable g.D.Disk.observable observable c.args.store.now c.args.request.now c.args.now c.reply_of.new.store
     c.line-in-Err-NoMemory.result _ (returns-in-Err-NoMemory-clause-over g c)
 
 pub returns-in-Err-NoMemory-clause-changed : goal.returns-in-Err-NoMemory-clause-changed
 returns-in-Err-NoMemory-clause-changed g c = λ is.
-    changed-get c.args.store.now g.D.Disk.told c.args.request.now c.args.now c.reply_of.new.store
+    changed-get c.args.store.now g.D.Disk.observable c.args.request.now c.args.now c.reply_of.new.store
     c.line-in-Err-NoMemory.result _ (returns-in-Err-NoMemory-clause-over g c) is

@@ -21,7 +21,7 @@ returns-in-Post-clause-answered g c =
 
 pub returns-in-Post-clause-leaves : goal.returns-in-Post-clause-leaves
 returns-in-Post-clause-leaves g c =
-    commits-as g.D.Disk.told _ _ (feed-verb c.args.store.now c.args.request.now c.args.now Post
+    commits-as g.D.Disk.observable _ _ (feed-verb c.args.store.now c.args.request.now c.args.now Post
     (ap (λ (r : RequestValue). r.verb) (sym c.request.view_is) ∙ c.in-Post.is))
     _ _ c.args.store.now c.create.new.store _ c.create.ensures.leaves
 
@@ -35,7 +35,7 @@ returns-in_default g c =
           (λ (r : Reply). IsOfFeed c.args.store.now c.args.request.now c.args.now c.args.request.now.verb
           (unchanged r)) (sym c.refused_method.ensures.reply) row);
       own = c.refused_method.ensures.refusal.own;
-      steps = steps-none g.D.Disk.told _ c.args.store.now _ (worked _ _) c.requires.unspent c.requires.stands;
+      steps = steps-none g.D.Disk.observable _ c.args.store.now _ (worked _ _) c.requires.unspent c.requires.stands;
       leaves = inl (reads-none _ c.args.store.now);
       grows = λ _ done. absurd (c.refused_method.ensures.refusal.undone done);
       same = λ _. refl;

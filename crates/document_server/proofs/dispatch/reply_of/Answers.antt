@@ -15,7 +15,7 @@ returns-in-Other-clause-answered g c =
 
 pub returns-in-Feed-clause-answered : goal.returns-in-Feed-clause-answered
 returns-in-Feed-clause-answered g c =
-    comes-as _ _ (of-feed (shown_over g.D.Disk.told c.args.store.now) c.args.store.now c.args.request.now c.args.now
+    comes-as _ _ (of-feed (shown_over g.D.Disk.observable c.args.store.now) c.args.store.now c.args.request.now c.args.now
     (λ e. c.in_default.not-Other (ap (λ (r : RequestValue). r.verb) c.request.view_is ∙ e))
     c.in-Some.address c.in-Some.ensures.found.0 (target-as _ _ _ _
     (ap (λ (h : HeadValue). h.name.base) (c.behind-store.view_is ∙ c.head.ensures))
@@ -25,7 +25,7 @@ returns-in-Feed-clause-answered g c =
 
 pub returns-in-Feed-clause-leaves : goal.returns-in-Feed-clause-leaves
 returns-in-Feed-clause-leaves g c =
-    commits-as g.D.Disk.told _ _ (of-feed (shown_by c.args.store.now) c.args.store.now c.args.request.now c.args.now
+    commits-as g.D.Disk.observable _ _ (of-feed (shown_by c.args.store.now) c.args.store.now c.args.request.now c.args.now
     (λ e. c.in_default.not-Other (ap (λ (r : RequestValue). r.verb) c.request.view_is ∙ e))
     c.in-Some.address c.in-Some.ensures.found.0 (target-as _ _ _ _
     (ap (λ (h : HeadValue). h.name.base) (c.behind-store.view_is ∙ c.head.ensures))
@@ -35,7 +35,7 @@ returns-in-Feed-clause-leaves g c =
 
 pub returns-in-Archive-clause-answered : goal.returns-in-Archive-clause-answered
 returns-in-Archive-clause-answered g c =
-    comes-as _ _ (of-archive (shown_over g.D.Disk.told c.args.store.now) c.args.store.now c.args.request.now c.args.now
+    comes-as _ _ (of-archive (shown_over g.D.Disk.observable c.args.store.now) c.args.store.now c.args.request.now c.args.now
     (λ e. c.in_default.not-Other (ap (λ (r : RequestValue). r.verb) c.request.view_is ∙ e))
     c.in-Some.address c.in-Some.ensures.found.0 (target-as _ _ _ _
     (ap (λ (h : HeadValue). h.name.base) (c.behind-store.view_is ∙ c.head.ensures))
@@ -47,7 +47,7 @@ returns-in-Archive-clause-answered g c =
 
 pub returns-in-Member-clause-answered : goal.returns-in-Member-clause-answered
 returns-in-Member-clause-answered g c =
-    comes-as _ _ (of-member (shown_over g.D.Disk.told c.args.store.now) c.args.store.now c.args.request.now c.args.now
+    comes-as _ _ (of-member (shown_over g.D.Disk.observable c.args.store.now) c.args.store.now c.args.request.now c.args.now
     (λ e. c.in_default.not-Other (ap (λ (r : RequestValue). r.verb) c.request.view_is ∙ e))
     c.in-Some.address c.in-Some.ensures.found.0 (target-as _ _ _ _
     (ap (λ (h : HeadValue). h.name.base) (c.behind-store.view_is ∙ c.head.ensures))
@@ -58,7 +58,7 @@ returns-in-Member-clause-answered g c =
 
 pub returns-in-Member-clause-leaves : goal.returns-in-Member-clause-leaves
 returns-in-Member-clause-leaves g c =
-    commits-as g.D.Disk.told _ _ (of-member (shown_by c.args.store.now) c.args.store.now c.args.request.now c.args.now
+    commits-as g.D.Disk.observable _ _ (of-member (shown_by c.args.store.now) c.args.store.now c.args.request.now c.args.now
     (λ e. c.in_default.not-Other (ap (λ (r : RequestValue). r.verb) c.request.view_is ∙ e))
     c.in-Some.address c.in-Some.ensures.found.0 (target-as _ _ _ _
     (ap (λ (h : HeadValue). h.name.base) (c.behind-store.view_is ∙ c.head.ensures))
@@ -81,7 +81,7 @@ returns-in_default-read_target g c =
         ),
       ));
       own = missing.own;
-      steps = steps-none g.D.Disk.told _ c.args.store.now _ (worked _ _) c.requires.unspent c.requires.stands;
+      steps = steps-none g.D.Disk.observable _ c.args.store.now _ (worked _ _) c.requires.unspent c.requires.stands;
       leaves = inl (reads-none _ c.args.store.now);
       grows = λ _ done. absurd (missing.undone done);
       same = λ _. refl;

@@ -1,4 +1,4 @@
-use Rattle.std.proofs.Common.{◌≡◌, ◌≢◌, inl, inr, ℕ, ℤ, Global, Vec, Result, Err, refl, ap, subst, ◌∙◌}
+use Rattle.std.proofs.Common.{◌≡◌, ◌≢◌, inl, inr, ℕ, ℤ, Global, Vec, Result, Err, refl, ap, subst}
 use Rattle.feed_recovery.specs.Documents.{IsMemberFault}
 use Rattle.feed_recovery.specs.declared.fault.MemberFault.{MemberFault}
 use Rattle.feed_recovery.specs.declared.fault.MemberFault.TheVariants.{NotFound, Deleted, Changed, DiskFault, NoMemory}
@@ -44,13 +44,13 @@ returns-in-Ok-clause-answered g c =
       record { document = c.in-Ok.ensures.entry; seen = c.in-Ok.ensures.document },
       ap unchanged c.document.ensures,
     )))
-    (gains-member c.args.store.now c.member.new.self _ (c.in-Ok.ensures.same (worked _ _)))
+    (gains-member c.args.store.now c.member.new.self _ (c.in-Ok.ensures.store.same (worked _ _)))
 
 pub returns-in-Ok-clause-steps : goal.returns-in-Ok-clause-steps
 returns-in-Ok-clause-steps g c =
     let ensured = c.in-Ok.ensures in
-    steps-member g.D.Disk.told _ _ c.args.store.now c.member.new.self _ _ c.requires.unspent ensured.areas ensured.calls
-    (ensured.same (worked _ _)) (worked _ _) (ensured.stands (worked _ _)) (ensured.unfailed (worked _ _))
+    steps-member g.D.Disk.observable _ _ c.args.store.now c.member.new.self _ _ c.requires.unspent ensured.areas ensured.calls
+    (ensured.store.same (worked _ _)) (worked _ _) (ensured.store.stands (worked _ _)) (ensured.faults.unfailed (worked _ _))
 
 pub returns-in-Err-NotFound-clause-answered : goal.returns-in-Err-NotFound-clause-answered
 returns-in-Err-NotFound-clause-answered g c =
@@ -59,15 +59,15 @@ returns-in-Err-NotFound-clause-answered g c =
     (let fault = subst (IsMemberFault c.args.store.now c.args.number) is
     c.in-Err-NotFound.ensures.refused in
     never-is _ _ _ fault.1 (ap unchanged c.line.ensures))
-    (gains-member c.args.store.now c.member.new.self _ (c.in-Err-NotFound.ensures.same (not_found _ _ is)))
+    (gains-member c.args.store.now c.member.new.self _ (c.in-Err-NotFound.ensures.store.same (not_found _ _ is)))
 
 pub returns-in-Err-NotFound-clause-steps : goal.returns-in-Err-NotFound-clause-steps
 returns-in-Err-NotFound-clause-steps g c =
     let is = c.in-Err-NotFound.field-0-is in
     let ensured = c.in-Err-NotFound.ensures in
-    steps-member g.D.Disk.told _ _ c.args.store.now c.member.new.self _ _ c.requires.unspent ensured.areas ensured.calls
-    (ensured.same (not_found _ _ is)) (worked _ _)
-    (ensured.stands (not_found _ _ is)) (ensured.unfailed (not_found _ _ is))
+    steps-member g.D.Disk.observable _ _ c.args.store.now c.member.new.self _ _ c.requires.unspent ensured.areas ensured.calls
+    (ensured.store.same (not_found _ _ is)) (worked _ _)
+    (ensured.store.stands (not_found _ _ is)) (ensured.faults.unfailed (not_found _ _ is))
 
 pub returns-in-Err-Deleted-clause-answered : goal.returns-in-Err-Deleted-clause-answered
 returns-in-Err-Deleted-clause-answered g c =
@@ -76,22 +76,22 @@ returns-in-Err-Deleted-clause-answered g c =
     (let fault = subst (IsMemberFault c.args.store.now c.args.number) is
     c.in-Err-Deleted.ensures.refused in
     gone-is _ _ _ _ fault.1 (ap unchanged c.line-in-Err-Deleted.ensures))
-    (gains-member c.args.store.now c.member.new.self _ (c.in-Err-Deleted.ensures.same (deleted _ _ _ is)))
+    (gains-member c.args.store.now c.member.new.self _ (c.in-Err-Deleted.ensures.store.same (deleted _ _ _ is)))
 
 pub returns-in-Err-Deleted-clause-steps : goal.returns-in-Err-Deleted-clause-steps
 returns-in-Err-Deleted-clause-steps g c =
     let is = c.in-Err-Deleted.field-0-is in
     let ensured = c.in-Err-Deleted.ensures in
-    steps-member g.D.Disk.told _ _ c.args.store.now c.member.new.self _ _ c.requires.unspent ensured.areas ensured.calls
-    (ensured.same (deleted _ _ _ is)) (worked _ _)
-    (ensured.stands (deleted _ _ _ is)) (ensured.unfailed (deleted _ _ _ is))
+    steps-member g.D.Disk.observable _ _ c.args.store.now c.member.new.self _ _ c.requires.unspent ensured.areas ensured.calls
+    (ensured.store.same (deleted _ _ _ is)) (worked _ _)
+    (ensured.store.stands (deleted _ _ _ is)) (ensured.faults.unfailed (deleted _ _ _ is))
 
 pub returns-in-Err-DiskFault-clause-steps : goal.returns-in-Err-DiskFault-clause-steps
 returns-in-Err-DiskFault-clause-steps g c =
     let ensured = c.in-Err-DiskFault.ensures in
     let fault = ap Err c.in-Err-DiskFault.field-0-is in
-    steps-member-failed g.D.Disk.told _ _ c.args.store.now c.member.new.self _ _ c.requires.unspent ensured.areas
-    ensured.calls (ensured.spent fault) refl ensured.later (ensured.failed fault)
+    steps-member-failed g.D.Disk.observable _ _ c.args.store.now c.member.new.self _ _ c.requires.unspent ensured.areas
+    ensured.calls (ensured.store.spent fault) refl ensured.faults.later (ensured.faults.failed fault)
 
 pub returns-in-Err-Changed-clause-answered : goal.returns-in-Err-Changed-clause-answered
 returns-in-Err-Changed-clause-answered g c =
@@ -100,20 +100,20 @@ returns-in-Err-Changed-clause-answered g c =
     let fault = subst (IsMemberFault c.args.store.now c.args.number) is ensured.refused in
     replied-unchanged _ c.args.store.now c.member.new.self disk_changed
     (live-is _ _ _ _ fault.updated fault.state (inr ((λ tells. ensured.never tells _ (ap Err is)), refl)))
-    (gains-member c.args.store.now c.member.new.self _ (ensured.same (changed _ _ is)))
+    (gains-member c.args.store.now c.member.new.self _ (ensured.store.same (changed _ _ is)))
 
 pub returns-in-Err-Changed-clause-steps : goal.returns-in-Err-Changed-clause-steps
 returns-in-Err-Changed-clause-steps g c =
     let is = c.in-Err-Changed.field-0-is in
     let ensured = c.in-Err-Changed.ensures in
-    steps-member g.D.Disk.told _ _ c.args.store.now c.member.new.self _ _ c.requires.unspent ensured.areas ensured.calls
-    (ensured.same (changed _ _ is)) changed_reply
-    (ensured.stands (changed _ _ is)) (ensured.unfailed (changed _ _ is))
+    steps-member g.D.Disk.observable _ _ c.args.store.now c.member.new.self _ _ c.requires.unspent ensured.areas ensured.calls
+    (ensured.store.same (changed _ _ is)) changed_reply
+    (ensured.store.stands (changed _ _ is)) (ensured.faults.unfailed (changed _ _ is))
 
 pub returns-in-Err-NoMemory-clause-steps : goal.returns-in-Err-NoMemory-clause-steps
 returns-in-Err-NoMemory-clause-steps g c =
     let is = c.in-Err-NoMemory.field-0-is in
     let ensured = c.in-Err-NoMemory.ensures in
-    steps-member g.D.Disk.told _ _ c.args.store.now c.member.new.self _ _ c.requires.unspent ensured.areas ensured.calls
-    (ensured.same (no_memory _ is)) no_memory_reply
-    (ensured.stands (no_memory _ is)) (ensured.unfailed (no_memory _ is))
+    steps-member g.D.Disk.observable _ _ c.args.store.now c.member.new.self _ _ c.requires.unspent ensured.areas ensured.calls
+    (ensured.store.same (no_memory _ is)) no_memory_reply
+    (ensured.store.stands (no_memory _ is)) (ensured.faults.unfailed (no_memory _ is))

@@ -1,4 +1,4 @@
-use Rattle.std.proofs.Common.{◌≤◌, ℕ, List, min, length, arith}
+use Rattle.std.proofs.Common.{◌≤◌, min, length, arith}
 use Rattle.feed_journal.specs.Limits.{payload_count_limit}
 use Rattle.feed_journal.specs.Records.{records}
 use Rattle.feed_journal.proofs.AppendLemmas.{begins_reads, begins_whole}

@@ -106,7 +106,7 @@ frames-preserved g c =
     let read : raised m.bytes_read 5 ≤ t.bytes_read =
     subst (λ (o : Option ℕ). raised m.bytes_read (header_bytes o) ≤ t.bytes_read) c.in-Some.is
     c.in_ok-length.ensures.read in
-    let next = λ (tells : g.D.Disk.told). subst (IsNext (drop end content)) c.in-Some.is
+    let next = λ (tells : g.D.Disk.observable). subst (IsNext (drop end content)) c.in-Some.is
     (subst (λ (l : List ℕ). IsNext (drop end l) c.in_ok-length.field-0)
     (c.frames.invariant.areas c.args.area).content (c.in_ok-length.ensures.found tells)) in
     record {
@@ -126,5 +126,5 @@ frames-preserved g c =
       made = calls_more (g.D.Disk.state c.args.disk.now) (g.D.Disk.state c.frames.disk)
           (g.D.Disk.state c.next_frame.new.disk) c.args.calls.now c.frames.calls c.next_frame.new.calls 1
           c.frames.invariant.made c.next_frame.ensures.calls;
-      faults = c.in_ok-length.ensures.worked ∙ c.frames.invariant.faults;
+      faults = c.in_ok-length.ensures.cause.worked ∙ c.frames.invariant.faults;
     }

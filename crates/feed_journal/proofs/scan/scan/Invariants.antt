@@ -11,7 +11,7 @@ abbrev pub invariant-frames : goal.invariant-frames
 invariant-frames g l = record {
   rules : KeepsLog l.extents.items (l.end + 1);
   within : l.end < l.size;
-  found : g.D.Disk.told → Found l.extents.items l.end ((g.D.Disk.state l.fn.disk).content l.area);
+  found : g.D.Disk.observable → Found l.extents.items l.end ((g.D.Disk.state l.fn.disk).content l.area);
   areas : (a : Area) → LeavesAlone (g.D.Disk.state l.fn.disk) (g.D.Disk.state l.disk) a;
   made : MakesSome (g.D.Disk.state l.fn.disk) (g.D.Disk.state l.disk) l.fn.calls l.calls;
   read : raised (g.D.Disk.state l.fn.disk).bytes_read (header_length * length l.extents.items)

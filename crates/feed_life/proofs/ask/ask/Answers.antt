@@ -12,9 +12,9 @@ returns c = record {
       store-answered head c.args.request.now c.args.now history c.args.disk.now c.open.new.disk c.answer-reply.new.disk
       c.in_ok-store.store
       c.answer-reply.new.store c.answer-reply.result (c.in_ok-store.ensures.opened head history is_store)
-      c.answer-reply.ensures.head _ _ _ (c.answer-reply.ensures.answered tt) c.if-reply-eq-NO_MEMORY.false
-      (sym c.is_spent.ensures ∙ c.if-is_spent.false) c.answer-reply.ensures.spent
-      (λ other. c.answer-reply.ensures.stands other tt) (λ other. c.answer-reply.ensures.settled other tt) refl
+      c.answer-reply.ensures.steps.head _ _ _ (c.answer-reply.ensures.answered tt) c.if-reply-eq-NO_MEMORY.false
+      (sym c.is_spent.ensures ∙ c.if-is_spent.false) c.answer-reply.ensures.steps.spent
+      (λ other. c.answer-reply.ensures.steps.stands other tt) (λ other. c.answer-reply.ensures.settled other tt) refl
       c.version.ensures refl c.sealed-sealed.ensures;
   calls =
       subst (λ (n : ℕ). (number : ℕ) × MakesCalls (state_of c.args.disk.now)
@@ -22,5 +22,5 @@ returns c = record {
       (sym c.calls.ensures.calls)
       (calls_then (state_of c.args.disk.now) (state_of c.open.new.disk) (state_of c.answer-reply.new.disk) 0
       (call_count c.in_ok-store.store) (call_count c.answer-reply.new.store) c.in_ok-store.ensures.calls.0
-      c.in_ok-store.ensures.calls.1 c.answer-reply.ensures.calls);
+      c.in_ok-store.ensures.calls.1 c.answer-reply.ensures.steps.calls);
 }

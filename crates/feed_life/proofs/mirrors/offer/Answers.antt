@@ -8,6 +8,7 @@ use Rattle.feed_life.proofs.mirrors.offer.Goals as goal
 pub returns-clause-runs : goal.returns-clause-runs
 returns-clause-runs c = on_ok_weaker c.answered.result (λ known head history kept sent served opened.
     let offered = c.offer-answer.ensures in
+    let sound = offered.sound known.1 in
     let rests = opened-rests head kept c.args.disk.now c.args.mirror.now opened in
     offer-runs head history c.args.doc.now kept c.args.disk.now c.offer-answer.new.disk c.args.mirror.now
     c.offer-answer.new.self sent served opened c.slice.result.now c.slice-bytes.result.now c.slice.ensures
@@ -19,8 +20,8 @@ returns-clause-runs c = on_ok_weaker c.answered.result (λ known head history ke
     ])
     (offered.served head history _ opened.base served
     (opened-offered head kept c.args.disk.now c.args.mirror.now opened))
-    (offered.stands known.1 tt) (offered.rests known.1 tt rests) (offered.most known.1)
+    (sound.stands tt) (sound.rests tt rests) sound.most
     (offered.moments tt rests)) c.answered.ensures
 
 pub returns-clause-later : goal.returns-clause-later
-returns-clause-later c = (c.offer-answer.ensures.others Journal (λ e. cc)).leaves.later
+returns-clause-later c = (c.offer-answer.ensures.setting.others Journal (λ e. cc)).leaves.later

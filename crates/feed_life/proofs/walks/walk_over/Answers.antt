@@ -17,9 +17,10 @@ returns-clause-runs c = on_ok_weaker c.end_of.result (λ over head history kept 
     walk-runs c.begun_images_are_whole.ensures c.stores_answer_what_is_served.ensures head history kept c.args.disk.now
     c.walk-walked.new.disk c.args.mirror.now c.walk-walked.new.self documents source ready refl _
     c.walk-walked.result over (c.walk-walked.ensures.served tt head history)
-    (c.walk-walked.ensures.walked tt) (λ worked. c.walk-walked.ensures.stands worked tt)
-    (c.walk-walked.ensures.moments tt tt) (λ worked. c.walk-walked.ensures.rests worked tt) c.walk-walked.ensures.most)
+    (c.walk-walked.ensures.walked tt) (λ worked. (c.walk-walked.ensures.sound worked).stands tt)
+    (c.walk-walked.ensures.moments tt tt) (λ worked. (c.walk-walked.ensures.sound worked).rests tt)
+    (λ worked. (c.walk-walked.ensures.sound worked).most))
     c.end_of.ensures
 
 pub returns-clause-later : goal.returns-clause-later
-returns-clause-later c = on-ok-of c.end_of.result _ (c.walk-walked.ensures.others Journal (λ e. cc)).leaves.later
+returns-clause-later c = on-ok-of c.end_of.result _ (c.walk-walked.ensures.setting.others Journal (λ e. cc)).leaves.later

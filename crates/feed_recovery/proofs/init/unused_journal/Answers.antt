@@ -27,14 +27,14 @@ mirror g c =
     alone_joins (g.D.Disk.state c.args.disk.now) (g.D.Disk.state c.load.new.disk) (g.D.Disk.state c.load-2.new.disk)
     Mirror (c.load.ensures.others Mirror mirror_journal) (c.load-2.ensures.others Mirror mirror_sealed)
 
-seals : (g : Over) (c : After-load-2 g) → g.D.Disk.told
+seals : (g : Over) (c : After-load-2 g) → g.D.Disk.observable
     → AlwaysLeaves (g.D.Disk.state c.args.disk.now) (g.D.Disk.state c.load-2.new.disk) Sealed
     (StandsFor ((g.D.Disk.state c.args.disk.now).image_now Sealed))
 seals g c tells =
     stands_after (g.D.Disk.state c.args.disk.now) (g.D.Disk.state c.load.new.disk) (g.D.Disk.state c.load-2.new.disk)
     Sealed (c.load.ensures.others Sealed sealed_journal) (c.load-2.ensures.moments tells)
 
-journal : (g : Over) (c : After-load-2 g) → g.D.Disk.told
+journal : (g : Over) (c : After-load-2 g) → g.D.Disk.observable
     → AlwaysLeaves (g.D.Disk.state c.args.disk.now) (g.D.Disk.state c.load-2.new.disk) Journal
     (StandsFor ((g.D.Disk.state c.args.disk.now).image_now Journal))
 journal g c tells =

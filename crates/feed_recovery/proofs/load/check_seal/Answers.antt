@@ -18,7 +18,7 @@ returns-clause-fault g c = λ counted is_journal before.
     let s = g.D.Disk.state c.args.disk.now in
     let payload = c.in-Ok.payload.items in
     let written = c.in_ok-text.text.items in
-    seal_fails g.D.Disk.told s (g.D.Disk.state c.read.new.disk) c.args.seals.now c.args.head.now c.args.history.now
+    seal_fails g.D.Disk.observable s (g.D.Disk.state c.read.new.disk) c.args.seals.now c.args.head.now c.args.history.now
     c.args.index payload c.requires.seals counted is_journal before
     (λ tells. subst (λ (a : Area). slice_get (records (s.content a)) c.args.index ≡ Some payload) c.requires.seals.area
     (c.in-Ok.ensures.payload tells))
@@ -28,4 +28,4 @@ returns-clause-fault g c = λ counted is_journal before.
     c.in_ok-text.ensures same in
     let equal : c.eq.result ≡ true = c.eq.ensures ∙ rw (← is) (nat_list_eq_equiv.refl payload) in
     let never : true ≡ false = sym equal ∙ c.if-eq.false in cc)
-    (c.in-Ok.ensures.unfailed (λ is. absurd (cc)))
+    (c.in-Ok.ensures.faults.unfailed (λ is. absurd (cc)))

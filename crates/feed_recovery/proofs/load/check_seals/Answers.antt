@@ -35,7 +35,7 @@ returns-in_err-check_seal-clause-fault g c = λ is_journal.
     (λ tells. subst (λ (l : List ℕ). AreSeals c.args.head.now c.args.history.now (take c.loop-index.index (records l)))
     (sym (reads.areas Sealed).content) (c.loop-index.invariant.compared tells)) in
     let returned = err_from_is_err_and c.from_residual.result c.from_residual.ensures.1 in
-    rw (returned.1, returned.2) (fails_later g.D.Disk.told s m t c.in_err-check_seal.field-0.0 reads
+    rw (returned.1, returned.2) (fails_later g.D.Disk.observable s m t c.in_err-check_seal.field-0.0 reads
     c.loop-index.invariant.worked.faults fails)
 
 pub loop-index-preserved : goal.loop-index-preserved

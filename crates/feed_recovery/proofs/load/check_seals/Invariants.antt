@@ -9,6 +9,6 @@ abbrev pub invariant-loop-index : goal.invariant-loop-index
 invariant-loop-index g l = record {
   worked : Worked (g.D.Disk.state l.fn.disk) (g.D.Disk.state l.disk) l.fn.seals l.seals;
   reads : OnlyReads (g.D.Disk.state l.fn.disk) (g.D.Disk.state l.disk);
-  compared : g.D.Disk.told
+  compared : g.D.Disk.observable
       → AreSeals l.head l.history (take l.index (records ((g.D.Disk.state l.fn.disk).content Sealed)));
 }

@@ -33,7 +33,7 @@ returns-in_err-push-clause-reads g c = reads_join (g.D.Disk.state c.args.disk.no
 pub operation_of-requires-clause-journal : goal.operation_of-requires-clause-journal
 operation_of-requires-clause-journal g c =
     let before = c.loop-index.invariant in
-    readable_later g.D.Disk.told (g.D.Disk.state c.args.disk.now) (g.D.Disk.state c.loop-index.disk) Journal
+    readable_later g.D.Disk.observable (g.D.Disk.state c.args.disk.now) (g.D.Disk.state c.loop-index.disk) Journal
     c.args.journal.now c.loop-index.journal c.requires.journal before.reads before.worked
 
 pub commit-requires-clause-follows : goal.commit-requires-clause-follows
@@ -53,13 +53,13 @@ pub returns-in_err-prepare-clause-fault : goal.returns-in_err-prepare-clause-fau
 returns-in_err-prepare-clause-fault g c =
     let returned = err_from_is_err_and c.from_residual-in_err-prepare.result
     c.from_residual-in_err-prepare.ensures.1 in
-    rw (returned.1, returned.2) (memory_fails g.D.Disk.told (g.D.Disk.state c.args.disk.now)
+    rw (returned.1, returned.2) (memory_fails g.D.Disk.observable (g.D.Disk.state c.args.disk.now)
     (g.D.Disk.state c.loop-index.disk) c.loop-index.invariant.worked.faults)
 
 pub returns-in_err-push-clause-fault : goal.returns-in_err-push-clause-fault
 returns-in_err-push-clause-fault g c =
     let returned = err_from_is_err_and c.from_residual-in_err-push.result c.from_residual-in_err-push.ensures.1 in
-    rw (returned.1, returned.2) (memory_fails g.D.Disk.told (g.D.Disk.state c.args.disk.now)
+    rw (returned.1, returned.2) (memory_fails g.D.Disk.observable (g.D.Disk.state c.args.disk.now)
     (g.D.Disk.state c.operation_of.new.disk)
     (c.in_ok-operation.ensures.worked.faults ∙ c.loop-index.invariant.worked.faults))
 
@@ -79,7 +79,7 @@ returns-in_err-operation-clause-fault g c =
     }) in
     let returned = err_from_is_err_and c.from_residual-in_err-operation.result
     c.from_residual-in_err-operation.ensures.1 in
-    rw (returned.1, returned.2) (fails_later g.D.Disk.told s m t c.in_err-operation.field-0.0 before.reads
+    rw (returned.1, returned.2) (fails_later g.D.Disk.observable s m t c.in_err-operation.field-0.0 before.reads
     before.worked.faults fails)
 
 pub loop-index-preserved : goal.loop-index-preserved

@@ -17,7 +17,7 @@ invariant-loop-index g l = record {
   count : l.index ≡ length l.history.items + 1;
   lawful : IsLawful l.head l.history.items;
   table : IsTableOf l.members l.head.created l.history.items;
-  payloads : g.D.Disk.told
+  payloads : g.D.Disk.observable
       → take l.index (records ((g.D.Disk.state l.fn.disk).content Journal)) ≡ journal_of l.head l.history.items;
   long : (k n : ℕ) → 1 ≤ k → k < l.index → slice_get (payload_lengths l.fn.journal.extents) k ≡ Some n
       → least_operation ≤ n;

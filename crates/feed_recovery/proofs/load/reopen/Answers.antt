@@ -1,7 +1,7 @@
 use Rattle.std.proofs.Common.{◌≡◌, ◌+◌, ◌<◌, List, ℕ, length, sym, ◌∙◌, ap, subst, arith}
 use Rattle.std.proofs.lemmas.Result.{err_from_is_err_and}
 use Rattle.feed_disk.specs.declared.area.Area.TheVariants.{Journal, Sealed}
-use Rattle.feed_journal.specs.Log.{LogValue}
+use Rattle.feed_journal.specs.Log.{IsLog, LogValue}
 use Rattle.feed_journal.specs.Records.{records}
 use Rattle.feed_journal.proofs.ExtentLemmas.{length-payloads}
 use Rattle.feed_recovery.specs.Opening.{AreSeals, IsJournal, IsSealCount}
@@ -14,19 +14,19 @@ use Rattle.member_rules.specs.declared.operation.Op.{Op}
 
 pub history_of-requires-clause-journal : goal.history_of-requires-clause-journal
 history_of-requires-clause-journal g c =
-    readable_later g.D.Disk.told (g.D.Disk.state c.args.disk.now) (g.D.Disk.state c.head_of.new.disk) Journal
+    readable_later g.D.Disk.observable (g.D.Disk.state c.args.disk.now) (g.D.Disk.state c.head_of.new.disk) Journal
     c.args.journal c.head_of.new.journal c.requires.journal c.head_of.ensures.reads c.in_ok-head.ensures.worked
 
 pub check_seals-requires-clause-seals : goal.check_seals-requires-clause-seals
 check_seals-requires-clause-seals g c =
     let s = g.D.Disk.state c.args.disk.now in
     let n = g.D.Disk.state c.history_of.new.disk in
-    readable_alone g.D.Disk.told s n Sealed c.args.seals c.requires.seals
+    readable_alone g.D.Disk.observable s n Sealed c.args.seals c.requires.seals
     (reads_join s (g.D.Disk.state c.head_of.new.disk) n c.head_of.ensures.reads c.history_of.ensures.reads)
 
 pub returns-in-Err-clause-fault : goal.returns-in-Err-clause-fault
 returns-in-Err-clause-fault g c =
-    fails_later g.D.Disk.told (g.D.Disk.state c.args.disk.now) (g.D.Disk.state c.head_of.new.disk)
+    fails_later g.D.Disk.observable (g.D.Disk.state c.args.disk.now) (g.D.Disk.state c.head_of.new.disk)
     (g.D.Disk.state c.history_of.new.disk) c.in-Err.fault c.head_of.ensures.reads
     c.in_ok-head.ensures.worked.faults c.in-Err.ensures.fault
 
@@ -35,7 +35,7 @@ returns-in-Err-check_seals-clause-fault g c =
     let s = g.D.Disk.state c.args.disk.now in
     let m = g.D.Disk.state c.head_of.new.disk in
     let n = g.D.Disk.state c.history_of.new.disk in
-    fails_later g.D.Disk.told s n (g.D.Disk.state c.check_seals.new.disk) c.in-Err-check_seals.fault
+    fails_later g.D.Disk.observable s n (g.D.Disk.state c.check_seals.new.disk) c.in-Err-check_seals.fault
     (reads_join s m n c.head_of.ensures.reads c.history_of.ensures.reads)
     (c.in-Ok.ensures.worked.faults ∙ c.in_ok-head.ensures.worked.faults)
     (c.in-Err-check_seals.ensures.fault (λ tells.
@@ -67,6 +67,14 @@ returns-clause-reads g c =
     (reads_join s (g.D.Disk.state c.head_of.new.disk) n c.head_of.ensures.reads c.history_of.ensures.reads)
     c.check_seals.ensures.reads
 
+pub returns-clause-logs : goal.returns-clause-logs
+returns-clause-logs g c = (
+  subst IsLog (sym (c.in-Ok.ensures.worked.log
+      ∙ ap (λ (l : LogValue). record l { calls = c.history_of.new.journal.calls }) c.in_ok-head.ensures.worked.log))
+      c.requires.journal.rules,
+  subst IsLog (sym c.in_default.ensures.worked.log) c.requires.seals.rules,
+)
+
 pub returns-clause-calls : goal.returns-clause-calls
 returns-clause-calls g c =
     let s = g.D.Disk.state c.args.disk.now in
@@ -84,7 +92,7 @@ returns-clause-stands g c = λ tells.
     let m = g.D.Disk.state c.head_of.new.disk in
     let n = g.D.Disk.state c.history_of.new.disk in
     let u = g.D.Disk.state c.check_seals.new.disk in
-    let told = g.D.Disk.told in
+    let observable = g.D.Disk.observable in
     let head = c.in_ok-head.head in
     let history = c.in-Ok.history.items in
     let seals = c.check_seals.new.seals in
@@ -92,12 +100,12 @@ returns-clause-stands g c = λ tells.
     let second = c.history_of.ensures.reads in
     let third = c.check_seals.ensures.reads in
     let later = reads_join m n u second third in
-    let journal_there = readable_alone told n u Journal c.history_of.new.journal
-    (readable_later told m n Journal c.head_of.new.journal c.history_of.new.journal
-    (readable_later told s m Journal c.args.journal c.head_of.new.journal c.requires.journal first
+    let journal_there = readable_alone observable n u Journal c.history_of.new.journal
+    (readable_later observable m n Journal c.head_of.new.journal c.history_of.new.journal
+    (readable_later observable s m Journal c.args.journal c.head_of.new.journal c.requires.journal first
     c.in_ok-head.ensures.worked) second c.in-Ok.ensures.worked) third in
-    let seals_there = readable_later told n u Sealed c.args.seals seals
-    (readable_alone told s n Sealed c.args.seals c.requires.seals (reads_join s m n first second)) third
+    let seals_there = readable_later observable n u Sealed c.args.seals seals
+    (readable_alone observable s n Sealed c.args.seals c.requires.seals (reads_join s m n first second)) third
     c.in_default.ensures.worked in
     let listed = seals_there.listed tells in
     let counted : IsSealCount head history (length c.args.seals.extents) =

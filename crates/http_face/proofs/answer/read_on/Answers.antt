@@ -3,7 +3,7 @@ use Rattle.http_face.proofs.ReadLemmas.{takes_more, takes_both}
 use Rattle.http_face.proofs.answer.read_on.Goals as goal
 
 pub returns-in_err-count-clause-most : goal.returns-in_err-count-clause-most
-returns-in_err-count-clause-most g c = λ told.
+returns-in_err-count-clause-most g c = λ observable.
     takes_more _ _ _ _
     (omega (
       arith,
@@ -11,7 +11,7 @@ returns-in_err-count-clause-most g c = λ told.
       c.loop-body.invariant.within,
       c.loop-body-test.true,
     ))
-    (takes_both _ _ _ _ _ (c.loop-body.invariant.most told) (c.in_err-count.ensures.most told))
+    (takes_both _ _ _ _ _ (c.loop-body.invariant.most observable) (c.in_err-count.ensures.most observable))
 
 pub loop-body-preserved : goal.loop-body-preserved
 loop-body-preserved g c = record {
@@ -23,9 +23,9 @@ loop-body-preserved g c = record {
     c.loop-body.invariant.within,
     c.loop-body-test.true,
   );
-  bytes = λ told. c.loop-body.invariant.bytes told ∙ c.in_ok-count.ensures.bytes told;
-  most = λ told. takes_more _ _ _ _ (omega (arith, c.in_ok-count.ensures.len))
-      (takes_both _ _ _ _ _ (c.loop-body.invariant.most told) (c.in_ok-count.ensures.read told));
+  bytes = λ observable. c.loop-body.invariant.bytes observable ∙ c.in_ok-count.ensures.bytes observable;
+  most = λ observable. takes_more _ _ _ _ (omega (arith, c.in_ok-count.ensures.len))
+      (takes_both _ _ _ _ _ (c.loop-body.invariant.most observable) (c.in_ok-count.ensures.read observable));
   reads = record {
     sent = c.in_ok-count.ensures.reads.sent ∙ c.loop-body.invariant.reads.sent;
     begun = c.in_ok-count.ensures.reads.begun ∙ c.loop-body.invariant.reads.begun;

@@ -4,7 +4,7 @@ use Rattle.http_face.proofs.BodyLemmas.{body_full, body_ended}
 use Rattle.http_face.proofs.body.read_into.Goals as goal
 
 pub returns-clause-heard : goal.returns-clause-heard
-returns-clause-heard g c = λ told.
+returns-clause-heard g c = λ observable.
     let start = c.min-start.result in
     let ahead = c.args.ahead.now in
     let old = c.args.body.now in
@@ -27,13 +27,13 @@ returns-clause-heard g c = λ told.
     ) in
     let all = take_all c.in_ok-filled.filled body c.if-filled-body.false in
     let same : take start ahead ++ left ≡ body ++ rest =
-    ap (λ (x : List ℕ). x ++ left) (sym front) ∙ c.in_ok-filled.ensures.bytes told
+    ap (λ (x : List ℕ). x ++ left) (sym front) ∙ c.in_ok-filled.ensures.bytes observable
     ∙ ap (λ (x : List ℕ). x ++ rest) all in
     body_full start (length old) (c.args.before + length (ahead ++ left)) ahead left body rest c.min-start.ensures
     size same
 
 pub returns-then-filled-body-clause-refused : goal.returns-then-filled-body-clause-refused
-returns-then-filled-body-clause-refused g c = λ _ told.
+returns-then-filled-body-clause-refused g c = λ _ observable.
     let start = c.min-start.result in
     let ahead = c.args.ahead.now in
     let old = c.args.body.now in
@@ -56,7 +56,7 @@ returns-then-filled-body-clause-refused g c = λ _ told.
       c.min-start.ensures,
     ) in
     let same : take start ahead ++ left ≡ take filled body ++ rest =
-    ap (λ (x : List ℕ). x ++ left) (sym front) ∙ c.in_ok-filled.ensures.bytes told in
+    ap (λ (x : List ℕ). x ++ left) (sym front) ∙ c.in_ok-filled.ensures.bytes observable in
     body_ended start (length old) c.args.before filled ahead left body rest c.min-start.ensures
     (omega (arith, c.if-filled-body.true, size)) (omega (arith, c.if-filled-body.true)) same
-    (c.in_ok-filled.ensures.end told (omega (arith, c.if-filled-body.true, c.fill_up.auto.buffer)))
+    (c.in_ok-filled.ensures.end observable (omega (arith, c.if-filled-body.true, c.fill_up.auto.buffer)))

@@ -7,11 +7,11 @@ abbrev pub invariant-loop-full : goal.invariant-loop-full
 invariant-loop-full g l = record {
   within : l.full ≤ length l.buffer;
   more : l.fn.filled ≤ l.full;
-  bytes : g.C.Conn.told → take l.fn.filled l.fn.buffer ++ (g.C.Conn.state l.fn.conn).left
+  bytes : g.C.Conn.observable → take l.fn.filled l.fn.buffer ++ (g.C.Conn.state l.fn.conn).left
       ≡ take l.full l.buffer ++ (g.C.Conn.state l.conn).left;
-  most : g.C.Conn.told → TakesAtMost (l.full - l.fn.filled) (g.C.Conn.state l.fn.conn) (g.C.Conn.state l.conn);
+  most : g.C.Conn.observable → TakesAtMost (l.full - l.fn.filled) (g.C.Conn.state l.fn.conn) (g.C.Conn.state l.conn);
   read : RisesAtMost (l.full - l.fn.filled) (g.C.Conn.state l.fn.conn).bytes_read (g.C.Conn.state l.conn).bytes_read;
-  needed : g.C.Conn.told → LastReadAfter (λ before. l.fn.filled + length before < length l.fn.buffer)
+  needed : g.C.Conn.observable → LastReadAfter (λ before. l.fn.filled + length before < length l.fn.buffer)
       (g.C.Conn.state l.fn.conn) (g.C.Conn.state l.conn);
   reads : Reads (g.C.Conn.state l.fn.conn) (g.C.Conn.state l.conn);
   faults : (g.C.Conn.state l.conn).faults ≡ (g.C.Conn.state l.fn.conn).faults;

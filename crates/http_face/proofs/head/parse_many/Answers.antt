@@ -26,7 +26,7 @@ returns c =
       unsettled = record {};
       refused = λ _ more.
           (no_head-never c.args.bytes.now more never, bad_head c.args.bytes.now more c.requires.short never);
-      own = λ e. cc;
+      only_errors = λ e. cc;
     }
 
 pub returns-in-Ok-Complete-clause-unsettled : goal.returns-in-Ok-Complete-clause-unsettled

@@ -21,24 +21,24 @@ loop-filled-init g c = record {
 }
 
 pub returns-in_err-count-clause-needed : goal.returns-in_err-count-clause-needed
-returns-in_err-count-clause-needed g c = λ told.
-    needs_read _ _ (g.C.Conn.state c.loop-filled.conn) _ _ (c.loop-filled.invariant.bytes told)
-    (c.read_behind.ensures.before told) (c.loop-filled.invariant.unsettled c.loop-filled-test.true)
+returns-in_err-count-clause-needed g c = λ observable.
+    needs_read _ _ (g.C.Conn.state c.loop-filled.conn) _ _ (c.loop-filled.invariant.bytes observable)
+    (c.read_behind.ensures.before observable) (c.loop-filled.invariant.unsettled c.loop-filled-test.true)
 
 pub returns-then-count-eq0-clause-needed : goal.returns-then-count-eq0-clause-needed
-returns-then-count-eq0-clause-needed g c = λ told.
-    needs_read _ _ (g.C.Conn.state c.loop-filled.conn) _ _ (c.loop-filled.invariant.bytes told)
-    (c.read_behind.ensures.before told) (c.loop-filled.invariant.unsettled c.loop-filled-test.true)
+returns-then-count-eq0-clause-needed g c = λ observable.
+    needs_read _ _ (g.C.Conn.state c.loop-filled.conn) _ _ (c.loop-filled.invariant.bytes observable)
+    (c.read_behind.ensures.before observable) (c.loop-filled.invariant.unsettled c.loop-filled-test.true)
 
 pub returns-in_err-spans-clause-needed : goal.returns-in_err-spans-clause-needed
-returns-in_err-spans-clause-needed g c = λ told.
-    needs_read _ _ (g.C.Conn.state c.loop-filled.conn) _ _ (c.loop-filled.invariant.bytes told)
-    (c.read_behind.ensures.before told) (c.loop-filled.invariant.unsettled c.loop-filled-test.true)
+returns-in_err-spans-clause-needed g c = λ observable.
+    needs_read _ _ (g.C.Conn.state c.loop-filled.conn) _ _ (c.loop-filled.invariant.bytes observable)
+    (c.read_behind.ensures.before observable) (c.loop-filled.invariant.unsettled c.loop-filled-test.true)
 
 pub returns-in-Some-clause-needed : goal.returns-in-Some-clause-needed
-returns-in-Some-clause-needed g c = λ told.
-    needs_read _ _ (g.C.Conn.state c.loop-filled.conn) _ _ (c.loop-filled.invariant.bytes told)
-    (c.read_behind.ensures.before told) (c.loop-filled.invariant.unsettled c.loop-filled-test.true)
+returns-in-Some-clause-needed g c = λ observable.
+    needs_read _ _ (g.C.Conn.state c.loop-filled.conn) _ _ (c.loop-filled.invariant.bytes observable)
+    (c.read_behind.ensures.before observable) (c.loop-filled.invariant.unsettled c.loop-filled-test.true)
 
 pub loop-filled-preserved : goal.loop-filled-preserved
 loop-filled-preserved g c =
@@ -56,12 +56,12 @@ loop-filled-preserved g c =
             c.loop-filled.auto.buffer,
             c.requires.room,
           ));
-      bytes = λ told. before.bytes told ∙ c.in_ok-count.ensures.bytes told;
-      most = λ told. takes_both _ _ _ _ _ (before.most told) (c.in_ok-count.ensures.most told);
+      bytes = λ observable. before.bytes observable ∙ c.in_ok-count.ensures.bytes observable;
+      most = λ observable. takes_both _ _ _ _ _ (before.most observable) (c.in_ok-count.ensures.most observable);
       read = rises_read c.loop-filled.filled c.in_ok-count.count _ _ _ _ (omega arith) before.read
           c.in_ok-count.ensures.read;
-      needed = λ told.
-          needs_read _ _ (g.C.Conn.state c.loop-filled.conn) _ _ (before.bytes told) (c.read_behind.ensures.before told)
+      needed = λ observable.
+          needs_read _ _ (g.C.Conn.state c.loop-filled.conn) _ _ (before.bytes observable) (c.read_behind.ensures.before observable)
           (before.unsettled c.loop-filled-test.true);
       reads = record {
         sent = c.in_ok-count.ensures.reads.sent ∙ before.reads.sent;
@@ -74,18 +74,18 @@ pub returns-in_err-spans-clause-refused : goal.returns-in_err-spans-clause-refus
 returns-in_err-spans-clause-refused g c =
     let p = err_from_is_err_and c.from_residual-in_err-spans.result c.from_residual-in_err-spans.ensures.1 in
     let left = (g.C.Conn.state c.read_behind.new.conn).left in
-    rw (p.1, p.2) (λ _ memory told.
+    rw (p.1, p.2) (λ _ memory observable.
     subst (λ (x : List ℕ). HasNoHead x × IsHeadFault x c.in_err-spans.field-0.0)
-    (sym (c.loop-filled.invariant.bytes told ∙ c.in_ok-count.ensures.bytes told))
+    (sym (c.loop-filled.invariant.bytes observable ∙ c.in_ok-count.ensures.bytes observable))
     (c.in_err-spans.ensures.refused memory left))
 
 pub returns-in_err-spans-clause-failed : goal.returns-in_err-spans-clause-failed
 returns-in_err-spans-clause-failed g c =
     let p = err_from_is_err_and c.from_residual-in_err-spans.result c.from_residual-in_err-spans.ensures.1 in
-    rw (p.1, p.2) (λ same. absurd (c.in_err-spans.ensures.own (err_same same)))
+    rw (p.1, p.2) (λ same. absurd (c.in_err-spans.ensures.only_errors (err_same same)))
 
 pub returns-clause-refused : goal.returns-clause-refused
-returns-clause-refused g c = λ _ _ told.
+returns-clause-refused g c = λ _ _ observable.
     let bytes = take c.loop-filled.filled c.loop-filled.buffer in
     let left = (g.C.Conn.state c.loop-filled.conn).left in
     let long : length bytes ≡ head_limit =
@@ -97,5 +97,5 @@ returns-clause-refused g c = λ _ _ told.
       c.requires.room,
     ) in
     let limit : head_limit ≤ length (bytes ++ left) = omega (arith, length-append bytes left, long) in
-    subst (λ (x : List ℕ). HasNoHead x × IsHeadFault x HeadTooLarge) (sym (c.loop-filled.invariant.bytes told))
+    subst (λ (x : List ℕ). HasNoHead x × IsHeadFault x HeadTooLarge) (sym (c.loop-filled.invariant.bytes observable))
     (no_head-long bytes left long c.loop-filled.invariant.none, inl limit)

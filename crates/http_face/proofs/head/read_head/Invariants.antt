@@ -10,10 +10,10 @@ invariant-loop-filled g l = record {
   within : l.filled ≤ length l.buffer;
   none : HasNoHead (take l.filled l.buffer);
   unsettled : l.filled < length l.buffer → IsUnsettled (take l.filled l.buffer);
-  bytes : g.C.Conn.told → (g.C.Conn.state l.fn.conn).left ≡ take l.filled l.buffer ++ (g.C.Conn.state l.conn).left;
-  most : g.C.Conn.told → TakesAtMost l.filled (g.C.Conn.state l.fn.conn) (g.C.Conn.state l.conn);
+  bytes : g.C.Conn.observable → (g.C.Conn.state l.fn.conn).left ≡ take l.filled l.buffer ++ (g.C.Conn.state l.conn).left;
+  most : g.C.Conn.observable → TakesAtMost l.filled (g.C.Conn.state l.fn.conn) (g.C.Conn.state l.conn);
   read : RisesAtMost l.filled (g.C.Conn.state l.fn.conn).bytes_read (g.C.Conn.state l.conn).bytes_read;
-  needed : g.C.Conn.told → LastReadAfter IsUnsettled (g.C.Conn.state l.fn.conn) (g.C.Conn.state l.conn);
+  needed : g.C.Conn.observable → LastReadAfter IsUnsettled (g.C.Conn.state l.fn.conn) (g.C.Conn.state l.conn);
   reads : Reads (g.C.Conn.state l.fn.conn) (g.C.Conn.state l.conn);
   faults : (g.C.Conn.state l.conn).faults ≡ (g.C.Conn.state l.fn.conn).faults;
 }

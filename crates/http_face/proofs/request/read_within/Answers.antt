@@ -14,7 +14,7 @@ returns-clause-heard g c =
     omega (arith, length-take head.filled buffer, c.read_head.auto.buffer, c.requires.room) in
     let complete = c.in_ok-head.ensures.complete in
     result_heard (g.C.Conn.state c.args.conn.now).left (take head.filled buffer)
-    (g.C.Conn.state c.read_head.new.conn).left c.read_head.new.headers head.spans complete.0 g.C.Conn.told
+    (g.C.Conn.state c.read_head.new.conn).left c.read_head.new.headers head.spans complete.0 g.C.Conn.observable
     c.request_of.result c.in_ok-head.ensures.bytes short c.in_ok-head.ensures.within complete.1 c.in_ok-head.ensures.few
     c.request_of.ensures.verb c.request_of.ensures.target c.request_of.ensures.media c.request_of.ensures.body
 
@@ -26,19 +26,19 @@ returns-clause-refused g c =
     omega (arith, length-take head.filled buffer, c.read_head.auto.buffer, c.requires.room) in
     let complete = c.in_ok-head.ensures.complete in
     result_refused (g.C.Conn.state c.args.conn.now).left (take head.filled buffer)
-    (g.C.Conn.state c.read_head.new.conn).left c.read_head.new.headers head.spans complete.0 g.C.Conn.told
+    (g.C.Conn.state c.read_head.new.conn).left c.read_head.new.headers head.spans complete.0 g.C.Conn.observable
     c.request_of.result c.in_ok-head.ensures.bytes short c.in_ok-head.ensures.within complete.1 c.in_ok-head.ensures.few
     c.request_of.ensures.refused
 
 pub returns-clause-most : goal.returns-clause-most
-returns-clause-most g c = λ told.
+returns-clause-most g c = λ observable.
     takes_more _ _ _ _ (omega arith)
-    (takes_both _ _ _ _ _ (c.in_ok-head.ensures.most told) (c.request_of.ensures.most told))
+    (takes_both _ _ _ _ _ (c.in_ok-head.ensures.most observable) (c.request_of.ensures.most observable))
 
 pub returns-in_err-head-clause-refused : goal.returns-in_err-head-clause-refused
 returns-in_err-head-clause-refused g c =
     let p = err_from_is_err_and c.from_residual.result c.from_residual.ensures.1 in
-    rw (p.1, p.2) (λ conn memory told. inr (c.in_err-head.ensures.refused conn memory told))
+    rw (p.1, p.2) (λ conn memory observable. inr (c.in_err-head.ensures.refused conn memory observable))
 
 pub returns-clause-read : goal.returns-clause-read
 returns-clause-read g c =
@@ -46,13 +46,13 @@ returns-clause-read g c =
     (rises_both head_limit body_limit _ _ _ c.in_ok-head.ensures.read c.request_of.ensures.read)
 
 pub returns-clause-needed : goal.returns-clause-needed
-returns-clause-needed g c = λ told.
+returns-clause-needed g c = λ observable.
     let head = c.in_ok-head.head in
     let bytes = take head.filled c.read_head.new.buffer in
     let short : length bytes ≤ head_limit =
     omega (arith, length-take head.filled c.read_head.new.buffer, c.read_head.auto.buffer, c.requires.room) in
     let complete = c.in_ok-head.ensures.complete in
-    needs_both _ _ _ (g.C.Conn.state c.read_head.new.conn) _ bytes (c.in_ok-head.ensures.bytes told)
+    needs_both _ _ _ (g.C.Conn.state c.read_head.new.conn) _ bytes (c.in_ok-head.ensures.bytes observable)
     (λ before. ends_unsettled (bytes ++ before) bytes before c.read_head.new.headers head.spans complete.0 refl short
     c.in_ok-head.ensures.within complete.1 c.in_ok-head.ensures.few)
-    (c.in_ok-head.ensures.needed told) (c.request_of.ensures.needed told)
+    (c.in_ok-head.ensures.needed observable) (c.request_of.ensures.needed observable)

@@ -20,7 +20,7 @@ returns-in_err-body-2-clause-refused g c =
     sym c.in_ok-size.ensures in
     let all : take (length bytes - len) (drop len bytes) ≡ drop len bytes =
     take_all (length bytes - len) (drop len bytes) (omega (arith, length-drop len bytes)) in
-    rw (p.1, p.2) (λ conn memory told.
+    rw (p.1, p.2) (λ conn memory observable.
     body_sized (span_bytes bytes c.args.head.method) (map (header_bytes bytes) c.args.headers.now) c.in_ok-size.size
     (length (bytes ++ left)) (len + length (drop len bytes ++ left)) _ _ has states
     (omega (
@@ -32,10 +32,10 @@ returns-in_err-body-2-clause-refused g c =
     ))
     (subst (λ (x : List ℕ). sized_body c.in_ok-size.size (len + length (x ++ left)) (x ++ left)
     ≡ Err c.in_err-body-2.field-0.0) all
-    (c.in_err-body-2.ensures.refused conn memory told)))
+    (c.in_err-body-2.ensures.refused conn memory observable)))
 
 pub returns-in_err-body-2-clause-needed : goal.returns-in_err-body-2-clause-needed
-returns-in_err-body-2-clause-needed g c = λ told.
+returns-in_err-body-2-clause-needed g c = λ observable.
     let bytes = c.args.bytes.now in
     let len = c.args.head.len in
     let has : has_body (verb_of (span_bytes bytes c.args.head.method)) ≡ true =
@@ -48,10 +48,10 @@ returns-in_err-body-2-clause-needed g c = λ told.
     needs_other _ _ _ _
     (λ taken few. ends_within (span_bytes bytes c.args.head.method) (map (header_bytes bytes) c.args.headers.now)
     c.in_ok-size.size (drop len bytes) has states taken (omega (arith, few, ap length all)))
-    (c.read_body.ensures.needed told)
+    (c.read_body.ensures.needed observable)
 
 pub returns-clause-needed : goal.returns-clause-needed
-returns-clause-needed g c = λ told.
+returns-clause-needed g c = λ observable.
     let bytes = c.args.bytes.now in
     let len = c.args.head.len in
     let has : has_body (verb_of (span_bytes bytes c.args.head.method)) ≡ true =
@@ -64,4 +64,4 @@ returns-clause-needed g c = λ told.
     needs_other _ _ _ _
     (λ taken few. ends_within (span_bytes bytes c.args.head.method) (map (header_bytes bytes) c.args.headers.now)
     c.in_ok-size.size (drop len bytes) has states taken (omega (arith, few, ap length all)))
-    (c.read_body.ensures.needed told)
+    (c.read_body.ensures.needed observable)

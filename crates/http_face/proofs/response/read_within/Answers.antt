@@ -13,11 +13,11 @@ returns-clause-answered g c =
     let complete = c.in_ok-head.ensures.complete in
     result_answered (g.C.Conn.state c.args.conn.now).left (take head.filled buffer)
     (g.C.Conn.state c.read_response_head.new.conn).left c.read_response_head.new.headers head.spans complete.0
-    g.C.Conn.told c.answer_of.result c.in_ok-head.ensures.bytes short c.in_ok-head.ensures.within complete.1
+    g.C.Conn.observable c.answer_of.result c.in_ok-head.ensures.bytes short c.in_ok-head.ensures.within complete.1
     c.in_ok-head.ensures.few c.answer_of.ensures.answered
 
 pub returns-clause-bad : goal.returns-clause-bad
-returns-clause-bad g c = λ fails told.
+returns-clause-bad g c = λ fails observable.
     let head = c.in_ok-head.head in
     let buffer = c.read_response_head.new.buffer in
     let short : length (take head.filled buffer) ≤ head_limit =
@@ -25,10 +25,10 @@ returns-clause-bad g c = λ fails told.
     let complete = c.in_ok-head.ensures.complete in
     answer_bad (g.C.Conn.state c.args.conn.now).left (take head.filled buffer)
     (g.C.Conn.state c.read_response_head.new.conn).left c.read_response_head.new.headers head.spans complete.0
-    (c.in_ok-head.ensures.bytes told) short c.in_ok-head.ensures.within complete.1 c.in_ok-head.ensures.few
-    (c.answer_of.ensures.bad fails told)
+    (c.in_ok-head.ensures.bytes observable) short c.in_ok-head.ensures.within complete.1 c.in_ok-head.ensures.few
+    (c.answer_of.ensures.bad fails observable)
 
 pub returns-clause-most : goal.returns-clause-most
-returns-clause-most g c = λ told.
+returns-clause-most g c = λ observable.
     takes_more _ _ _ _ (omega arith)
-    (takes_both _ _ _ _ _ (c.in_ok-head.ensures.most told) (c.answer_of.ensures.most told))
+    (takes_both _ _ _ _ _ (c.in_ok-head.ensures.most observable) (c.answer_of.ensures.most observable))

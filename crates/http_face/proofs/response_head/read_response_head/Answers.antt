@@ -18,11 +18,11 @@ loop-filled-init g c = record {
 pub returns-in_err-spans-clause-bad : goal.returns-in_err-spans-clause-bad
 returns-in_err-spans-clause-bad g c =
     let left = (g.C.Conn.state c.read_behind.new.conn).left in
-    λ _ told. subst HasNoResponseHead (sym (c.loop-filled.invariant.bytes told ∙ c.in_ok-count.ensures.bytes told))
+    λ _ observable. subst HasNoResponseHead (sym (c.loop-filled.invariant.bytes observable ∙ c.in_ok-count.ensures.bytes observable))
     (c.in_err-spans.ensures.refused left)
 
 pub returns-clause-bad : goal.returns-clause-bad
-returns-clause-bad g c = λ _ told.
+returns-clause-bad g c = λ _ observable.
     let bytes = take c.loop-filled.filled c.loop-filled.buffer in
     let left = (g.C.Conn.state c.loop-filled.conn).left in
     let long : length bytes ≡ head_limit =
@@ -33,5 +33,5 @@ returns-clause-bad g c = λ _ told.
       c.loop-filled.auto.buffer,
       c.requires.room,
     ) in
-    subst HasNoResponseHead (sym (c.loop-filled.invariant.bytes told))
+    subst HasNoResponseHead (sym (c.loop-filled.invariant.bytes observable))
     (no_response-long bytes left long c.loop-filled.invariant.none)

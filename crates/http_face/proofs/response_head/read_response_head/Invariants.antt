@@ -7,8 +7,8 @@ abbrev pub invariant-loop-filled : goal.invariant-loop-filled
 invariant-loop-filled g l = record {
   within : l.filled ≤ length l.buffer;
   none : HasNoResponseHead (take l.filled l.buffer);
-  bytes : g.C.Conn.told → (g.C.Conn.state l.fn.conn).left ≡ take l.filled l.buffer ++ (g.C.Conn.state l.conn).left;
-  most : g.C.Conn.told → TakesAtMost l.filled (g.C.Conn.state l.fn.conn) (g.C.Conn.state l.conn);
+  bytes : g.C.Conn.observable → (g.C.Conn.state l.fn.conn).left ≡ take l.filled l.buffer ++ (g.C.Conn.state l.conn).left;
+  most : g.C.Conn.observable → TakesAtMost l.filled (g.C.Conn.state l.fn.conn) (g.C.Conn.state l.conn);
   reads : Reads (g.C.Conn.state l.fn.conn) (g.C.Conn.state l.conn);
   faults : (g.C.Conn.state l.conn).faults ≡ (g.C.Conn.state l.fn.conn).faults;
 }

@@ -74,10 +74,10 @@ returns-clause-puts g c =
     let second = header (codes "Content-Length") (decimal (length (body_text reply.body))) in
     let third = optional_header (codes "Location") reply.location in
     let fourth = optional_header (codes "Allow") (option_map allow_text reply.allow) in
-    put_then g.C.Conn.told first (from_length reply) s t u c.put-2.result
+    put_then g.C.Conn.observable first (from_length reply) s t u c.put-2.result
     (put_as media c.in_ok-put_header.ensures.puts)
-    (put_then g.C.Conn.told second (from_location reply) t v u c.put-2.result
+    (put_then g.C.Conn.observable second (from_location reply) t v u c.put-2.result
     (put_as size c.in_ok-put_header-2.ensures.puts)
-    (put_then g.C.Conn.told third (from_allow reply) v w u c.put-2.result c.in_ok-put_location.ensures.puts
-    (put_then g.C.Conn.told fourth last w x u c.put-2.result (put_as c.header.ensures c.in_ok-put.ensures.puts)
+    (put_then g.C.Conn.observable third (from_allow reply) v w u c.put-2.result c.in_ok-put_location.ensures.puts
+    (put_then g.C.Conn.observable fourth last w x u c.put-2.result (put_as c.header.ensures c.in_ok-put.ensures.puts)
     c.put-2.ensures.puts)))

@@ -29,7 +29,7 @@ returns-clause-puts g c =
     let v = put_state (g.C.Conn.state c.put-2.new.conn).sent c.put-2.new.waiting in
     let w = put_state (g.C.Conn.state c.put-3.new.conn).sent c.put-3.new.waiting in
     let u = put_state (g.C.Conn.state c.put-4.new.conn).sent c.put-4.new.waiting in
-    put_then g.C.Conn.told c.args.name.now (codes ": " ++ (value ++ codes "\r\n")) s t u c.put-4.result
+    put_then g.C.Conn.observable c.args.name.now (codes ": " ++ (value ++ codes "\r\n")) s t u c.put-4.result
     c.in_ok-put.ensures.puts
-    (put_then g.C.Conn.told (codes ": ") (value ++ codes "\r\n") t v u c.put-4.result c.in_ok-put-2.ensures.puts
-    (put_then g.C.Conn.told value (codes "\r\n") v w u c.put-4.result c.in_ok-put-3.ensures.puts c.put-4.ensures.puts))
+    (put_then g.C.Conn.observable (codes ": ") (value ++ codes "\r\n") t v u c.put-4.result c.in_ok-put-2.ensures.puts
+    (put_then g.C.Conn.observable value (codes "\r\n") v w u c.put-4.result c.in_ok-put-3.ensures.puts c.put-4.ensures.puts))

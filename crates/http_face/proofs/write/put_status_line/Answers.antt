@@ -48,10 +48,10 @@ returns-clause-puts g c =
     let digits = decimal c.args.status in
     let phrase = unwrap_or (reason_phrase c.args.status) [] in
     let text = sym (ap (λ (o : Option (List ℕ)). unwrap_or o []) c.phrase.ensures) in
-    put_then g.C.Conn.told (codes "HTTP/1.1 ") (digits ++ (codes " " ++ (phrase ++ codes "\r\n"))) s t u c.put-5.result
+    put_then g.C.Conn.observable (codes "HTTP/1.1 ") (digits ++ (codes " " ++ (phrase ++ codes "\r\n"))) s t u c.put-5.result
     c.in_ok-put.ensures.puts
-    (put_then g.C.Conn.told digits (codes " " ++ (phrase ++ codes "\r\n")) t v u c.put-5.result
+    (put_then g.C.Conn.observable digits (codes " " ++ (phrase ++ codes "\r\n")) t v u c.put-5.result
     (put_as (c.as_bytes.ensures.value ∙ c.format.ensures.text) c.in_ok-put-2.ensures.puts)
-    (put_then g.C.Conn.told (codes " ") (phrase ++ codes "\r\n") v w u c.put-5.result c.in_ok-put-3.ensures.puts
-    (put_then g.C.Conn.told phrase (codes "\r\n") w x u c.put-5.result (put_as text c.in_ok-put-4.ensures.puts)
+    (put_then g.C.Conn.observable (codes " ") (phrase ++ codes "\r\n") v w u c.put-5.result c.in_ok-put-3.ensures.puts
+    (put_then g.C.Conn.observable phrase (codes "\r\n") w x u c.put-5.result (put_as text c.in_ok-put-4.ensures.puts)
     c.put-5.ensures.puts)))

@@ -12,10 +12,10 @@ loop-written-preserved g c =
     let rest = c.split_at.ensures.back in
     record {
       within = omega (arith, c.in-Ok.ensures.within, ap length rest, length-drop written bytes);
-      taken = λ told.
-          c.in-Ok.ensures.bytes told
+      taken = λ observable.
+          c.in-Ok.ensures.bytes observable
           ∙ ap (λ (x : List ℕ). (g.C.Conn.state c.loop-written.conn).sent ++ take count x) rest
-          ∙ ap (λ (x : List ℕ). x ++ take count (drop written bytes)) (c.loop-written.invariant.taken told)
+          ∙ ap (λ (x : List ℕ). x ++ take count (drop written bytes)) (c.loop-written.invariant.taken observable)
           ∙ append_assoc before (take written bytes) (take count (drop written bytes))
           ∙ ap (λ (x : List ℕ). before ++ x) (sym (take-add written count bytes));
       writes = record {
@@ -37,5 +37,5 @@ returns-in-Err-clause-cut g c =
       back = drop written bytes;
       split = sym (take-append-drop written bytes);
       counted = omega (arith, length-take-le written bytes c.loop-written.invariant.within);
-      taken = λ told. c.in-Err.ensures.err told ∙ c.loop-written.invariant.taken told;
+      taken = λ observable. c.in-Err.ensures.err observable ∙ c.loop-written.invariant.taken observable;
     }

@@ -5,7 +5,7 @@ use Rattle.http_face.proofs.write.write_all.Given as goal
 abbrev pub invariant-loop-written : goal.invariant-loop-written
 invariant-loop-written g l = record {
   within : l.written ≤ length l.bytes;
-  taken : g.C.Conn.told → (g.C.Conn.state l.conn).sent ≡ (g.C.Conn.state l.fn.conn).sent ++ take l.written l.bytes;
+  taken : g.C.Conn.observable → (g.C.Conn.state l.conn).sent ≡ (g.C.Conn.state l.fn.conn).sent ++ take l.written l.bytes;
   writes : Writes (g.C.Conn.state l.fn.conn) (g.C.Conn.state l.conn);
   faults : (g.C.Conn.state l.conn).faults ≡ (g.C.Conn.state l.fn.conn).faults;
 }

@@ -6,5 +6,5 @@ abbrev pub invariant-loop : goal.invariant-loop
 invariant-loop g l = record {
   unspent : is_spent l.mirror ≡ false;
   listed : IsTrue l.mirror.listed;
-  stands : g.D.Disk.told → StandsFor (g.D.Disk.state l.disk) l.mirror;
+  stands : g.D.Disk.observable → StandsFor (g.D.Disk.state l.disk) l.mirror;
 }

@@ -20,7 +20,7 @@ use Rattle.mirror_walk.proofs.load.held_of.Goals as goal
 
 pub document_of-requires-clause-log : goal.document_of-requires-clause-log
 document_of-requires-clause-log g c =
-    readable_later g.D.Disk.told (g.D.Disk.state c.args.disk.now) (g.D.Disk.state c.loop-index.disk)
+    readable_later g.D.Disk.observable (g.D.Disk.state c.args.disk.now) (g.D.Disk.state c.loop-index.disk)
     c.args.log.now
     c.loop-index.log c.requires c.loop-index.invariant.reads c.loop-index.invariant.worked
 
@@ -57,10 +57,10 @@ returns-in_err-given-clause-fault g c =
     let m = g.D.Disk.state c.loop-index.disk in
     let t = g.D.Disk.state c.document_of.new.disk in
     let before = c.loop-index.invariant in
-    let fails = subst (λ (b : List ℕ). FailsBy g.D.Disk.told b m t c.in_err-given.field-0.0) before.base
+    let fails = subst (λ (b : List ℕ). FailsBy g.D.Disk.observable b m t c.in_err-given.field-0.0) before.base
     c.in_err-given.ensures.fault in
     let returned = err_from_is_err_and c.from_residual.result c.from_residual.ensures.1 in
-    rw (returned.1, returned.2) (fails_later g.D.Disk.told c.args.base s m t c.in_err-given.field-0.0
+    rw (returned.1, returned.2) (fails_later g.D.Disk.observable c.args.base s m t c.in_err-given.field-0.0
     before.reads
     before.worked.faults fails)
 

@@ -14,7 +14,7 @@ invariant-loop-index g l = record {
   count : length l.held.kept ≡ l.index;
   loaded : IsLoadedOf l.fn.base (payloads_of l.held.kept) l.held.kept;
   lengths : take l.index (payload_lengths l.fn.log.extents) ≡ map length (payloads_of l.held.kept);
-  payloads : g.D.Disk.told → take l.index (records ((g.D.Disk.state l.fn.disk).content MirrorArea))
+  payloads : g.D.Disk.observable → take l.index (records ((g.D.Disk.state l.fn.disk).content MirrorArea))
       ≡ payloads_of l.held.kept;
   worked : Worked (g.D.Disk.state l.fn.disk) (g.D.Disk.state l.disk) l.fn.log l.log;
   reads : OnlyReads (g.D.Disk.state l.fn.disk) (g.D.Disk.state l.disk);

@@ -7,6 +7,6 @@ abbrev pub invariant-loop-index : goal.invariant-loop-index
 invariant-loop-index g l = record {
   within : l.index-end ≤ length l.log.extents;
   unspent : l.log.spent ≡ false;
-  listed : g.D.Disk.told → payloads_at l.log.extents ((g.D.Disk.state l.disk).content l.log.area)
+  listed : g.D.Disk.observable → payloads_at l.log.extents ((g.D.Disk.state l.disk).content l.log.area)
       ≡ records ((g.D.Disk.state l.disk).content l.log.area);
 }

@@ -2,11 +2,14 @@ use Rattle.std.proofs.Common.{◌≡◌, List, ℕ, Some, refl, sym, ap, ◌∙�
 use Rattle.std.specs.Prelude.{option_copied, option_map}
 use Rattle.std.proofs.lemmas.Option.{same_Some}
 use Rattle.atom_writer.specs.declared.doc.FeedName.{FeedName}
+use Rattle.feed_journal.specs.declared.fault.LogFault.TheVariants.{DiskFault}
 use Rattle.mirror_walk.specs.Held.{IsHeldDoc}
 use Rattle.mirror_walk.specs.Holding.{KeptValue, best_of, name_of_best, payloads_of}
 use Rattle.mirror_walk.proofs.FoundLemmas.{best_of-holds}
 use Rattle.mirror_walk.proofs.HeldLemmas.{loaded-held}
 use Rattle.mirror_walk.proofs.OutcomeLemmas.{best-of_whole}
+use Rattle.mirror_walk.proofs.PassedLemmas.{counts-passed}
+use Rattle.mirror_walk.proofs.RereadLemmas.{read-passed}
 use Rattle.coverage_certificate.specs.Held.{with_digest}
 use Rattle.coverage_certificate.specs.Live.{live_digest_of}
 use Rattle.coverage_certificate.proofs.HeldLemmas.{entries-are, held_made}
@@ -15,7 +18,7 @@ use Rattle.coverage_certificate.proofs.ServedLemmas.{made-served}
 use Rattle.coverage_certificate.proofs.certificate.Certificate.of.Goals as goal
 
 pub returns-clause-certificate : goal.returns-clause-certificate
-returns-clause-certificate g c = λ told.
+returns-clause-certificate g c = λ observable.
     let kept = c.args.mirror.now.kept in
     let name = c.in_ok-name.name in
     let place = c.unwrap-best.result in
@@ -26,7 +29,7 @@ returns-clause-certificate g c = λ told.
     held_made name.base kept (best_of kept) refl place name lines live.count live.digest
     (sym c.best.ensures ∙ c.unwrap-best.ensures) named c.in_ok-lines.ensures.lines c.in_ok-live.ensures.count
     ∙ ap (λ (d : List ℕ). Some (made name.id name.base place.span.last lines live.count d))
-    (sym (c.in_ok-live.ensures.digest told ∙ ap (live_digest_of name) (entries-are kept)))
+    (sym (c.in_ok-live.ensures.digest observable ∙ ap (live_digest_of name) (entries-are kept)))
 
 pub returns-clause-parts : goal.returns-clause-parts
 returns-clause-parts g c =
@@ -47,7 +50,7 @@ returns-clause-base g c =
     ap (option_map (λ (n : FeedName). n.base)) named
 
 pub returns-clause-served : goal.returns-clause-served
-returns-clause-served g c = λ told head history same served.
+returns-clause-served g c = λ observable head history same served.
     let mirror = c.args.mirror.now in
     let kept = mirror.kept in
     let loaded = c.in_ok-live.ensures.loaded in
@@ -60,5 +63,16 @@ returns-clause-served g c = λ told head history same served.
     let name = same_Some found.0.document.name c.in_ok-name.name
     (sym (ap (option_map (λ (k : KeptValue). k.document.name)) found.1) ∙ named) in
     made-served mirror.base (payloads_of kept) kept loaded whole head history same served _
-    (returns-clause-certificate g c told)
+    (returns-clause-certificate g c observable)
     (sym (ap (λ (n : FeedName). n.base) name) ∙ is.0.base_is)
+
+pub returns-in_err-live-clause-mirror : goal.returns-in_err-live-clause-mirror
+returns-in_err-live-clause-mirror g c =
+    read-passed g.D.Disk.observable (g.D.Disk.state c.digest_live.new.disk) c.args.mirror.now
+    c.digest_live.new.mirror c.from_residual-in_err-live.result c.in_err-live.field-0.0
+    c.from_residual-in_err-live.ensures.1 c.in_err-live.ensures.mirror
+
+pub returns-in_err-live-clause-faults : goal.returns-in_err-live-clause-faults
+returns-in_err-live-clause-faults g c =
+    counts-passed _ _ c.from_residual-in_err-live.result c.in_err-live.field-0.0 DiskFault
+    c.from_residual-in_err-live.ensures.1 c.in_err-live.ensures.faults

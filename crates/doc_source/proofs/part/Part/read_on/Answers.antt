@@ -24,15 +24,15 @@ use Rattle.doc_source.proofs.SeenLemmas.{
 use Rattle.doc_source.proofs.part.Part.read_on.Goals as goal
 
 pub returns-in-End-clause-refused : goal.returns-in-End-clause-refused
-returns-in-End-clause-refused g c = λ told.
-    let told' = g.S.Source.told in
+returns-in-End-clause-refused g c = λ observable.
+    let observable' = g.S.Source.observable in
     let used = c.args.used in
     let before = with_part used (Some c.args.self.now) c.args.intake.now in
     let part = c.loop-self.self in
     let now = with_part used (Some part) c.loop-self.intake in
     let source = g.S.Source.state c.args.source.now in
     let rest = g.S.Source.state c.loop-self.source in
-    let saw = seen told' used before now source rest told c.loop-self.invariant.takes c.requires.sum
+    let saw = seen observable' used before now source rest observable c.loop-self.invariant.takes c.requires.sum
     c.loop-self.invariant.bound in
     let is : c.fill_if_empty.result ≡ Ok End = let r = c.in_ok-fill_if_empty.was in let e = c.in-End.is in cc in
     let same = c.fill_if_empty.ensures.stays
@@ -44,18 +44,18 @@ returns-in-End-clause-refused g c = λ told.
     let short : length part.behind.items ≤ part.count = omega (arith, c.loop-self-test.true, c.len.ensures) in
     rw c.bad_offer.ensures (body_ends used before source part rest.left
     (seen_as used before source now.ahead (part_text used part) rest.left all saw)
-    (c.fill_if_empty.ensures.end is told) c.loop-self.invariant.part short)
+    (c.fill_if_empty.ensures.end is observable) c.loop-self.invariant.part short)
 
 pub returns-in-Limit-clause-refused : goal.returns-in-Limit-clause-refused
-returns-in-Limit-clause-refused g c = λ told.
-    let told' = g.S.Source.told in
+returns-in-Limit-clause-refused g c = λ observable.
+    let observable' = g.S.Source.observable in
     let used = c.args.used in
     let before = with_part used (Some c.args.self.now) c.args.intake.now in
     let part = c.loop-self.self in
     let now = with_part used (Some part) c.loop-self.intake in
     let source = g.S.Source.state c.args.source.now in
     let rest = g.S.Source.state c.loop-self.source in
-    let saw = seen told' used before now source rest told c.loop-self.invariant.takes c.requires.sum
+    let saw = seen observable' used before now source rest observable c.loop-self.invariant.takes c.requires.sum
     c.loop-self.invariant.bound in
     let is : c.fill_if_empty.result ≡ Ok Limit = let r = c.in_ok-fill_if_empty.was in let e = c.in-Limit.is in cc in
     let same = c.fill_if_empty.ensures.stays
@@ -65,12 +65,12 @@ returns-in-Limit-clause-refused g c = λ told.
     let all : part_text used part ++ c.loop-self.intake.ahead ≡ part_text used part =
     ap (λ (x : List ℕ). part_text used part ++ x) none ∙ append-nil (part_text used part) in
     let short : length part.behind.items ≤ part.count = omega (arith, c.loop-self-test.true, c.len.ensures) in
-    let full = seen_all told' used before now source rest c.loop-self.invariant.takes c.requires.sum
+    let full = seen_all observable' used before now source rest c.loop-self.invariant.takes c.requires.sum
     (c.fill_if_empty.ensures.limit is) in (
       c.limit.ensures ∙ ap (λ (x : IntakeState). x.limit) same ∙ c.loop-self.invariant.takes.limit,
       body_too_long used before source part rest.left
           (seen_as used before source now.ahead (part_text used part) rest.left all saw) (sym (ap length all) ∙ full)
-          (c.fill_if_empty.ensures.goes_on is told) c.loop-self.invariant.part short,
+          (c.fill_if_empty.ensures.goes_on is observable) c.loop-self.invariant.part short,
     )
 
 pub returns-in_err-fill_if_empty-clause-open : goal.returns-in_err-fill_if_empty-clause-open
@@ -86,15 +86,15 @@ returns-in_err-fill_if_empty-clause-open g c = λ _.
     body_open used part (part_text used part ++ c.fill_if_empty.new.self.ahead) all c.loop-self.invariant.part short
 
 pub returns-else-ends_with-clause-refused : goal.returns-else-ends_with-clause-refused
-returns-else-ends_with-clause-refused g c = λ told.
-    let told' = g.S.Source.told in
+returns-else-ends_with-clause-refused g c = λ observable.
+    let observable' = g.S.Source.observable in
     let used = c.args.used in
     let before = with_part used (Some c.args.self.now) c.args.intake.now in
     let part = c.loop-self.self in
     let now = with_part used (Some part) c.loop-self.intake in
     let source = g.S.Source.state c.args.source.now in
     let rest = g.S.Source.state c.loop-self.source in
-    let saw = seen told' used before now source rest told c.loop-self.invariant.takes c.requires.sum
+    let saw = seen observable' used before now source rest observable c.loop-self.invariant.takes c.requires.sum
     c.loop-self.invariant.bound in
     let full : length part.behind.items ≡ part.count + 1 =
     omega (arith, c.loop-self-test.false, c.len.ensures, c.loop-self.invariant.part.within) in
@@ -113,7 +113,7 @@ returns-then-ends_with-clause-whole g c =
 
 pub loop-self-preserved : goal.loop-self-preserved
 loop-self-preserved g c =
-    let told' = g.S.Source.told in
+    let observable' = g.S.Source.observable in
     let used = c.args.used in
     let before = with_part used (Some c.args.self.now) c.args.intake.now in
     let part = c.loop-self.self in
@@ -126,18 +126,18 @@ loop-self-preserved g c =
     let took = c.take_from.new.self in
     let line = c.take_from.ensures.line in
     let counts = c.take_from.ensures.counts in
-    let more = takes_behind told' (part_text used part) c.loop-self.intake filled rest after
-    (takes_if _ told' c.loop-self.intake filled rest after
+    let more = takes_behind observable' (part_text used part) c.loop-self.intake filled rest after
+    (takes_if _ observable' c.loop-self.intake filled rest after
     (λ t. (t, λ e. absurd (let f : ◌≡◌ {A = Result Filled Failed} (Ok More) (Ok Limit) = sym is ∙ e in cc)))
     c.fill_if_empty.ensures.takes) in
-    let moved = takes_as told' now (with_part used (Some part) filled)
+    let moved = takes_as observable' now (with_part used (Some part) filled)
     (with_part used (Some took) c.take_from.new.intake) rest after more
     (part_moved used part took filled.ahead c.take_from.new.intake.ahead line.0 line.1 c.take_from.ensures.moved)
     counts.0 counts.1 in
     record {
       part = c.take_from.ensures.part;
       bound = omega (arith, counts.0, counts.1, c.fill_if_empty.ensures.bound);
-      takes = takes_both told' before now (with_part used (Some took) c.take_from.new.intake) source rest after
+      takes = takes_both observable' before now (with_part used (Some took) c.take_from.new.intake) source rest after
           c.loop-self.invariant.takes moved;
       read = subst (λ (n : ℕ). RisesAtMost (n - c.args.intake.now.taken) source.bytes_read after.bytes_read)
           (sym counts.0)
@@ -150,7 +150,7 @@ loop-self-preserved g c =
 
 pub returns-in_err-take_from-in-More-clause-takes : goal.returns-in_err-take_from-in-More-clause-takes
 returns-in_err-take_from-in-More-clause-takes g c =
-    let told' = g.S.Source.told in
+    let observable' = g.S.Source.observable in
     let used = c.args.used in
     let before = with_part used (Some c.args.self.now) c.args.intake.now in
     let part = c.loop-self.self in
@@ -163,14 +163,14 @@ returns-in_err-take_from-in-More-clause-takes g c =
     let took = c.take_from.new.self in
     let line = c.take_from.ensures.line in
     let counts = c.take_from.ensures.counts in
-    let more = takes_behind told' (part_text used part) c.loop-self.intake filled rest after
-    (takes_if _ told' c.loop-self.intake filled rest after
+    let more = takes_behind observable' (part_text used part) c.loop-self.intake filled rest after
+    (takes_if _ observable' c.loop-self.intake filled rest after
     (λ t. (t, λ e. absurd (let f : ◌≡◌ {A = Result Filled Failed} (Ok More) (Ok Limit) = sym is ∙ e in cc)))
     c.fill_if_empty.ensures.takes) in
-    let moved = takes_as told' now (with_part used (Some part) filled)
+    let moved = takes_as observable' now (with_part used (Some part) filled)
     (with_part used (Some took) c.take_from.new.intake) rest after more
     (part_moved used part took filled.ahead c.take_from.new.intake.ahead line.0 line.1 c.take_from.ensures.moved)
     counts.0 counts.1 in
-    takes_if told' _ before (with_part used (Some took) c.take_from.new.intake) source after (λ t. t.0)
-    (takes_both told' before now (with_part used (Some took) c.take_from.new.intake) source rest after
+    takes_if observable' _ before (with_part used (Some took) c.take_from.new.intake) source after (λ t. t.0)
+    (takes_both observable' before now (with_part used (Some took) c.take_from.new.intake) source rest after
     c.loop-self.invariant.takes moved)

@@ -8,7 +8,7 @@ abbrev pub invariant-loop-self : goal.invariant-loop-self
 invariant-loop-self g l = record {
   part : IsPart l.self;
   bound : l.intake.taken ≤ l.intake.limit;
-  takes : TakesMore g.S.Source.told (with_part l.used (Some l.fn.self) l.fn.intake)
+  takes : TakesMore g.S.Source.observable (with_part l.used (Some l.fn.self) l.fn.intake)
       (with_part l.used (Some l.self) l.intake)
       (g.S.Source.state l.fn.source) (g.S.Source.state l.source);
   read : RisesAtMost (l.intake.taken - l.fn.intake.taken) (g.S.Source.state l.fn.source).bytes_read

@@ -2,8 +2,8 @@ use Rattle.std.proofs.Common.{◌≡◌, ℕ, ◌+◌, ◌++◌, List, ◌∷◌
 use Rattle.std.proofs.Common.{vec_len, add-zero, zero-add, length-append, sym}
 use Rattle.std.proofs.lemmas.Bool.{false≢true}
 use Rattle.std.proofs.lemmas.Result.{err_from_is_err_and}
-use Rattle.feed_commands.specs.declared.fault.Fault.{Fault}
-use Rattle.feed_commands.specs.declared.fault.Fault.TheVariants.{Input}
+use Rattle.command_ends.specs.declared.fault.Fault.{Fault}
+use Rattle.command_ends.specs.declared.fault.Fault.TheVariants.{Input}
 use Rattle.member_rules.specs.declared.operation.Op.{Op}
 use Rattle.member_rules.specs.Table.{IsTableOf}
 use Rattle.feed_commands.specs.Applied.{Applied, applied}
@@ -141,7 +141,7 @@ loop-history-preserved g c =
         length-append history (operation ∷ []),
         c.in_ok-next.ensures.progress (ap Ok c.if-branch.true),
       );
-      faults = c.in_ok-next.ensures.faults (λ e. cc) ∙ held.faults;
+      faults = c.in_ok-next.ensures.input_faults.unfailed (λ e. cc) ∙ held.faults;
     }
 
 pub returns-clause-history : goal.returns-clause-history

@@ -11,12 +11,12 @@ invariant-loop-history g l =
     let before = g.I.Source.state l.fn.input in
     let input = g.I.Source.state l.input in
     record {
-      progress : g.I.Source.told → g.C.Clock.told →
+      progress : g.I.Source.observable → g.C.Clock.observable →
           Progress (history_step l.head (g.C.Clock.coming l.fn.clock)) [] before.left l.lines input
           (length l.history.items) l.history.items;
-      moments : g.C.Clock.told → (k : ℕ) →
+      moments : g.C.Clock.observable → (k : ℕ) →
           g.C.Clock.coming l.clock k ≡ g.C.Clock.coming l.fn.clock (k + length l.history.items);
-      knows : g.I.Source.told → KnowsEnd l.lines input;
+      knows : g.I.Source.observable → KnowsEnd l.lines input;
       table : IsTableOf l.members l.head.created l.history.items;
       lawful : IsLawful l.head l.history.items;
       few : length l.history.items + allowance l.lines ≤ input_limit;

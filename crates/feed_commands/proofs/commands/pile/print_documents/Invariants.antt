@@ -19,8 +19,8 @@ invariant-loop-number g l =
       head : l.store.head ≡ l.fn.store.head;
       history : l.store.history ≡ l.fn.store.history;
       unspent : is_spent l.store ≡ false;
-      stands : g.D.Disk.told → StandsFor disk l.store;
-      front : g.O.Sink.told → TakesFront g.D.Disk.told (offers_of stored) (archives_of stored l.number)
+      stands : g.D.Disk.observable → StandsFor disk l.store;
+      front : g.O.Sink.observable → TakesFront g.D.Disk.observable (offers_of stored) (archives_of stored l.number)
           (g.O.Sink.state l.fn.output) output;
       areas : (a : Area) → LeavesAlone before disk a;
       disk_faults : disk.faults ≡ before.faults;

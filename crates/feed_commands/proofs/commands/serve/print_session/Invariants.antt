@@ -7,7 +7,7 @@ invariant-loop-line g l =
     let before = g.O.Sink.state l.fn.output in
     let output = g.O.Sink.state l.output in
     record {
-      taken : g.O.Sink.told
+      taken : g.O.Sink.observable
           → output.taken ≡ before.taken ++ flat_map session_line (take l.line-index l.lines);
       faults : output.faults ≡ before.faults;
     }

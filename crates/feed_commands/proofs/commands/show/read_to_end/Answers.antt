@@ -1,28 +1,30 @@
 use Rattle.std.proofs.Common.{◌≡◌, ℕ, ◌-◌, ◌<◌, ◌≤◌, List, ◌++◌, length, take, drop, ap, sym, ◌∙◌, arith, append-nil}
 use Rattle.std.proofs.Common.{length-append, length-take}
+use Rattle.std.proofs.lemmas.Result.{err_from_is_err_and}
 use Rattle.feed_commands.specs.Show.{document_limit}
+use Rattle.feed_commands.proofs.CountLemmas.{counts-failed, counts-worked}
 use Rattle.feed_commands.proofs.ShowLemmas.{bytes_past, bytes_more, written_whole}
 use Rattle.feed_commands.proofs.commands.show.read_to_end.Goals as goal
 
 pub returns-in_err-count-clause-within : goal.returns-in_err-count-clause-within
-returns-in_err-count-clause-within g c = λ _ told. record {
+returns-in_err-count-clause-within g c = λ _ observable. record {
   read = c.loop-bytes.bytes.items;
-  from = c.loop-bytes.invariant.left told
-      ∙ ap (λ (x : List ℕ). c.loop-bytes.bytes.items ++ x) (sym (c.in_err-count.ensures.err told));
+  from = c.loop-bytes.invariant.left observable
+      ∙ ap (λ (x : List ℕ). c.loop-bytes.bytes.items ++ x) (sym (c.in_err-count.ensures.err observable));
   within = c.loop-bytes.invariant.within;
 }
 
 pub returns-then-count-eq0-clause-bytes : goal.returns-then-count-eq0-clause-bytes
-returns-then-count-eq0-clause-bytes g c = λ told.
+returns-then-count-eq0-clause-bytes g c = λ observable.
     let some : 0 < length c.deref_mut.result.now =
     omega (arith, ap length c.deref_mut.ensures.value, c.loop-bytes.invariant.buffer) in
     sym
-    (c.loop-bytes.invariant.left told
-    ∙ ap (λ (x : List ℕ). c.loop-bytes.bytes.items ++ x) (c.in_ok-count.ensures.end told c.if-count-eq0.true some)
+    (c.loop-bytes.invariant.left observable
+    ∙ ap (λ (x : List ℕ). c.loop-bytes.bytes.items ++ x) (c.in_ok-count.ensures.end observable c.if-count-eq0.true some)
     ∙ append-nil c.loop-bytes.bytes.items)
 
 pub returns-then-count-len-clause-past : goal.returns-then-count-len-clause-past
-returns-then-count-len-clause-past g c = λ _ told.
+returns-then-count-len-clause-past g c = λ _ observable.
     let low : c.in_ok-count.count ≤ length c.read.new.into =
     omega (arith, c.read.auto.into, c.in_ok-count.ensures.within) in
     let past : document_limit - length c.loop-bytes.bytes.items < c.in_ok-count.count =
@@ -30,7 +32,28 @@ returns-then-count-len-clause-past g c = λ _ told.
     bytes_past document_limit c.in_ok-count.count c.loop-bytes.bytes.items c.read.new.into
     (g.I.Source.state c.args.input.now).left (g.I.Source.state c.loop-bytes.input).left
     (g.I.Source.state c.read.new.self).left
-    (c.loop-bytes.invariant.left told) (c.in_ok-count.ensures.bytes told) low past c.loop-bytes.invariant.within
+    (c.loop-bytes.invariant.left observable) (c.in_ok-count.ensures.bytes observable) low past c.loop-bytes.invariant.within
+
+pub returns-in_err-count-clause-input_faults : goal.returns-in_err-count-clause-input_faults
+returns-in_err-count-clause-input_faults g c =
+    let p = err_from_is_err_and c.from_residual-in_err-count.result c.from_residual-in_err-count.ensures.1 in
+    counts-failed c.loop-bytes.invariant.faults c.in_err-count.ensures.counts.later
+    c.in_err-count.ensures.counts.failed (cc (p.1, p.2))
+
+pub returns-then-count-eq0-clause-input_faults : goal.returns-then-count-eq0-clause-input_faults
+returns-then-count-eq0-clause-input_faults g c =
+    counts-worked c.loop-bytes.invariant.faults c.in_ok-count.ensures.counts.worked (λ e. cc)
+
+pub returns-then-count-len-clause-input_faults : goal.returns-then-count-len-clause-input_faults
+returns-then-count-len-clause-input_faults g c =
+    counts-worked c.loop-bytes.invariant.faults c.in_ok-count.ensures.counts.worked (λ e. cc)
+
+pub returns-in_err-extend_from_slice-clause-input_faults :
+    goal.returns-in_err-extend_from_slice-clause-input_faults
+returns-in_err-extend_from_slice-clause-input_faults g c =
+    let p = err_from_is_err_and c.from_residual-in_err-extend_from_slice.result
+    c.from_residual-in_err-extend_from_slice.ensures.1 in
+    rw (p.1, p.2) (counts-worked c.loop-bytes.invariant.faults c.in_ok-count.ensures.counts.worked (λ e. cc))
 
 pub loop-bytes-preserved : goal.loop-bytes-preserved
 loop-bytes-preserved g c =
@@ -59,8 +82,8 @@ loop-bytes-preserved g c =
         room,
         c.loop-bytes.invariant.within,
       );
-      left = λ told. bytes_more count bytes into left0 left1 left2 (c.loop-bytes.invariant.left told)
-          (c.in_ok-count.ensures.bytes told) ∙ ap (λ (x : List ℕ). x ++ left2) (sym items);
+      left = λ observable. bytes_more count bytes into left0 left1 left2 (c.loop-bytes.invariant.left observable)
+          (c.in_ok-count.ensures.bytes observable) ∙ ap (λ (x : List ℕ). x ++ left2) (sym items);
       faults = c.in_ok-count.ensures.counts.worked ∙ c.loop-bytes.invariant.faults;
     }
 

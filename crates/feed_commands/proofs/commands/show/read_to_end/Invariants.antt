@@ -6,7 +6,7 @@ abbrev pub invariant-loop-bytes : goal.invariant-loop-bytes
 invariant-loop-bytes g l = record {
   buffer : length l.buffer.items ≡ 65_536;
   within : length l.bytes.items ≤ document_limit;
-  left : g.I.Source.told → (g.I.Source.state l.fn.input).left ≡ l.bytes.items ++ (g.I.Source.state l.input).left;
+  left : g.I.Source.observable → (g.I.Source.state l.fn.input).left ≡ l.bytes.items ++ (g.I.Source.state l.input).left;
   faults : (g.I.Source.state l.input).faults ≡ (g.I.Source.state l.fn.input).faults;
 }
 

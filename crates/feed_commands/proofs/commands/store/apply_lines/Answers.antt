@@ -6,8 +6,8 @@ use Rattle.feed_disk.specs.declared.area.Area.TheVariants.{Mirror}
 use Rattle.feed_disk.proofs.MomentLemmas.{alone_begins, alone_joins}
 use Rattle.feed_recovery.specs.Settled.{AlwaysLeavesBoth, OpensPast, Settled}
 use Rattle.feed_recovery.specs.Stored.{Stored, stored_of}
-use Rattle.feed_commands.specs.declared.fault.Fault.{Fault}
-use Rattle.feed_commands.specs.declared.fault.Fault.TheVariants.{Input, Disk}
+use Rattle.command_ends.specs.declared.fault.Fault.{Fault}
+use Rattle.command_ends.specs.declared.fault.Fault.TheVariants.{Input, Disk}
 use Rattle.feed_commands.specs.Apply.{lines_fault}
 use Rattle.feed_commands.specs.Loaded.{LeavesLines}
 use Rattle.feed_commands.specs.Stored.{applied_store, stored_step, with_operation}
@@ -28,7 +28,7 @@ returns-in_err-lines-clause-leaves g c =
     let disk = g.D.Disk.state c.args.disk.now in
     let input = g.I.Source.state c.args.input.now in
     let p = err_from_is_err_and c.from_residual.result c.from_residual.ensures.1 in
-    rw (p.1, p.2) (λ told rests settled.
+    rw (p.1, p.2) (λ observable rests settled.
     lines-leave disk disk (g.C.Clock.coming c.args.clock.now) input input _ _ _ opened opened 0
     ([], sym (append-nil opened.history)) (λ below. omega arith)
     (λ seen. record { within = omega arith; lines = refl })
@@ -49,7 +49,7 @@ loop-lines-init g c =
       head = refl;
       opened = c.version-opened.ensures;
       grown = omega arith;
-      progress = λ told clock source.
+      progress = λ observable clock source.
           subst (λ (n : ℕ).
           Progress (stored_step moments) (stored_of store) input.left c.in_ok-lines.lines input n (stored_of store))
           (sym none)
@@ -62,12 +62,12 @@ loop-lines-init g c =
       disk_faults = refl;
       calls = λ below. omega arith;
       mirror = alone_begins disk Mirror;
-      rests = λ told rests. rests;
-      added = λ told rests. ([], sym (append-nil store.history));
-      leaves = λ told rests settled.
+      rests = λ observable rests. rests;
+      added = λ observable rests. ([], sym (append-nil store.history));
+      leaves = λ observable rests settled.
           both_stay disk (OpensPast store.head store.history (length store.history))
           (g.met.D.Disk.is_disk c.args.disk.now) settled;
-      settled = λ told rests settled. settled;
+      settled = λ observable rests settled. settled;
     }
 
 pub loop-lines-preserved : goal.loop-lines-preserved
@@ -91,7 +91,7 @@ loop-lines-preserved g c =
       head = c.apply_line.ensures.head ∙ held.head;
       opened = held.opened;
       grown = omega (arith, held.grown, grows);
-      progress = λ told clock source.
+      progress = λ observable clock source.
           subst (λ (n : ℕ).
           Progress (stored_step moments) (stored_of opened) (g.I.Source.state c.args.input.now).left
           c.next.new.self rest
@@ -99,43 +99,43 @@ loop-lines-preserved g c =
           (Progress-step (stored_step moments) (stored_step-prefix moments) (stored_of opened)
           (g.I.Source.state c.args.input.now).left c.loop-lines.lines input c.next.new.self rest before
           (stored_of store)
-          (stored_of after) (held.progress told clock source)
+          (stored_of after) (held.progress observable clock source)
           (c.in_ok-next.ensures.found (ap Ok c.if-branch.true) source)
           (line-is moments store before c.next.new.self.line _ _ _ (Ok (stored_of after)) c.line.ensures
           (omega (arith, c.version.ensures, held.opened))
           (c.now.ensures.moment clock ∙ held.moments clock 0 ∙ ap moments (zero-add before))
-          (c.in_ok-apply_line.ensures.made told)));
+          (c.in_ok-apply_line.ensures.made observable)));
       moments = λ clock k.
           let later : k + 1 + before ≡ k + (length after.history - length opened.history) = omega (arith, more) in
           c.now.ensures.later clock k ∙ held.moments clock (k + 1) ∙ ap moments later;
       knows = c.in_ok-next.ensures.knows;
-      faults = c.in_ok-next.ensures.faults (λ e. cc) ∙ held.faults;
-      disk_faults = c.in_ok-apply_line.ensures.disk_faults (λ e. cc) ∙ held.disk_faults;
+      faults = c.in_ok-next.ensures.input_faults.unfailed (λ e. cc) ∙ held.faults;
+      disk_faults = c.in_ok-apply_line.ensures.disk_faults.unfailed (λ e. cc) ∙ held.disk_faults;
       calls = λ below.
           let one = c.in_ok-apply_line.ensures.calls below in
           omega (arith, one, held.calls (omega (arith, one, below)), held.grown, grows);
       mirror = alone_joins start disk left Mirror held.mirror c.apply_line.ensures.mirror;
-      rests = λ told rests. c.in_ok-apply_line.ensures.rests told (held.rests told rests);
-      added = λ told rests.
-          let one = c.in_ok-apply_line.ensures.leaves told (held.rests told rests) in
-          let so_far = held.added told rests in (
+      rests = λ observable rests. (c.in_ok-apply_line.ensures.settled observable (held.rests observable rests)).rests;
+      added = λ observable rests.
+          let one = c.in_ok-apply_line.ensures.leaves observable (held.rests observable rests) in
+          let so_far = held.added observable rests in (
             so_far.0 ++ one.0 ∷ [],
             one.1 ∙ ap (λ (h : List Op). h ++ one.0 ∷ []) so_far.1
                 ∙ append_assoc opened.history so_far.0 (one.0 ∷ []),
           );
-      leaves = λ told rests settled.
-          let one = c.in_ok-apply_line.ensures.leaves told (held.rests told rests) in
+      leaves = λ observable rests settled.
+          let one = c.in_ok-apply_line.ensures.leaves observable (held.rests observable rests) in
           subst (λ (h : List Op). AlwaysLeavesBoth start left (OpensPast opened.head h (length opened.history)))
           (sym one.1)
           (leaves-more start disk left opened.head store.history one.0 (length opened.history) held.grown
-          (held.leaves told rests settled)
+          (held.leaves observable rests settled)
           (subst (λ (h : HeadValue).
           AlwaysLeavesBoth disk left (OpensPast h (store.history ++ one.0 ∷ []) (length store.history))) held.head
           one.2));
-      settled = λ told rests settled.
+      settled = λ observable rests settled.
           subst (λ (h : HeadValue). Settled left h after.history (length after.history))
           (c.apply_line.ensures.head ∙ held.head)
-          (c.in_ok-apply_line.ensures.settled told (held.rests told rests));
+          (c.in_ok-apply_line.ensures.settled observable (held.rests observable rests)).settled;
     }
 
 pub returns-in_err-next-clause-refused : goal.returns-in_err-next-clause-refused
@@ -145,12 +145,12 @@ returns-in_err-next-clause-refused g c =
     let start = g.I.Source.state c.args.input.now in
     let opened = stored_of c.args.store.now in
     let store = stored_of c.loop-lines.store in
-    rw (p.1, p.2) (λ refusal told clock source.
+    rw (p.1, p.2) (λ refusal observable clock source.
     refusal-of_lines (λ (fault : Fault).
     applied_store moments opened start.left ≡ record { feed = store; fault = Some fault }) c.in_err-next.field-0.0
     (λ e. Progress-long (stored_step moments) opened start.left c.loop-lines.lines
     (g.I.Source.state c.loop-lines.input) _ store
-    (c.loop-lines.invariant.progress told clock source) (c.in_err-next.ensures.too_long (ap Err e) source))
+    (c.loop-lines.invariant.progress observable clock source) (c.in_err-next.ensures.too_long (ap Err e) source))
     refusal)
 
 pub returns-in_err-next-clause-leaves : goal.returns-in_err-next-clause-leaves
@@ -164,28 +164,28 @@ returns-in_err-next-clause-leaves g c =
     let opened = stored_of c.args.store.now in
     let store = stored_of c.loop-lines.store in
     let before = length store.history - length opened.history in
-    rw (p.1, p.2) (λ told rests settled.
+    rw (p.1, p.2) (λ observable rests settled.
     lines-leave (g.D.Disk.state c.args.disk.now) (g.D.Disk.state c.loop-lines.disk) moments start rest
-    (g.C.Clock.told × g.I.Source.told) _ _ opened store before (held.added told rests) held.calls
+    (g.C.Clock.observable × g.I.Source.observable) _ _ opened store before (held.added observable rests) held.calls
     (λ seen. Progress-made (stored_step moments) opened start.left c.loop-lines.lines input before store
-    (held.progress told seen.0 seen.1))
+    (held.progress observable seen.0 seen.1))
     (λ stop seen.
     let same : lines_fault c.in_err-next.field-0.0 ≡ Input = cc in
     Progress-read (stored_step moments) opened start c.loop-lines.lines input rest before store
-    (held.progress told seen.0 seen.1)
+    (held.progress observable seen.0 seen.1)
     (c.in_err-next.ensures.amid (ap Err (input-of_lines c.in_err-next.field-0.0 same)) seen.1))
-    (held.leaves told rests settled) (held.settled told rests settled))
+    (held.leaves observable rests settled) (held.settled observable rests settled))
 
 pub returns-in_err-next-clause-unrefused : goal.returns-in_err-next-clause-unrefused
 returns-in_err-next-clause-unrefused g c =
     let p = err_from_is_err_and c.from_residual-in_err-next.result c.from_residual-in_err-next.ensures.1 in
     let moments = g.C.Clock.coming c.args.clock.now in
-    rw (p.1, p.2) (λ e told clock source.
+    rw (p.1, p.2) (λ e observable clock source.
     let same : lines_fault c.in_err-next.field-0.0 ≡ Input = cc in
     Progress-amid (stored_step moments) (stored_of c.args.store.now) (g.I.Source.state c.args.input.now)
     c.loop-lines.lines
     (g.I.Source.state c.loop-lines.input) (g.I.Source.state c.next.new.input) _ (stored_of c.loop-lines.store)
-    (c.loop-lines.invariant.progress told clock source)
+    (c.loop-lines.invariant.progress observable clock source)
     (c.in_err-next.ensures.amid (ap Err (input-of_lines c.in_err-next.field-0.0 same)) source))
 
 pub returns-in_err-apply_line-clause-refused : goal.returns-in_err-apply_line-clause-refused
@@ -196,15 +196,15 @@ returns-in_err-apply_line-clause-refused g c =
     let moments = g.C.Clock.coming c.args.clock.now in
     let store = c.loop-lines.store in
     let before = length store.history - length c.args.store.now.history in
-    rw (p.1, p.2) (λ refusal told clock source.
+    rw (p.1, p.2) (λ refusal observable clock source.
     Progress-refused (stored_step moments) (stored_step-prefix moments) (stored_of c.args.store.now)
     (g.I.Source.state c.args.input.now).left c.loop-lines.lines (g.I.Source.state c.loop-lines.input) c.next.new.self
-    (g.I.Source.state c.next.new.input) before (stored_of store) fault (held.progress told clock source)
+    (g.I.Source.state c.next.new.input) before (stored_of store) fault (held.progress observable clock source)
     (c.in_ok-next.ensures.found (ap Ok c.if-branch.true) source)
     (line-is moments store before c.next.new.self.line _ _ _ (Err fault) c.line.ensures
     (omega (arith, c.version.ensures, held.opened))
     (c.now.ensures.moment clock ∙ held.moments clock 0 ∙ ap moments (zero-add before))
-    (c.in_err-apply_line.ensures.refused refusal told))
+    (c.in_err-apply_line.ensures.refused refusal observable))
     ∙ ap (λ (s : Stored). record { feed = s; fault = Some fault })
     (sym (c.in_err-apply_line.ensures.same (λ e. no-disk fault refusal cc)).0))
 
@@ -223,30 +223,30 @@ returns-in_err-apply_line-clause-leaves g c =
     let opened = stored_of c.args.store.now in
     let store = stored_of c.loop-lines.store in
     let before = length store.history - length opened.history in
-    rw (p.1, p.2) (λ told rests settled.
-    let made = λ (seen : g.C.Clock.told × g.I.Source.told).
+    rw (p.1, p.2) (λ observable rests settled.
+    let made = λ (seen : g.C.Clock.observable × g.I.Source.observable).
     Progress-made (stored_step moments) opened input.left c.loop-lines.lines now before store
-    (held.progress told seen.0 seen.1) in
+    (held.progress observable seen.0 seen.1) in
     let none : ◌≡◌ {A = Result (Unit {0}) Fault} (Err fault) (Err Input) → ⊥ =
-    λ stop. c.in_err-apply_line.ensures.own stop in
+    λ stop. c.in_err-apply_line.ensures.only_errors stop in
     elim (disk-or-not fault) [
       | inl is ↦
-          let bad = c.in_err-apply_line.ensures.failed (ap Err is) told (held.rests told rests) in
+          let bad = c.in_err-apply_line.ensures.failed (ap Err is) observable (held.rests observable rests) in
           let next = with_operation store bad.0 in
           let each =
           leaves-more start disk left opened.head store.history bad.0 (length opened.history) held.grown
-          (held.leaves told rests settled)
+          (held.leaves observable rests settled)
           (subst (λ (h : HeadValue).
           AlwaysLeavesBoth disk left (OpensPast h (store.history ++ bad.0 ∷ []) (length store.history))) held.head
           bad.3) in
           let later = bad.3.moments.first.later in
-          lines-fail start left moments input rest (g.C.Clock.told × g.I.Source.told) _ _ opened store before
-          (held.added told rests) (λ below. omega (arith, later, held.calls (omega (arith, later, below))))
+          lines-fail start left moments input rest (g.C.Clock.observable × g.I.Source.observable) _ _ opened store before
+          (held.added observable rests) (λ below. omega (arith, later, held.calls (omega (arith, later, below))))
           made (λ stop. absurd (none stop)) bad.0 (ap Err is)
           (λ seen.
           Progress-made (stored_step moments) opened input.left c.next.new.self rest (before + 1) next
           (Progress-step (stored_step moments) (stored_step-prefix moments) opened input.left c.loop-lines.lines now
-          c.next.new.self rest before store next (held.progress told seen.0 seen.1)
+          c.next.new.self rest before store next (held.progress observable seen.0 seen.1)
           (c.in_ok-next.ensures.found (ap Ok c.if-branch.true) seen.1)
           (line-is moments c.loop-lines.store before c.next.new.self.line _ _ _ (Ok next) c.line.ensures
           (omega (arith, c.version.ensures, held.opened))
@@ -255,25 +255,25 @@ returns-in_err-apply_line-clause-leaves g c =
       | inr other ↦
           let same = c.in_err-apply_line.ensures.untouched (λ e. other cc) in
           subst (λ d.
-          LeavesLines start (g.D.Disk.state d) moments input rest (g.C.Clock.told × g.I.Source.told) opened
+          LeavesLines start (g.D.Disk.state d) moments input rest (g.C.Clock.observable × g.I.Source.observable) opened
           (◌≡◌ {A = Result (Unit {0}) Fault} (Err fault) (Err Disk))
           (◌≡◌ {A = Result (Unit {0}) Fault} (Err fault) (Err Input))) (sym same)
-          (lines-leave start disk moments input rest (g.C.Clock.told × g.I.Source.told) _ _ opened store before
-          (held.added told rests) held.calls made (λ stop. absurd (none stop))
-          (held.leaves told rests settled)
-          (held.settled told rests settled))
+          (lines-leave start disk moments input rest (g.C.Clock.observable × g.I.Source.observable) _ _ opened store before
+          (held.added observable rests) held.calls made (λ stop. absurd (none stop))
+          (held.leaves observable rests settled)
+          (held.settled observable rests settled))
     ])
 
 pub returns-clause-made : goal.returns-clause-made
-returns-clause-made g c = λ told clock source.
+returns-clause-made g c = λ observable clock source.
     let moments = g.C.Clock.coming c.args.clock.now in
     Progress-end (stored_step moments) (stored_of c.args.store.now) (g.I.Source.state c.args.input.now).left
     c.loop-lines.lines (g.I.Source.state c.loop-lines.input) _ (stored_of c.loop-lines.store)
-    (c.loop-lines.invariant.progress told clock source)
+    (c.loop-lines.invariant.progress observable clock source)
     (c.in_ok-next.ensures.none (ap Ok c.if-branch.false) source)
 
 pub returns-clause-leaves : goal.returns-clause-leaves
-returns-clause-leaves g c = λ told rests settled.
+returns-clause-leaves g c = λ observable rests settled.
     let held = c.loop-lines.invariant in
     let moments = g.C.Clock.coming c.args.clock.now in
     let start = g.I.Source.state c.args.input.now in
@@ -282,8 +282,8 @@ returns-clause-leaves g c = λ told rests settled.
     let before = length store.history - length opened.history in
     lines-leave (g.D.Disk.state c.args.disk.now) (g.D.Disk.state c.loop-lines.disk) moments start
     (g.I.Source.state c.next.new.input)
-    (g.C.Clock.told × g.I.Source.told) _ _ opened store before (held.added told rests) held.calls
+    (g.C.Clock.observable × g.I.Source.observable) _ _ opened store before (held.added observable rests) held.calls
     (λ seen. Progress-made (stored_step moments) opened start.left c.loop-lines.lines
     (g.I.Source.state c.loop-lines.input) before store
-    (held.progress told seen.0 seen.1))
-    (λ stop. cc) (held.leaves told rests settled) (held.settled told rests settled)
+    (held.progress observable seen.0 seen.1))
+    (λ stop. cc) (held.leaves observable rests settled) (held.settled observable rests settled)

@@ -20,28 +20,28 @@ invariant-loop-lines g l =
     let coming = g.C.Clock.coming l.fn.clock in
     record {
       unspent : is_spent l.store ≡ false;
-      stands : g.D.Disk.told → StandsFor disk l.store;
+      stands : g.D.Disk.observable → StandsFor disk l.store;
       head : l.store.head ≡ old.head;
       opened : l.opened ≡ length old.history;
       grown : length old.history ≤ length l.store.history;
-      progress : g.D.Disk.told → g.C.Clock.told → g.I.Source.told →
+      progress : g.D.Disk.observable → g.C.Clock.observable → g.I.Source.observable →
           Progress (stored_step coming) (stored_of old) input.left l.lines (g.I.Source.state l.input)
           (length l.store.history - length old.history) (stored_of l.store);
-      moments : g.C.Clock.told → (k : ℕ) →
+      moments : g.C.Clock.observable → (k : ℕ) →
           g.C.Clock.coming l.clock k ≡ coming (k + (length l.store.history - length old.history));
-      knows : g.I.Source.told → KnowsEnd l.lines (g.I.Source.state l.input);
+      knows : g.I.Source.observable → KnowsEnd l.lines (g.I.Source.state l.input);
       faults : (g.I.Source.state l.input).faults ≡ input.faults;
       disk_faults : disk.faults ≡ before.faults;
       calls : disk.clock < counter_limit →
           before.clock + 4 * (length l.store.history - length old.history) ≤ disk.clock;
       mirror : LeavesAlone before disk Mirror;
-      rests : g.D.Disk.told → IsAtRest before → IsAtRest disk;
-      added : g.D.Disk.told → IsAtRest before →
+      rests : g.D.Disk.observable → IsAtRest before → IsAtRest disk;
+      added : g.D.Disk.observable → IsAtRest before →
           (more : List Op) × (l.store.history ≡ old.history ++ more);
-      leaves : g.D.Disk.told → IsAtRest before →
+      leaves : g.D.Disk.observable → IsAtRest before →
           Settled before old.head old.history (length old.history) →
           AlwaysLeavesBoth before disk (OpensPast old.head l.store.history (length old.history));
-      settled : g.D.Disk.told → IsAtRest before →
+      settled : g.D.Disk.observable → IsAtRest before →
           Settled before old.head old.history (length old.history) →
           Settled disk old.head l.store.history (length l.store.history);
     }

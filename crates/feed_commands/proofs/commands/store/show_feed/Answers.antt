@@ -1,7 +1,7 @@
 use Rattle.std.proofs.Common.{ap}
 use Rattle.std.proofs.lemmas.Result.{err_from_is_err_and}
 use Rattle.feed_recovery.specs.Stored.{stored_of}
-use Rattle.feed_commands.specs.declared.status.Status.TheVariants.{Done}
+use Rattle.command_ends.specs.declared.status.Status.TheVariants.{Done}
 use Rattle.feed_commands.specs.Stored.{feed_answer}
 use Rattle.feed_commands.proofs.AnswerOnLemmas.{answer-bad, answer-on}
 use Rattle.feed_commands.proofs.StoreLemmas.{opens-same}
@@ -10,16 +10,16 @@ use Rattle.feed_commands.proofs.commands.store.show_feed.Goals as goal
 pub returns-in_err-store-clause-refused : goal.returns-in_err-store-clause-refused
 returns-in_err-store-clause-refused g c =
     let p = err_from_is_err_and c.from_residual.result c.from_residual.ensures.1 in
-    rw (p.1, p.2) (λ refusal told.
+    rw (p.1, p.2) (λ refusal observable.
     answer-bad (g.D.Disk.state c.args.disk.now).content feed_answer c.in_err-store.field-0.0
-    (c.in_err-store.ensures.refused told) (c.in_err-store.ensures.only told) refusal)
+    (c.in_err-store.ensures.refused observable) (c.in_err-store.ensures.only observable) refusal)
 
 pub returns-clause-answer : goal.returns-clause-answer
-returns-clause-answer g c = λ told.
+returns-clause-answer g c = λ observable.
     let store = c.in_ok-store.store in
     let before = (g.D.Disk.state c.args.disk.now).content in
     let loaded = (g.D.Disk.state c.load.new.disk).content in
     answer-on before feed_answer _ (stored_of store) c.stores_open_in_one_way.ensures
-    (opens-same before loaded (stored_of store) (c.in_ok-store.ensures.same told)
-    (c.in_ok-store.ensures.opens told).opens)
+    (opens-same before loaded (stored_of store) (c.in_ok-store.ensures.same observable)
+    (c.in_ok-store.ensures.opens observable).opens)
     (ap (λ bytes. record { status = Done; printed = bytes }) c.in_ok-text.ensures.document)

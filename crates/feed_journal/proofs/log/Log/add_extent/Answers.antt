@@ -19,7 +19,7 @@ invariant_of-self c =
         arith,
         length-append extents (extent ∷ []),
         ap (λ (v : LogValue). length v.extents) c.self.view_is,
-        c.requires.few,
+        c.requires.room.few,
       );
     }))
 
@@ -37,6 +37,6 @@ returns-clause-rules c =
         arith,
         length-append extents (extent ∷ []),
         ap (λ (v : LogValue). length v.extents) c.self.view_is,
-        c.requires.few,
+        c.requires.room.few,
       );
     }))

@@ -1,31 +1,15 @@
-use Rattle.std.proofs.Common.{◌≡◌, ◌≢◌, ◌+◌, ◌<◌, ℕ, List, [], ◌∷◌, ◌++◌, length, sym, ◌∙◌, ap, subst, arith}
+use Rattle.std.proofs.Common.{◌≡◌, ◌≢◌, ◌+◌, ℕ, List, [], ◌∷◌, ◌++◌, length, sym, ◌∙◌, ap, subst, arith}
 use Rattle.feed_disk.specs.Moments.{AlwaysLeaves, LeavesAlone, NowOnly}
 use Rattle.feed_disk.specs.declared.area.Area.{Area}
-use Rattle.feed_journal.specs.Limits.{payload_count_limit}
-use Rattle.feed_journal.specs.Log.{LogValue, IsListed, payloads_at}
-use Rattle.feed_journal.specs.Records.{records, size_of, Begins, IsStep}
-use Rattle.feed_journal.specs.declared.extent.Extent.{Extent}
+use Rattle.feed_journal.specs.Log.{LogValue, HasRoomFor, IsListed, ListsPayload}
+use Rattle.feed_journal.specs.Records.{records, Begins, IsStep}
 use Rattle.feed_journal.proofs.ExtentLemmas.{follow_above}
-use Rattle.feed_journal.proofs.ListLemmas.{is_size, how_many, reads_new, size_new, long_new, list_new, begins_new}
+use Rattle.feed_journal.proofs.ListLemmas.{is_size, how_many, lists_new, begins_new}
 use Rattle.feed_journal.proofs.log.Log.append.Goals as goal
 
 pub write_frame-outcome-requires-clause-gate : goal.write_frame-outcome-requires-clause-gate
 write_frame-outcome-requires-clause-gate g c =
     follow_above 0 c.self.inside.extents.items c.self.inside.size c.self.invariant.follow
-
-pub returns-in-Ok-clause-list : goal.returns-in-Ok-clause-list
-returns-in-Ok-clause-list g c = λ tells.
-    let s = g.D.Disk.state c.args.disk.now in
-    let t = g.D.Disk.state c.write_frame-outcome.new.disk in
-    let listed = subst (λ (v : LogValue). IsListed v (s.content v.area)) (sym c.self.view_is)
-    (c.requires.listed tells) in
-    let few : length c.self.inside.extents.items < payload_count_limit =
-    subst (λ (v : LogValue). length v.extents < payload_count_limit) (sym c.self.view_is) c.requires.few in
-    subst (λ (v : LogValue). records (t.content v.area) ≡ records (s.content v.area) ++ c.args.framed.now ∷ [])
-    c.self.view_is
-    (reads_new c.self.inside.extents.items c.self.inside.size (s.content c.self.inside.area) c.self.invariant.follow
-    listed.list listed.long c.args.framed.now (t.content c.self.inside.area) few c.length.ensures.most
-    (c.in-Ok.ensures.content tells))
 
 pub returns-in-Ok-clause-listed : goal.returns-in-Ok-clause-listed
 returns-in-Ok-clause-listed g c = λ tells.
@@ -36,39 +20,17 @@ returns-in-Ok-clause-listed g c = λ tells.
     let area = c.self.inside.area in
     let listed = subst (λ (v : LogValue). IsListed v (s.content v.area)) (sym c.self.view_is)
     (c.requires.listed tells) in
-    let few : length extents < payload_count_limit =
-    subst (λ (v : LogValue). length v.extents < payload_count_limit) (sym c.self.view_is) c.requires.few in
-    let list = list_new extents size (s.content area) c.self.invariant.follow listed.list listed.long c.args.framed.now
-    (t.content area) few c.length.ensures.most (c.in-Ok.ensures.content tells) in
-    let long = long_new extents size (s.content area) c.self.invariant.follow listed.list listed.long c.args.framed.now
-    (t.content area) few c.length.ensures.most (c.in-Ok.ensures.content tells) in
+    let room = subst (HasRoomFor (length c.args.framed.now)) (sym c.self.view_is) c.requires.room in
     let kept : c.add_extent.new.self.extents
     ≡ extents ++ record { offset = size + 4; length = length c.args.framed.now } ∷ [] =
     ap (λ (v : LogValue). v.extents) c.add_extent.ensures.log
     ∙ ap (λ (n : ℕ). extents ++ record { offset = size + 4; length = n } ∷ []) c.length.ensures.count in
     let end : c.add_extent.new.self.size ≡ size + length c.args.framed.now + 5 =
     ap (λ (v : LogValue). v.size) c.add_extent.ensures.log ∙ ap (λ (n : ℕ). size + n + 5) c.length.ensures.count in
-    subst (λ (v : LogValue). IsListed c.add_extent.new.self (t.content v.area)) c.self.view_is (record {
-      list = ap (λ (l : List Extent). payloads_at l (t.content area)) kept ∙ list;
-      long = omega (arith, end, long);
-    })
-
-pub returns-in-Ok-clause-size : goal.returns-in-Ok-clause-size
-returns-in-Ok-clause-size g c = λ tells.
-    let s = g.D.Disk.state c.args.disk.now in
-    let t = g.D.Disk.state c.write_frame-outcome.new.disk in
-    let extents = c.self.inside.extents.items in
-    let size = c.self.inside.size in
-    let area = c.self.inside.area in
-    let listed = subst (λ (v : LogValue). IsListed v (s.content v.area)) (sym c.self.view_is)
-    (c.requires.listed tells) in
-    let few : length extents < payload_count_limit =
-    subst (λ (v : LogValue). length v.extents < payload_count_limit) (sym c.self.view_is) c.requires.few in
-    let end : c.add_extent.new.self.size ≡ size + length c.args.framed.now + 5 =
-    ap (λ (v : LogValue). v.size) c.add_extent.ensures.log ∙ ap (λ (n : ℕ). size + n + 5) c.length.ensures.count in
-    subst (λ (v : LogValue). c.add_extent.new.self.size ≡ size_of (records (t.content v.area))) c.self.view_is
-    (end ∙ size_new extents size (s.content area) c.self.invariant.follow listed.list listed.long c.args.framed.now
-    (t.content area) few c.length.ensures.most (c.in-Ok.ensures.content tells))
+    subst (λ (v : LogValue). ListsPayload c.args.framed.now c.add_extent.new.self (s.content v.area) (t.content v.area))
+    c.self.view_is
+    (lists_new extents size (s.content area) c.self.invariant.follow listed.list listed.long c.args.framed.now
+    (t.content area) room.few c.length.ensures.most (c.in-Ok.ensures.content tells) c.add_extent.new.self kept end)
 
 pub returns-in-Ok-clause-moments : goal.returns-in-Ok-clause-moments
 returns-in-Ok-clause-moments g c = λ tells.
@@ -77,8 +39,7 @@ returns-in-Ok-clause-moments g c = λ tells.
     let extents = c.self.inside.extents.items in
     let listed = subst (λ (v : LogValue). IsListed v (s.content v.area)) (sym c.self.view_is)
     (c.requires.listed tells) in
-    let few : length extents < payload_count_limit =
-    subst (λ (v : LogValue). length v.extents < payload_count_limit) (sym c.self.view_is) c.requires.few in
+    let room = subst (HasRoomFor (length c.args.framed.now)) (sym c.self.view_is) c.requires.room in
     subst (λ (v : LogValue). NowOnly s v.area (Begins (records (s.content v.area)))
     → AlwaysLeaves s t v.area (IsStep (records (s.content v.area)) c.args.framed.now)) c.self.view_is
     (c.write_frame-outcome.ensures.moments tells
@@ -86,7 +47,7 @@ returns-in-Ok-clause-moments g c = λ tells.
     listed.long)
     (omega (
       arith,
-      few,
+      room.few,
       how_many extents c.self.inside.size (s.content c.self.inside.area) c.self.invariant.follow
           listed.list listed.long,
     )))
@@ -98,8 +59,7 @@ returns-in-Err-clause-moments g c = λ tells.
     let extents = c.self.inside.extents.items in
     let listed = subst (λ (v : LogValue). IsListed v (s.content v.area)) (sym c.self.view_is)
     (c.requires.listed tells) in
-    let few : length extents < payload_count_limit =
-    subst (λ (v : LogValue). length v.extents < payload_count_limit) (sym c.self.view_is) c.requires.few in
+    let room = subst (HasRoomFor (length c.args.framed.now)) (sym c.self.view_is) c.requires.room in
     subst (λ (v : LogValue). NowOnly s v.area (Begins (records (s.content v.area)))
     → AlwaysLeaves s t v.area (IsStep (records (s.content v.area)) c.args.framed.now)) c.self.view_is
     (c.write_frame-outcome.ensures.moments tells
@@ -107,7 +67,7 @@ returns-in-Err-clause-moments g c = λ tells.
     listed.long)
     (omega (
       arith,
-      few,
+      room.few,
       how_many extents c.self.inside.size (s.content c.self.inside.area) c.self.invariant.follow
           listed.list listed.long,
     )))
@@ -120,8 +80,7 @@ returns-in-Ok-clause-rests g c = λ tells.
     let area = c.self.inside.area in
     let listed = subst (λ (v : LogValue). IsListed v (s.content v.area)) (sym c.self.view_is)
     (c.requires.listed tells) in
-    let few : length extents < payload_count_limit =
-    subst (λ (v : LogValue). length v.extents < payload_count_limit) (sym c.self.view_is) c.requires.few in
+    let room = subst (HasRoomFor (length c.args.framed.now)) (sym c.self.view_is) c.requires.room in
     subst (λ (v : LogValue). NowOnly s v.area (Begins (records (s.content v.area))) → (i : List ℕ)
     → t.image_now v.area i → Begins (records (t.content v.area)) i) c.self.view_is
     (λ start i may. subst (Begins (records (t.content area))) (sym (c.in-Ok.ensures.certain tells i may))
@@ -129,7 +88,7 @@ returns-in-Ok-clause-rests g c = λ tells.
     (is_size extents c.self.inside.size (s.content area) c.self.invariant.follow listed.list listed.long)
     (omega (
       arith,
-      few,
+      room.few,
       how_many extents c.self.inside.size (s.content area) c.self.invariant.follow listed.list
           listed.long,
     ))

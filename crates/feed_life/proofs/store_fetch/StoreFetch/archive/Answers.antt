@@ -8,13 +8,13 @@ use Rattle.feed_life.proofs.store_fetch.StoreFetch.archive.Goals as goal
 
 pub returns-in-Ok-clause-gets : goal.returns-in-Ok-clause-gets
 returns-in-Ok-clause-gets g c =
-    gets-limited g.D.Disk.told g.D.Disk.state _ _ _ _ _ offer_limit (vec_len c.in-Ok.written)
+    gets-limited g.D.Disk.observable g.D.Disk.state _ _ _ _ _ offer_limit (vec_len c.in-Ok.written)
     (reads-inside g.D.Disk.state _ _ c.archive.new.self c.archive.new.disk c.self.view_is
-    (c.in-Ok.ensures.same (ok-works _ _)) c.in-Ok.ensures.areas (c.in-Ok.ensures.unfailed (ok-works _ _)))
-    (λ told.
+    (c.in-Ok.ensures.store.same (ok-works _ _)) c.in-Ok.ensures.areas (c.in-Ok.ensures.faults.unfailed (ok-works _ _)))
+    (λ observable.
     let unspent : is_spent c.self.inside.store ≡ false = ap (λ f. is_spent f.store) c.self.view_is ∙ c.requires in
-    let fits = seal-fits _ _ (c.self.invariant unspent told) c.args.number c.in-Ok.ensures.sealed in
-    let is = ap length (c.in-Ok.ensures.document told) in
+    let fits = seal-fits _ _ (c.self.invariant unspent observable) c.args.number c.in-Ok.ensures.sealed in
+    let is = ap length (c.in-Ok.ensures.document observable) in
     omega (arith, fits, is, c.in-Ok.written.ok))
     c.within_limit.ensures.same c.within_limit.ensures.fault c.within_limit.ensures.long c.within_limit.ensures.failures
 
@@ -22,22 +22,22 @@ pub returns-in-Err-NotSealed-clause-gets : goal.returns-in-Err-NotSealed-clause-
 returns-in-Err-NotSealed-clause-gets g c =
     gets-read _ _ _ _ _ _
     (reads-inside g.D.Disk.state _ _ c.archive.new.self c.archive.new.disk c.self.view_is
-    (c.in-Err-NotSealed.ensures.same (not_sealed-works _ _ _ c.in-Err-NotSealed.field-0-is)) c.in-Err-NotSealed.ensures.areas
-    (c.in-Err-NotSealed.ensures.unfailed (not_sealed-works _ _ _ c.in-Err-NotSealed.field-0-is))) (ok-works _ _)
+    (c.in-Err-NotSealed.ensures.store.same (not_sealed-works _ _ _ c.in-Err-NotSealed.field-0-is)) c.in-Err-NotSealed.ensures.areas
+    (c.in-Err-NotSealed.ensures.faults.unfailed (not_sealed-works _ _ _ c.in-Err-NotSealed.field-0-is))) (ok-works _ _)
 
 pub returns-in-Err-DiskFault-clause-gets : goal.returns-in-Err-DiskFault-clause-gets
 returns-in-Err-DiskFault-clause-gets g c =
     disk-inside _ g.D.Disk.state _ _ _ c.archive.new.self c.archive.new.disk c.self.view_is c.requires
-    (c.in-Err-DiskFault.ensures.spent (ap (λ fault. Err fault) c.in-Err-DiskFault.field-0-is)) c.in-Err-DiskFault.ensures.areas c.in-Err-DiskFault.ensures.later
-    (c.in-Err-DiskFault.ensures.failed (ap (λ fault. Err fault) c.in-Err-DiskFault.field-0-is)) refl
+    (c.in-Err-DiskFault.ensures.store.spent (ap (λ fault. Err fault) c.in-Err-DiskFault.field-0-is)) c.in-Err-DiskFault.ensures.areas c.in-Err-DiskFault.ensures.faults.later
+    (c.in-Err-DiskFault.ensures.faults.failed (ap (λ fault. Err fault) c.in-Err-DiskFault.field-0-is)) refl
 
 pub returns-in-Err-Changed-clause-gets : goal.returns-in-Err-Changed-clause-gets
 returns-in-Err-Changed-clause-gets g c =
-    gets-changed g.D.Disk.told g.D.Disk.state _ _ _ _ _
+    gets-changed g.D.Disk.observable g.D.Disk.state _ _ _ _ _
     (reads-inside g.D.Disk.state _ _ c.archive.new.self c.archive.new.disk c.self.view_is
-    (c.in-Err-Changed.ensures.same (changed-works _ _ c.in-Err-Changed.field-0-is)) c.in-Err-Changed.ensures.areas
-    (c.in-Err-Changed.ensures.unfailed (changed-works _ _ c.in-Err-Changed.field-0-is)))
-    (λ told. c.in-Err-Changed.ensures.never told c.in-Err-Changed.field-0-0
+    (c.in-Err-Changed.ensures.store.same (changed-works _ _ c.in-Err-Changed.field-0-is)) c.in-Err-Changed.ensures.areas
+    (c.in-Err-Changed.ensures.faults.unfailed (changed-works _ _ c.in-Err-Changed.field-0-is)))
+    (λ observable. c.in-Err-Changed.ensures.never observable c.in-Err-Changed.field-0-0
     (ap (λ fault. Err fault) c.in-Err-Changed.field-0-is))
     c.fail.ensures.failures (ap (λ fault. Err fault) c.fail.ensures.fault)
 
@@ -45,5 +45,5 @@ pub returns-in-Err-NoMemory-clause-gets : goal.returns-in-Err-NoMemory-clause-ge
 returns-in-Err-NoMemory-clause-gets g c =
     gets-read _ _ _ _ _ _
     (reads-inside g.D.Disk.state _ _ c.archive.new.self c.archive.new.disk c.self.view_is
-    (c.in-Err-NoMemory.ensures.same (no_memory-works _ c.in-Err-NoMemory.field-0-is)) c.in-Err-NoMemory.ensures.areas
-    (c.in-Err-NoMemory.ensures.unfailed (no_memory-works _ c.in-Err-NoMemory.field-0-is))) no_memory-answers
+    (c.in-Err-NoMemory.ensures.store.same (no_memory-works _ c.in-Err-NoMemory.field-0-is)) c.in-Err-NoMemory.ensures.areas
+    (c.in-Err-NoMemory.ensures.faults.unfailed (no_memory-works _ c.in-Err-NoMemory.field-0-is))) no_memory-answers

@@ -65,7 +65,7 @@ appended : (g : Over) (c : In_default g) → let log = c.append.new.self in
       calls = log.calls;
       spare = log.spare;
     }
-appended g c = c.in_default.ensures.ok
+appended g c = c.in_default.ensures.ok.log
 
 counted : (g : Over) (c : In_default g)
     → length c.append.new.self.extents ≡ length c.self.inside.journal.extents + 1
@@ -120,10 +120,11 @@ returns-clause-stands g c = λ tells.
     let area = c.self.invariant.0.journal_area in
     let operation = c.ready.inside.operation in
     let stands : StandsFor s (store g before) = subst (StandsFor s) (sym c.self.view_is) (c.requires.stands tells) in
-    let listed = subst (λ (a : Area). IsListed log (t.content a)) area (c.in_default.ensures.listed tells) in
+    let list = c.in_default.ensures.listed tells in
+    let listed = subst (λ (a : Area). IsListed log (t.content a)) area list.listed in
     let added = subst (λ (l : List ℕ). records (t.content Journal) ≡ records (s.content Journal) ++ l ∷ [])
     c.ready.invariant (subst (λ (a : Area). records (t.content a)
-    ≡ records (s.content a) ++ c.ready.inside.payload ∷ []) area (c.in_default.ensures.list tells)) in
+    ≡ records (s.content a) ++ c.ready.inside.payload ∷ []) area list.list) in
     let alone = c.append.ensures.others Sealed (λ same. let clash : Sealed ≡ Journal = same ∙ area in cc) in
     let pushed : c.self.inside.history.items ++ operation ∷ [] ≡ c.push.new.self.items = grind (arith, common_steps) in
     subst (λ (l : List Op). StandsFor t (record (store g before) {

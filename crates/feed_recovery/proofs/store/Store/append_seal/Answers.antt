@@ -9,7 +9,7 @@ use Rattle.feed_journal.specs.Log.{LogValue, IsListed}
 use Rattle.feed_journal.specs.Records.{records, Begins, IsStep}
 use Rattle.feed_recovery.specs.Commit.{IsSealing, MakesSealCalls}
 use Rattle.feed_recovery.specs.Prepare.{IsDueSeal}
-use Rattle.feed_recovery.specs.Store.{KeepsStore, StandsFor, StoreValue}
+use Rattle.feed_recovery.specs.Store.{KeepsStore, StandsFor, StoreValue, seal_count}
 use Rattle.feed_recovery.proofs.LoadedLemmas.{begins_still}
 use Rattle.feed_recovery.proofs.StoreLemmas.{step_seals, still_seals, stands_sealed, keeps_sealed}
 use Rattle.feed_recovery.proofs.SealListLemmas.{none_due}
@@ -22,7 +22,7 @@ pub returns-in_default-clause-full : goal.returns-in_default-clause-full
 returns-in_default-clause-full g c =
     let store = c.args.self.now in
     let keeps = subst KeepsStore c.self.view_is c.self.invariant.0 in
-    none_due store keeps.seals (subst (IsDueSeal store) c.in_default.is c.requires.due)
+    ap seal_count c.self.view_is ∙ none_due store keeps.seals (subst (IsDueSeal store) c.in_default.is c.requires.due)
 
 pub returns-in_default-clause-moments : goal.returns-in_default-clause-moments
 returns-in_default-clause-moments g c = λ tells rests.
@@ -36,7 +36,8 @@ pub returns-in_default-clause-calls : goal.returns-in_default-clause-calls
 returns-in_default-clause-calls g c =
     let s = g.D.Disk.state c.args.disk.now in
     let calls = c.args.self.now.seals.calls in
-    subst (λ (seal : Option (List ℕ)). MakesSealCalls seal s s calls calls) (sym c.in_default.is) (refl, refl)
+    subst (λ (seal : Option (List ℕ)). MakesSealCalls seal s s calls c.self.inside.seals.calls) (sym c.in_default.is)
+    (refl, ap (λ (v : StoreValue). v.seals.calls) c.self.view_is)
 
 others : (g : Over) (c : After-append g) (a : Area) → a ≢ Sealed
     → LeavesAlone (g.D.Disk.state c.args.disk.now) (g.D.Disk.state c.append.new.disk) a
@@ -48,7 +49,7 @@ returns-in-Err-clause-others g c = others g (goal.at.returns-in-Err-clause-other
 pub returns-clause-others : goal.returns-clause-others
 returns-clause-others g c = others g (goal.at.returns-clause-others g c).After-append
 
-moments : (g : Over) (c : After-append g) → g.D.Disk.told → IsAtRest (g.D.Disk.state c.args.disk.now)
+moments : (g : Over) (c : After-append g) → g.D.Disk.observable → IsAtRest (g.D.Disk.state c.args.disk.now)
     → AlwaysLeaves (g.D.Disk.state c.args.disk.now) (g.D.Disk.state c.append.new.disk) Sealed
     (IsSealing c.args.self.now.head c.args.self.now.history
     (records ((g.D.Disk.state c.args.disk.now).content Sealed)))
@@ -84,7 +85,7 @@ invariant_of-self-in_default-append g c =
       spare = vec_capacity c.self.inside.history - vec_len c.self.inside.history;
     } in
     let log = c.append.new.self in
-    let ok = c.in_default-append.ensures.ok in
+    let ok = c.in_default-append.ensures.ok.log in
     let keeps = c.self.invariant.0 in
     let due = subst (λ (v : StoreValue). IsDueSeal v (Some c.in-Some.seal)) (sym c.self.view_is)
     (subst (IsDueSeal c.args.self.now) c.in-Some.is c.requires.due) in
@@ -103,12 +104,13 @@ returns-clause-stands g c = λ tells.
     let store = c.args.self.now in
     let log = c.append.new.self in
     let area = c.self.invariant.0.sealed_area in
-    let ok = c.in_default-append.ensures.ok in
+    let ok = c.in_default-append.ensures.ok.log in
     let keeps = subst KeepsStore c.self.view_is c.self.invariant.0 in
     let due = subst (IsDueSeal store) c.in-Some.is c.requires.due in
-    let listed = subst (λ (a : Area). IsListed log (t.content a)) area (c.in_default-append.ensures.listed tells) in
+    let list = c.in_default-append.ensures.listed tells in
+    let listed = subst (λ (a : Area). IsListed log (t.content a)) area list.listed in
     let added = subst (λ (a : Area). records (t.content a) ≡ records (s.content a) ++ c.in-Some.seal ∷ []) area
-    (c.in_default-append.ensures.list tells) in
+    list.list in
     let alone = c.append.ensures.others Journal (λ same. let clash : Journal ≡ Sealed = same ∙ area in cc) in
     let count : length log.extents ≡ length store.seals.extents + 1 =
     ap (λ (v : LogValue). length v.extents) ok ∙ length-append c.self.inside.seals.extents (_ ∷ [])

@@ -39,7 +39,7 @@ returns-in_err-journal-clause-kept g c = λ tells other operations least settled
     (g.met.D.Disk.is_disk c.args.disk.now) (c.unused_journal.ensures.journal tells)
     (c.unused_journal.ensures.seals tells) settled
 
-moments : (g : Over) (c : After-append g) → g.D.Disk.told → Unused (g.D.Disk.state c.args.disk.now)
+moments : (g : Over) (c : After-append g) → g.D.Disk.observable → Unused (g.D.Disk.state c.args.disk.now)
     → AlwaysLeavesBoth (g.D.Disk.state c.args.disk.now) (g.D.Disk.state c.append.new.disk) (IsInit c.args.head.now)
 moments g c tells unused =
     let s = g.D.Disk.state c.args.disk.now in
@@ -72,7 +72,7 @@ returns-in_err-append-clause-kept g c = λ tells other operations least settled.
     absurd (settled_has_payload (g.D.Disk.state c.args.disk.now) other operations least
     (g.met.D.Disk.is_disk c.args.disk.now) tells settled (c.in_ok-journal.ensures.unused tells))
 
-opens : (g : Over) (c : In_ok-append g) → g.D.Disk.told
+opens : (g : Over) (c : In_ok-append g) → g.D.Disk.observable
     → Opens ((g.D.Disk.state c.append.new.disk).content Journal) ((g.D.Disk.state c.append.new.disk).content Sealed)
     c.args.head.now [] 0
 opens g c tells =
@@ -83,7 +83,7 @@ opens g c tells =
     let none = c.in_ok-journal.ensures.same tells in
     let alone = c.append.ensures.others Sealed (λ same. let clash : Sealed ≡ Journal = same ∙ area in cc) in
     let added = subst (λ (a : Area). records (t.content a) ≡ records (m.content a) ++ c.in_ok-framed.framed ∷ []) area
-    (c.in_ok-append.ensures.list tells) in
+    (c.in_ok-append.ensures.listed tells).list in
     let first : records (t.content Journal) ≡ text_of heads head ∷ [] = added
     ∙ ap (λ (l : List (List ℕ)). l ++ c.in_ok-framed.framed ∷ []) none.journal
     ∙ ap (λ (l : List ℕ). l ∷ []) c.in_ok-framed.ensures.bytes in

@@ -101,21 +101,18 @@ returns-clause-moments g c = λ tells.
     payloads-leave (g.D.Disk.state c.args.disk.now) (g.D.Disk.state c.reopen.new.disk)
     (g.met.D.Disk.is_disk c.args.disk.now) (returns-clause-payloads g c tells)
 
-pub returns-clause-rests : goal.returns-clause-rests
-returns-clause-rests g c = λ tells whole. loaded_rests (g.D.Disk.state c.args.disk.now) (g.D.Disk.state c.load.new.disk)
-    (g.D.Disk.state c.load-2.new.disk) (g.D.Disk.state c.reopen.new.disk) c.load.ensures.others
-    c.load-2.ensures.others c.reopen.ensures.reads (c.in_ok-journal.ensures.rests tells)
-    (c.in_ok-seals.ensures.rests tells) whole
-
 pub returns-clause-settled : goal.returns-clause-settled
 returns-clause-settled g c = λ tells whole.
     let u = g.D.Disk.state c.reopen.new.disk in
     let store = c.in_ok-store.store in
-    rest_settles c.begun_images_are_whole.ensures u store.head store.history (seal_count store)
-    (c.in_ok-store.ensures.stands tells).opens
-    (loaded_rests (g.D.Disk.state c.args.disk.now) (g.D.Disk.state c.load.new.disk) (g.D.Disk.state c.load-2.new.disk)
-    u c.load.ensures.others c.load-2.ensures.others c.reopen.ensures.reads (c.in_ok-journal.ensures.rests tells)
-    (c.in_ok-seals.ensures.rests tells) whole)
+    let rests = loaded_rests (g.D.Disk.state c.args.disk.now) (g.D.Disk.state c.load.new.disk)
+    (g.D.Disk.state c.load-2.new.disk) u c.load.ensures.others c.load-2.ensures.others c.reopen.ensures.reads
+    (c.in_ok-journal.ensures.rests tells) (c.in_ok-seals.ensures.rests tells) whole in
+    record {
+      settled = rest_settles c.begun_images_are_whole.ensures u store.head store.history (seal_count store)
+          (c.in_ok-store.ensures.stands tells).opens rests;
+      rests = rests;
+    }
 
 pub returns-clause-mirror : goal.returns-clause-mirror
 returns-clause-mirror g c =

@@ -18,7 +18,7 @@ read_operation-requires-clause-within g c =
 pub returns-clause-document : goal.returns-clause-document
 returns-clause-document g c =
     let store = c.args.self.now in
-    let same = c.in_ok-payload.ensures.same (λ clash. cc) in
+    let same = c.in_ok-payload.ensures.store.same (λ clash. cc) in
     let head : c.self.inside.head ≡ store.head = ap (λ (v : StoreValue). v.head) (c.self.view_is ∙ same) in
     let name = ap (λ (v : Inside). v.head.name) c.self-inside.view_is ∙ ap (λ (h : HeadValue). h.name) head in
     let is_head : IsHead store.head = subst IsHead head c.self.invariant.0.head in
@@ -28,7 +28,7 @@ returns-clause-document g c =
     (λ (n : FeedName). IfOk c.document_of.result (λ written. IsDocumentOf n c.in_ok-payload.payload.items
     c.args.number c.moment-edited.result c.in-Live.updated written.items)) name
     (rw c.as_slice.ensures.value at c.document_of.ensures.document) in
-    inward g.D.Disk.told (λ written. IsLiveDocument store c.args.number written.items) c.document_of.result
+    inward g.D.Disk.observable (λ written. IsLiveDocument store c.args.number written.items) c.document_of.result
     (λ tells. document_live store is_head c.args.number c.in-Live.version c.moment-edited.result
     c.in-Live.updated (sym c.in-Live.ensures) _ c.in_ok-payload.payload.items (c.requires.stands tells).opens.is_journal (c.in_ok-payload.ensures.payload tells)
     c.document_of.result made)
@@ -36,7 +36,7 @@ returns-clause-document g c =
 pub returns-clause-never : goal.returns-clause-never
 returns-clause-never g c = λ tells index.
     let store = c.args.self.now in
-    let same = c.in_ok-payload.ensures.same (λ clash. cc) in
+    let same = c.in_ok-payload.ensures.store.same (λ clash. cc) in
     let head : c.self.inside.head ≡ store.head = ap (λ (v : StoreValue). v.head) (c.self.view_is ∙ same) in
     let is_head : IsHead store.head = subst IsHead head c.self.invariant.0.head in
     let is = (c.requires.stands tells).opens.is_journal in
@@ -65,7 +65,7 @@ overflow_sub-version g c =
 pub index-requires : goal.index-requires
 index-requires g c =
     let store = c.args.self.now in
-    let same = c.in_ok-payload.ensures.same (λ clash. cc) in
+    let same = c.in_ok-payload.ensures.store.same (λ clash. cc) in
     let history : c.self.inside.history.items ≡ store.history =
     ap (λ (v : StoreValue). v.history) (c.self.view_is ∙ same) in
     let long = ap (λ (v : Inside). vec_len v.history) c.self-inside.view_is in
@@ -77,7 +77,7 @@ index-requires g c =
 pub returns-clause-entry : goal.returns-clause-entry
 returns-clause-entry g c =
     let store = c.args.self.now in
-    let same = c.in_ok-payload.ensures.same (λ clash. cc) in
+    let same = c.in_ok-payload.ensures.store.same (λ clash. cc) in
     let head : c.self.inside.head ≡ store.head = ap (λ (v : StoreValue). v.head) (c.self.view_is ∙ same) in
     let name = ap (λ (v : Inside). v.head.name) c.self-inside.view_is ∙ ap (λ (h : HeadValue). h.name) head in
     let history = ap (λ (v : Inside). v.history.items) c.self-inside.view_is

@@ -25,12 +25,12 @@ live g c = live-place c.args.self.now.kept c.args.number c.entry_place-place.res
     c.self.view_is c.entry_place-place.ensures.place)
 
 -- the entry in its place of the document that was read back
-held-entry : (g : Over) (c : After-entry_at g) → g.D.Disk.told
+held-entry : (g : Over) (c : After-entry_at g) → g.D.Disk.observable
     → HasEntryIn c.read_back.new.self.reread c.entry_place-place.result.item (live g c).entry
 held-entry g c tells =
     let there = c.in_ok-read_back.ensures.there in
-    let same = c.in_ok-read_back.ensures.same (λ is. absurd (cc)) in
-    let stands = c.in_ok-read_back.ensures.stands (λ is. absurd (cc)) tells in
+    let same = c.in_ok-read_back.ensures.mirror.same (λ is. absurd (cc)) in
+    let stands = c.in_ok-read_back.ensures.mirror.stands (λ is. absurd (cc)) tells in
     let held = subst (λ (l : List KeptValue). MatchOption c.read_back.new.self.reread (Unit {0}) (IsHeldAt l))
     (ap (λ (m : MirrorValue). m.kept) same) stands.reread in
     entry-there c.args.self.now.kept c.args.number c.entry_place-place.result (live g c)

@@ -1,8 +1,8 @@
-use Rattle.std.proofs.Common.{◌≡◌, ◌≢◌, ◌⊎◌, inl, inr, ℕ, List, Ok, Err, length, sym, ◌∙◌, ap, subst}
+use Rattle.std.proofs.Common.{◌≡◌, ◌≢◌, ◌⊎◌, inl, inr, ℕ, List, Ok, Err, length, refl, sym, ◌∙◌, ap, subst}
 use Rattle.std.proofs.Common.{◌+◌, ◌≤◌, arith}
 use Rattle.std.proofs.lemmas.Result.{err_from_is_err_and}
 use Rattle.feed_disk.specs.declared.area.Area.TheVariants.{Mirror as MirrorArea}
-use Rattle.feed_disk.proofs.MomentLemmas.{alone_begins, always_weaker}
+use Rattle.feed_disk.proofs.MomentLemmas.{always_weaker}
 use Rattle.atom_writer.specs.Pieces.{text}
 use Rattle.feed_journal.specs.Limits.{header_length}
 use Rattle.feed_journal.specs.Records.{size_of}
@@ -12,9 +12,10 @@ use Rattle.mirror_walk.specs.declared.answer.Offered.TheVariants.{DiskFault, NoM
 use Rattle.mirror_walk.specs.declared.offer.Checked.{Checked}
 use Rattle.mirror_walk.specs.Accept.{Answer, IsKeptOf}
 use Rattle.mirror_walk.specs.Holding.{payloads_of}
-use Rattle.mirror_walk.specs.Mirror.{IsOfferStep, KeepsMirror, MirrorValue}
+use Rattle.mirror_walk.specs.Mirror.{IsOfferStep, KeepsMirror}
 use Rattle.mirror_walk.specs.Taking.{IsChecked, IsTakeStep}
 use Rattle.mirror_walk.proofs.CheckedLemmas.{answer-fits, refused-answers, taken-answers}
+use Rattle.mirror_walk.proofs.SoundLemmas.{setting-begins, sound-begins}
 use Rattle.mirror_walk.proofs.StepLemmas.{offer-step, still-offers}
 use Rattle.mirror_walk.proofs.WithinLemmas.{offer-served, within-taken}
 use Rattle.mirror_walk.proofs.mirror.Mirror.offer.Goals as goal
@@ -40,10 +41,13 @@ returns-in_err-accepted-clause-spent g c = λ failed. absurd (never_failed c.in_
     c.from_residual.result c.in_err-accepted.ensures.0
     (err_from_is_err_and c.from_residual.result c.from_residual.ensures.1) failed)
 
-pub returns-in_err-accepted-clause-failed : goal.returns-in_err-accepted-clause-failed
-returns-in_err-accepted-clause-failed g c = λ failed. absurd (never_failed c.in_err-accepted.field-0.0
-    c.from_residual.result c.in_err-accepted.ensures.0
-    (err_from_is_err_and c.from_residual.result c.from_residual.ensures.1) failed)
+pub returns-in_err-accepted-clause-faults : goal.returns-in_err-accepted-clause-faults
+returns-in_err-accepted-clause-faults g c = record {
+  later = omega arith;
+  failed = λ failed. absurd (never_failed c.in_err-accepted.field-0.0 c.from_residual.result
+      c.in_err-accepted.ensures.0 (err_from_is_err_and c.from_residual.result c.from_residual.ensures.1) failed);
+  unfailed = λ works. refl;
+}
 
 pub returns-in_err-accepted-clause-moments : goal.returns-in_err-accepted-clause-moments
 returns-in_err-accepted-clause-moments g c = λ tells rest.
@@ -51,8 +55,13 @@ returns-in_err-accepted-clause-moments g c = λ tells rest.
     (subst KeepsMirror c.self.view_is c.self.invariant) c.requires.unspent (c.requires.stands tells)
     c.args.address.now c.args.bytes.now rest
 
-pub returns-in_err-accepted-clause-others : goal.returns-in_err-accepted-clause-others
-returns-in_err-accepted-clause-others g c = λ a other. alone_begins (g.D.Disk.state c.args.disk.now) a
+pub returns-in_err-accepted-clause-setting : goal.returns-in_err-accepted-clause-setting
+returns-in_err-accepted-clause-setting g c = setting-begins (g.D.Disk.state c.args.disk.now) c.args.self.now
+
+pub returns-in_err-accepted-clause-sound : goal.returns-in_err-accepted-clause-sound
+returns-in_err-accepted-clause-sound g c = λ works.
+    sound-begins g.D.Disk.observable (g.D.Disk.state c.args.disk.now) c.args.self.now c.requires.unspent
+    c.requires.stands
 
 pub returns-in_err-accepted-clause-served : goal.returns-in_err-accepted-clause-served
 returns-in_err-accepted-clause-served g c = λ head history offers same served taken there.
@@ -78,8 +87,13 @@ returns-in-Answered-clause-moments g c = λ tells rest.
     (subst KeepsMirror c.self.view_is c.self.invariant) c.requires.unspent (c.requires.stands tells)
     c.args.address.now c.args.bytes.now rest
 
-pub returns-in-Answered-clause-others : goal.returns-in-Answered-clause-others
-returns-in-Answered-clause-others g c = λ a other. alone_begins (g.D.Disk.state c.args.disk.now) a
+pub returns-in-Answered-clause-setting : goal.returns-in-Answered-clause-setting
+returns-in-Answered-clause-setting g c = setting-begins (g.D.Disk.state c.args.disk.now) c.args.self.now
+
+pub returns-in-Answered-clause-sound : goal.returns-in-Answered-clause-sound
+returns-in-Answered-clause-sound g c = λ works.
+    sound-begins g.D.Disk.observable (g.D.Disk.state c.args.disk.now) c.args.self.now c.requires.unspent
+    c.requires.stands
 
 pub take-requires-clause-taken : goal.take-requires-clause-taken
 take-requires-clause-taken g c =
@@ -117,17 +131,9 @@ memory_left answer (inl taken) other other' = absurd (other taken)
 memory_left answer (inr (inl spent)) other other' = spent
 memory_left answer (inr (inr failed)) other other' = absurd (other' failed)
 
-pub returns-in-New-clause-kept : goal.returns-in-New-clause-kept
-returns-in-New-clause-kept g c = λ other other'. ap (λ (m : MirrorValue). m.kept)
-    (c.take.ensures.unchanged (memory_left c.take.result c.take.ensures.answers other other'))
-
 pub returns-in-New-clause-unchanged : goal.returns-in-New-clause-unchanged
 returns-in-New-clause-unchanged g c = λ other other'.
     c.take.ensures.unchanged (memory_left c.take.result c.take.ensures.answers other other')
-
-pub returns-in-New-clause-unmoved : goal.returns-in-New-clause-unmoved
-returns-in-New-clause-unmoved g c = λ other other'.
-    c.take.ensures.unmoved (memory_left c.take.result c.take.ensures.answers other other')
 
 pub returns-in-New-clause-moments : goal.returns-in-New-clause-moments
 returns-in-New-clause-moments g c = λ tells rest.

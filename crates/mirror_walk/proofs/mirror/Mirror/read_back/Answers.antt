@@ -9,7 +9,7 @@ use Rattle.feed_journal.specs.Records.{records}
 use Rattle.feed_journal.specs.declared.fault.LogFault.{LogFault}
 use Rattle.feed_journal.specs.declared.fault.LogFault.TheVariants.{Changed, NoMemory}
 use Rattle.mirror_walk.specs.Mirror.{MirrorValue, StandsFor, is_spent}
-use Rattle.mirror_walk.proofs.RereadLemmas.{read-held, read-never, stands-reread}
+use Rattle.mirror_walk.proofs.RereadLemmas.{read-by, read-held, read-never, read-passed}
 use Rattle.mirror_walk.proofs.SizeLemmas.{follow-most}
 use Rattle.mirror_walk.proofs.mirror.Mirror.read_back.Given.{Over}
 use Rattle.mirror_walk.proofs.mirror.Mirror.read_back.Goals as goal
@@ -36,12 +36,12 @@ before g c = record {
 unspent : (g : Over) (c : After-reread_document g) → is_spent (before g c) ≡ false
 unspent g c = subst (λ (m : MirrorValue). is_spent m ≡ false) (sym c.self.view_is) c.requires.unspent
 
-stands : (g : Over) (c : After-reread_document g) → g.D.Disk.told
+stands : (g : Over) (c : After-reread_document g) → g.D.Disk.observable
     → StandsFor (g.D.Disk.state c.args.disk.now) (before g c)
 stands g c tells =
     subst (StandsFor (g.D.Disk.state c.args.disk.now)) (sym c.self.view_is) (c.requires.stands tells)
 
-there : (g : Over) (c : After-reread_document g) → g.D.Disk.told
+there : (g : Over) (c : After-reread_document g) → g.D.Disk.observable
     → slice_get (records ((g.D.Disk.state c.args.disk.now).content MirrorArea)) c.args.index
     ≡ Some c.in_ok-payload.payload.items
 there g c tells = subst (λ (a : Area). slice_get (records ((g.D.Disk.state c.args.disk.now).content a))
@@ -69,14 +69,33 @@ returns-in_err-document-clause-never g c = λ tells n changed.
     c.args.index c.in_ok-payload.payload.items (there g d tells) c.reread_document.result (only g d)
     c.in_err-document.field-0.0 c.in_err-document.was n fault
 
-pub returns-clause-stands : goal.returns-clause-stands
-returns-clause-stands g c = λ other tells.
-    let d = (goal.at.returns-clause-stands g c).After-reread_document in
+pub returns-in_err-payload-clause-mirror : goal.returns-in_err-payload-clause-mirror
+returns-in_err-payload-clause-mirror g c =
     let s = g.D.Disk.state c.args.disk.now in
-    let held = read-held s (before g d) c.self.invariant (unspent g d) (stands g d tells) c.args.index
-    c.in_ok-payload.payload.items (there g d tells) c.reread_document.result (only g d)
-    c.in_ok-document.document
-    c.in_ok-document.was in
-    stands-reread s (g.D.Disk.state c.read.new.disk) (before g d) c.read.new.self _
-    (c.read.ensures.areas MirrorArea)
-    (c.in_ok-payload.ensures.log (λ is. absurd (cc))) (stands g d tells) held
+    let t = g.D.Disk.state c.read.new.disk in
+    let now = c.args.self.now in
+    let mirror : MirrorValue = record {
+      base = c.self.inside.held.base;
+      kept = c.self.inside.held.kept;
+      listed = c.self.inside.held.listed;
+      capacity = c.self.inside.capacity;
+      log = c.self.inside.log;
+      reread = c.self.inside.reread;
+    } in
+    let stands = λ (tells : g.D.Disk.observable). subst (StandsFor s) (sym c.self.view_is) (c.requires.stands tells) in
+    read-passed g.D.Disk.observable t now _ c.from_residual.result c.in_err-payload.field-0.0
+    c.from_residual.ensures.1
+    (read-by g.D.Disk.observable s t mirror now c.read.new.self mirror.reread _ c.self.view_is
+    (c.in_err-payload.ensures.areas MirrorArea) c.in_err-payload.ensures.log c.in_err-payload.ensures.spent stands
+    (λ tells. (stands tells).reread))
+
+pub returns-clause-mirror : goal.returns-clause-mirror
+returns-clause-mirror g c =
+    let d = (goal.at.returns-clause-mirror g c).After-reread_document in
+    let s = g.D.Disk.state c.args.disk.now in
+    let held = λ (tells : g.D.Disk.observable). read-held s (before g d) c.self.invariant (unspent g d)
+    (stands g d tells) c.args.index c.in_ok-payload.payload.items (there g d tells) c.reread_document.result
+    (only g d) c.in_ok-document.document c.in_ok-document.was in
+    read-by g.D.Disk.observable s (g.D.Disk.state c.read.new.disk) (before g d) c.args.self.now c.read.new.self _ _
+    c.self.view_is (c.read.ensures.areas MirrorArea)
+    (λ other. c.in_ok-payload.ensures.log (λ is. absurd (cc))) (λ is. absurd (cc)) (stands g d) held

@@ -11,8 +11,10 @@ use Rattle.mirror_walk.specs.Walk.{IsAnswered, setting_by}
 use Rattle.mirror_walk.proofs.GivenLemmas.{HasGone, ended-done, ended-fault, ended-nowhere, ended-refused}
 use Rattle.mirror_walk.proofs.GivenLemmas.{goes-further, gone-none}
 use Rattle.mirror_walk.proofs.VisitAnswerLemmas.{ok-works}
-use Rattle.mirror_walk.proofs.VisitLemmas.{GoesOn, asks-some, goes-on, setting-begins, setting-joins, sound-joins}
-use Rattle.mirror_walk.proofs.VisitsLemmas.{counted-sums, err-again, err-of, no-tally, one_asked, sum_of}
+use Rattle.mirror_walk.proofs.PassedLemmas.{err-again, err-of}
+use Rattle.mirror_walk.proofs.SoundLemmas.{setting-begins, setting-joins, sound-begins, sound-joins}
+use Rattle.mirror_walk.proofs.VisitLemmas.{GoesOn, asks-some, goes-on}
+use Rattle.mirror_walk.proofs.VisitsLemmas.{counted-sums, no-tally, one_asked, sum_of}
 use Rattle.mirror_walk.proofs.mirror.Mirror.visit_all.Given.{Over}
 use Rattle.mirror_walk.proofs.mirror.Mirror.visit_all.Goals as goal
 use Rattle.mirror_walk.proofs.mirror.Mirror.visit_all.Goals.{In-Accepted}
@@ -23,12 +25,7 @@ addresses-init g c =
     let source = g.F.Fetch.state c.args.fetch.now in
     record {
       setting = setting-begins s c.args.self.now;
-      sound = record {
-        unspent = c.requires.unspent;
-        stands = c.requires.stands;
-        rests = λ told rest. rest;
-        most = omega arith;
-      };
+      sound = sound-begins g.D.Disk.observable s c.args.self.now c.requires.unspent c.requires.stands;
       answers = refl;
       disk_faults = refl;
       fetch_faults = refl;
@@ -36,10 +33,10 @@ addresses-init g c =
       is_address = tt;
       bounded = omega (arith, c.default-tally.ensures);
       answered = omega (arith, c.default-tally.ensures);
-      gone = subst (HasGone g.D.Disk.told g.F.Fetch.told s s source source c.args.self.now c.args.self.now.kept Feed)
+      gone = subst (HasGone g.D.Disk.observable g.F.Fetch.observable s s source source c.args.self.now c.args.self.now.kept Feed)
           (no-tally c.default-tally.result c.default-tally.ensures.0
           c.default-tally.ensures.1.0 c.default-tally.ensures.1.1.0 c.default-tally.ensures.1.1.1)
-          (gone-none g.D.Disk.told g.F.Fetch.told s source c.args.self.now);
+          (gone-none g.D.Disk.observable g.F.Fetch.observable s source c.args.self.now);
     }
 
 pub overflow_add-tally : goal.overflow_add-tally
@@ -88,26 +85,26 @@ returns-in-None-clause-setting g c =
 
 pub returns-in_err-answer-clause-sound : goal.returns-in_err-answer-clause-sound
 returns-in_err-answer-clause-sound g c = λ works.
-    sound-joins g.D.Disk.told (g.D.Disk.state c.args.disk.now) (g.D.Disk.state c.addresses.disk)
+    sound-joins g.D.Disk.observable (g.D.Disk.state c.args.disk.now) (g.D.Disk.state c.addresses.disk)
     (g.D.Disk.state c.visit.new.disk) c.args.self.now c.addresses.self c.visit.new.self
     c.addresses.invariant.sound (c.in_err-answer.ensures.sound (λ e. works (err-of c.from_residual.result
     c.in_err-answer.field-0.0 c.from_residual.ensures.1 ∙ err-again c.in_err-answer.field-0.0 DiskFault e)))
 
 pub returns-in-NotThere-clause-sound : goal.returns-in-NotThere-clause-sound
 returns-in-NotThere-clause-sound g c = λ works.
-    sound-joins g.D.Disk.told (g.D.Disk.state c.args.disk.now) (g.D.Disk.state c.addresses.disk)
+    sound-joins g.D.Disk.observable (g.D.Disk.state c.args.disk.now) (g.D.Disk.state c.addresses.disk)
     (g.D.Disk.state c.visit.new.disk) c.args.self.now c.addresses.self c.visit.new.self
     c.addresses.invariant.sound (c.in_ok-answer.ensures.sound (ok-works _ _))
 
 pub returns-in-Refused-clause-sound : goal.returns-in-Refused-clause-sound
 returns-in-Refused-clause-sound g c = λ works.
-    sound-joins g.D.Disk.told (g.D.Disk.state c.args.disk.now) (g.D.Disk.state c.addresses.disk)
+    sound-joins g.D.Disk.observable (g.D.Disk.state c.args.disk.now) (g.D.Disk.state c.addresses.disk)
     (g.D.Disk.state c.visit.new.disk) c.args.self.now c.addresses.self c.visit.new.self
     c.addresses.invariant.sound (c.in_ok-answer.ensures.sound (ok-works _ _))
 
 pub returns-in-None-clause-sound : goal.returns-in-None-clause-sound
 returns-in-None-clause-sound g c = λ works.
-    sound-joins g.D.Disk.told (g.D.Disk.state c.args.disk.now) (g.D.Disk.state c.addresses.disk)
+    sound-joins g.D.Disk.observable (g.D.Disk.state c.args.disk.now) (g.D.Disk.state c.addresses.disk)
     (g.D.Disk.state c.visit.new.disk) c.args.self.now c.addresses.self c.visit.new.self
     c.addresses.invariant.sound (c.in_ok-answer.ensures.sound (ok-works _ _))
 
@@ -116,10 +113,10 @@ returns-in_err-answer-clause-visited g c =
     let fault = c.in_err-answer.field-0.0 in
     let is : c.from_residual.result ≡ Err fault = err-of c.from_residual.result fault
     c.from_residual.ensures.1 in
-    subst (λ (r : Result Visits WalkFault). VisitsByAnswers g.D.Disk.told g.F.Fetch.told
+    subst (λ (r : Result Visits WalkFault). VisitsByAnswers g.D.Disk.observable g.F.Fetch.observable
     (g.D.Disk.state c.args.disk.now) (g.D.Disk.state c.visit.new.disk) (g.F.Fetch.state c.args.fetch.now)
     (g.F.Fetch.state c.visit.new.fetch) c.args.self.now c.visit.new.self.kept r) (sym is)
-    (ended-fault g.D.Disk.told g.F.Fetch.told (g.D.Disk.state c.args.disk.now)
+    (ended-fault g.D.Disk.observable g.F.Fetch.observable (g.D.Disk.state c.args.disk.now)
     (g.D.Disk.state c.addresses.disk) (g.D.Disk.state c.visit.new.disk) (g.F.Fetch.state c.args.fetch.now)
     (g.F.Fetch.state c.addresses.fetch) (g.F.Fetch.state c.visit.new.fetch) c.args.self.now c.addresses.self
     c.addresses.address c.addresses.tally c.addresses.invariant.setting c.addresses.invariant.answers
@@ -128,7 +125,7 @@ returns-in_err-answer-clause-visited g c =
 
 pub returns-in-NotThere-clause-visited : goal.returns-in-NotThere-clause-visited
 returns-in-NotThere-clause-visited g c =
-    ended-nowhere g.D.Disk.told g.F.Fetch.told (g.D.Disk.state c.args.disk.now)
+    ended-nowhere g.D.Disk.observable g.F.Fetch.observable (g.D.Disk.state c.args.disk.now)
     (g.D.Disk.state c.addresses.disk) (g.D.Disk.state c.visit.new.disk) (g.F.Fetch.state c.args.fetch.now)
     (g.F.Fetch.state c.addresses.fetch) (g.F.Fetch.state c.visit.new.fetch) c.args.self.now c.addresses.self
     c.addresses.address c.addresses.tally c.addresses.invariant.setting c.addresses.invariant.answers
@@ -138,7 +135,7 @@ returns-in-NotThere-clause-visited g c =
 
 pub returns-in-Refused-clause-visited : goal.returns-in-Refused-clause-visited
 returns-in-Refused-clause-visited g c =
-    ended-refused g.D.Disk.told g.F.Fetch.told (g.D.Disk.state c.args.disk.now)
+    ended-refused g.D.Disk.observable g.F.Fetch.observable (g.D.Disk.state c.args.disk.now)
     (g.D.Disk.state c.addresses.disk) (g.D.Disk.state c.visit.new.disk) (g.F.Fetch.state c.args.fetch.now)
     (g.F.Fetch.state c.addresses.fetch) (g.F.Fetch.state c.visit.new.fetch) c.args.self.now c.addresses.self
     c.addresses.address c.addresses.tally c.addresses.invariant.setting c.addresses.invariant.answers
@@ -148,11 +145,11 @@ returns-in-Refused-clause-visited g c =
 
 pub returns-in-None-clause-visited : goal.returns-in-None-clause-visited
 returns-in-None-clause-visited g c =
-    subst (λ (t : Tally). VisitsByAnswers g.D.Disk.told g.F.Fetch.told
+    subst (λ (t : Tally). VisitsByAnswers g.D.Disk.observable g.F.Fetch.observable
     (g.D.Disk.state c.args.disk.now) (g.D.Disk.state c.visit.new.disk) (g.F.Fetch.state c.args.fetch.now)
     (g.F.Fetch.state c.visit.new.fetch) c.args.self.now c.visit.new.self.kept
     (Ok record { tally = t; refused = None })) (sym c.count.ensures)
-    (ended-done g.D.Disk.told g.F.Fetch.told (g.D.Disk.state c.args.disk.now)
+    (ended-done g.D.Disk.observable g.F.Fetch.observable (g.D.Disk.state c.args.disk.now)
     (g.D.Disk.state c.addresses.disk) (g.D.Disk.state c.visit.new.disk) (g.F.Fetch.state c.args.fetch.now)
     (g.F.Fetch.state c.addresses.fetch) (g.F.Fetch.state c.visit.new.fetch) c.args.self.now c.addresses.self
     c.addresses.address c.addresses.tally c.addresses.invariant.setting c.addresses.invariant.answers
@@ -196,11 +193,11 @@ addresses-preserved g c =
     record {
       setting = setting-joins s m t c.args.self.now c.addresses.self c.visit.new.self keeps.setting
           c.visit.ensures.setting;
-      sound = sound-joins g.D.Disk.told s m t c.args.self.now c.addresses.self c.visit.new.self keeps.sound
+      sound = sound-joins g.D.Disk.observable s m t c.args.self.now c.addresses.self c.visit.new.self keeps.sound
           (c.visit.ensures.sound works);
       answers = c.visit.ensures.answers ∙ keeps.answers;
-      disk_faults = c.visit.ensures.faults.disk_worked works ∙ keeps.disk_faults;
-      fetch_faults = c.visit.ensures.faults.source_worked
+      disk_faults = c.visit.ensures.faults.disk_counts.unfailed works ∙ keeps.disk_faults;
+      fetch_faults = c.visit.ensures.faults.source_counts.unfailed
           (λ e. let clash : Ok c.in_ok-answer.field-0 ≡ Err FetchFault = sym c.in_ok-answer.was ∙ e in cc)
           ∙ keeps.fetch_faults;
       next = inr (sym c.in-Some.ensures.missing, goes.best);
@@ -214,10 +211,10 @@ addresses-preserved g c =
         counts.1,
         keeps.answered,
       );
-      gone = subst (HasGone g.D.Disk.told g.F.Fetch.told s t (g.F.Fetch.state c.args.fetch.now)
+      gone = subst (HasGone g.D.Disk.observable g.F.Fetch.observable s t (g.F.Fetch.state c.args.fetch.now)
           (g.F.Fetch.state c.visit.new.fetch) c.args.self.now c.visit.new.self.kept c.in-Some.next)
           (sym c.count.ensures)
-          (goes-further g.D.Disk.told g.F.Fetch.told (g.D.Disk.state c.args.disk.now)
+          (goes-further g.D.Disk.observable g.F.Fetch.observable (g.D.Disk.state c.args.disk.now)
           (g.D.Disk.state c.addresses.disk) (g.D.Disk.state c.visit.new.disk) (g.F.Fetch.state c.args.fetch.now)
           (g.F.Fetch.state c.addresses.fetch) (g.F.Fetch.state c.visit.new.fetch) c.args.self.now c.addresses.self
           c.addresses.address c.addresses.tally c.addresses.invariant.setting c.addresses.invariant.answers

@@ -51,4 +51,4 @@ loop-self-preserved g c =
     let m = c.in_ok-fill.ensures.more (cc) in
     GoesOn-filled (GoesOn-taken c.loop-self.invariant t c.in_ok-take_line.ensures.allowed
     c.in_ok-take_line.ensures.end) t.spent c.in_ok-fill.ensures.line m
-    (c.in_ok-fill.ensures.bytes (cc)) c.in_ok-fill.ensures.knows (c.in_ok-fill.ensures.faults (λ e. cc))
+    (c.in_ok-fill.ensures.bytes (cc)) c.in_ok-fill.ensures.knows (c.in_ok-fill.ensures.input_faults.unfailed (λ e. cc))

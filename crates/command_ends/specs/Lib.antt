@@ -1,0 +1,6 @@
+pub mod Status
+pub mod Answer
+pub mod Fault
+pub mod StoreFaults
+pub mod Ends
+pub mod Summary

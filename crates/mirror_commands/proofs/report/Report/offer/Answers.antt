@@ -1,0 +1,28 @@
+use Rattle.std.proofs.Common.{Err, ap, sym}
+use Rattle.mirror_commands.proofs.RoomFaultLemmas.{reportable-not_disk, room-not_disk}
+use Rattle.mirror_commands.proofs.report.Report.offer.Goals as goal
+
+pub returns-in-Some-clause-usable : goal.returns-in-Some-clause-usable
+returns-in-Some-clause-usable g c = λ other.
+    let not_disk = room-not_disk c.offer-answer.result c.in-Some.fault (sym c.in-Some.ensures)
+    (λ e. other (ap Err e)) in
+    record {
+      unspent = (c.offer-answer.ensures.sound not_disk).unspent;
+      stands = (c.offer-answer.ensures.sound not_disk).stands;
+    }
+
+pub returns-in_err-added-clause-usable : goal.returns-in_err-added-clause-usable
+returns-in_err-added-clause-usable g c = λ other.
+    let not_disk = reportable-not_disk c.offer-answer.result (sym c.in_default.ensures) in
+    record {
+      unspent = (c.offer-answer.ensures.sound not_disk).unspent;
+      stands = (c.offer-answer.ensures.sound not_disk).stands;
+    }
+
+pub returns-clause-usable : goal.returns-clause-usable
+returns-clause-usable g c = λ other.
+    let not_disk = reportable-not_disk c.offer-answer.result (sym c.in_default.ensures) in
+    record {
+      unspent = (c.offer-answer.ensures.sound not_disk).unspent;
+      stands = (c.offer-answer.ensures.sound not_disk).stands;
+    }

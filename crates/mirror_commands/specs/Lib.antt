@@ -1,0 +1,16 @@
+pub mod MirrorFaults
+pub mod Reporting
+pub mod Report
+pub mod Mirror
+pub mod Walked
+pub mod Served
+pub mod MirrorCrash
+pub mod MirrorEnds
+pub mod FetchEnds
+pub mod Mirroring
+pub mod Printed
+pub mod Audit
+pub mod AuditedPile
+pub mod AuditEnds
+pub mod CertificatePart
+pub mod VerdictLine

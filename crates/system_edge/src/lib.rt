@@ -1,0 +1,25 @@
+//! The objects of the system that the program lends to its commands: the clock, the input, the output, the TCP port, and
+//! the words of the command line.
+//!
+//! Begin with [`TcpDoor`], which gives the connections of a TCP port to a session:
+//!
+//! ```
+//! let mut clock = SystemClock { runtime: &rt };
+//! let mut door = TcpDoor::new(rt.alloc(), &rt);
+//! let ended = serve(rt.alloc(), &mut disk, &mut clock, &mut door, b"127.0.0.1:8080", 100);
+//! ```
+//!
+//! These are thin adapters, which implement traits of the crates below. Contracts see the counts of faults and of bytes,
+//! and the mark of a reply, and nothing of the content. That the system does what it is asked is trusted.
+//!
+//! Stands on `document_server` for the clock and the door, on `doc_source` for the input and the output, on `http_face`
+//! for connections, and on `mio` for waiting.
+#![tactic(auto)]
+
+mod system;
+mod tcp;
+mod words;
+
+pub use system::{InputSource, OutputSink, SystemClock};
+pub use tcp::{TcpConn, TcpDoor};
+pub use words::given_words;
