@@ -252,7 +252,8 @@ static SETTLED: [(&[u8], Option<RequestFault>); 5] = [
     (b"G\x00", Some(RequestFault::BadHead)),
 ];
 
-/// Call 2 would be one read more. Its failure stands for a client that waits for the reply and sends nothing.
+/// Call 2 is listed to fail, so the result is another one if `read_request` reads a second time. A client that waits for
+/// its reply sends no byte for such a read.
 #[test]
 fn reads_no_more_once_the_result_is_certain(rt: HostRuntime) -> Result<(), Fail> {
     let alloc = rt.alloc();

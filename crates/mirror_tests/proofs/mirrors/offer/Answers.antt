@@ -5,4 +5,4 @@ use Rattle.mirror_tests.proofs.mirrors.offer.Goals as goal
 pub returns-clause-stands : goal.returns-clause-stands
 returns-clause-stands g c =
     let fine : c.offer-answer.result ≢ Err DiskFault = search rules in
-    c.offer-answer.ensures.stands fine
+    (c.offer-answer.ensures.sound fine).stands

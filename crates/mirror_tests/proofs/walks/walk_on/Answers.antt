@@ -5,4 +5,4 @@ use Rattle.mirror_tests.proofs.walks.walk_on.Goals as goal
 pub returns-clause-stands : goal.returns-clause-stands
 returns-clause-stands g c =
     let fine : c.walk-outcome.result ≢ Err DiskFault = search rules in
-    c.walk-outcome.ensures.stands fine
+    (c.walk-outcome.ensures.sound fine).stands
