@@ -11,9 +11,9 @@ use std::fmt::Display;
 use std::process::Abort;
 
 /// Compares the sentence of a refusal or a fault.
-fn expect(rt: &impl Abort, alloc: Global, told: impl Display + Drop, sentence: &str) {
-    let text = format!(in alloc; "{told}").expect(rt, "memory");
-    drop(told);
+fn expect(rt: &impl Abort, alloc: Global, observable: impl Display + Drop, sentence: &str) {
+    let text = format!(in alloc; "{observable}").expect(rt, "memory");
+    drop(observable);
     assert!(rt; text.as_str() == sentence);
 }
 
