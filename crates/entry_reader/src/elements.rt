@@ -196,7 +196,7 @@ impl<'a> Elements<'a> {
         requires behind { IsBehindXml (drop xml_length input.now) }
         requires most { most ≡ depth_limit }
         ensures at { IsAt result (first_point input.now) }
-        ensures observable { result.empty ≡ false }
+        ensures told { result.empty ≡ false }
         ensures total { result.length ≡ length input.now }
         ensures depth { depth_of result ≡ 0 }
     {
@@ -318,7 +318,7 @@ impl<'a> Elements<'a> {
     /// Reads a token, and returns its part of the tree if it has one.
     fn step(&mut self) -> Result<Option<Event<'a>>, EntryFault>
         requires reading { IsReading self.old }
-        requires observable { self.old.empty ≡ false }
+        requires told { self.old.empty ≡ false }
         requires more { IsUnfinished self.old }
         ensures read { (from : Point) → IsAt self.old from
             → IsEventOf self.old.length [] from result self.new }

@@ -42,7 +42,7 @@ returns-in-Some-clause-read c = λ from at.
     subst (λ f. IsEventOf old.length f from (Ok (Some c.in-Some.event)) new) (sym (no_pending old c.if-self.false))
     (event_on old.length [] from mid x (Some c.in-Some.event) new
     (subst (λ f. IsEventOf mid.length f x.to (Ok (Some c.in-Some.event)) new)
-    (sym (no_pending mid c.loop-self.invariant.observable)) y))
+    (sym (no_pending mid c.loop-self.invariant.told)) y))
 
 pub loop-self-preserved : goal.loop-self-preserved
 loop-self-preserved c =
@@ -50,7 +50,7 @@ loop-self-preserved c =
     let mid = c.loop-self.self in
     let new = c.step.new.self in
     let silent : (p : Point) → IsAt mid p → IsEventOf mid.length (pending mid) p (Ok None) new = λ p at.
-    subst (λ f. IsEventOf mid.length f p (Ok None) new) (sym (no_pending mid c.loop-self.invariant.observable))
+    subst (λ f. IsEventOf mid.length f p (Ok None) new) (sym (no_pending mid c.loop-self.invariant.told))
     (subst (λ e. IsEventOf mid.length [] p (Ok e) new) c.in-None.is (c.in_ok-event.ensures.read p at)) in
     let led : (from : Point) → IsAt old from → IsLed old.length [] from [] new = λ from at.
     let x = c.loop-self.invariant.on from at in
@@ -62,7 +62,7 @@ loop-self-preserved c =
     let shorter = c.in_ok-event.ensures.shorter in
     let before = c.loop-self.invariant.left in
     record {
-      observable = c.in_ok-event.ensures.silent (ap Ok c.in-None.is);
+      told = c.in_ok-event.ensures.silent (ap Ok c.in-None.is);
       reading = (here.to, here.is_at);
       on = led;
       depth = deep ∙ c.loop-self.invariant.depth;

@@ -4,7 +4,7 @@ use Rattle.entry_reader.proofs.elements.Elements.next.Given as goal
 
 abbrev pub invariant-loop-self : goal.invariant-loop-self
 invariant-loop-self l = record {
-  observable : l.self.empty ≡ false;
+  told : l.self.empty ≡ false;
   reading : IsReading l.self;
   on : (from : Point) → IsAt l.initial.self from → IsLed l.initial.self.length [] from [] l.self;
   depth : depth_of l.self ≡ depth_of l.initial.self;
