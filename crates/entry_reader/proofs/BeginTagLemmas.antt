@@ -156,7 +156,7 @@ pub begin_led : (from : Point) (old new : Elements) (before : List ℕ) (x : IsA
     new.empty ≡ b →
     IsEventOf old.length [] from
     (Ok (Some (Begin (record { at = at; namespace = namespace; local = local; attributes = raw.attributes })))) new
-begin_led from old new before x place raw b at namespace prefix local observable r xml here may opens finds splits same rest
+begin_led from old new before x place raw b at namespace prefix local told r xml here may opens finds splits same rest
     items root empty =
     let tag = r.tag in
     let l : Lexeme = record { token = opening tag; text = r.alone.0 } in
@@ -166,7 +166,7 @@ begin_led from old new before x place raw b at namespace prefix local observable
     let q : IsQName tag.name = is_tag.name in
     let zip = lawful tag.attributes raw.attributes.items is_tag.inside is_tag.attributes r.tag_of.attributes in
     let kept : IsStageOf old.stage false x.opened from.stage =
-    subst (λ b. IsStageOf old.stage b x.opened from.stage) observable x.stage in
+    subst (λ b. IsStageOf old.stage b x.opened from.stage) told x.stage in
     let k = kept_open old.stage x.opened from.stage kept in
     let inner : Scope = filter_map declared tag.attributes ++ scope_of x.opened in
     let same_scope : inner_scope (scope_in from.stage) tag ≡ inner =

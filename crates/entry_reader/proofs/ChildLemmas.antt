@@ -237,10 +237,10 @@ module _ (before : List Name) (e : Element) (inner : Content) where
       (λ p q same. none dates refl p) room
 
 -- a child that is refused when its content is read
-pub refuses_read : (before : List Name) (e : Element) (inner : Content) (observable : List Event) → AreInner inner observable →
+pub refuses_read : (before : List Name) (e : Element) (inner : Content) (told : List Event) → AreInner inner told →
     (at : ℕ) (why : Why) → ((rest : Content) → IsFirstFault (all_seen in_entry before (element e inner rest)) at why) →
-    Refuses in_entry before e observable at why
-refuses_read before e inner observable are at why fault later content rest outer same =
+    Refuses in_entry before e told at why
+refuses_read before e inner told are at why fault later content rest outer same =
     let whole : inner ∷ contents later ≡ content ∷ (rest ∷ outer) = sym (are later) ∙ same in
     let one : inner ≡ content = cc in
     subst (λ k. IsFirstFault (all_seen in_entry before (element e k rest)) at why) one (fault rest)
@@ -265,15 +265,15 @@ stopped_here old from before e raw stop why at of same fault =
 
 -- a child that is refused itself when its content is read
 pub stopped_read : (total : ℕ) (first : List Event) (from : Point) (before : List Name) (e : Element) (raw : RawElement)
-    (stop : EarlyEnd) (why : Why) (inner : Content) (observable : List Event) (new : Elements) →
-    IsLed total first from observable new →
-    AreInner inner observable → IsElementOf e raw → stop ≡ Refused raw.at why →
+    (stop : EarlyEnd) (why : Why) (inner : Content) (told : List Event) (new : Elements) →
+    IsLed total first from told new →
+    AreInner inner told → IsElementOf e raw → stop ≡ Refused raw.at why →
     ((rest : Content) → IsFirstFault (all_seen in_entry before (element e inner rest)) e.place why) →
     IsStopped total first from in_entry before e stop new
-stopped_read total first from before e raw stop why inner observable new led are of same fault =
+stopped_read total first from before e raw stop why inner told new led are of same fault =
     subst (λ s. IsStopped total first from in_entry before e s new)
     (ap (λ place. Refused place why) of.place ∙ sym same)
-    (observable, led, refuses_read before e inner observable are e.place why fault)
+    (told, led, refuses_read before e inner told are e.place why fault)
 
 -- an option that has nothing
 pub no_some : {A : Type 0} (o : Option A) → ((x : A) → o ≡ Some x → ⊥) → o ≡ None

@@ -40,7 +40,7 @@ closed b (f ∷ fs) = closed (joined f.before (element f.root b nothing)) fs
 
 -- the events are the beginning of a content, which ends in these elements
 abbrev pub ArePart : Content → List Frame → List Event → Type 0
-ArePart b fs observable = (later : List Event) → contents (observable ++ later) ≡ around b fs (contents later)
+ArePart b fs told = (later : List Event) → contents (told ++ later) ≡ around b fs (contents later)
 
 -- characters
 abbrev pub says : List (List ℕ) → Content
@@ -94,40 +94,40 @@ pub part_none : ArePart nothing [] []
 part_none = λ later. sym (with_nothing (contents later))
 
 -- characters are read
-pub part_said : (b : Content) (fs : List Frame) (observable : List Event) (parts : List (List ℕ)) → ArePart b fs observable →
-    ArePart (joined b (says parts)) fs (observable ++ map say parts)
-part_said b fs observable parts part = λ later.
-    ap contents (append_assoc observable (map say parts) later) ∙ part (map say parts ++ later)
+pub part_said : (b : Content) (fs : List Frame) (told : List Event) (parts : List (List ℕ)) → ArePart b fs told →
+    ArePart (joined b (says parts)) fs (told ++ map say parts)
+part_said b fs told parts part = λ later.
+    ap contents (append_assoc told (map say parts) later) ∙ part (map say parts ++ later)
     ∙ ap (around b fs) (says_before parts later) ∙ around_joined b (says parts) fs (contents later)
 
 -- an element begins
-pub part_begin : (b : Content) (fs : List Frame) (observable : List Event) (e : Element) → ArePart b fs observable →
-    ArePart nothing (record { before = b; root = e } ∷ fs) (observable ++ begin e ∷ [])
-part_begin b fs observable e part = λ later.
-    ap contents (append_assoc observable (begin e ∷ []) later) ∙ part (begin e ∷ later)
+pub part_begin : (b : Content) (fs : List Frame) (told : List Event) (e : Element) → ArePart b fs told →
+    ArePart nothing (record { before = b; root = e } ∷ fs) (told ++ begin e ∷ [])
+part_begin b fs told e part = λ later.
+    ap contents (append_assoc told (begin e ∷ []) later) ∙ part (begin e ∷ later)
     ∙ ap (λ k. around b fs (with_element e k)) (sym (with_nothing (contents later)))
 
 -- the innermost element ends
-pub part_end : (b : Content) (f : Frame) (fs : List Frame) (observable : List Event) → ArePart b (f ∷ fs) observable →
-    ArePart (joined f.before (element f.root b nothing)) fs (observable ++ finish ∷ [])
-part_end b f fs observable part = λ later.
-    ap contents (append_assoc observable (finish ∷ []) later) ∙ part (finish ∷ later)
+pub part_end : (b : Content) (f : Frame) (fs : List Frame) (told : List Event) → ArePart b (f ∷ fs) told →
+    ArePart (joined f.before (element f.root b nothing)) fs (told ++ finish ∷ [])
+part_end b f fs told part = λ later.
+    ap contents (append_assoc told (finish ∷ []) later) ∙ part (finish ∷ later)
     ∙ ap (λ k. around f.before fs (with_element f.root (k ∷ contents later))) (joined_nothing b)
     ∙ ap (around f.before fs) (with_whole f.root b (contents later))
     ∙ around_joined f.before (element f.root b nothing) fs (contents later)
 
 -- the element round them ends
-pub part_last : (b : Content) (observable : List Event) → ArePart b [] observable → AreInner b (observable ++ finish ∷ [])
-part_last b observable part = λ later.
-    ap contents (append_assoc observable (finish ∷ []) later) ∙ part (finish ∷ later)
+pub part_last : (b : Content) (told : List Event) → ArePart b [] told → AreInner b (told ++ finish ∷ [])
+part_last b told part = λ later.
+    ap contents (append_assoc told (finish ∷ []) later) ∙ part (finish ∷ later)
     ∙ ap (λ k. k ∷ contents later) (joined_nothing b)
 
 -- a whole element is read
-pub part_whole : (b : Content) (fs : List Frame) (observable more : List Event) (e : Element) (inner : Content) →
-    ArePart b fs observable → AreInner inner more →
-    ArePart (joined b (element e inner nothing)) fs (observable ++ begin e ∷ more)
-part_whole b fs observable more e inner part are = λ later.
-    ap contents (append_assoc observable (begin e ∷ more) later) ∙ part (begin e ∷ more ++ later)
+pub part_whole : (b : Content) (fs : List Frame) (told more : List Event) (e : Element) (inner : Content) →
+    ArePart b fs told → AreInner inner more →
+    ArePart (joined b (element e inner nothing)) fs (told ++ begin e ∷ more)
+part_whole b fs told more e inner part are = λ later.
+    ap contents (append_assoc told (begin e ∷ more) later) ∙ part (begin e ∷ more ++ later)
     ∙ ap (λ k. around b fs (with_element e k)) (are later)
     ∙ ap (around b fs) (with_whole e inner (contents later))
     ∙ around_joined b (element e inner nothing) fs (contents later)
@@ -239,11 +239,11 @@ inner_said b f fs parts = inner_outline f fs b (joined b (says parts))
 -- text that was read so far, and `inner` the offset of its first element.
 pub record IsInside (total : ℕ) (first : List Event) (from : Point) (new : Elements) (depth : ℕ) (text : List ℕ)
     (inner : Option ℕ) : Type 0 where
-  pub observable : List Event
+  pub told : List Event
   pub before : Content
   pub frames : List Frame
-  pub led : IsLed total first from observable new
-  pub part : ArePart before frames observable
+  pub led : IsLed total first from told new
+  pub part : ArePart before frames told
   pub deep : length frames ≡ depth
   pub text_is : text ≡ text_of (closed before frames)
   pub inner_is : inner ≡ first_of (places (closed before frames))
@@ -251,7 +251,7 @@ pub record IsInside (total : ℕ) (first : List Event) (from : Point) (new : Ele
 -- nothing of it is read
 pub inside_start : (e : Elements) (from : Point) → IsAt e from → IsInside e.length (pending e) from e 0 [] None
 inside_start e from at = record {
-  observable = [];
+  told = [];
   before = nothing;
   frames = [];
   led = led_nowhere e from at;
@@ -272,12 +272,12 @@ module _ (total : ℕ) (first : List Event) (from : Point) (mid new : Elements) 
       let deep : depth + 1 ≡ after = cc in
       let long = x.deep in
       record {
-        observable = x.observable ++ begin e ∷ [];
+        told = x.told ++ begin e ∷ [];
         before = nothing;
         frames = f ∷ x.frames;
-        led = subst (λ t. IsLed total first from (x.observable ++ t) new) y.1.1
-            (led_on total first from x.observable y.0 mid new x.led y.2);
-        part = part_begin x.before x.frames x.observable e x.part;
+        led = subst (λ t. IsLed total first from (x.told ++ t) new) y.1.1
+            (led_on total first from x.told y.0 mid new x.led y.2);
+        part = part_begin x.before x.frames x.told e x.part;
         deep = omega arith;
         text_is = x.text_is ∙ text_begin x.before x.frames e;
         inner_is = ap (λ i. option_or i (Some raw.at)) x.inner_is
@@ -316,12 +316,12 @@ module _ (total : ℕ) (first : List Event) (from : Point) (mid new : Elements) 
       ] in
       let o = outline x.frames x.deep refl refl in
       record {
-        observable = x.observable ++ map say parts;
+        told = x.told ++ map say parts;
         before = joined x.before (says parts);
         frames = x.frames;
-        led = subst (λ t. IsLed total first from (x.observable ++ t) new) y.1.1
-            (led_on total first from x.observable y.0 mid new x.led y.2);
-        part = part_said x.before x.frames x.observable parts x.part;
+        led = subst (λ t. IsLed total first from (x.told ++ t) new) y.1.1
+            (led_on total first from x.told y.0 mid new x.led y.2);
+        part = part_said x.before x.frames x.told parts x.part;
         deep = x.deep ∙ same;
         text_is = o.0;
         inner_is = o.1;
@@ -330,13 +330,13 @@ module _ (total : ℕ) (first : List Event) (from : Point) (mid new : Elements) 
   end_step : IsEventOf mid.length (pending mid) x.led.to (Ok (Some End)) new → inner_depth End depth ≡ Some after →
       IsInside total first from new after text inner
   end_step y next =
-      let led : IsLed total first from (x.observable ++ finish ∷ []) new =
-      subst (λ t. IsLed total first from (x.observable ++ t) new) y.1
-      (led_on total first from x.observable y.0 mid new x.led y.2) in
-      let at : (fs : List Frame) → length fs ≡ depth → ArePart x.before fs x.observable →
+      let led : IsLed total first from (x.told ++ finish ∷ []) new =
+      subst (λ t. IsLed total first from (x.told ++ t) new) y.1
+      (led_on total first from x.told y.0 mid new x.led y.2) in
+      let at : (fs : List Frame) → length fs ≡ depth → ArePart x.before fs x.told →
       text ≡ text_of (closed x.before fs) → inner ≡ first_of (places (closed x.before fs)) →
       IsInside total first from new after text inner = λ fs.
-      elim fs as (λ fs. length fs ≡ depth → ArePart x.before fs x.observable →
+      elim fs as (λ fs. length fs ≡ depth → ArePart x.before fs x.told →
       text ≡ text_of (closed x.before fs) → inner ≡ first_of (places (closed x.before fs)) →
       IsInside total first from new after text inner) [
         | [] ↦ λ none part t p.
@@ -349,11 +349,11 @@ module _ (total : ℕ) (first : List Event) (from : Point) (mid new : Elements) 
             let same : depth - 1 ≡ after = cc in
             let long : suc (length fs) ≡ depth = some in
             record {
-              observable = x.observable ++ finish ∷ [];
+              told = x.told ++ finish ∷ [];
               before = joined f.before (element f.root x.before nothing);
               frames = fs;
               led = led;
-              part = part_end x.before f fs x.observable part;
+              part = part_end x.before f fs x.told part;
               deep = omega arith;
               text_is = t;
               inner_is = p;
@@ -361,20 +361,20 @@ module _ (total : ℕ) (first : List Event) (from : Point) (mid new : Elements) 
       ] in at x.frames x.deep x.part x.text_is x.inner_is
 
   last_step : IsEventOf mid.length (pending mid) x.led.to (Ok (Some End)) new → inner_depth End depth ≡ None →
-      (inside : Content) × (observable : List Event) × IsLed total first from observable new × AreInner inside observable
+      (inside : Content) × (told : List Event) × IsLed total first from told new × AreInner inside told
       × (text ≡ text_of inside) × (inner ≡ first_place inside)
   last_step y next =
-      let led : IsLed total first from (x.observable ++ finish ∷ []) new =
-      subst (λ t. IsLed total first from (x.observable ++ t) new) y.1
-      (led_on total first from x.observable y.0 mid new x.led y.2) in
-      let G : Type 0 = (inside : Content) × (observable : List Event) × IsLed total first from observable new × AreInner inside observable
+      let led : IsLed total first from (x.told ++ finish ∷ []) new =
+      subst (λ t. IsLed total first from (x.told ++ t) new) y.1
+      (led_on total first from x.told y.0 mid new x.led y.2) in
+      let G : Type 0 = (inside : Content) × (told : List Event) × IsLed total first from told new × AreInner inside told
       × (text ≡ text_of inside) × (inner ≡ first_place inside) in
-      let at : (fs : List Frame) → length fs ≡ depth → ArePart x.before fs x.observable →
+      let at : (fs : List Frame) → length fs ≡ depth → ArePart x.before fs x.told →
       text ≡ text_of (closed x.before fs) → inner ≡ first_of (places (closed x.before fs)) → G = λ fs.
-      elim fs as (λ fs. length fs ≡ depth → ArePart x.before fs x.observable →
+      elim fs as (λ fs. length fs ≡ depth → ArePart x.before fs x.told →
       text ≡ text_of (closed x.before fs) → inner ≡ first_of (places (closed x.before fs)) → G) [
         | [] ↦ λ none part t p.
-            (x.before, x.observable ++ finish ∷ [], led, part_last x.before x.observable part, t, p ∙ sym (first_places x.before))
+            (x.before, x.told ++ finish ∷ [], led, part_last x.before x.told part, t, p ∙ sym (first_places x.before))
         | f ∷ fs ↦ λ some part t p.
             let more : (depth == 0) ≡ false = ne_eqb depth 0 (λ zero. let long = some in omega arith) in
             let bad : Some (depth - 1) ≡ None = sym (cond-false (depth == 0) None (Some (depth - 1)) more)
@@ -397,7 +397,7 @@ inside_step total first from mid new depth after text inner x (Told part) y next
 pub inside_last : (total : ℕ) (first : List Event) (from : Point) (mid new : Elements) (depth : ℕ) (text : List ℕ)
     (inner : Option ℕ) (x : IsInside total first from mid depth text inner) (event : RawEvent) →
     IsEventOf mid.length (pending mid) x.led.to (Ok (Some event)) new → inner_depth event depth ≡ None →
-    (inside : Content) × (observable : List Event) × IsLed total first from observable new × AreInner inside observable
+    (inside : Content) × (told : List Event) × IsLed total first from told new × AreInner inside told
     × (text ≡ text_of inside) × (inner ≡ first_place inside)
 inside_last total first from mid new depth text inner x (Begin raw) y next =
     let bad : Some (depth + 1) ≡ None = next in absurd cc

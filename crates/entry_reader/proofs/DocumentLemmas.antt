@@ -165,15 +165,15 @@ whole_root e r c (x ∷ y ∷ outer) same =
     (x, λ i. x ∷ next i ∷ none i)
 
 -- the events of a whole document are its root's
-pub whole_told : (from to : Point) (root : Element) (observable : List Event) → Leads from (begin root ∷ observable) to →
-    from.stage ≡ start → to.stage ≡ epilog → (inner : Content) × (contents observable ≡ inner ∷ nothing ∷ [])
-whole_told from to root observable path begins ends =
+pub whole_told : (from to : Point) (root : Element) (told : List Event) → Leads from (begin root ∷ told) to →
+    from.stage ≡ start → to.stage ≡ epilog → (inner : Content) × (contents told ≡ inner ∷ nothing ∷ [])
+whole_told from to root told path begins ends =
     let all : IsBehind from.stage (contents (events from.stage from.at path.lexemes)) =
     behind_lexemes from.stage from.at path.lexemes to.text path.stand (sym path.stage ∙ ends) in
-    let h : IsBehind start (contents (begin root ∷ observable)) =
+    let h : IsBehind start (contents (begin root ∷ told)) =
     subst (λ es. IsBehind start (contents es)) (sym path.adds)
     (subst (λ s. IsBehind s (contents (events from.stage from.at path.lexemes))) begins all) in
-    whole_root root h.0 h.1 (contents observable) h.2
+    whole_root root h.0 h.1 (contents told) h.2
 
 -- a whole document has a root
 pub some_root : (from to : Point) → Leads from [] to → from.stage ≡ start → to.stage ≡ epilog → ⊥
@@ -186,25 +186,25 @@ some_root from to path begins ends =
     let bad : nothing ∷ [] ≡ element h.0 h.1 nothing ∷ [] = h.2 in absurd cc
 
 -- nothing but the root comes first
-pub root_leads : (from to : Point) (observable : List Event) → Leads from observable to → from.stage ≡ start → IsAtRoot observable
-root_leads from to observable path begins =
+pub root_leads : (from to : Point) (told : List Event) → Leads from told to → from.stage ≡ start → IsAtRoot told
+root_leads from to told path begins =
     let out : IsOutside from.stage = subst IsOutside (sym begins) tt in
     subst IsAtRoot (sym path.adds) (root_first from.stage from.at path.lexemes to.text out path.stand)
 
 -- the events that a reader told from a point on, where none were left to be told
-pub led_leads : (total : ℕ) (first : List Event) (from : Point) (observable : List Event) (new : Elements) →
-    (x : IsLed total first from observable new) → first ≡ [] → Leads from (observable ++ pending new) x.to
-led_leads total first from observable new x none =
+pub led_leads : (total : ℕ) (first : List Event) (from : Point) (told : List Event) (new : Elements) →
+    (x : IsLed total first from told new) → first ≡ [] → Leads from (told ++ pending new) x.to
+led_leads total first from told new x none =
     subst (λ es. Leads from es x.to) (ap (λ f. f ++ x.more) (sym none) ∙ x.order) x.path
 
 -- and at the end of a document
-pub over_leads : (total : ℕ) (first : List Event) (from : Point) (observable : List Event) (new : Elements) →
-    (x : IsLed total first from observable new) → first ≡ [] → IsOver new →
-    Leads from observable x.to × (x.to.text ≡ []) × (x.to.stage ≡ epilog)
-over_leads total first from observable new x none over =
+pub over_leads : (total : ℕ) (first : List Event) (from : Point) (told : List Event) (new : Elements) →
+    (x : IsLed total first from told new) → first ≡ [] → IsOver new →
+    Leads from told x.to × (x.to.text ≡ []) × (x.to.stage ≡ epilog)
+over_leads total first from told new x none over =
     let ends = over.1 x.to x.is_at in
-    let more : observable ++ pending new ≡ observable = ap (λ p. observable ++ p) (no_pending new over.0) ∙ append-nil observable in
-    (subst (λ es. Leads from es x.to) more (led_leads total first from observable new x none), ends.0, ends.1)
+    let more : told ++ pending new ≡ told = ap (λ p. told ++ p) (no_pending new over.0) ∙ append-nil told in
+    (subst (λ es. Leads from es x.to) more (led_leads total first from told new x none), ends.0, ends.1)
 
 not_said : (parts : List (List ℕ)) (more : List Event) → parts ≢ [] → IsAtRoot (map say parts ++ more) → ⊥
 not_said [] more some at = some refl

@@ -75,22 +75,22 @@ child_fault b e c k inner at why none fault same =
     (fault_behind (all_seen in_entry [] b) (all_seen in_entry (names_of b) (element e c k)) at why none fault) in
     subst (λ i. IsFirstFault (all_seen in_entry [] i) at why) same whole
 
-module _ (total : ℕ) (first : List Event) (from : Point) (observable : List Event) (b : Content) (mid new last : Elements)
-    (e : Element) (x : IsLed total first from observable mid) (part : ArePart b [] observable)
+module _ (total : ℕ) (first : List Event) (from : Point) (told : List Event) (b : Content) (mid new last : Elements)
+    (e : Element) (x : IsLed total first from told mid) (part : ArePart b [] told)
     (none : All IsFaultless (all_seen in_entry [] b)) (y : IsLed mid.length (pending mid) x.to (begin e ∷ []) new) where
   -- a child that ends the reading of an entry
   pub child_stopped : (stop : EarlyEnd) → IsStopped new.length (pending new) y.to in_entry (names_of b) e stop last →
       ArePartsFrom total first from (Err stop) last
   child_stopped (Fault fault) s =
-      fault_on total first from observable mid x fault (fault_on mid.length (pending mid) x.to (begin e ∷ []) new y fault s)
+      fault_on total first from told mid x fault (fault_on mid.length (pending mid) x.to (begin e ∷ []) new y fault s)
   child_stopped (Refused at why) s = (
-    observable ++ (begin e ∷ s.0),
-    led_on total first from observable (begin e ∷ s.0) mid last x
+    told ++ (begin e ∷ s.0),
+    led_on total first from told (begin e ∷ s.0) mid last x
         (led_on mid.length (pending mid) x.to (begin e ∷ []) s.0 new last y s.1),
     λ later inner rest outer same.
         let stack = contents (s.0 ++ later) in
         let all : with_before b (with_element e stack) ≡ inner ∷ rest ∷ outer =
-        sym (part (begin e ∷ (s.0 ++ later))) ∙ ap contents (sym (append_assoc observable (begin e ∷ s.0) later)) ∙ same in
+        sym (part (begin e ∷ (s.0 ++ later))) ∙ ap contents (sym (append_assoc told (begin e ∷ s.0) later)) ∙ same in
         let c = child_begun b e stack inner rest outer all in
         child_fault b e c.0 c.1 inner at why none (s.2 later c.0 c.1 (rest ∷ outer) c.2) c.3,
   )

@@ -183,9 +183,9 @@ module _ (tail : List ℕ) (behind : IsBehindXml tail) where
           are.0 ∷ more.2.0,
           are.3 ∙ ap (λ xs. are.0 ++ xs) more.2.1,
           λ at.
-              let observable : events_of s at l.token ≡ say are.0 ∷ [] =
+              let told : events_of s at l.token ≡ say are.0 ∷ [] =
               subst (λ t. events_of s at t ≡ say are.0 ∷ []) token refl in
-              (λ i. observable i ++ events (stays i) (at + length l.text) ls)
+              (λ i. told i ++ events (stays i) (at + length l.text) ls)
               ∙ ap (λ xs. say are.0 ∷ xs) (more.2.2 (at + length l.text)),
           λ some e. cc,
         ),
@@ -193,14 +193,14 @@ module _ (tail : List ℕ) (behind : IsBehindXml tail) where
 
 -- the reader after lexemes
 pub led_by : (from : Point) (old new : Elements) (before : List ℕ) (x : IsAtText old before from) (ls : List Lexeme)
-    (observable : List Event) (opened : List Open) → before ≡ lexemes_text ls ++ new.cursor.rest.now →
+    (told : List Event) (opened : List Open) → before ≡ lexemes_text ls ++ new.cursor.rest.now →
     CanAllStand depth_limit from.stage ls (new.cursor.rest.now ++ x.tail) →
-    events from.stage from.at ls ≡ observable ++ pending new → IsXmlText new.cursor.rest.now →
+    events from.stage from.at ls ≡ told ++ pending new → IsXmlText new.cursor.rest.now →
     (new.most ≡ old.most) × (new.end ≡ old.end) × (new.length ≡ old.length) →
     IsStageOf new.stage new.empty opened (last_stage from.stage ls) →
     AllZip IsNameOfOpen opened (reverse new.names.items) → AreScopesOf opened new.scopes → length opened ≤ depth_limit →
-    IsLed old.length [] from observable new
-led_by from old new before x ls observable opened split stand adds xml same stage names scopes depth = record {
+    IsLed old.length [] from told new
+led_by from old new before x ls told opened split stand adds xml same stage names scopes depth = record {
   to = record {
     stage = last_stage from.stage ls;
     text = new.cursor.rest.now ++ x.tail;
@@ -267,24 +267,24 @@ silent_by : (from : Point) (old : Elements) (before : List ℕ) (x : IsAtText ol
     (ls : List Lexeme) → old.empty ≡ false → AreRead place before ls old.cursor.rest.now →
     Silent from.stage ls (old.cursor.rest.now ++ x.tail) → IsXmlText old.cursor.rest.now →
     IsLed old.length [] from [] (record old { stage = later_stage old.stage })
-silent_by from old before x place ls observable read all xml =
+silent_by from old before x place ls told read all xml =
     let new : Elements = record old { stage = later_stage old.stage } in
     let kept : IsStageOf old.stage false x.opened from.stage =
-    subst (λ b. IsStageOf old.stage b x.opened from.stage) observable x.stage in
+    subst (λ b. IsStageOf old.stage b x.opened from.stage) told x.stage in
     let stage : IsStageOf (later_stage old.stage) old.empty x.opened (last_stage from.stage ls) =
-    subst (λ b. IsStageOf (later_stage old.stage) b x.opened (last_stage from.stage ls)) (sym observable)
+    subst (λ b. IsStageOf (later_stage old.stage) b x.opened (last_stage from.stage ls)) (sym told)
     (subst (IsStageOf (later_stage old.stage) false x.opened) (sym (all.stage read.some))
     (later old.stage x.opened from.stage kept)) in
     led_by from old new before x ls [] x.opened read.split all.stand
-    (all.nothing from.at ∙ sym (no_pending new observable)) xml (refl, refl, refl) stage x.names x.scopes x.depth
+    (all.nothing from.at ∙ sym (no_pending new told)) xml (refl, refl, refl) stage x.names x.scopes x.depth
 
 -- tokens that say nothing of the tree are read
 pub silent_led : (from : Point) (old : Elements) (before : List ℕ) (x : IsAtText old before from) (place : Context)
     (ls : List Lexeme) → old.empty ≡ false → IsPlaceOf place from.stage → AreRead place before ls old.cursor.rest.now →
     All (λ (l : Lexeme). IsSilentAt place l.token) ls → IsXmlText old.cursor.rest.now →
     IsLed old.length [] from [] (record old { stage = later_stage old.stage })
-silent_led from old before x place ls observable is read silent xml =
-    silent_by from old before x place ls observable read
+silent_led from old before x place ls told is read silent xml =
+    silent_by from old before x place ls told read
     (silent_stand x.tail x.behind place from.stage ls old.cursor.rest.now (outside_place place from.stage is) read.stand
     silent read.spelled xml) xml
 
@@ -296,12 +296,12 @@ pub declared_led : (from : Point) (old : Elements) (before : List ℕ) (x : IsAt
     (ls : List Lexeme) (encoding : Option (List ℕ)) → old.empty ≡ false → IsPlaceOf place from.stage →
     AreRead place before ls old.cursor.rest.now → IsAlone (declaration encoding) ls → IsXmlText old.cursor.rest.now →
     IsLed old.length [] from [] (record old { stage = later_stage old.stage })
-declared_led from old before x place ls encoding observable is read alone xml =
+declared_led from old before x place ls encoding told is read alone xml =
     let l : Lexeme = record { token = declaration encoding; text = alone.0 } in
     let one : AreRead place before (l ∷ []) old.cursor.rest.now =
     subst (λ ls. AreRead place before ls old.cursor.rest.now) alone.1 read in
     let may = All-head (λ (l : Lexeme). MayStand place l.token) l [] one.stand in
-    silent_by from old before x place (l ∷ []) observable one
+    silent_by from old before x place (l ∷ []) told one
     (record {
       stand = (
         one_more x.tail x.behind l [] old.cursor.rest.now one.spelled xml,
@@ -340,7 +340,7 @@ pub characters_led : (from : Point) (old : Elements) (before read : List ℕ) (x
     IsInContent place → AreCharacters read ls → IsXmlText old.cursor.rest.now →
     (parts : List (List ℕ)) × (read ≡ flat_map (λ part. part) parts) × (parts ≢ [])
     × IsLed old.length [] from (map say parts) old
-characters_led from old before read x place ls observable is spelled content are xml =
+characters_led from old before read x place ls told is spelled content are xml =
     let c = content_place place from.stage is content in
     let s : Stage = inside c.0 c.1 in
     let all = characters_stand x.tail x.behind c.0 c.1 ls read old.cursor.rest.now are spelled.spelled xml in
@@ -350,7 +350,7 @@ characters_led from old before read x place ls observable is spelled content are
       all.2.3 spelled.some,
       led_by from old old before x ls (map say all.2.0) x.opened spelled.split
           (subst (λ s. CanAllStand depth_limit s ls (old.cursor.rest.now ++ x.tail)) (sym c.2) all.0)
-          (adds ∙ sym (append-nil (map say all.2.0)) ∙ ap (λ xs. map say all.2.0 ++ xs) (sym (no_pending old observable))) xml
+          (adds ∙ sym (append-nil (map say all.2.0)) ∙ ap (λ xs. map say all.2.0 ++ xs) (sym (no_pending old told))) xml
           (refl, refl, refl)
           (subst (IsStageOf old.stage old.empty x.opened)
           (c.2 ∙ sym all.1 ∙ ap (λ s. last_stage s ls) (sym c.2)) x.stage)
@@ -364,7 +364,7 @@ pub said_led : (from : Point) (old : Elements) (before said : List ℕ) (t : Tok
     (MayStand place t → IsInContent place) → ((s : Stage) → IsInside s → CanStand depth_limit s t) →
     ((s : Stage) → stage_after s t ≡ begun s) → ((s : Stage) (at : ℕ) → events_of s at t ≡ say said ∷ []) →
     IsXmlText old.cursor.rest.now → IsLed old.length [] from (say said ∷ []) old
-said_led from old before said t x place ls observable is read alone inner stands stays says xml =
+said_led from old before said t x place ls told is read alone inner stands stays says xml =
     let l : Lexeme = record { token = t; text = alone.0 } in
     let one : AreRead place before (l ∷ []) old.cursor.rest.now =
     subst (λ ls. AreRead place before ls old.cursor.rest.now) alone.1 read in
@@ -378,7 +378,7 @@ said_led from old before said t x place ls observable is read alone inner stands
       stands from.stage (subst IsInside (sym c.2) tt),
       tt,
     )
-    (ap (λ xs. xs ++ []) (says from.stage from.at) ∙ ap (λ xs. say said ∷ xs) (sym (no_pending old observable))) xml
+    (ap (λ xs. xs ++ []) (says from.stage from.at) ∙ ap (λ xs. say said ∷ xs) (sym (no_pending old told))) xml
     (refl, refl, refl) (subst (IsStageOf old.stage old.empty x.opened) (sym kept) x.stage) x.names x.scopes x.depth
 
 -- two qualified names that are written the same are the same
@@ -432,7 +432,7 @@ pub closing_led : (from : Point) (old new : Elements) (before : List ℕ) (x : I
     (ls : List Lexeme) (name : QName) → old.empty ≡ false → IsPlaceOf place from.stage →
     AreRead place before ls old.cursor.rest.now → IsAlone (closing name) ls → IsXmlText old.cursor.rest.now →
     IsClosed old new → IsLed old.length [] from (finish ∷ []) new × (depth_of new + 1 ≡ depth_of old)
-closing_led from old new before x place ls name observable is read alone xml shut =
+closing_led from old new before x place ls name told is read alone xml shut =
     let l : Lexeme = record { token = closing name; text = alone.0 } in
     let one : AreRead place before (l ∷ []) old.cursor.rest.now =
     subst (λ ls. AreRead place before ls old.cursor.rest.now) alone.1 read in
@@ -440,7 +440,7 @@ closing_led from old new before x place ls name observable is read alone xml shu
     let c = closing_place place from.stage name is may one.spelled.0.1.is_name in
     let h : IsStageOf old.stage false x.opened (inside c.0 c.1) =
     subst (IsStageOf old.stage false x.opened) c.2
-    (subst (λ b. IsStageOf old.stage b x.opened from.stage) observable x.stage) in
+    (subst (λ b. IsStageOf old.stage b x.opened from.stage) told x.stage) in
     let s = open_stage old.stage x.opened c.0 c.1 h in
     let names : AllZip IsNameOfOpen (c.0 ∷ c.1) (reverse old.names.items) =
     subst (λ o. AllZip IsNameOfOpen o (reverse old.names.items)) s.1 x.names in
@@ -448,7 +448,7 @@ closing_led from old new before x place ls name observable is read alone xml shu
     let n = names_closed c.0 c.1 old.names.items new.names.items names shut.names in
     let deep : suc (length c.1) ≤ depth_limit = subst (λ o. length o ≤ depth_limit) s.1 x.depth in
     let rest : old.cursor.rest.now ≡ new.cursor.rest.now = sym shut.cursor in
-    let stays : new.empty ≡ false = shut.empty ∙ observable in
+    let stays : new.empty ≡ false = shut.empty ∙ told in
     let stage : IsStageOf new.stage new.empty c.1 (last_stage from.stage (l ∷ [])) =
     subst (λ b. IsStageOf new.stage b c.1 (left from.stage)) (sym stays)
     (subst (λ r. IsStageOf r false c.1 (left from.stage)) (sym (shut.stage ∙ s.0))

@@ -131,11 +131,11 @@ never_broken bytes at utf8 valid =
     (subst IsUtf8 (sym (take_all (length bytes) bytes long)) (IsUtf8-from_is_utf8 bytes utf8))
 
 -- a whole document, by what a reader told of it
-pub document_of : (bytes : List ℕ) (to : Point) (root : Element) (observable : List Event) → IsTrue (is_utf8 bytes) →
-    Leads (first_point bytes) (begin root ∷ observable) to → to.text ≡ [] → to.stage ≡ epilog →
-    (inner : Content) × (contents observable ≡ inner ∷ nothing ∷ []) × IsDocument depth_limit bytes root inner
-document_of bytes to root observable utf8 path text stage =
-    let whole = whole_told (first_point bytes) to root observable path refl stage in (
+pub document_of : (bytes : List ℕ) (to : Point) (root : Element) (told : List Event) → IsTrue (is_utf8 bytes) →
+    Leads (first_point bytes) (begin root ∷ told) to → to.text ≡ [] → to.stage ≡ epilog →
+    (inner : Content) × (contents told ≡ inner ∷ nothing ∷ []) × IsDocument depth_limit bytes root inner
+document_of bytes to root told utf8 path text stage =
+    let whole = whole_told (first_point bytes) to root told path refl stage in (
       whole.0,
       whole.1,
       record {

@@ -192,8 +192,8 @@ one_child : (o : Option Child) → true ≡ is_some o → o ≡ None → ⊥
 one_child o e none = both_ways (is_some o) (ap is_some none) (sym e)
 
 module _ (total : ℕ) (first : List Event) (from : Point) (before : List Name) (e : Element) (inner : Content)
-    (observable : List Event) (fields : Fields) (new : Elements) (led : IsLed total first from observable new)
-    (are_inner : AreInner inner observable) (are : AreFieldsOf inner fields) (is : is_one_of persons e.name ≡ true) where
+    (told : List Event) (fields : Fields) (new : Elements) (led : IsLed total first from told new)
+    (are_inner : AreInner inner told) (are : AreFieldsOf inner fields) (is : is_one_of persons e.name ≡ true) where
   abbrev pub Made : Content → Person → Type 0
   Made content made =
       (made ≡ person (record { element = e; content = content })) × IsFaultlessIn in_entry before e content
@@ -201,7 +201,7 @@ module _ (total : ℕ) (first : List Event) (from : Point) (before : List Name) 
   -- the content is the one that was read
   stopped : (at : ℕ) (why : Why) →
       ((rest : Content) → IsFirstFault (all_seen in_entry before (element e inner rest)) at why) →
-      Refuses in_entry before e observable at why
+      Refuses in_entry before e told at why
   stopped at why fault later content rest outer same =
       let whole : inner ∷ contents later ≡ content ∷ (rest ∷ outer) = sym (are_inner later) ∙ same in
       let one : inner ≡ content = cc in
@@ -217,7 +217,7 @@ module _ (total : ℕ) (first : List Event) (from : Point) (before : List Name) 
       let all : IsFirstRefusal (all_seen in_person [] inner) None =
       subst (IsFirstRefusal (all_seen in_person [] inner)) none are.refused in (
         inner,
-        observable,
+        told,
         led,
         are_inner,
         (
@@ -229,14 +229,14 @@ module _ (total : ℕ) (first : List Event) (from : Point) (before : List Name) 
   person_named name has own (Some (at, why)) some =
       let fault : IsFirstRefusal (all_seen in_person [] inner) (Some (at, why)) =
       subst (IsFirstRefusal (all_seen in_person [] inner)) some are.refused in
-      (observable, led, stopped at why (λ rest. person_inner before e inner is rest at why own fault))
+      (told, led, stopped at why (λ rest. person_inner before e inner is rest at why own fault))
 
   person_full : (name : List ℕ) → fields.name ≡ Some name → (full : Bool) →
       (full ≡ true → person_limit ≤ count_of e.name before) → (full ≡ false → count_of e.name before < person_limit) →
       IsPartRead total first from in_entry before e Made (person_in (Some name) fields e.place full) new
   person_full name has true many few =
       let some = one_child (child (codes "name") inner) (sym (ap is_some has) ∙ are.name) in
-      (observable, led, stopped e.place TooMany (λ rest. person_many before e inner is rest some (many refl)))
+      (told, led, stopped e.place TooMany (λ rest. person_many before e inner is rest some (many refl)))
   person_full name has false many few =
       let some = one_child (child (codes "name") inner) (sym (ap is_some has) ∙ are.name) in
       person_named name has (person_own before e inner is some (few refl)) fields.refused refl
@@ -252,7 +252,7 @@ module _ (total : ℕ) (first : List Event) (from : Point) (before : List Name) 
       IsPartRead total first from in_entry before e Made (person_in o fields e.place full) new) [
         | None ↦ λ none.
             let gone = no_child (child (codes "name") inner) (sym (ap is_some none) ∙ are.name) in
-            (observable, led, stopped e.place Missing (λ rest. person_missing before e inner is rest gone))
+            (told, led, stopped e.place Missing (λ rest. person_missing before e inner is rest gone))
         | Some name ↦ λ has. person_full name has full many few
       ] in at fields.name refl
 

@@ -366,9 +366,9 @@ no_names items opened all none =
 -- a reader at the end of a whole document has no element open and no text left
 pub over_parts : (e : Elements) (from : Point) → e.empty ≡ false → IsAt e from → from.text ≡ [] → from.stage ≡ epilog →
     (e.stage ≡ Root) × (e.names.items ≡ []) × (e.cursor.rest.now ≡ []) × (e.end ≡ e.length)
-over_parts e from observable at text stage =
+over_parts e from told at text stage =
     let h : IsStageOf e.stage false at.opened epilog =
-    subst (λ b. IsStageOf e.stage b at.opened epilog) observable
+    subst (λ b. IsStageOf e.stage b at.opened epilog) told
     (subst (λ s. IsStageOf e.stage e.empty at.opened s) stage at.stage)
     in
     let s = ended_stage e.stage at.opened h in

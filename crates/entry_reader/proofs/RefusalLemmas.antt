@@ -315,9 +315,9 @@ can_begin : (from : Point) (old : Elements) (before : List ℕ) (x : IsAtText ol
     is_past_root old.stage old.names.items ≡ false → length old.names.items < old.most → (tag : Tag) →
     IsTrue (is_some (namespace_of (inner_scope (scope_in from.stage) tag) tag.name.prefix)) →
     CanBegin depth_limit from.stage tag
-can_begin from old before x observable inside shallow tag set =
+can_begin from old before x told inside shallow tag set =
     let kept : IsStageOf old.stage false x.opened from.stage =
-    subst (λ b. IsStageOf old.stage b x.opened from.stage) observable x.stage in
+    subst (λ b. IsStageOf old.stage b x.opened from.stage) told x.stage in
     let k = kept_open old.stage x.opened from.stage kept in
     let zipped = AllZip-long IsNameOfOpen x.opened (reverse old.names.items) x.names in
     let long = length-reverse old.names.items in
@@ -396,11 +396,11 @@ deep_tag from old before x CutAtSlash place raw after short r deep =
 cut_goes : (from : Point) (old : Elements) (before : List ℕ) (x : IsAtText old before from) → old.empty ≡ false →
     is_past_root old.stage old.names.items ≡ false → length old.names.items < old.most → x.tail ≡ [] →
     Continues own_tag before → CanGoOn depth_limit from.stage from.text
-cut_goes from old before x observable inside shallow tail c =
+cut_goes from old before x told inside shallow tail c =
     let found = c.1.2 in
     let tag = c.1.0 in
     let kept : IsStageOf old.stage false x.opened from.stage =
-    subst (λ b. IsStageOf old.stage b x.opened from.stage) observable x.stage in
+    subst (λ b. IsStageOf old.stage b x.opened from.stage) told x.stage in
     let k = kept_open old.stage x.opened from.stage kept in
     let set : is_some (namespace_of (filter_map declared tag.attributes ++ scope_of x.opened) tag.name.prefix) ≡ true =
     some_append (filter_map declared tag.attributes) outer_scope (scope_of x.opened) tag.name.prefix
@@ -413,7 +413,7 @@ cut_goes from old before x observable inside shallow tail c =
         rest = c.1.1;
         split = ap (λ t. t ++ c.0) same ∙ found.split;
         spelled = found.spelled.0;
-        stands = can_begin from old before x observable inside shallow tag
+        stands = can_begin from old before x told inside shallow tag
             (subst (λ s. is_some (namespace_of (filter_map declared tag.attributes ++ s) tag.name.prefix) ≡ true)
             (sym k.1) set);
       },
@@ -425,24 +425,24 @@ cut_admission : (from : Point) (old : Elements) (before : List ℕ) (x : IsAtTex
     old.empty ≡ false → is_past_root old.stage old.names.items ≡ false → length old.names.items < old.most →
     (is_cut end && nat_lt old.end old.length) ≡ false → IsTagTo end place before raw after →
     admission_of_cut old.length end ≡ Err fault → IsFaultFrom old.length from fault
-cut_admission from old before x only some WholeTag place raw after fault observable inside shallow short r e =
+cut_admission from old before x only some WholeTag place raw after fault told inside shallow short r e =
     let bad : Ok tt ≡ Err fault = e in absurd cc
-cut_admission from old before x only some EmptyTag place raw after fault observable inside shallow short r e =
+cut_admission from old before x only some EmptyTag place raw after fault told inside shallow short r e =
     let bad : Ok tt ≡ Err fault = e in absurd cc
-cut_admission from old before x only some CutAtSlash place raw after fault observable inside shallow short r e =
+cut_admission from old before x only some CutAtSlash place raw after fault told inside shallow short r e =
     let bad : Ok tt ≡ Err fault = e in absurd cc
-cut_admission from old before x only some CutTag place raw after fault observable inside shallow short r e =
+cut_admission from old before x only some CutTag place raw after fault told inside shallow short r e =
     let tail = no_tail from old before x short in
     let same : NotRead old.length NotWellFormed ≡ fault = cc in
     subst (IsFaultFrom old.length from) same
-    (cut_refused from old before x only some r.0 tail (cut_goes from old before x observable inside shallow tail r.1))
+    (cut_refused from old before x only some r.0 tail (cut_goes from old before x told inside shallow tail r.1))
 
 -- a tag that isn't admitted is refused
 pub admit_refused : (from : Point) (old : Elements) (before : List ℕ) (x : IsAtText old before from)
     (only : IsTagOnly before) (some : before ≢ []) (place : Context) (raw : RawTag) (after : List ℕ) (at : ℕ)
     (fault : EntryFault) → old.empty ≡ false → IsTagTo raw.end place before raw after → at ≡ from.at →
     admission old at raw.end ≡ Err fault → IsFaultFrom old.length from fault
-admit_refused from old before x only some place raw after at fault observable r here e =
+admit_refused from old before x only some place raw after at fault told r here e =
     let end = raw.end in
     let A = is_past_root old.stage old.names.items in
     let B = is_cut end && nat_lt old.end old.length in
@@ -453,7 +453,7 @@ admit_refused from old before x only some place raw after at fault observable r 
     let three : R = admission_of_cut old.length end in
     let has = has_tag end place before raw after r in
     let kept : IsStageOf old.stage false x.opened from.stage =
-    subst (λ b. IsStageOf old.stage b x.opened from.stage) observable x.stage in
+    subst (λ b. IsStageOf old.stage b x.opened from.stage) told x.stage in
     let k = kept_open old.stage x.opened from.stage kept in
     let first : (A || B) ≡ true → IsFaultFrom old.length from fault = λ refused.
     let same : one ≡ Err fault = sym (cond-true (A || B) one (cond (not C) two three) refused) ∙ e in
@@ -479,7 +479,7 @@ admit_refused from old before x only some place raw after at fault observable r 
     let next : cond (not C) two three ≡ Err fault = sym (cond-false (A || B) one (cond (not C) two three) passed) ∙ e in
     ⊎_elim
     (λ low.
-    cut_admission from old before x only some end place raw after fault observable parts.0
+    cut_admission from old before x only some end place raw after fault told parts.0
     (ltb-true (length old.names.items) old.most low) parts.1 r
     (sym (cond-false (not C) two three (ap not low)) ∙ next))
     (λ high.
@@ -554,12 +554,12 @@ tag_namespace : (from : Point) (old : Elements) (before : List ℕ) (x : IsAtTex
     found ≡ option_map kind_of (namespace_of (scope_of opened) prefix.now)) →
     ((q : QName) → IsQName q → name_text q ≡ raw.name.now → (prefix.now ≡ q.prefix) × (local.now ≡ q.local)) →
     found ≡ option_map kind_of (namespace_of (inner_scope (scope_in from.stage) one.tag) one.tag.name.prefix)
-tag_namespace from old before x raw one scopes prefix local found observable opens finds splits =
+tag_namespace from old before x raw one scopes prefix local found told opens finds splits =
     let tag = one.tag in
     let zip = lawful tag.attributes raw.attributes.items one.is_tag.inside one.is_tag.attributes
     one.tag_of.attributes in
     let kept : IsStageOf old.stage false x.opened from.stage =
-    subst (λ b. IsStageOf old.stage b x.opened from.stage) observable x.stage in
+    subst (λ b. IsStageOf old.stage b x.opened from.stage) told x.stage in
     let k = kept_open old.stage x.opened from.stage kept in
     let element : Open =
     record { name = tag.name; scope = filter_map declared tag.attributes ++ scope_of x.opened } in
@@ -577,11 +577,11 @@ pub unset_refused : (from : Point) (old : Elements) (before : List ℕ) (x : IsA
     None ≡ option_map kind_of (namespace_of (scope_of opened) prefix.now)) →
     ((q : QName) → IsQName q → name_text q ≡ raw.name.now → (prefix.now ≡ q.prefix) × (local.now ≡ q.local)) →
     IsRefusal old.length from at NotWellFormed
-unset_refused from old before x only some place raw after at scopes prefix local observable r here may opens finds splits =
+unset_refused from old before x only some place raw after at scopes prefix local told r here may opens finds splits =
     let one = one_tag raw.end place before raw after may.not_cut r in
-    let none = none_of _ (tag_namespace from old before x raw one scopes prefix local None observable opens finds splits) in
+    let none = none_of _ (tag_namespace from old before x raw one scopes prefix local None told opens finds splits) in
     let kept : IsStageOf old.stage false x.opened from.stage =
-    subst (λ b. IsStageOf old.stage b x.opened from.stage) observable x.stage in
+    subst (λ b. IsStageOf old.stage b x.opened from.stage) told x.stage in
     let k = kept_open old.stage x.opened from.stage kept in
     let zipped = AllZip-long IsNameOfOpen x.opened (reverse old.names.items) x.names in
     let long = length-reverse old.names.items in
@@ -616,12 +616,12 @@ pub slash_refused : (from : Point) (old : Elements) (before : List ℕ) (x : IsA
     Some namespace ≡ option_map kind_of (namespace_of (scope_of opened) prefix.now)) →
     ((q : QName) → IsQName q → name_text q ≡ raw.name.now → (prefix.now ≡ q.prefix) × (local.now ≡ q.local)) →
     IsRefusal old.length from old.length NotWellFormed
-slash_refused from old before x only some place raw after scopes prefix local namespace observable r may cut opens
+slash_refused from old before x only some place raw after scopes prefix local namespace told r may cut opens
     finds splits =
     let end = slash_end raw.end cut may.not_cut in
     let s : IsCutAtSlash before raw = subst (λ e. IsTagTo e place before raw after) end r in
     let at = one_tag raw.end place before raw after may.not_cut r in
-    let found = tag_namespace from old before x raw at scopes prefix local (Some namespace) observable opens finds splits in
+    let found = tag_namespace from old before x raw at scopes prefix local (Some namespace) told opens finds splits in
     let set = (some_of _ namespace found).0 in
     let same : at.tag ≡ s.tag =
     sym (at.only (codes ">") (before ++ codes ">") [] s.tag (sym (append-nil (before ++ codes ">"))) s.spelled) in
@@ -639,6 +639,6 @@ slash_refused from old before x only some place raw after scopes prefix local na
         rest = [];
         split = ap (λ t. t ++ codes ">") text ∙ sym (append-nil (before ++ codes ">"));
         spelled = s.spelled;
-        stands = can_begin from old before x observable may.inside_root may.shallow s.tag here;
+        stands = can_begin from old before x told may.inside_root may.shallow s.tag here;
       },
     )

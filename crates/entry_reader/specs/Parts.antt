@@ -59,21 +59,21 @@ IsFaultlessIn within before e inner = All IsFaultless (all_seen within before (e
 -- Behind the events that are read inside an element, whatever follows in it and after it, the first fault from the
 -- element on is this one.
 abbrev pub Refuses : Within → List Name → Element → List Event → ℕ → Why → Type 0
-Refuses within before e observable at why =
-    (later : List Event) (inner rest : Content) (outer : List Content) → contents (observable ++ later) ≡ inner ∷ rest ∷ outer
+Refuses within before e told at why =
+    (later : List Event) (inner rest : Content) (outer : List Content) → contents (told ++ later) ≡ inner ∷ rest ∷ outer
     → IsFirstFault (all_seen within before (element e inner rest)) at why
 
 -- why the reading of an element ends early
 abbrev pub IsStopped : ℕ → List Event → Point → Within → List Name → Element → EarlyEnd → Elements → Type 0
 IsStopped total first from within before e (Fault fault) new = IsFaultFrom total from fault
 IsStopped total first from within before e (Refused at why) new =
-    (observable : List Event) × IsLed total first from observable new × Refuses within before e observable at why
+    (told : List Event) × IsLed total first from told new × Refuses within before e told at why
 
 -- the rest of an element is read, of which R says what is made of its content
 abbrev pub IsPartRead : {A : Type 0} → ℕ → List Event → Point → Within → List Name → Element → (Content → A → Type 0) →
     Result A EarlyEnd → Elements → Type 0
 IsPartRead total first from within before e R (Ok value) new =
-    (inner : Content) × (observable : List Event) × IsLed total first from observable new × AreInner inner observable × R inner value
+    (inner : Content) × (told : List Event) × IsLed total first from told new × AreInner inner told × R inner value
 IsPartRead total first from within before e R (Err stop) new = IsStopped total first from within before e stop new
 
 -- a slot has something exactly if an element of the name is before
@@ -169,14 +169,14 @@ person_of fields at full = person_in fields.name fields at full
 abbrev pub IsFieldsChild : ℕ → List Event → Point → Content → Element → Result (Unit {0}) EntryFault → Fields → Elements
     → Type 0
 IsFieldsChild total first from b e (Ok done) fields new =
-    (inner : Content) × (observable : List Event) × IsLed total first from observable new × AreInner inner observable
+    (inner : Content) × (told : List Event) × IsLed total first from told new × AreInner inner told
     × AreFieldsOf (with_child b e inner) fields
 IsFieldsChild total first from b e (Err fault) fields new = IsFaultFrom total from fault
 
 -- the rest of a person is read
 abbrev pub AreFieldsFrom : ℕ → List Event → Point → Result Fields EntryFault → Elements → Type 0
 AreFieldsFrom total first from (Ok fields) new =
-    (inner : Content) × (observable : List Event) × IsLed total first from observable new × AreInner inner observable
+    (inner : Content) × (told : List Event) × IsLed total first from told new × AreInner inner told
     × AreFieldsOf inner fields
 AreFieldsFrom total first from (Err fault) new = IsFaultFrom total from fault
 
@@ -198,26 +198,26 @@ pub record IsSoFar (b : Content) (parts : Parts) : Type 0 where
 -- the rest of an entry is read, or why a child is refused, whatever follows
 abbrev pub ArePartsFrom : ℕ → List Event → Point → Result Parts EarlyEnd → Elements → Type 0
 ArePartsFrom total first from (Ok parts) new =
-    (inner : Content) × (observable : List Event) × IsLed total first from observable new × AreInner inner observable
+    (inner : Content) × (told : List Event) × IsLed total first from told new × AreInner inner told
     × IsSoFar inner parts
 ArePartsFrom total first from (Err (Fault fault)) new = IsFaultFrom total from fault
 ArePartsFrom total first from (Err (Refused at why)) new =
-    (observable : List Event) × IsLed total first from observable new
+    (told : List Event) × IsLed total first from told new
     × ((later : List Event) (inner rest : Content) (outer : List Content) →
-    contents (observable ++ later) ≡ inner ∷ rest ∷ outer
+    contents (told ++ later) ≡ inner ∷ rest ∷ outer
     → IsFirstFault (all_seen in_entry [] inner) at why)
 
 -- the whole entry is read, or why not
 abbrev pub IsEntryFrom : ℕ → List Event → Point → Element → Result DraftValue EarlyEnd → Elements → Type 0
 IsEntryFrom total first from root (Ok draft) new =
-    (inner : Content) × (observable : List Event) × (more : List Event) × IsLed total first from (observable ++ more) new
-    × AreInner inner observable × (root.name ≡ atom (codes "entry")) × All IsFaultless (all_seen in_entry [] inner)
+    (inner : Content) × (told : List Event) × (more : List Event) × IsLed total first from (told ++ more) new
+    × AreInner inner told × (root.name ≡ atom (codes "entry")) × All IsFaultless (all_seen in_entry [] inner)
     × IsReadAs inner draft
 IsEntryFrom total first from root (Err (Fault fault)) new = IsFaultFrom total from fault
 IsEntryFrom total first from root (Err (Refused at why)) new =
-    (observable : List Event) × IsLed total first from observable new
+    (told : List Event) × IsLed total first from told new
     × ((later : List Event) (inner rest : Content) (outer : List Content) →
-    contents (observable ++ later) ≡ inner ∷ rest ∷ outer
+    contents (told ++ later) ≡ inner ∷ rest ∷ outer
     → IsNoEntryAt root inner at why)
 
 -- a date element sets its slot
@@ -244,7 +244,7 @@ other_names =
 -- the rest of a child of a control element is read, and whether it says that the entry is a draft
 abbrev pub IsDraftRead : ℕ → List Event → Point → Element → Result Bool EntryFault → Elements → Type 0
 IsDraftRead total first from e (Ok is_draft) new =
-    (inner : Content) × (observable : List Event) × IsLed total first from observable new × AreInner inner observable
+    (inner : Content) × (told : List Event) × IsLed total first from told new × AreInner inner told
     × (is_draft ≡ (same_name e.name (app (codes "draft")) && not (bytes_eq (trimmed (text_of inner)) (codes "no"))))
 IsDraftRead total first from e (Err fault) new = IsFaultFrom total from fault
 
@@ -256,7 +256,7 @@ has_draft inner =
 -- the rest of a control element is read, and whether it says that the entry is a draft
 abbrev pub IsControlRead : ℕ → List Event → Point → Result Bool EntryFault → Elements → Type 0
 IsControlRead total first from (Ok is_draft) new =
-    (inner : Content) × (observable : List Event) × IsLed total first from observable new × AreInner inner observable
+    (inner : Content) × (told : List Event) × IsLed total first from told new × AreInner inner told
     × (is_draft ≡ has_draft inner)
 IsControlRead total first from (Err fault) new = IsFaultFrom total from fault
 

@@ -48,13 +48,13 @@ pub record Point : Type 0 where
   pub at : ℕ
 
 -- lexemes lead from a point to another, and add these events
-pub record Leads (from : Point) (observable : List Event) (to : Point) : Type 0 where
+pub record Leads (from : Point) (told : List Event) (to : Point) : Type 0 where
   pub lexemes : List Lexeme
   pub split : from.text ≡ lexemes_text lexemes ++ to.text
   pub stand : CanAllStand depth_limit from.stage lexemes to.text
   pub stage : to.stage ≡ last_stage from.stage lexemes
   pub at : to.at ≡ from.at + length (lexemes_text lexemes)
-  pub adds : observable ≡ events from.stage from.at lexemes
+  pub adds : told ≡ events from.stage from.at lexemes
 
 -- the name of an open element, as it is written
 abbrev pub IsNameOfOpen : Open → Bor (List ℕ) → Type 0
@@ -105,12 +105,12 @@ pending elements = if elements.empty then finish ∷ [] else []
 
 -- From this point on, where some events are still to be told, the reader tells events and is at another point.
 -- `total` is the length of the input.
-pub record IsLed (total : ℕ) (first : List Event) (from : Point) (observable : List Event) (new : Elements) : Type 0 where
+pub record IsLed (total : ℕ) (first : List Event) (from : Point) (told : List Event) (new : Elements) : Type 0 where
   pub to : Point
   pub is_at : IsAt new to
   pub more : List Event
   pub path : Leads from more to
-  pub order : first ++ more ≡ observable ++ pending new
+  pub order : first ++ more ≡ told ++ pending new
   pub same : new.length ≡ total
 
 -- the rest of the document is refused: a token isn't allowed, or it begins with a declaration of another encoding
@@ -142,15 +142,15 @@ said_text (Reference c) = encode_utf8 c
 
 -- the events that a part of a document's tree is; characters may be several, and are one at least
 abbrev pub IsToldBy : Option RawEvent → List Event → Type 0
-IsToldBy None observable = observable ≡ []
-IsToldBy (Some (Begin raw)) observable = (element : Element) × (observable ≡ begin element ∷ []) × IsElementOf element raw
-IsToldBy (Some End) observable = observable ≡ finish ∷ []
-IsToldBy (Some (Told said)) observable =
-    (parts : List (List ℕ)) × (observable ≡ map say parts) × (said_text said ≡ flat_map (λ part. part) parts) × (parts ≢ [])
+IsToldBy None told = told ≡ []
+IsToldBy (Some (Begin raw)) told = (element : Element) × (told ≡ begin element ∷ []) × IsElementOf element raw
+IsToldBy (Some End) told = told ≡ finish ∷ []
+IsToldBy (Some (Told said)) told =
+    (parts : List (List ℕ)) × (told ≡ map say parts) × (said_text said ≡ flat_map (λ part. part) parts) × (parts ≢ [])
 
 -- the next part of the tree is read, where some events are still to be told, or the fault is why there is none
 abbrev pub IsEventOf : ℕ → List Event → Point → Result (Option RawEvent) EntryFault → Elements → Type 0
-IsEventOf total first from (Ok event) new = (observable : List Event) × IsToldBy event observable × IsLed total first from observable new
+IsEventOf total first from (Ok event) new = (told : List Event) × IsToldBy event told × IsLed total first from told new
 IsEventOf total first from (Err fault) new = IsFaultFrom total from fault
 
 abbrev pub IsNext : Elements → Result (Option RawEvent) EntryFault → Elements → Type 0
@@ -254,7 +254,7 @@ admission elements at end =
 
 -- the rest of the document is read
 abbrev pub IsDrainedFrom : ℕ → List Event → Point → Result (Unit {0}) EntryFault → Elements → Type 0
-IsDrainedFrom total first from (Ok done) new = (observable : List Event) × IsLed total first from observable new
+IsDrainedFrom total first from (Ok done) new = (told : List Event) × IsLed total first from told new
 IsDrainedFrom total first from (Err fault) new = IsFaultFrom total from fault
 
 abbrev pub IsDrained : Elements → Result (Unit {0}) EntryFault → Elements → Type 0
@@ -262,7 +262,7 @@ IsDrained old result new = (from : Point) → IsAt old from → IsDrainedFrom ol
 
 -- the events are this content of the innermost element, and its end
 abbrev pub AreInner : Content → List Event → Type 0
-AreInner inner observable = (later : List Event) → contents (observable ++ later) ≡ inner ∷ contents later
+AreInner inner told = (later : List Event) → contents (told ++ later) ≡ inner ∷ contents later
 
 -- the offset of the first element of a content
 abbrev pub first_place : Content → Option ℕ
@@ -287,7 +287,7 @@ added_inner _ inner = inner
 -- the rest of the innermost element is read
 abbrev pub IsContentFrom : ℕ → List Event → Point → Result RawContent EntryFault → Elements → Type 0
 IsContentFrom total first from (Ok read) new =
-    (inner : Content) × (observable : List Event) × IsLed total first from observable new × AreInner inner observable
+    (inner : Content) × (told : List Event) × IsLed total first from told new × AreInner inner told
     × (read.text.items ≡ text_of inner) × (read.inner ≡ first_place inner)
 IsContentFrom total first from (Err fault) new = IsFaultFrom total from fault
 
@@ -296,7 +296,7 @@ IsContentRead old result new = (from : Point) → IsAt old from → IsContentFro
 
 abbrev pub IsSkippedFrom : ℕ → List Event → Point → Result (Unit {0}) EntryFault → Elements → Type 0
 IsSkippedFrom total first from (Ok done) new =
-    (inner : Content) × (observable : List Event) × IsLed total first from observable new × AreInner inner observable
+    (inner : Content) × (told : List Event) × IsLed total first from told new × AreInner inner told
 IsSkippedFrom total first from (Err fault) new = IsFaultFrom total from fault
 
 abbrev pub IsSkipped : Elements → Result (Unit {0}) EntryFault → Elements → Type 0

@@ -76,8 +76,8 @@ loop-child-preserved-in-Some-Begin c =
     let two = c.in_ok-is_draft-in-Some-Begin.ensures.shorter in
     let deep = inv.deep in
     let left = inv.left in
-    let all : (from : Point) → IsAt old from → (observable : List Event) × (b : Content)
-    × IsLed old.length (pending old) from observable end × ArePart b [] observable
+    let all : (from : Point) → IsAt old from → (told : List Event) × (b : Content)
+    × IsLed old.length (pending old) from told end × ArePart b [] told
     × ((c.loop-child.is_draft || c.in_ok-is_draft-in-Some-Begin.field-0) ≡ has_draft b) = λ from at.
     let x = inv.on from at in
     let y = next x.2.to x.2.is_at in
@@ -116,8 +116,8 @@ loop-child-preserved c =
     (subst (λ k. IsSome k → left_of new < left_of mid) same c.in_ok-child.ensures.shorter) refl in
     let deep = inv.deep in
     let left = inv.left in
-    let all : (from : Point) → IsAt old from → (observable : List Event) × (b : Content)
-    × IsLed old.length (pending old) from observable new × ArePart b [] observable
+    let all : (from : Point) → IsAt old from → (told : List Event) × (b : Content)
+    × IsLed old.length (pending old) from told new × ArePart b [] told
     × (c.loop-child.is_draft ≡ has_draft b) = λ from at.
     let x = inv.on from at in
     let y = next x.2.to x.2.is_at in

@@ -11,9 +11,9 @@ invariant-loop-child l = record {
   deep : depth_of l.elements ≡ depth_of l.initial.elements;
   left : left_of l.elements ≤ left_of l.initial.elements;
   on : (from : Point) → IsAt l.initial.elements from →
-      (observable : List Event) × (b : Content)
-      × IsLed l.initial.elements.length (pending l.initial.elements) from observable l.elements
-      × ArePart b [] observable × (l.is_draft ≡ has_draft b);
+      (told : List Event) × (b : Content)
+      × IsLed l.initial.elements.length (pending l.initial.elements) from told l.elements
+      × ArePart b [] told × (l.is_draft ≡ has_draft b);
 }
 
 abbrev pub decreases-loop-child : goal.decreases-loop-child

@@ -56,7 +56,7 @@ returns-in-Ok-clause-found c =
     let utf8 = c.in_ok-xml_length.ensures.utf8 in
     let old = c.new-elements.result in
     let from = first_point bytes in
-    let none = no_pending old c.new-elements.ensures.observable in
+    let none = no_pending old c.new-elements.ensures.told in
     let total = c.new-elements.ensures.total in
     let mid = c.next.new.self in
     let is : c.in-Some-Begin.field-0 ≡ Begin c.in-Some-Begin.root = search rules in
@@ -73,7 +73,7 @@ returns-in-Ok-clause-only c = λ draft spells.
     let utf8 = c.in_ok-xml_length.ensures.utf8 in
     let old = c.new-elements.result in
     let from = first_point bytes in
-    let none = no_pending old c.new-elements.ensures.observable in
+    let none = no_pending old c.new-elements.ensures.told in
     let total = c.new-elements.ensures.total in
     let mid = c.next.new.self in
     let is : c.in-Some-Begin.field-0 ≡ Begin c.in-Some-Begin.root = search rules in
@@ -89,7 +89,7 @@ returns-in-Err-Fault-clause-only c = λ draft spells.
     let utf8 = c.in_ok-xml_length.ensures.utf8 in
     let old = c.new-elements.result in
     let from = first_point bytes in
-    let none = no_pending old c.new-elements.ensures.observable in
+    let none = no_pending old c.new-elements.ensures.told in
     let total = c.new-elements.ensures.total in
     let mid = c.next.new.self in
     let is : c.in-Some-Begin.field-0 ≡ Begin c.in-Some-Begin.root = search rules in
@@ -108,7 +108,7 @@ returns-in-Err-Fault-clause-refused c = λ at why stated.
     let utf8 = c.in_ok-xml_length.ensures.utf8 in
     let old = c.new-elements.result in
     let from = first_point bytes in
-    let none = no_pending old c.new-elements.ensures.observable in
+    let none = no_pending old c.new-elements.ensures.told in
     let total = c.new-elements.ensures.total in
     let mid = c.next.new.self in
     let is : c.in-Some-Begin.field-0 ≡ Begin c.in-Some-Begin.root = search rules in
@@ -143,7 +143,7 @@ returns-in_err-drain-in-Err-Refused-clause-only c = λ draft spells.
     let utf8 = c.in_ok-xml_length.ensures.utf8 in
     let old = c.new-elements.result in
     let from = first_point bytes in
-    let none = no_pending old c.new-elements.ensures.observable in
+    let none = no_pending old c.new-elements.ensures.told in
     let total = c.new-elements.ensures.total in
     let mid = c.next.new.self in
     let is : c.in-Some-Begin.field-0 ≡ Begin c.in-Some-Begin.root = search rules in
@@ -166,7 +166,7 @@ returns-in_err-drain-in-Err-Refused-clause-refused c = λ at why.
     let utf8 = c.in_ok-xml_length.ensures.utf8 in
     let old = c.new-elements.result in
     let from = first_point bytes in
-    let none = no_pending old c.new-elements.ensures.observable in
+    let none = no_pending old c.new-elements.ensures.told in
     let total = c.new-elements.ensures.total in
     let mid = c.next.new.self in
     let is : c.in-Some-Begin.field-0 ≡ Begin c.in-Some-Begin.root = search rules in
@@ -189,7 +189,7 @@ returns-clause-only c = λ draft spells.
     let utf8 = c.in_ok-xml_length.ensures.utf8 in
     let old = c.new-elements.result in
     let from = first_point bytes in
-    let none = no_pending old c.new-elements.ensures.observable in
+    let none = no_pending old c.new-elements.ensures.told in
     let total = c.new-elements.ensures.total in
     let mid = c.next.new.self in
     let is : c.in-Some-Begin.field-0 ≡ Begin c.in-Some-Begin.root = search rules in
@@ -210,7 +210,7 @@ returns-clause-refused c = λ at why stated.
     let utf8 = c.in_ok-xml_length.ensures.utf8 in
     let old = c.new-elements.result in
     let from = first_point bytes in
-    let none = no_pending old c.new-elements.ensures.observable in
+    let none = no_pending old c.new-elements.ensures.told in
     let total = c.new-elements.ensures.total in
     let mid = c.next.new.self in
     let is : c.in-Some-Begin.field-0 ≡ Begin c.in-Some-Begin.root = search rules in
@@ -233,7 +233,7 @@ returns-in-Some-End-clause-only c = λ draft spells.
     let bytes = c.args.bytes.now in
     let old = c.new-elements.result in
     let comes = root_comes old.length (pending old) (first_point bytes) c.in_ok-root.field-0 c.next.new.self
-    (no_pending old c.new-elements.ensures.observable) refl
+    (no_pending old c.new-elements.ensures.told) refl
     (c.in_ok-root.ensures.read (first_point bytes) c.new-elements.ensures.at)
     (λ e. (c.in_ok-root.ensures.ended (ap Ok e)).0) in
     let is : c.in-Some-End.field-0 ≡ End = search rules in
@@ -245,7 +245,7 @@ returns-in-Some-End-clause-refused c = λ at why stated.
     let bytes = c.args.bytes.now in
     let old = c.new-elements.result in
     let comes = root_comes old.length (pending old) (first_point bytes) c.in_ok-root.field-0 c.next.new.self
-    (no_pending old c.new-elements.ensures.observable) refl
+    (no_pending old c.new-elements.ensures.told) refl
     (c.in_ok-root.ensures.read (first_point bytes) c.new-elements.ensures.at)
     (λ e. (c.in_ok-root.ensures.ended (ap Ok e)).0) in
     let is : c.in-Some-End.field-0 ≡ End = search rules in
@@ -257,7 +257,7 @@ returns-in-Some-Said-clause-only c = λ draft spells.
     let bytes = c.args.bytes.now in
     let old = c.new-elements.result in
     let comes = root_comes old.length (pending old) (first_point bytes) c.in_ok-root.field-0 c.next.new.self
-    (no_pending old c.new-elements.ensures.observable) refl
+    (no_pending old c.new-elements.ensures.told) refl
     (c.in_ok-root.ensures.read (first_point bytes) c.new-elements.ensures.at)
     (λ e. (c.in_ok-root.ensures.ended (ap Ok e)).0) in
     let is : c.in-Some-Said.field-0 ≡ Said c.in-Some-Said.field-0-0 = search rules in
@@ -270,7 +270,7 @@ returns-in-Some-Said-clause-refused c = λ at why stated.
     let bytes = c.args.bytes.now in
     let old = c.new-elements.result in
     let comes = root_comes old.length (pending old) (first_point bytes) c.in_ok-root.field-0 c.next.new.self
-    (no_pending old c.new-elements.ensures.observable) refl
+    (no_pending old c.new-elements.ensures.told) refl
     (c.in_ok-root.ensures.read (first_point bytes) c.new-elements.ensures.at)
     (λ e. (c.in_ok-root.ensures.ended (ap Ok e)).0) in
     let is : c.in-Some-Said.field-0 ≡ Said c.in-Some-Said.field-0-0 = search rules in
@@ -283,7 +283,7 @@ returns-in-None-clause-only c = λ draft spells.
     let bytes = c.args.bytes.now in
     let old = c.new-elements.result in
     let comes = root_comes old.length (pending old) (first_point bytes) c.in_ok-root.field-0 c.next.new.self
-    (no_pending old c.new-elements.ensures.observable) refl
+    (no_pending old c.new-elements.ensures.told) refl
     (c.in_ok-root.ensures.read (first_point bytes) c.new-elements.ensures.at)
     (λ e. (c.in_ok-root.ensures.ended (ap Ok e)).0) in
     let bad : None ≡ Some (Begin comes.0) = sym (c.in-None.is) ∙ comes.1 in
@@ -294,7 +294,7 @@ returns-in-None-clause-refused c = λ at why stated.
     let bytes = c.args.bytes.now in
     let old = c.new-elements.result in
     let comes = root_comes old.length (pending old) (first_point bytes) c.in_ok-root.field-0 c.next.new.self
-    (no_pending old c.new-elements.ensures.observable) refl
+    (no_pending old c.new-elements.ensures.told) refl
     (c.in_ok-root.ensures.read (first_point bytes) c.new-elements.ensures.at)
     (λ e. (c.in_ok-root.ensures.ended (ap Ok e)).0) in
     let bad : None ≡ Some (Begin comes.0) = sym (c.in-None.is) ∙ comes.1 in

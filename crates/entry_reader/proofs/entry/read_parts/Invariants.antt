@@ -11,8 +11,8 @@ invariant-loop-parts l = record {
   deep : depth_of l.elements ≡ depth_of l.initial.elements;
   left : left_of l.elements ≤ left_of l.initial.elements;
   on : (from : Point) → IsAt l.initial.elements from →
-      (observable : List Event) × (b : Content)
-      × IsLed l.initial.elements.length (pending l.initial.elements) from observable l.elements × ArePart b [] observable
+      (told : List Event) × (b : Content)
+      × IsLed l.initial.elements.length (pending l.initial.elements) from told l.elements × ArePart b [] told
       × IsSoFar b l.parts;
 }
 

@@ -75,8 +75,8 @@ loop-fields-preserved-in-Some-Begin c =
     let two = c.in_ok-child-in-Some-Begin.ensures.shorter in
     let deep = inv.deep in
     let left = inv.left in
-    let all : (from : Point) → IsAt old from → (observable : List Event) × (b : Content)
-    × IsLed old.length (pending old) from observable end × ArePart b [] observable × AreFieldsOf b c.child.new.self = λ from at.
+    let all : (from : Point) → IsAt old from → (told : List Event) × (b : Content)
+    × IsLed old.length (pending old) from told end × ArePart b [] told × AreFieldsOf b c.child.new.self = λ from at.
     let x = inv.on from at in
     let y = next x.2.to x.2.is_at in
     let z = c.in_ok-child-in-Some-Begin.ensures.read y.2.to x.1 y.1.0 y.2.is_at x.4 y.1.2 in
@@ -114,8 +114,8 @@ loop-fields-preserved c =
     (subst (λ k. IsSome k → left_of new < left_of mid) same c.in_ok-child.ensures.shorter) refl in
     let deep = inv.deep in
     let left = inv.left in
-    let all : (from : Point) → IsAt old from → (observable : List Event) × (b : Content)
-    × IsLed old.length (pending old) from observable new × ArePart b [] observable × AreFieldsOf b c.loop-fields.fields = λ from at.
+    let all : (from : Point) → IsAt old from → (told : List Event) × (b : Content)
+    × IsLed old.length (pending old) from told new × ArePart b [] told × AreFieldsOf b c.loop-fields.fields = λ from at.
     let x = inv.on from at in
     let y = next x.2.to x.2.is_at in
     let led = led_on old.length (pending old) from x.0 y.0 mid new x.2 y.2 in (

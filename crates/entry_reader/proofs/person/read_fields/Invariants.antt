@@ -11,9 +11,9 @@ invariant-loop-fields l = record {
   deep : depth_of l.elements ≡ depth_of l.initial.elements;
   left : left_of l.elements ≤ left_of l.initial.elements;
   on : (from : Point) → IsAt l.initial.elements from →
-      (observable : List Event) × (b : Content)
-      × IsLed l.initial.elements.length (pending l.initial.elements) from observable l.elements
-      × ArePart b [] observable × AreFieldsOf b l.fields;
+      (told : List Event) × (b : Content)
+      × IsLed l.initial.elements.length (pending l.initial.elements) from told l.elements
+      × ArePart b [] told × AreFieldsOf b l.fields;
 }
 
 abbrev pub decreases-loop-fields : goal.decreases-loop-fields

@@ -7,7 +7,7 @@ abbrev pub invariant-loop-event : goal.invariant-loop-event
 invariant-loop-event l = record {
   reading : IsReading l.self;
   on : (from : Point) → IsAt l.initial.self from →
-      (observable : List Event) × IsLed l.initial.self.length (pending l.initial.self) from observable l.self;
+      (told : List Event) × IsLed l.initial.self.length (pending l.initial.self) from told l.self;
 }
 
 abbrev pub decreases-loop-event : goal.decreases-loop-event

@@ -53,7 +53,7 @@ returns-in-EndTag-clause-read c = λ place before from x is read xml same some.
     let new = c.close.new.self in
     let r = subst (λ t. IsTokenRead place before t old.cursor.rest.now) c.in-EndTag.is read in
     let led = closing_led from old new before x place r.0 r.2.0 c.requires is r.1 r.2.1 xml c.close.ensures.closed in
-    subst (λ e. (observable : List Event) × IsToldBy (Some e) observable × IsLed old.length [] from observable new)
+    subst (λ e. (told : List Event) × IsToldBy (Some e) told × IsLed old.length [] from told new)
     (sym c.close.ensures.end) (_, refl, led.0)
 
 pub returns-in-EndTag-clause-depth : goal.returns-in-EndTag-clause-depth

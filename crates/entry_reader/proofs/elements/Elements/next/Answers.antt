@@ -9,7 +9,7 @@ returns-then-self-clause-read c = λ from at.
     let old = c.args.self.now in
     let new = c.close.new.self in
     let led = element_ends old new from c.if-self.true c.close.ensures.closed at in
-    subst (λ e. (observable : List Event) × IsToldBy (Some e) observable × IsLed old.length (pending old) from observable new)
+    subst (λ e. (told : List Event) × IsToldBy (Some e) told × IsLed old.length (pending old) from told new)
     (sym c.close.ensures.end) (_, refl, led.0)
 
 pub returns-then-self-clause-depth : goal.returns-then-self-clause-depth

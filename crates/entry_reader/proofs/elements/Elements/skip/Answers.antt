@@ -23,7 +23,7 @@ returns-in_err-event-clause-read c = λ from at.
     let x = (c.loop-event.invariant.on from at).2 in
     err_is (λ r. IsSkippedFrom old.length (pending old) from r c.next.new.self) c.in_err-event.field-0.0
     c.from_residual.result c.from_residual.ensures.1
-    (fault_on old.length (pending old) from x.observable c.loop-event.self x.led c.in_err-event.field-0.0
+    (fault_on old.length (pending old) from x.told c.loop-event.self x.led c.in_err-event.field-0.0
     (c.in_err-event.ensures.read x.led.to x.led.is_at))
 
 pub depth_after-requires : goal.depth_after-requires
