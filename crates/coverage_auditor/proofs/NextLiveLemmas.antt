@@ -15,7 +15,7 @@ use Rattle.atom_writer.specs.Doc.{DocValue}
 use Rattle.atom_writer.specs.Members.{member_text}
 use Rattle.atom_writer.specs.declared.doc.FeedName.{FeedName}
 use Rattle.coverage_certificate.specs.Live.{live_entries_of, live_text}
-use Rattle.coverage_certificate.proofs.HeldLemmas.{entries-none, entries-same}
+use Rattle.mirror_walk.proofs.InOrderLemmas.{entries-none, entries-same}
 use Rattle.member_rules.specs.Shows.{greatest_member, live_of}
 use Rattle.member_rules.proofs.ShowsLemmas.{live_of-past}
 use Rattle.mirror_walk.specs.Listing.{entries_up_to, with_entry}

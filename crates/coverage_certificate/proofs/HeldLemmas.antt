@@ -17,10 +17,10 @@ use Rattle.feed_disk.specs.declared.area.Area.{Area}
 use Rattle.feed_disk.proofs.MomentLemmas.{alone_begins, alone_joins}
 use Rattle.member_rules.specs.Fold.{count_up_to}
 use Rattle.member_rules.specs.Shows.{greatest_member, live_count_of}
-use Rattle.member_rules.proofs.ShowsLemmas.{live_of-past}
 use Rattle.mirror_walk.specs.Holding.{KeptValue, best_of, chain_of, digest_at, numbers_from}
 use Rattle.mirror_walk.specs.Listing.{IsLastLive, IsNextLive, entries_up_to, live_at, live_entries, with_entry}
 use Rattle.mirror_walk.specs.Mirror.{MirrorValue, StandsFor, is_spent}
+use Rattle.mirror_walk.proofs.InOrderLemmas.{entries-last, entries-next}
 use Rattle.mirror_walk.specs.Rereading.{HasReadBack, IsSpentBy, KeepsAllBut}
 use Rattle.coverage_certificate.specs.Certificate.{AreCoverLines, CoverValue, IsArchive}
 use Rattle.chain_links.specs.declared.place.Place.{Place}
@@ -28,44 +28,6 @@ use Rattle.member_rules.specs.Chain.{place_of}
 use Rattle.coverage_certificate.specs.Held.{certificate_by, certificate_of, line_at, lines_of}
 use Rattle.coverage_certificate.specs.Live.{live_digest_of, live_entries_of, live_text}
 use Rattle.coverage_certificate.proofs.SameLemmas.{made}
-
--- no entry has one of the next numbers
-pub entries-none : (live : ℕ → Option EntryValue) (n more : ℕ)
-    → ((k : ℕ) → n < k → k ≤ n + more → live k ≡ None) → entries_up_to live (n + more) ≡ entries_up_to live n
-entries-none live n zero none = let same : n + 0 ≡ n = omega arith in ap (entries_up_to live) same
-entries-none live n (suc more) none =
-    let next : n + suc more ≡ suc (n + more) = omega arith in
-    ap (entries_up_to live) next
-    ∙ ap (with_entry (entries_up_to live (n + more))) (none (suc (n + more)) (omega arith) (omega arith))
-    ∙ entries-none live n more (λ k low high. none k low (omega arith))
-
--- all entries have numbers up to both of these
-pub entries-same : (live : ℕ → Option EntryValue) (n m : ℕ) → ((k : ℕ) → n < k → live k ≡ None)
-    → ((k : ℕ) → m < k → live k ≡ None) → entries_up_to live n ≡ entries_up_to live m
-entries-same live n m past_n past_m =
-    let around : n + m ≡ m + n = omega arith in
-    sym (entries-none live n m (λ k low high. past_n k low))
-    ∙ ap (entries_up_to live) around
-    ∙ entries-none live m n (λ k low high. past_m k low)
-
--- one more entry
-entries-next : (kept : List KeptValue) (after next : ℕ) (is : IsNextLive kept after next)
-    → entries_up_to (live_at kept) next ≡ entries_up_to (live_at kept) after ++ is.entry ∷ []
-entries-next kept after next is =
-    let live = live_at kept in
-    let more = next - after - 1 in
-    let at : next ≡ suc (after + more) = omega (arith, is.later) in
-    ap (entries_up_to live) at
-    ∙ ap (with_entry (entries_up_to live (after + more))) (ap live (sym at) ∙ is.live)
-    ∙ ap (λ (entries : List EntryValue). entries ++ is.entry ∷ [])
-    (entries-none live after more (λ k low high. is.first k low (omega (arith, at, high))))
-
-entries-last : (kept : List KeptValue) (after : ℕ) → IsLastLive kept after
-    → entries_up_to (live_at kept) after ≡ live_entries kept
-unfolding live_entries
-entries-last kept after last =
-    entries-same (live_at kept) after (greatest_member (chain_of kept)) last
-    (λ k past. live_of-past (chain_of kept) k past)
 
 pub entries-are : (kept : List KeptValue) → live_entries kept ≡ live_entries_of (chain_of kept)
 unfolding live_entries live_entries_of

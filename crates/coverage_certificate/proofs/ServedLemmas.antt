@@ -39,7 +39,8 @@ use Rattle.coverage_certificate.specs.Certificate.{CertificateValue, CoverValue}
 use Rattle.coverage_certificate.specs.Held.{certificate_by, certificate_of, line_at, lines_of}
 use Rattle.coverage_certificate.specs.Live.{live_digest_of, live_entries_of}
 use Rattle.coverage_certificate.specs.Served.{fold_entries, line_of, served_certificate}
-use Rattle.coverage_certificate.proofs.HeldLemmas.{archives_to, entries-same, lines-are}
+use Rattle.coverage_certificate.proofs.HeldLemmas.{archives_to, lines-are}
+use Rattle.mirror_walk.proofs.InOrderLemmas.{entries-same}
 use Rattle.coverage_certificate.proofs.SameLemmas.{fields_same}
 
 -- the lines of what is held are those of its documents

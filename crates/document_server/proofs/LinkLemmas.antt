@@ -217,9 +217,14 @@ replies-refused s moments given read clock_told conn_told failed store reason si
 
 module _ (s t : DiskState) (given back : ConnState) (line : Line) where
   -- no reply was begun, and the connection failed
-  pub reported-none : line.status ≡ 0 → back.begun ≡ None → HasRisen given.faults back.faults
-      → IsReported (exchange_of s t given back None line)
-  reported-none status unbegun rose = record { status = status; cause = λ _. rose; unbegun = λ _. unbegun }
+  pub reported-none : line.status ≡ 0 → line.whole ≡ false → back.begun ≡ None
+      → HasRisen given.faults back.faults → IsReported (exchange_of s t given back None line)
+  reported-none status cut unbegun rose = record {
+    status = status;
+    cause = λ _. rose;
+    unbegun = λ _. unbegun;
+    no_reply = λ _. cut;
+  }
 
   pub sent-none : Reads given back → IsSent (exchange_of s t given back None line)
   sent-none reads = record {
@@ -256,6 +261,7 @@ module _ (s t : DiskState) (given back : ConnState) (line : Line) where
               (cut-rose result begun.faults back.faults line.whole whole counts cut)
         ];
         unbegun = λ none. absurd (some none);
+        no_reply = λ none. absurd (some none);
       }
 
   pub sent-reply : (observable : Type 0) (begun : ConnState) (reply : Reply) (result : Result Unit CutOff) → observable

@@ -101,12 +101,13 @@ bytes_of None = []
 bytes_of (Some reply) = reply_bytes reply
 
 -- The line has the status of the reply. It has status 0, or says that the reply isn't whole, only if a call of the
--- connection failed since the door gave it. With status 0 no reply was begun.
+-- connection failed since the door gave it. With status 0 no reply was begun, and none is whole.
 pub record IsReported (exchange : Exchange) : Type 0 where
   pub status : exchange.line.status ≡ status_of exchange.reply
   pub cause : (exchange.line.status ≡ 0) ⊎ (exchange.line.whole ≡ false)
       → HasRisen exchange.given.faults exchange.back.faults
   pub unbegun : exchange.line.status ≡ 0 → exchange.back.begun ≡ None
+  pub no_reply : exchange.line.status ≡ 0 → exchange.line.whole ≡ false
 
 -- the bytes of the reply were sent, or a prefix of them if the line says that it isn't whole
 pub record IsSent (exchange : Exchange) : Type 0 where

@@ -1,7 +1,5 @@
 -- serves `mirror` and `mirror_fetched`: offers one after another have one list of answers
 pub mod AnswersLemmas
--- serves `mirror` and `mirror_fetched`: the live entries in order of number
-pub mod EntriesLemmas
 -- serves `mirror` and `mirror_fetched`: the certificate of a complete mirror
 pub mod CertifiedLemmas
 -- serves `mirror`: a mirror between two offers of a pile

@@ -11,7 +11,7 @@ use Rattle.mirror_walk.specs.Listing.{IsLastLive, IsNextLive, entries_up_to, liv
 use Rattle.mirror_walk.specs.Mirror.{MirrorValue}
 use Rattle.mirror_commands.specs.Reporting.{IsUsable}
 use Rattle.command_ends.specs.Summary.{entry_line}
-use Rattle.mirror_commands.proofs.EntriesLemmas.{entries-last, entries-next}
+use Rattle.mirror_walk.proofs.InOrderLemmas.{entries-last, entries-next}
 
 -- the lines of the entries up to this number were added; `observable` is whether contracts can see the disk
 pub record IsListing (observable : Type 0) (first : MirrorValue) (s now : DiskState) (mirror : MirrorValue)

@@ -42,7 +42,7 @@ use Rattle.mirror_commands.specs.Served.{own_offers, shown_at}
 use Rattle.command_ends.specs.Summary.{entry_line}
 use Rattle.mirror_commands.specs.declared.report.Counts.{Counts}
 use Rattle.mirror_commands.proofs.AnswersLemmas.{answers-plain}
-use Rattle.mirror_commands.proofs.EntriesLemmas.{entries-same}
+use Rattle.mirror_walk.proofs.InOrderLemmas.{entries-same}
 use Rattle.mirror_commands.proofs.HeldLemmas.{taken-served}
 use Rattle.mirror_commands.proofs.TakingLemmas.{answered-loaded}
 

@@ -82,3 +82,5 @@ pub mod HeldOfferLemmas
 pub mod CheckedLemmas
 -- serves `Mirror::entry`: the documents that are read back
 pub mod RereadLemmas
+-- the crates above: the live entries in order of number
+pub mod InOrderLemmas

@@ -19,7 +19,7 @@ returns-in_default-clause-serves g c =
     (λ now turn is. is) (rw none at c.reply_to.ensures.replies) c.reply_to.ensures.steps
     (rw none at c.reply_to.ensures.spent)
     (reported-none before after given back c.line_of.result (ap (λ (l : Line). l.status) c.line_of.ensures.is)
-    (reads.begun ∙ c.requires.unbegun) (c.reply_to.ensures.lost none))
+    (ap (λ (l : Line). l.whole) c.line_of.ensures.is) (reads.begun ∙ c.requires.unbegun) (c.reply_to.ensures.lost none))
     (λ observable. sent-none before after given back c.line_of.result reads)
     (ap (λ (l : Line). l.version) c.line_of.ensures.is) (ap (λ (l : Line). l.calls) c.line_of.ensures.is)
     c.reply_to.ensures.grows (λ some. absurd (some (ap (λ (l : Line). l.status) c.line_of.ensures.is)))
