@@ -377,6 +377,44 @@ fn tells_which_operations_may_follow(rt: HostRuntime) {
     drop(feed);
 }
 
+/// Steps, and the newest member after each.
+static NEWEST: [(Step, u32); 5] = [
+    ((Create, 0, 5), 1),
+    ((Create, 0, 6), 2),
+    ((Create, 0, 7), 3),
+    ((Replace, 2, 8), 2),
+    ((Delete, 1, 9), 1),
+];
+
+/// Numbers after those steps, each with the member before it and the `edited` of its entry. No member has 0 or 4.
+static MEMBERS: [(u32, Option<u32>, Option<i64>); 5] = [
+    (0, None, None),
+    (1, Some(2), None),
+    (2, Some(3), Some(8)),
+    (3, None, Some(7)),
+    (4, None, None),
+];
+
+#[test]
+fn members_come_by_their_last_operations(rt: HostRuntime) {
+    let mut feed = empty(&rt, rt.alloc());
+    assert!(rt; feed.members.newest() == None);
+    for &((verb, number, now), newest) in &NEWEST {
+        // The entry's `updated` is 1,000.
+        let ask = case_ask(&rt, rt.alloc(), &DATED, verb, number);
+        drop(apply(&rt, &mut feed, ask, now));
+        assert!(rt; feed.members.newest() == Some(newest));
+    }
+    for &(number, before, edited) in &MEMBERS {
+        let found = (
+            feed.members.before(number),
+            feed.members.edited(number).map(|stamp| stamp.millis()),
+        );
+        assert!(rt; found == (before, edited));
+    }
+    drop(feed);
+}
+
 /// Compares all that a copy has with all that its original has.
 fn expect_equal_copy<T: Copies + Debug + Drop>(rt: &impl Abort, alloc: Global, value: &T) {
     let copy = value.copy(alloc).expect(rt, "memory");

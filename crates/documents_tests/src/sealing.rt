@@ -1,12 +1,14 @@
-//! Tests of `archive_sealer`. Expected documents come from RFC 5005 section 4 and RFC 6721.
-ghost use Rattle.std.specs.Prelude.{◌≡◌, ◌+◌, ◌≤◌, length};
+//! Tests of `archive_sealer`. Expected documents come from RFC 5005 section 4 and RFC 6721. A `Window` is compared with
+//! the functions over the list of its operations.
+ghost use Rattle.std.specs.Prelude.{◌≡◌, ◌+◌, ◌≤◌, pos, length};
+ghost use Rattle.member_rules.specs.Table.{IsTableOf};
 
-use crate::rules::{entry, feed_name, moment};
-use archive_sealer::{archive, full_windows, subscription};
-use atom_values::Stamp;
-use atom_writer::Doc;
+use crate::rules::{Feed, apply, draft, empty, entry, feed_name, moment, next};
+use archive_sealer::{Window, archive, full_windows, sealed_windows, subscription};
+use atom_values::{Copies, NoMemory, Stamp};
+use atom_writer::{Doc, write_doc};
 use deleted_entries::{Item, Tombstone};
-use member_rules::{Head, Op, Removal};
+use member_rules::{Ask, Head, Op, Removal};
 use std::alloc::Global;
 use std::process::Abort;
 
@@ -157,4 +159,112 @@ fn documents_of_histories(rt: HostRuntime) {
         assert!(rt; doc_text(&rt, rt.alloc(), &doc).as_str() == case.expected);
         drop(doc);
     }
+}
+
+/// An ask that changes or removes one of few members, so that a window often names a member again.
+fn repeated_ask(rt: &impl Abort, alloc: Global, seed: u64, count: u32) -> Ask {
+    let number = ((seed >> 33) % (u64::from(count) + 1)) as u32;
+    match (seed >> 20) % 8 {
+        0 => Ask::Create(draft(rt, alloc)),
+        1 => Ask::Delete { number },
+        _ => Ask::Replace {
+            number,
+            draft: draft(rt, alloc),
+        },
+    }
+}
+
+/// Adds this number of operations to the feed. Where an ask is refused, a member is added.
+fn extend(rt: &impl Abort, alloc: Global, feed: &mut Feed, operations: u64)
+    requires { IsTableOf feed.old.members (pos 0) feed.old.history.items }
+{
+    let mut seed = 11;
+    for step in 0..operations {
+        seed = next(seed);
+        let ask = repeated_ask(rt, alloc, seed, feed.members.count());
+        if apply(rt, feed, ask, step).is_some() {
+            drop(apply(rt, feed, Ask::Create(draft(rt, alloc)), step));
+        }
+    }
+}
+
+/// What is said of the operations so far: their number, the number of sealed windows, the text of the subscription
+/// document, and that of the open window's archive if it is full.
+#[derive(Debug, Drop, PartialEq)]
+struct Said {
+    operations: usize,
+    sealed: u32,
+    subscription: Vec<u8>,
+    archive: Option<Vec<u8>>,
+}
+
+fn text(rt: &impl Abort, alloc: Global, made: Result<Doc, NoMemory>) -> Vec<u8> {
+    let doc = made.expect(rt, "memory");
+    let text = write_doc(alloc, &doc);
+    drop(doc);
+    text.expect(rt, "memory")
+}
+
+fn by_window(rt: &impl Abort, alloc: Global, head: &Head, window: &Window) -> Said
+    requires { head.now.window ≡ window.now.size }
+{
+    let archive = if window.is_full() {
+        Some(text(rt, alloc, window.archive(head)))
+    } else {
+        None
+    };
+    Said {
+        operations: window.operations() as usize,
+        sealed: window.sealed(),
+        subscription: text(rt, alloc, window.subscription(head)),
+        archive,
+    }
+}
+
+fn by_list(rt: &impl Abort, alloc: Global, head: &Head, history: &[Op]) -> Said
+    requires { length history.now ≤ 1_000 }
+{
+    let sealed = sealed_windows(head, history);
+    let archive = if sealed < full_windows(head, history) {
+        Some(text(rt, alloc, archive(alloc, head, history, sealed + 1)))
+    } else {
+        None
+    };
+    Said {
+        operations: history.len(),
+        sealed,
+        subscription: text(rt, alloc, subscription(alloc, head, history)),
+        archive,
+    }
+}
+
+/// Gives a window the operations of the history. Before each, compares it with the list of those that it has.
+fn compare(rt: &impl Abort, alloc: Global, head: &Head, history: &[Op])
+    requires { length history.now ≤ 1_000 }
+{
+    let mut window = Window::new(alloc, head.window).expect(rt, "memory");
+    for (count, operation) in history.iter().enumerate() {
+        let (given, _) = history.split_at(count);
+        let said = by_window(rt, alloc, head, &window);
+        assert!(rt; said == by_list(rt, alloc, head, given), "{count}");
+        drop(said);
+        window.prepare().expect(rt, "memory");
+        window.commit(operation.copy(alloc).expect(rt, "memory"));
+    }
+    drop(window);
+}
+
+#[test]
+fn a_window_says_what_its_list_of_operations_does(rt: HostRuntime) {
+    let alloc = rt.alloc();
+    let mut feed = empty(&rt, alloc);
+    extend(&rt, alloc, &mut feed, 1_000);
+    let history = feed.history.as_slice();
+    assert!(rt; history.len() == 1_000);
+    for size in [1, 3, 100] {
+        let head = head(&rt, alloc, size);
+        compare(&rt, alloc, &head, history);
+        drop(head);
+    }
+    drop(feed);
 }

@@ -64,18 +64,6 @@ calls_join s t u a b c n most first second = record {
   };
 }
 
-pub calls_more : (s t u : DiskState) (a b c n : ℕ) → MakesSome s t a b → MakesCalls t u b c n → MakesSome s u a c
-calls_more s t u a b c n (inl none) next =
-    inr (n, record { clock = omega (arith, next.clock, none.0); calls = omega (arith, next.calls, none.1) })
-calls_more s t u a b c n (inr some) next =
-    inr (
-      some.0 + n,
-      record {
-        clock = omega (arith, next.clock, some.1.clock);
-        calls = omega (arith, next.calls, some.1.calls);
-      },
-    )
-
 pub calls_then : (s t u : DiskState) (a b c n : ℕ) → MakesCalls s t a b n → MakesSome t u b c
     → (m : ℕ) × MakesCalls s u a c m
 calls_then s t u a b c n first (inl none) =
@@ -87,3 +75,14 @@ calls_then s t u a b c n first (inr some) = (
     calls = omega (arith, first.calls, some.1.calls);
   },
 )
+
+pub calls_more : (s t u : DiskState) (a b c : ℕ) → MakesSome s t a b → MakesSome t u b c → MakesSome s u a c
+calls_more s t u a b c (inl none) (inl still) = inl (still.0 ∙ none.0, still.1 ∙ none.1)
+calls_more s t u a b c (inl none) (inr next) = inr (
+  next.0,
+  record {
+    clock = omega (arith, next.1.clock, none.0);
+    calls = omega (arith, next.1.calls, none.1);
+  },
+)
+calls_more s t u a b c (inr some) next = inr (calls_then s t u a b c some.0 some.1 next)

@@ -1,3 +1,5 @@
+-- `Ahead::read`: `bytes`
+pub mod AheadLemmas
 -- `Log::append`: `moments`, for the two writes, and the content after them
 pub mod AppendLemmas
 -- `Log::append`: `moments` for the four device calls, and the clauses on their number
@@ -8,7 +10,7 @@ pub mod ExtentLemmas
 pub mod ListLemmas
 -- `Log::load`: `size` and `rests`
 pub mod LoadLemmas
--- `Log::read`: `payload` and `never`
+-- `Log::read` and `Log::read_ahead`: `payload`, `length` and `never`
 pub mod ReadLemmas
 -- the payloads of an area, for all of these
 pub mod RecordLemmas

@@ -1,3 +1,4 @@
+pub mod Ahead
 pub mod Framed
 pub mod Laws
 pub mod Limits

@@ -15,13 +15,14 @@
 //! Each payload is in a frame that begins with a gate. An append writes the frame with a closed gate, syncs
 //! it, then opens the gate and syncs that. So at each moment within it a crash leaves the list before or the
 //! list with the new payload. `Log::load` recovers exactly the payloads of the area, and `Log::read` returns
-//! them.
+//! them. To read many in order, use `Log::read_ahead`, which makes fewer device calls.
 //!
 //! After `DiskFault` the log is spent: drop it and load it again.
 //!
 //! The crate stands on the trait `Disk` of `feed_disk` and the failures of `atom_values`.
 #![tactic(auto)]
 
+mod ahead;
 mod append;
 mod extent;
 mod fault;
@@ -33,6 +34,7 @@ mod scan;
 mod settle;
 mod synced_write;
 
+pub use ahead::Ahead;
 pub use fault::{DiskFault, LogFault};
 pub use framed::Framed;
 pub use laws::begun_images_are_whole;

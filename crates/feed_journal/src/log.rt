@@ -5,11 +5,13 @@ ghost use Rattle.atom_values.specs.Counts.{CountsFault, HasCause, counted};
 ghost use Rattle.feed_disk.specs.Moments.{AlwaysLeaves, LeavesAlone, NowOnly};
 ghost use Rattle.feed_disk.specs.Raised.{raised};
 ghost use Rattle.feed_disk.specs.declared.area.Area.{Area as AreaValue};
+ghost use Rattle.feed_journal.specs.Ahead.{IsAhead};
 ghost use Rattle.feed_journal.specs.Limits.{payload_limit, header_length};
 ghost use Rattle.feed_journal.specs.Log.{HasRoomFor, IsAppended, IsListed, IsLog, ListsPayload};
 ghost use Rattle.feed_journal.specs.Log.{MakesCalls, MakesOrFails, MakesSome, payload_lengths, payloads_at};
 ghost use Rattle.feed_journal.specs.Records.{records, size_of, padded, IsWhole, Begins, IsStep, StandsFor};
 
+use crate::ahead::Ahead;
 use crate::append::write_frame;
 use crate::extent::Extent;
 use crate::fault::{DiskFault, LogFault};
@@ -63,7 +65,7 @@ impl Log {
     /// Errors: `DiskFault` where the disk's count of faults rose. `NoMemory`, which hides no failed device
     /// call. Never `Changed`.
     ///
-    /// Cost: four device calls at most, and one for each header that is read.
+    /// Cost: four device calls at most, and one for each 4,096 bytes or each header, whichever are fewer.
     pub fn load<D: Disk>(alloc: Global, disk: &mut D, area: Area) -> Result<Log, LogFault>
         ensures log { IfOk result (λ log. IsLog log × (log.area ≡ area) × (log.spent ≡ false)) }
 
@@ -248,6 +250,53 @@ impl Log {
             Err(_) => {
                 self.spent = true;
                 Err(LogFault::DiskFault)
+            }
+        }
+    }
+
+    /// Reads the payload of an index, counted from 0, from the bytes that were read ahead. If they don't have all
+    /// of it, one device call reads ahead from the payload's start on. A payload that is longer than the capacity
+    /// of `ahead` is read as by `read`.
+    ///
+    /// Errors: those of `read`.
+    pub fn read_ahead<D: Disk>(
+        &mut self,
+        disk: &mut D,
+        index: u32,
+        ahead: &mut Ahead,
+    ) -> Result<Vec<u8>, LogFault>
+        requires unspent { self.old.spent ≡ false }
+        requires within { index < length self.old.extents }
+        requires listed { D.observable → payloads_at self.old.extents ((D.state disk.old).content self.old.area)
+            ≡ records ((D.state disk.old).content self.old.area) }
+        requires ahead { D.observable → IsAhead ahead.old ((D.state disk.old).content self.old.area) }
+        ensures payload { IfOk result (λ payload. D.observable
+            → slice_get (records ((D.state disk.old).content self.old.area)) index ≡ Some payload.items) }
+        ensures length { IfOk result (λ payload.
+            slice_get (payload_lengths self.old.extents) index ≡ Some (length payload.items)) }
+        ensures ahead { D.observable → IsAhead ahead.new ((D.state disk.new).content self.old.area) }
+        ensures never { D.observable → (n : ℕ) → result ≢ Err (LogFault.Changed n) }
+        ensures changed { (n : ℕ) → result ≡ Err (LogFault.Changed n) → n ≡ index }
+        ensures log { result ≢ Err LogFault.DiskFault
+            → self.new ≡ record self.old { calls = self.new.calls } }
+        ensures spent { result ≡ Err LogFault.DiskFault
+            → self.new ≡ record self.old { calls = self.new.calls; spent = true } }
+        ensures areas { (a : AreaValue) → LeavesAlone (D.state disk.old) (D.state disk.new) a }
+        ensures calls { MakesSome (D.state disk.old) (D.state disk.new) self.old.calls self.new.calls }
+        ensures faults { CountsFault (D.state disk.old).faults (D.state disk.new).faults
+            (result ≡ Err LogFault.DiskFault) }
+    {
+        let extent = self.extents[index as usize];
+        let mut bytes = vec![in self.alloc; 0u8; extent.length as usize]?;
+        let mut calls = self.calls;
+        let outcome = ahead.read_exactly(disk, self.area, extent.offset, &mut bytes, &mut calls);
+        self.calls = calls;
+        match outcome {
+            Ok(true) => Ok(bytes),
+            Ok(false) => Err(LogFault::Changed { index }),
+            Err(fault) => {
+                self.spent = true;
+                Err(LogFault::from(fault))
             }
         }
     }

@@ -4,17 +4,23 @@ ghost use Rattle.atom_values.specs.Counts.{CountsFault, HasCause};
 ghost use Rattle.feed_disk.specs.Moments.{LeavesAlone};
 ghost use Rattle.feed_disk.specs.Raised.{raised};
 ghost use Rattle.feed_disk.specs.declared.area.Area.{Area as AreaValue};
+ghost use Rattle.feed_journal.specs.Ahead.{Gives, IsAhead};
 ghost use Rattle.feed_journal.specs.Limits.{payload_limit, header_length};
-ghost use Rattle.feed_journal.specs.Log.{KeepsLog, MakesCalls, MakesSome, IsScanned};
+ghost use Rattle.feed_journal.specs.Log.{KeepsLog, MakesSome, IsScanned};
 ghost use Rattle.feed_journal.specs.Scan.{IsHeader, IsNext, header_bytes};
 ghost use Rattle.feed_journal.specs.declared.fault.LogFault.TheVariants.{DiskFault as DiskFailed, Changed};
 
+use crate::ahead::Ahead;
 use crate::extent::Extent;
 use crate::fault::LogFault;
 use crate::limits::{HEADER_LENGTH, OPEN_GATE, PAYLOAD_COUNT_LIMIT, PAYLOAD_LIMIT};
 use atom_values::Failed;
 use feed_disk::{Area, Disk};
 use std::alloc::Global;
+
+/// The number of bytes that are read ahead for headers. It is small, so that an area of large payloads isn't read
+/// whole.
+const HEADERS_AHEAD: usize = 4_096;
 
 /// Returns the length of the payload whose frame has this header, if that payload ends before the last of the
 /// `after` bytes after the header.
@@ -32,28 +38,30 @@ fn length_in(header: [u8; 5], after: u64) -> Option<u32>
 }
 
 /// Reads the header at offset `at` of an area of this size, and returns the payload's length if a frame is
-/// there. It counts this device call.
+/// there. It counts its device call.
 fn next_frame<D: Disk>(
     disk: &mut D,
     area: Area,
     at: u64,
     size: u64,
+    ahead: &mut Ahead,
     calls: &mut u64,
 ) -> Result<Option<u32>, Failed>
     requires fits { at + header_length < size }
     requires size { D.observable → size ≡ length ((D.state disk.old).content area) }
+    requires ahead { D.observable → IsAhead ahead.old ((D.state disk.old).content area) }
     ensures found { IfOk result (λ found. D.observable → IsNext (drop at ((D.state disk.old).content area)) found) }
     ensures within { IfOk result (λ found. IfSome found (λ n.
         (n ≤ payload_limit) × (at + n + header_length < size))) }
     ensures areas { (a : AreaValue) → LeavesAlone (D.state disk.old) (D.state disk.new) a }
-    ensures calls { MakesCalls (D.state disk.old) (D.state disk.new) calls.old calls.new 1 }
+    ensures calls { MakesSome (D.state disk.old) (D.state disk.new) calls.old calls.new }
     ensures cause { HasCause (D.state disk.old).faults (D.state disk.new).faults result }
+    ensures ahead { D.observable → IsAhead ahead.new ((D.state disk.new).content area) }
     ensures read { IfOk result (λ found.
-        raised (D.state disk.old).bytes_read (header_bytes found) ≤ (D.state disk.new).bytes_read) }
+        Gives (D.state disk.old) (D.state disk.new) at (header_bytes found) ahead.old ahead.new) }
 {
     let mut header = [0u8; 5];
-    *calls = calls.saturating_add(1);
-    let count = disk.read(area, at, &mut header)?;
+    let count = ahead.read(disk, area, at, &mut header, calls)?;
     if count < header.len() {
         return Ok(None);
     }
@@ -61,7 +69,7 @@ fn next_frame<D: Disk>(
 }
 
 /// Returns the extents of the payloads of an area of this size, and the offset at which their frames end. It
-/// counts its device calls, of which there is one for each header read.
+/// counts its device calls.
 pub fn scan<D: Disk>(
     alloc: Global,
     disk: &mut D,
@@ -82,6 +90,7 @@ pub fn scan<D: Disk>(
     ensures read { IfOk result (λ found. raised (D.state disk.old).bytes_read
         (header_length * length found.0.items) ≤ (D.state disk.new).bytes_read) }
 {
+    let mut ahead = Ahead::new(alloc, HEADERS_AHEAD)?;
     let mut extents = Vec::new(alloc);
     let mut end = 0;
     'frames: loop {
@@ -89,7 +98,7 @@ pub fn scan<D: Disk>(
         if full || size - end <= HEADER_LENGTH {
             return Ok((extents, end));
         }
-        let Some(length) = next_frame(disk, area, end, size, calls)? else {
+        let Some(length) = next_frame(disk, area, end, size, &mut ahead, calls)? else {
             return Ok((extents, end));
         };
         extents.push(Extent {

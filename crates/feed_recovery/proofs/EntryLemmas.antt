@@ -1,7 +1,7 @@
 -- The entry that an operation's bytes set.
 use Rattle.std.proofs.Common.{◌≡◌, ◌⊎◌, inl, inr, ⊎_elim, ℕ, zero, suc, ◌-◌, ◌≤◌, List, Some, Ok, Err, Result, sym, ◌∙◌}
-use Rattle.std.proofs.Common.{ap, ℤ, Global, Vec, length, subst, arith}
-use Rattle.std.specs.Prelude.{slice_get, slice_index_or, option_map, IfOk, OnOk}
+use Rattle.std.proofs.Common.{ap, ℤ, Global, Vec, Option, None, length, subst, arith}
+use Rattle.std.specs.Prelude.{slice_get, option_map, IfOk, OnOk}
 use Rattle.std.proofs.lemmas.Option.{slice_get_within, slice_get-map, get_or_from_slice_get}
 use Rattle.atom_values.specs.Entry.{EntryValue, IsEntry}
 use Rattle.atom_writer.specs.Pieced.{text_of}
@@ -20,7 +20,7 @@ use Rattle.member_rules.specs.Coding.{operations}
 use Rattle.member_rules.specs.Fold.{fold_of, state_of}
 use Rattle.member_rules.specs.Head.{HeadValue, IsHead}
 use Rattle.member_rules.specs.History.{IsLawful}
-use Rattle.member_rules.specs.Operation.{IsOperation, moment_of}
+use Rattle.member_rules.specs.Operation.{IsOperation}
 use Rattle.member_rules.specs.declared.codec.CodecFault.{CodecFault}
 use Rattle.member_rules.specs.declared.codec.CodecFault.TheVariants.{BadField, NoMemory}
 use Rattle.member_rules.specs.declared.operation.Op.{Op}
@@ -114,26 +114,32 @@ state_within history number version updated state =
           changed,
     )) set.set_by
 
--- the moment of the operation that set an entry is the entry's `edited`
-pub set_edited : (history : List Op) (version : ℕ) (operation : Op) (entry : EntryValue)
-    → operation ≡ slice_index_or history (version - 1) operation
-    → (slice_get history (version - 1) ≡ Some (Add entry)) ⊎ (slice_get history (version - 1) ≡ Some (Change entry))
-    → moment_of operation ≡ entry.edited
-set_edited history version operation entry there (inl added) =
-    ap moment_of (there ∙ get_or_from_slice_get history (version - 1) (Add entry) operation added)
-set_edited history version operation entry there (inr changed) =
-    ap moment_of (there ∙ get_or_from_slice_get history (version - 1) (Change entry) operation changed)
+-- the `edited` that the table has for a member is that of its live entry
+pub edited_is : (edited : ℤ) (found : Option EntryValue) (entry : EntryValue)
+    → Some edited ≡ option_map (λ (e : EntryValue). e.edited) found → found ≡ Some entry → edited ≡ entry.edited
+edited_is edited found entry is there =
+    let mapped : option_map (λ (e : EntryValue). e.edited) found ≡ Some entry.edited =
+    ap (option_map (λ (e : EntryValue). e.edited)) there in
+    some_same edited entry.edited (is ∙ mapped)
+
+-- and it has one
+pub some_edited : (found : Option EntryValue) (entry : EntryValue)
+    → None ≡ option_map (λ (e : EntryValue). e.edited) found → found ≡ Some entry → ⊥
+some_edited found entry none there =
+    let mapped : option_map (λ (e : EntryValue). e.edited) found ≡ Some entry.edited =
+    ap (option_map (λ (e : EntryValue). e.edited)) there in
+    cc
 
 -- the document of the bytes that a disk gave, with the timestamps that the history has for the member
-pub document_version : (store : StoreValue) (number version : ℕ) (edited updated : ℤ) (operation : Op)
-    (payload : List ℕ) → slice_get (payload_lengths store.journal.extents) version ≡ Some (length payload)
+pub document_version : (store : StoreValue) (number version : ℕ) (edited updated : ℤ) (payload : List ℕ)
+    → slice_get (payload_lengths store.journal.extents) version ≡ Some (length payload)
     → state_of store.history number ≡ Live updated version
-    → operation ≡ slice_index_or store.history (version - 1) operation → edited ≡ moment_of operation
+    → Some edited ≡ option_map (λ (e : EntryValue). e.edited) ((fold_of store.history).live number)
     → (result : Result (Vec ℕ Global) MemberFault)
     → IfOk result (λ written. IsDocumentOf store.head.name payload number edited updated written.items)
     → IfOk result (λ written. IsMemberDocument store number written.items)
-document_version store number version edited updated operation payload long state there dated (Err fault) made = tt
-document_version store number version edited updated operation payload long state there dated (Ok written) made =
+document_version store number version edited updated payload long state dated (Err fault) made = tt
+document_version store number version edited updated payload long state dated (Ok written) made =
     let set = version-is store.history number updated version state in
     record {
       stored = set.entry;
@@ -147,8 +153,8 @@ document_version store number version edited updated operation payload long stat
         is_entry = made.is_entry;
         version = record {
           named = made.version.named;
-          edited_is = made.version.edited_is ∙ dated
-              ∙ set_edited store.history version operation set.entry there set.set_by;
+          edited_is = made.version.edited_is
+              ∙ edited_is edited ((fold_of store.history).live number) set.entry dated set.live;
           updated_is = made.version.updated_is ∙ sym set.dated;
         };
         sets = made.sets;

@@ -80,6 +80,8 @@ table_spare table after created history of is = subst (λ (t : Table). IsTableOf
   following = of.following;
   count = of.count;
   states = of.states;
+  edited = of.edited;
+  recent = of.recent;
   last = of.last;
   live = of.live;
   operations = of.operations;
@@ -101,34 +103,3 @@ long_more extents index operation rules here before k n from_one below there = e
   where
     some_same : (a b : ℕ) → Some a ≡ Some b → a ≡ b
     some_same a b same = cc
-
-get_take : {T : Type 0} (xs : List T) (n k : ℕ) → k < n → slice_get (take n xs) k ≡ slice_get xs k
-get_take xs zero k inside = absurd (omega arith)
-get_take [] (suc n) k inside = refl
-get_take (x ∷ xs) (suc n) zero inside = refl
-get_take (x ∷ xs) (suc n) (suc k) inside = get_take xs n k (omega arith)
-
--- the seals of a load, with one more
-pub seals_more : (head : HeadValue) (history : List Op) (payloads : List (List ℕ)) (index : ℕ)
-    → AreSeals head history (take index payloads) → slice_get payloads index ≡ Some (seal_of head history (index + 1))
-    → AreSeals head history (take (index + 1) payloads)
-seals_more head history payloads index before here number from_one within =
-    let inside : number - 1 < index + 1 = omega (arith, within, from_one, length-take (index + 1) payloads) in
-    get_take payloads (index + 1) (number - 1) inside ∙ elim (cases_lt index number) [
-      | inl last ↦
-          let is : index + 1 ≡ number = omega (arith, last, inside) in
-          let place : index ≡ number - 1 = omega (arith, is) in
-          subst (λ (k : ℕ). slice_get payloads k ≡ Some (seal_of head history number)) place
-          (subst (λ (k : ℕ). slice_get payloads index ≡ Some (seal_of head history k)) is here)
-      | inr earlier ↦
-          sym (get_take payloads index (number - 1) (omega (arith, earlier, from_one)))
-          ∙ before number from_one
-          (omega (arith, earlier, within, length-take (index + 1) payloads, length-take index payloads))
-    ]
-
--- each seal that there may be is that of a full window
-pub full_within : (head : HeadValue) (history : List Op) (found index : ℕ) → IsHead head
-    → IsSealCount head history found → index < found → index + 1 ≤ (windows_of head history).full
-full_within head history found index is_head (inl sealed) inside =
-    omega (arith, sealed, inside, (windows-sealed head history is_head).full)
-full_within head history found index is_head (inr full) inside = omega (arith, full, inside)

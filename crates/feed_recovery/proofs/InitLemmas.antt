@@ -40,7 +40,7 @@ pub no_payload : (log : LogValue) (content : List ℕ) → IsListed log content 
 no_payload log content listed none =
     sym listed.list ∙ ap (λ (l : List Extent). payloads_at l content) (no_extents log.extents none)
 
-none_lawful : (head : HeadValue) → IsLawful head []
+pub none_lawful : (head : HeadValue) → IsLawful head []
 none_lawful head = record {
   few = omega arith;
   following = λ k operation is. absurd (omega (arith, slice_get_within [] k operation is));

@@ -4,6 +4,8 @@ pub mod ArchiveLemmas
 pub mod BothLemmas
 -- `Store::commit`: `calls`
 pub mod CountLemmas
+-- `Store::load`: the seals, compared with their archives
+pub mod ComparedLemmas
 -- `Store::member`: the entry that an operation's bytes set
 pub mod EntryLemmas
 -- `Store::load`: the clause `only`

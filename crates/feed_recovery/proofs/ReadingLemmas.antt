@@ -1,6 +1,6 @@
 -- The steps of a load, one after another.
 use Rattle.std.proofs.Common.{◌≡◌, inl, inr, ℕ, ◌+◌, ◌≤◌, min, sym, refl, ◌∙◌, ap, subst, arith}
-use Rattle.std.proofs.Common.{List, length, take, Some, ◌≢◌, ◌-◌}
+use Rattle.std.proofs.Common.{List, length, take, Option, Some}
 use Rattle.std.specs.Prelude.{slice_get}
 use Rattle.atom_writer.specs.Pieced.{IsNoText, IsPlaceOfRefusal}
 use Rattle.atom_values.specs.Counts.{counter_limit}
@@ -12,10 +12,12 @@ use Rattle.feed_journal.specs.Log.{IsListed, IsLog, LogValue, MakesSome}
 use Rattle.feed_journal.specs.Records.{records}
 use Rattle.feed_journal.proofs.ExtentLemmas.{length-payloads}
 use Rattle.feed_recovery.specs.Faults.{IsLoadFault}
-use Rattle.feed_recovery.specs.Loading.{FailsBy, HasRaised, IsReadable, OnlyReads, Worked, fault_of}
+use Rattle.feed_recovery.specs.Loading.{FailsBy, HasRaised, IsReadable, IsSealFault, OnlyReads, Worked}
+use Rattle.feed_recovery.specs.Loading.{AreCompared, WorkedBoth, calls_of, fault_of}
 use Rattle.feed_recovery.specs.Opening.{AreSeals, IsJournal, IsSealCount, seal_of}
 use Rattle.feed_recovery.specs.declared.fault.LoadFault.{LoadFault}
-use Rattle.feed_recovery.specs.declared.fault.LoadFault.TheVariants.{BadSeal, NoMemory}
+use Rattle.feed_recovery.specs.declared.fault.LoadFault.TheVariants.{NotInit, BadRecord, SealCount, BadSeal}
+use Rattle.feed_recovery.specs.declared.fault.LoadFault.TheVariants.{DiskFault, NoMemory}
 use Rattle.member_rules.specs.Coding.{heads, operations}
 use Rattle.member_rules.specs.Head.{HeadValue}
 use Rattle.member_rules.specs.declared.codec.CodecFault.{CodecFault}
@@ -52,25 +54,73 @@ some_join s t u a b c (inr first) (inr second) = inr (
   },
 )
 
-pub worked_join : (s t u : DiskState) (a b c : LogValue) → Worked s t a b → Worked t u b c → Worked s u a c
-worked_join s t u a b c first second = record {
-  log = second.log ∙ ap (λ (l : LogValue). record l { calls = c.calls }) first.log;
-  calls = some_join s t u a.calls b.calls c.calls first.calls second.calls;
+-- the calls of one log are calls of both
+calls-too : (s t : DiskState) (before after other from to : ℕ) → from ≡ min (before + other) counter_limit
+    → to ≡ min (after + other) counter_limit → MakesSome s t before after → MakesSome s t from to
+calls-too s t before after other from to is is' (inl none) = inl (none.0, omega (arith, is, is', none.1))
+calls-too s t before after other from to is is' (inr some) = inr (
+  some.0,
+  record { clock = some.1.clock; calls = omega (arith, is, is', some.1.calls) },
+)
+
+-- no call was made
+pub worked-begin : (s : DiskState) (journal seals : LogValue) → WorkedBoth s s journal journal seals seals
+worked-begin s journal seals = record {
+  journal_log = refl;
+  seals_log = refl;
+  calls = inl (refl, refl);
+  faults = refl;
+}
+
+same-log : (a b c : LogValue) → b ≡ record a { calls = b.calls } → c ≡ record b { calls = c.calls }
+    → c ≡ record a { calls = c.calls }
+same-log a b c first second = second ∙ ap (λ (l : LogValue). record l { calls = c.calls }) first
+
+pub worked-journal : (s t u : DiskState) (a b c seals seals' : LogValue) → WorkedBoth s t a b seals seals'
+    → Worked t u b c → WorkedBoth s u a c seals seals'
+worked-journal s t u a b c seals seals' first second = record {
+  journal_log = same-log a b c first.journal_log second.log;
+  seals_log = first.seals_log;
+  calls = some_join s t u (calls_of a seals) (calls_of b seals') (calls_of c seals') first.calls
+      (calls-too t u b.calls c.calls seals'.calls (calls_of b seals') (calls_of c seals') refl refl second.calls);
+  faults = second.faults ∙ first.faults;
+}
+
+pub worked-seals : (s t u : DiskState) (journal journal' a b c : LogValue) → WorkedBoth s t journal journal' a b
+    → Worked t u b c → WorkedBoth s u journal journal' a c
+worked-seals s t u journal journal' a b c first second = record {
+  journal_log = first.journal_log;
+  seals_log = same-log a b c first.seals_log second.log;
+  calls = some_join s t u (calls_of journal a) (calls_of journal' b) (calls_of journal' c) first.calls
+      (calls-too t u b.calls c.calls journal'.calls (calls_of journal' b) (calls_of journal' c) (omega arith)
+      (omega arith) second.calls);
+  faults = second.faults ∙ first.faults;
+}
+
+pub worked-both : (s t u : DiskState) (a b c seals seals' : LogValue) → Worked s t a b
+    → WorkedBoth t u b c seals seals' → WorkedBoth s u a c seals seals'
+worked-both s t u a b c seals seals' first second = record {
+  journal_log = same-log a b c first.log second.journal_log;
+  seals_log = second.seals_log;
+  calls = some_join s t u (calls_of a seals) (calls_of b seals) (calls_of c seals')
+      (calls-too s t a.calls b.calls seals.calls (calls_of a seals) (calls_of b seals) refl refl first.calls)
+      second.calls;
   faults = second.faults ∙ first.faults;
 }
 
 -- a log can still be read after a step that worked
 pub readable_later : (observable : Type 0) (s t : DiskState) (a : Area) (before after : LogValue)
-    → IsReadable observable s a before → OnlyReads s t → Worked s t before after → IsReadable observable t a after
-readable_later observable s t a before after readable reads worked = record {
-  area = ap (λ (l : LogValue). l.area) worked.log ∙ readable.area;
-  unspent = ap (λ (l : LogValue). l.spent) worked.log ∙ readable.unspent;
-  rules = subst IsLog (sym worked.log) readable.rules;
+    → IsReadable observable s a before → OnlyReads s t → after ≡ record before { calls = after.calls }
+    → IsReadable observable t a after
+readable_later observable s t a before after readable reads is = record {
+  area = ap (λ (l : LogValue). l.area) is ∙ readable.area;
+  unspent = ap (λ (l : LogValue). l.spent) is ∙ readable.unspent;
+  rules = subst IsLog (sym is) readable.rules;
   listed = λ tells.
       let was = readable.listed tells in
       let here : IsListed before (t.content a) =
       subst (IsListed before) (sym (reads.areas a).content) was in
-      subst (λ (l : LogValue). IsListed l (t.content a)) (sym worked.log)
+      subst (λ (l : LogValue). IsListed l (t.content a)) (sym is)
       (record { list = here.list; long = here.long });
 }
 
@@ -100,27 +150,6 @@ fails_later observable s t u fault reads same fails = record {
       (reads.areas Sealed).content (fails.cause tells));
   faults = subst (λ (n : ℕ). HasRaised n u.faults fault) same fails.faults;
 }
-
--- the calls of two logs, one after the other
-pub both_logs : (s t u : DiskState) (a b c d : ℕ) → MakesSome s t a b → MakesSome t u c d
-    → MakesSome s u (min (a + c) counter_limit) (min (b + d) counter_limit)
-both_logs s t u a b c d (inl none) (inl same) =
-    inl (same.0 ∙ none.0, omega (arith, none.1, same.1))
-both_logs s t u a b c d (inl none) (inr some) = inr (
-  some.0,
-  record { clock = omega (arith, some.1.clock, none.0); calls = omega (arith, some.1.calls, none.1) },
-)
-both_logs s t u a b c d (inr some) (inl none) = inr (
-  some.0,
-  record { clock = omega (arith, some.1.clock, none.0); calls = omega (arith, some.1.calls, none.1) },
-)
-both_logs s t u a b c d (inr first) (inr second) = inr (
-  first.0 + second.0,
-  record {
-    clock = omega (arith, first.1.clock, second.1.clock);
-    calls = omega (arith, first.1.calls, second.1.calls);
-  },
-)
 
 -- a payload that isn't the bytes of a head, the journal's first
 pub head_fails : (observable : Type 0) (s t : DiskState) (codec : CodecFault) (payload : List ℕ) → t.faults ≡ s.faults
@@ -165,33 +194,44 @@ operation_fails observable s t (BadField at) index head history payload from_one
 operation_fails observable s t CodecNoMemory index head history payload from_one before same there refused =
     record { area = tt; cause = λ tells. tt; faults = same }
 
--- a payload that isn't the seal that it has to be, after others that are
-pub seal_fails : (observable : Type 0) (s t : DiskState) (seals : LogValue) (head : HeadValue) (history : List Op) (index : ℕ)
-    (payload : List ℕ) → IsReadable observable s Sealed seals → IsSealCount head history (length seals.extents)
+-- the log has as many extents as the content has payloads
+pub listed-count : (log : LogValue) (content : List ℕ) → IsListed log content
+    → length (records content) ≡ length log.extents
+listed-count log content listed = sym (ap length listed.list) ∙ length-payloads log.extents content
+
+-- a number of seals that can't be, or a wrong seal
+pub seals-fail : (observable : Type 0) (s t : DiskState) (seals : LogValue) (head : HeadValue) (history : List Op)
+    (wrong : Option ℕ) (fault : LoadFault) → IsReadable observable s Sealed seals
     → (observable → IsJournal (records (s.content Journal)) head history)
-    → (observable → AreSeals head history (take index (records (s.content Sealed))))
-    → (observable → slice_get (records (s.content Sealed)) index ≡ Some payload)
-    → (payload ≢ seal_of head history (index + 1)) → t.faults ≡ s.faults → FailsBy observable s t (BadSeal (index + 1))
-seal_fails observable s t seals head history index payload readable counted is_journal before there differs same =
-    let place : index ≡ index + 1 - 1 = omega arith in
+    → (observable → AreCompared head history (records (s.content Sealed)) wrong) → t.faults ≡ s.faults
+    → IsSealFault head history wrong (length seals.extents) fault → FailsBy observable s t fault
+seals-fail observable s t seals head history wrong NotInit readable is_journal compared same fails = absurd fails
+seals-fail observable s t seals head history wrong (BadRecord area index at) readable is_journal compared same fails =
+    absurd fails
+seals-fail observable s t seals head history wrong (SealCount count found) readable is_journal compared same fails =
     record {
       area = tt;
-      cause = λ tells.
-          let payloads = records (s.content Sealed) in
-          let found : length seals.extents ≡ length payloads =
-          sym (length-payloads seals.extents (s.content Sealed)) ∙ ap length (readable.listed tells).list in
-          record {
-            head = head;
-            history = history;
-            is_journal = is_journal tells;
-            count = subst (IsSealCount head history) found counted;
-            wrong = record {
-              from_one = omega arith;
-              before = subst (λ (k : ℕ). AreSeals head history (take k payloads)) place (before tells);
-              payload = payload;
-              there = subst (λ (k : ℕ). slice_get payloads k ≡ Some payload) place (there tells);
-              differs = differs;
-            };
-          };
+      cause = λ tells. record {
+        head = head;
+        history = history;
+        is_journal = is_journal tells;
+        number = fails.0;
+        sealed_number = fails.1 ∙ sym (listed-count seals (s.content Sealed) (readable.listed tells));
+        bad = fails.2;
+      };
       faults = same;
     }
+seals-fail observable s t seals head history wrong (BadSeal index) readable is_journal compared same fails = record {
+  area = tt;
+  cause = λ tells. record {
+    head = head;
+    history = history;
+    is_journal = is_journal tells;
+    count = subst (IsSealCount head history)
+        (sym (listed-count seals (s.content Sealed) (readable.listed tells))) fails.1;
+    wrong = (subst (AreCompared head history (records (s.content Sealed))) fails.0 (compared tells)).1;
+  };
+  faults = same;
+}
+seals-fail observable s t seals head history wrong DiskFault readable is_journal compared same fails = absurd fails
+seals-fail observable s t seals head history wrong NoMemory readable is_journal compared same fails = absurd fails

@@ -1,5 +1,6 @@
 -- The refusals of the steps of a load, over any disk.
-use Rattle.std.proofs.Common.{◌≡◌, inl, inr, false, ℕ, ◌+◌, ◌<◌, List, [], length, refl, sym, ◌∙◌, subst, arith}
+use Rattle.std.proofs.Common.{◌≡◌, inl, inr, false, ℕ, ◌+◌, ◌<◌, List, [], length, Option, refl, sym, ◌∙◌, subst, arith}
+use Rattle.std.specs.Prelude.{IfSome}
 use Rattle.feed_disk.specs.declared.area.Area.TheVariants.{Journal}
 use Rattle.feed_journal.specs.Log.{LogValue, IsLog}
 use Rattle.feed_journal.specs.declared.extent.Extent.{Extent}
@@ -7,9 +8,9 @@ use Rattle.feed_journal.specs.declared.fault.LogFault.{LogFault}
 use Rattle.feed_journal.specs.declared.fault.LogFault.TheVariants.{DiskFault as LogDiskFault, NoMemory as LogNoMemory}
 use Rattle.feed_journal.specs.declared.fault.LogFault.TheVariants.{Changed}
 use Rattle.feed_recovery.specs.Faults.{IsBadOperation}
-use Rattle.feed_recovery.specs.Loading.{fault_of}
+use Rattle.feed_recovery.specs.Loading.{IsNoCause, IsSealFault, IsSealOf, fault_of}
 use Rattle.feed_recovery.specs.Refused.{IsNoHead, IsRefusal, IsShort, IsShortOrBad, RefusesHistory, RefusesRecord}
-use Rattle.feed_recovery.specs.Refused.{Refuses, RefusesSeal, RefusesSeals}
+use Rattle.feed_recovery.specs.Refused.{Refuses}
 use Rattle.feed_recovery.specs.declared.fault.LoadFault.{LoadFault}
 use Rattle.feed_recovery.specs.declared.fault.LoadFault.TheVariants.{NotInit, BadRecord, SealCount, BadSeal}
 use Rattle.feed_recovery.specs.declared.fault.LoadFault.TheVariants.{DiskFault, NoMemory}
@@ -56,15 +57,15 @@ refused-after head history extents index (BadSeal number) lawful follows within 
 refused-after head history extents index DiskFault lawful follows within refused = tt
 refused-after head history extents index NoMemory lawful follows within refused = tt
 
--- a seal that isn't taken is one of those that the log has
-pub refused-seal : (head : HeadValue) (history : List Op) (seals : List Extent) (index : ℕ) (fault : LoadFault)
-    → index < length seals → RefusesSeal (index + 1) fault → RefusesSeals head history seals fault
-refused-seal head history seals index NotInit within refused = absurd refused
-refused-seal head history seals index (BadRecord area named at) within refused = absurd refused
-refused-seal head history seals index (SealCount records found) within refused = absurd refused
-refused-seal head history seals index (BadSeal number) within is = (omega (arith, is), omega (arith, is, within))
-refused-seal head history seals index DiskFault within refused = tt
-refused-seal head history seals index NoMemory within refused = tt
+-- a failed call or out of memory
+pub refused-without : (head : HeadValue) (extents : List Extent) (fault : LoadFault) → IsNoCause fault
+    → RefusesHistory head extents fault
+refused-without head extents NotInit refused = absurd refused
+refused-without head extents (BadRecord area named at) refused = absurd refused
+refused-without head extents (SealCount records seals) refused = absurd refused
+refused-without head extents (BadSeal number) refused = absurd refused
+refused-without head extents DiskFault refused = tt
+refused-without head extents NoMemory refused = tt
 
 -- the head isn't taken
 pub refuses-head : (journal seals : List Extent) (fault : LoadFault) → 0 < length journal
@@ -89,24 +90,26 @@ refuses-history journal seals head DiskFault is_head refused = tt
 refuses-history journal seals head NoMemory is_head refused = tt
 
 -- or the seals
-pub refuses-seals : (journal seals : List Extent) (head : HeadValue) (history : List Op) (fault : LoadFault)
-    → IsHead head → IsLawful head history → length journal ≡ length history + 1
-    → RefusesSeals head history seals fault → Refuses journal seals fault
-refuses-seals journal seals head history NotInit is_head lawful many refused = absurd refused
-refuses-seals journal seals head history (BadRecord area index at) is_head lawful many refused = absurd refused
-refuses-seals journal seals head history (SealCount records found) is_head lawful many (count, sealed, bad) = record {
+pub refuses-seals : (journal seals : List Extent) (head : HeadValue) (history : List Op) (wrong : Option ℕ)
+    (fault : LoadFault) → IsHead head → IsLawful head history → length journal ≡ length history + 1
+    → IfSome wrong (IsSealOf seals) → IsSealFault head history wrong (length seals) fault → Refuses journal seals fault
+refuses-seals journal seals head history wrong NotInit is_head lawful many listed refused = absurd refused
+refuses-seals journal seals head history wrong (BadRecord area index at) is_head lawful many listed refused =
+    absurd refused
+refuses-seals journal seals head history wrong (SealCount records found) is_head lawful many listed refused = record {
   head = head;
   history = history;
   is_head = is_head;
   lawful = lawful;
-  records_is = count;
-  journal_is = omega (arith, many, count);
-  found_is = sealed;
-  bad = bad;
+  records_is = refused.0;
+  journal_is = omega (arith, many, refused.0);
+  found_is = refused.1;
+  bad = refused.2;
 }
-refuses-seals journal seals head history (BadSeal number) is_head lawful many refused = refused
-refuses-seals journal seals head history DiskFault is_head lawful many refused = tt
-refuses-seals journal seals head history NoMemory is_head lawful many refused = tt
+refuses-seals journal seals head history wrong (BadSeal number) is_head lawful many listed refused =
+    subst (λ (w : Option ℕ). IfSome w (IsSealOf seals)) refused.0 listed
+refuses-seals journal seals head history wrong DiskFault is_head lawful many listed refused = absurd refused
+refuses-seals journal seals head history wrong NoMemory is_head lawful many listed refused = absurd refused
 
 abbrev no_payloads : LogValue
 no_payloads = record { area = Journal; extents = []; size = 1; calls = 0; spent = false; spare = 0 }

@@ -4,7 +4,6 @@ use Rattle.std.proofs.Common.{sym, ◌∙◌, ap, subst, arith, length-append}
 use Rattle.std.specs.Prelude.{slice_get}
 use Rattle.std.proofs.Math.Seq.{take-append_seam}
 use Rattle.std.proofs.lemmas.Bool.{cases_lt, cases_eq}
-use Rattle.atom_writer.specs.Doc.{DocValue}
 use Rattle.atom_writer.specs.Pieces.{text}
 use Rattle.feed_recovery.specs.Opening.{AreSeals, IsSealCount, seal_of}
 use Rattle.feed_recovery.specs.Prepare.{IsMissing}
@@ -28,19 +27,24 @@ seals-push head history payloads seal are is number one within = elim (cases_lt 
       ∙ ap (λ (n : ℕ). Some (seal_of head history n)) next
 ]
 
--- an archive whose window is full is the same after the next operation
+-- the seal of a full window is the same after the next operation
+pub seal-stays : ArchivesStay → (head : HeadValue) (history : List Op) (operation : Op) (number : ℕ)
+    → number ≤ (windows_of head history).full
+    → seal_of head history number ≡ seal_of head (history ++ operation ∷ []) number
+seal-stays stay head history operation number within =
+    let after = history ++ operation ∷ [] in
+    let prefix : take (length history) after ≡ history = take-append_seam history (operation ∷ []) in
+    let full : number ≤ (windows_of head (take (length history) after)).full =
+    subst (λ (l : List Op). number ≤ (windows_of head l).full) (sym prefix) within in
+    ap text (subst (λ (l : List Op). archive head l number ≡ archive head after number) prefix
+    (stay head after (length history) number (omega (arith, length-append history (operation ∷ []))) full))
+
 pub seals-stay : ArchivesStay → (head : HeadValue) (history : List Op) (operation : Op) (payloads : List (List ℕ))
     → length payloads ≤ (windows_of head history).full → AreSeals head history payloads
     → AreSeals head (history ++ operation ∷ []) payloads
 seals-stay stay head history operation payloads few are number one within =
-    let after = history ++ operation ∷ [] in
-    let prefix : take (length history) after ≡ history = take-append_seam history (operation ∷ []) in
-    let full : number ≤ (windows_of head (take (length history) after)).full =
-    subst (λ (l : List Op). number ≤ (windows_of head l).full) (sym prefix) (omega (arith, within, few)) in
-    let same : archive head history number ≡ archive head after number =
-    subst (λ (l : List Op). archive head l number ≡ archive head after number) prefix
-    (stay head after (length history) number (omega (arith, length-append history (operation ∷ []))) full) in
-    are number one within ∙ ap (λ (d : DocValue). Some (text d)) same
+    are number one within
+    ∙ ap (λ (l : List ℕ). Some l) (seal-stays stay head history operation number (omega (arith, within, few)))
 
 -- where no seal is due, each full window has its seal
 pub none_due : (store : StoreValue) → IsSealCount store.head store.history (seal_count store)

@@ -1,16 +1,28 @@
 -- The steps of a load, of which none writes.
-use Rattle.std.specs.Prelude.{◌≡◌, ◌+◌, ◌≤◌, ℕ, min, false}
+use Rattle.std.specs.Prelude.{◌≡◌, ◌↔◌, ◌+◌, ◌-◌, ◌≤◌, ℕ, min, false, List, [], ◌∷◌, ◌++◌, length, take, slice_get}
+use Rattle.std.specs.Prelude.{Bool, IsTrue, Option, Some, None}
+use Rattle.archive_sealer.specs.Window.{WindowValue}
 use Rattle.atom_values.specs.Counts.{HasRisen, counter_limit}
 use Rattle.feed_disk.specs.Disk.{DiskState}
 use Rattle.feed_disk.specs.Moments.{LeavesAlone}
 use Rattle.feed_disk.specs.declared.area.Area.{Area}
 use Rattle.feed_disk.specs.declared.area.Area.TheVariants.{Journal, Sealed}
-use Rattle.feed_journal.specs.Log.{IsListed, IsLog, LogValue, MakesSome}
+use Rattle.atom_writer.specs.Pieced.{text_of}
+use Rattle.feed_journal.specs.Log.{IsListed, IsLog, LogValue, MakesSome, payload_lengths}
 use Rattle.feed_journal.specs.Records.{records}
-use Rattle.feed_recovery.specs.Faults.{IsLoadFault}
+use Rattle.feed_journal.specs.declared.extent.Extent.{Extent}
+use Rattle.feed_recovery.specs.Faults.{IsFirstWrong, IsLoadFault}
+use Rattle.feed_recovery.specs.Opening.{AreSeals, IsSealCount, seal_of}
 use Rattle.feed_recovery.specs.declared.fault.LoadFault.{LoadFault}
 use Rattle.feed_recovery.specs.declared.fault.LoadFault.TheVariants.{NotInit, BadRecord, SealCount, BadSeal}
 use Rattle.feed_recovery.specs.declared.fault.LoadFault.TheVariants.{DiskFault, NoMemory}
+use Rattle.member_rules.specs.Coding.{operations}
+use Rattle.member_rules.specs.Head.{HeadValue, IsHead}
+use Rattle.member_rules.specs.History.{IsLawful}
+use Rattle.member_rules.specs.Operation.{IsOperation}
+use Rattle.member_rules.specs.Table.{IsTableOf, Table}
+use Rattle.member_rules.specs.Windows.{windows_of}
+use Rattle.member_rules.specs.declared.operation.Op.{Op}
 use Rattle.member_rules.specs.declared.codec.CodecFault.{CodecFault}
 use Rattle.member_rules.specs.declared.codec.CodecFault.TheVariants.{BadField, NoMemory as CodecNoMemory}
 
@@ -64,3 +76,62 @@ calls_of journal seals = min (journal.calls + seals.calls) counter_limit
 abbrev pub fault_of : ℕ → CodecFault → LoadFault
 fault_of index (BadField at) = BadRecord Journal index at
 fault_of index CodecNoMemory = NoMemory
+
+-- the table and the window are those of a lawful history of a feed with this head
+pub record HasReplayed (head : HeadValue) (members : Table) (window : WindowValue) : Type 0 where
+  pub is_head : IsHead head
+  pub lawful : IsLawful head window.history
+  pub size : window.size ≡ head.window
+  pub table : IsTableOf members head.created window.history
+
+-- the payload of this index was taken as the next operation
+pub record IsTaken (observable : Type 0) (payloads : List (List ℕ)) (extents : List Extent) (index : ℕ)
+    (before after : List Op) : Type 0 where
+  pub operation : Op
+  pub history : after ≡ before ++ operation ∷ []
+  pub rules : IsOperation operation
+  pub payload : observable → slice_get payloads index ≡ Some (text_of operations operation)
+  pub long : slice_get (payload_lengths extents) index ≡ Some (length (text_of operations operation))
+
+-- device calls through both logs worked, and the logs are as they were but for the numbers of these calls
+pub record WorkedBoth (s t : DiskState) (journal journal' seals seals' : LogValue) : Type 0 where
+  pub journal_log : journal' ≡ record journal { calls = journal'.calls }
+  pub seals_log : seals' ≡ record seals { calls = seals'.calls }
+  pub calls : MakesSome s t (calls_of journal seals) (calls_of journal' seals')
+  pub faults : t.faults ≡ s.faults
+
+-- the payload of this seal, counted from 1, is the text of its archive exactly if `same`
+pub record IsSameSeal (head : HeadValue) (history : List Op) (payloads : List (List ℕ)) (number : ℕ) (same : Bool)
+    : Type 0 where
+  pub payload : List ℕ
+  pub there : slice_get payloads (number - 1) ≡ Some payload
+  pub exact : IsTrue same ↔ payload ≡ seal_of head history number
+
+-- the seals of the full windows were compared with their archives, up to the first wrong one
+abbrev pub AreCompared : HeadValue → List Op → List (List ℕ) → Option ℕ → Type 0
+AreCompared head history payloads None = AreSeals head history (take (windows_of head history).full payloads)
+AreCompared head history payloads (Some number) =
+    (number ≤ (windows_of head history).full) × IsFirstWrong head history payloads number
+
+-- the number of a seal that is listed, counted from 1
+abbrev pub IsSealOf : List Extent → ℕ → Type 0
+IsSealOf extents number = (1 ≤ number) × (number ≤ length extents)
+
+-- A history can't have as many seals as were found, or the first wrong one is this. The number is looked at first.
+abbrev pub IsSealFault : HeadValue → List Op → Option ℕ → ℕ → LoadFault → Type 0
+IsSealFault head history wrong found NotInit = ⊥
+IsSealFault head history wrong found (BadRecord area index at) = ⊥
+IsSealFault head history wrong found (SealCount records seals) =
+    (records ≡ length history) × (seals ≡ found) × ¬ IsSealCount head history seals
+IsSealFault head history wrong found (BadSeal index) = (wrong ≡ Some index) × IsSealCount head history found
+IsSealFault head history wrong found DiskFault = ⊥
+IsSealFault head history wrong found NoMemory = ⊥
+
+-- a failed call or out of memory, which have no cause in the payloads
+abbrev pub IsNoCause : LoadFault → Type 0
+IsNoCause NotInit = ⊥
+IsNoCause (BadRecord area index at) = ⊥
+IsNoCause (SealCount records seals) = ⊥
+IsNoCause (BadSeal index) = ⊥
+IsNoCause DiskFault = Unit {0}
+IsNoCause NoMemory = Unit {0}

@@ -60,25 +60,6 @@ RefusesHistory head extents (BadSeal number) = ⊥
 RefusesHistory head extents DiskFault = Unit {0}
 RefusesHistory head extents NoMemory = Unit {0}
 
--- the seal of this number, counted from 1, isn't taken: it was read short, or isn't the text of its archive
-abbrev pub RefusesSeal : ℕ → LoadFault → Type 0
-RefusesSeal number NotInit = ⊥
-RefusesSeal number (BadRecord area index at) = ⊥
-RefusesSeal number (SealCount records seals) = ⊥
-RefusesSeal number (BadSeal named) = named ≡ number
-RefusesSeal number DiskFault = Unit {0}
-RefusesSeal number NoMemory = Unit {0}
-
--- the history can't have as many seals as the log has, or one of them isn't taken
-abbrev pub RefusesSeals : HeadValue → List Op → List Extent → LoadFault → Type 0
-RefusesSeals head history seals NotInit = ⊥
-RefusesSeals head history seals (BadRecord area index at) = ⊥
-RefusesSeals head history seals (SealCount records found) =
-    (records ≡ length history) × (found ≡ length seals) × ¬ IsSealCount head history found
-RefusesSeals head history seals (BadSeal number) = (1 ≤ number) × (number ≤ length seals)
-RefusesSeals head history seals DiskFault = Unit {0}
-RefusesSeals head history seals NoMemory = Unit {0}
-
 -- the first payload, if there is one, isn't taken
 pub record IsBadFirst (extents : List Extent) (index at : ℕ) : Type 0 where
   pub first : index ≡ 0

@@ -146,7 +146,7 @@ impl Store {
         }
         self.newest = None;
         self.members.commit(&operation);
-        self.history.push(operation).unwrap();
+        self.window.commit(operation);
         Ok(version)
     }
 }

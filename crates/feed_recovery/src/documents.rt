@@ -17,7 +17,6 @@ ghost use Rattle.member_rules.specs.Documents as documents;
 
 use crate::fault::{ArchiveFault, MemberFault};
 use crate::store::Store;
-use archive_sealer::subscription;
 use atom_values::{Bytes, Entry, NoMemory, Stamp};
 use atom_writer::{FeedName, write_doc, write_member};
 use feed_disk::Disk;
@@ -38,7 +37,7 @@ impl Store {
         if let Some(written) = &self.newest {
             return Ok(Vec::from_slice(self.alloc, written.slice())?);
         }
-        let document = subscription(self.alloc, &self.head, self.history.as_slice())?;
+        let document = self.window.subscription(&self.head)?;
         let text = write_doc(self.alloc, &document);
         drop(document);
         let written = text?;
@@ -138,8 +137,11 @@ impl Store {
             State::Gone { when } => return Err(MemberFault::Deleted { number, when }),
             State::Live { updated, version } => (updated, version),
         };
+        let Some(edited) = self.members.edited(number) else {
+            // A live member has an entry.
+            unreachable!();
+        };
         let payload = self.read_operation(disk, version)?;
-        let edited = self.history[version as usize - 1].moment();
         document_of(
             self.alloc,
             &self.head.name,

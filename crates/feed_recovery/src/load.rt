@@ -1,23 +1,27 @@
-ghost use Rattle.std.specs.Prelude.{◌≡◌, ◌↔◌, ◌⊎◌, ◌+◌, ◌*◌, ◌<◌, ◌≤◌, ℕ, ℤ, false};
-ghost use Rattle.std.specs.Prelude.{List, [], length, slice_get, take, IfOk, IfErr, OnOk, IsTrue};
+ghost use Rattle.std.specs.Prelude.{◌≡◌, ◌↔◌, ◌⊎◌, ◌+◌, ◌*◌, ◌<◌, ◌≤◌, ◌++◌, ◌∷◌, ℕ, ℤ, false};
+ghost use Rattle.std.specs.Prelude.{List, [], length, slice_get, take, Some, None, IfOk, IfSome, IfErr, OnOk, IsTrue};
+ghost use Rattle.archive_sealer.specs.Window.{IsFull};
 ghost use Rattle.atom_values.specs.Counts.{CountsFault};
 ghost use Rattle.atom_writer.specs.Pieced.{text_of};
 ghost use Rattle.feed_disk.specs.Moments.{LeavesAlone};
 ghost use Rattle.feed_disk.specs.declared.area.Area.{Area as AreaValue};
 ghost use Rattle.feed_disk.specs.declared.area.Area.TheVariants.{Journal, Sealed, Mirror};
+ghost use Rattle.feed_journal.specs.Ahead.{IsAhead};
 ghost use Rattle.feed_journal.specs.Log.{IsLog, MakesCalls, MakesSome, payload_lengths};
 ghost use Rattle.feed_journal.specs.Records.{records};
 ghost use Rattle.feed_recovery.specs.Faults.{IsBadOperation, IsLoadFault};
-ghost use Rattle.feed_recovery.specs.Loading.{FailsBy, IsReadable, OnlyReads, Worked, calls_of, fault_of};
-ghost use Rattle.feed_recovery.specs.Opening.{AreSeals, IsJournal, IsSealCount, Opens, journal_of, seal_of};
+ghost use Rattle.feed_recovery.specs.Loading.{AreCompared, FailsBy, HasReplayed, IsNoCause, IsReadable, IsSameSeal};
+ghost use Rattle.feed_recovery.specs.Loading.{IsSealFault, IsSealOf, IsTaken, OnlyReads, Worked, WorkedBoth, calls_of};
+ghost use Rattle.feed_recovery.specs.Loading.{fault_of};
+ghost use Rattle.feed_recovery.specs.Opening.{IsJournal, IsSealCount, Opens, journal_of};
 ghost use Rattle.feed_recovery.specs.Refused.{IsNoHead, IsRefusal, IsShort, IsShortOrBad, Refuses, RefusesHistory};
-ghost use Rattle.feed_recovery.specs.Refused.{RefusesRecord, RefusesSeal, RefusesSeals};
+ghost use Rattle.feed_recovery.specs.Refused.{RefusesRecord};
 ghost use Rattle.feed_recovery.specs.Settled.{AlwaysLeavesBoth, AreWhole, IsSettled, KeepsPayloads, OpensPast};
 ghost use Rattle.feed_recovery.specs.Settled.{Settled};
 ghost use Rattle.feed_recovery.specs.Store.{StandsFor, call_count, is_spent, least_frame};
 ghost use Rattle.member_rules.specs.Coding.{heads, operations};
 ghost use Rattle.member_rules.specs.Head.{HeadValue, IsHead};
-ghost use Rattle.member_rules.specs.History.{IsLawful, IsSmall, MayFollow, history_limit};
+ghost use Rattle.member_rules.specs.History.{IsSmall, MayFollow};
 ghost use Rattle.member_rules.specs.Operation.{IsOperation};
 ghost use Rattle.member_rules.specs.Table.{IsTableOf};
 ghost use Rattle.member_rules.specs.Windows.{windows_of};
@@ -25,22 +29,27 @@ ghost use Rattle.member_rules.specs.declared.operation.Op.{Op as Operation};
 
 use crate::fault::LoadFault;
 use crate::store::Store;
-use archive_sealer::{archive, full_windows, sealed_windows};
+use archive_sealer::Window;
 use atom_writer::{entry_len, write_doc};
 use feed_disk::{Area, Disk};
-use feed_journal::{Log, LogFault, begun_images_are_whole};
+use feed_journal::{Ahead, Log, LogFault, begun_images_are_whole};
 use member_rules::{CodecFault, ENTRY_LIMIT, Head, Members, Op, read_head, read_op};
 use std::alloc::Global;
 
+/// The number of the journal's bytes that are read at a time.
+const JOURNAL_AHEAD: usize = 65_536;
+
 impl Store {
-    /// Reopens the store of a disk: reads the journal's payloads in order, then compares each seal with its
-    /// archive. It syncs both areas first, so that a crash can't change what it reads.
+    /// Reopens the store of a disk in one pass over the journal. When a window is full, its seal is compared with its
+    /// archive. The journal's faults come before those of the seals all the same. It syncs both areas first, so that a
+    /// crash can't change what it reads.
     ///
     /// Errors: the first of [`LoadFault`] that fits. `DiskFault` if the disk's count of faults rose. `NoMemory`,
     /// which hides no failed device call.
     ///
-    /// Cost: one read of each header and one of each payload. Each operation is looked at once, and once more
-    /// for its seal.
+    /// Cost: the journal is read in buffers of 65,536 bytes, and its headers in buffers of 4,096. Each seal is one more
+    /// read. Each operation is looked at once, and each archive is made once. Beside the store it takes the memory of one
+    /// archive.
     pub fn load<D: Disk>(alloc: Global, disk: &mut D) -> Result<Store, LoadFault>
         ensures opens { IfOk result (λ store. D.observable → StandsFor (D.state disk.new) store) }
         ensures fresh { IfOk result (λ store. is_spent store ≡ false) }
@@ -105,25 +114,25 @@ fn reopen<D: Disk>(
     if journal.len() == 0 {
         return Err(LoadFault::NotInit);
     }
-    let head = head_of(alloc, disk, &mut journal)?;
-    let mut members = Members::new(alloc, head.created);
-    let history = match history_of(alloc, disk, &mut journal, &head, &mut members) {
-        Ok(history) => history,
+    let mut ahead = Ahead::new(alloc, JOURNAL_AHEAD)?;
+    let head = head_of(alloc, disk, &mut journal, &mut ahead)?;
+    let replayed = match replay(alloc, disk, &mut journal, &mut ahead, &mut seals, &head) {
+        Ok(replayed) => replayed,
         Err(fault) => {
             drop(head);
             return Err(fault);
         }
     };
-    if let Err(fault) = check_seals(alloc, disk, &head, history.as_slice(), &mut seals) {
+    if let Err(fault) = replayed.check(seals.len()) {
         drop(head);
-        drop(history);
+        drop(replayed);
         return Err(fault);
     }
     Ok(Store {
         alloc,
         head,
-        history,
-        members,
+        members: replayed.members,
+        window: replayed.window,
         journal,
         seals,
         spent: false,
@@ -131,20 +140,129 @@ fn reopen<D: Disk>(
     })
 }
 
+/// What the first operations of a journal made, and what their seals came to.
+#[derive(Drop)]
+struct Replayed {
+    members: Members,
+    window: Window,
+    /// The first seal, counted from 1, that isn't the text of its archive.
+    wrong: Option<u32>,
+}
+
+impl Replayed {
+    /// Reads the operation of an index, which has to be able to follow those before it.
+    fn read_next<D: Disk>(
+        &mut self,
+        alloc: Global,
+        disk: &mut D,
+        journal: &mut Log,
+        ahead: &mut Ahead,
+        head: &Head,
+        index: u32,
+    ) -> Result<(), LoadFault>
+        requires journal { IsReadable D.observable (D.state disk.old) Journal journal.old }
+        requires ahead { D.observable → IsAhead ahead.old ((D.state disk.old).content Journal) }
+        requires replayed { HasReplayed head.now self.old.members self.old.window }
+        requires follows { index ≡ length self.old.window.history + 1 }
+        requires within { index < length journal.old.extents }
+        requires payloads { D.observable
+            → take index (records ((D.state disk.old).content Journal)) ≡ journal_of head.now self.old.window.history }
+        ensures replayed { OnOk result (HasReplayed head.now self.new.members self.new.window) }
+        ensures taken { OnOk result (IsTaken D.observable (records ((D.state disk.old).content Journal))
+            journal.old.extents index self.old.window.history self.new.window.history) }
+        ensures wrong { self.new.wrong ≡ self.old.wrong }
+        ensures ahead { OnOk result (D.observable → IsAhead ahead.new ((D.state disk.new).content Journal)) }
+        ensures worked { OnOk result (Worked (D.state disk.old) (D.state disk.new) journal.old journal.new) }
+        ensures reads { OnlyReads (D.state disk.old) (D.state disk.new) }
+        ensures fault { IfErr result (FailsBy D.observable (D.state disk.old) (D.state disk.new)) }
+        ensures refused { IfErr result (RefusesHistory head.now journal.old.extents) }
+    {
+        self.members.prepare()?;
+        self.window.prepare()?;
+        let operation = operation_of(alloc, disk, journal, ahead, head, &self.members, index)?;
+        self.members.commit(&operation);
+        self.window.commit(operation);
+        Ok(())
+    }
+
+    /// Compares the seal of the open window, if that is full and its seal is there. Keeps the number of the first wrong
+    /// seal.
+    fn compare_seal<D: Disk>(
+        &mut self,
+        alloc: Global,
+        disk: &mut D,
+        seals: &mut Log,
+        head: &Head,
+    ) -> Result<(), LoadFault>
+        requires seals { IsReadable D.observable (D.state disk.old) Sealed seals.old }
+        requires replayed { HasReplayed head.now self.old.members self.old.window }
+        requires wrong { IfSome self.old.wrong (IsSealOf seals.old.extents) }
+        ensures same { self.new ≡ record self.old { wrong = self.new.wrong } }
+        ensures compared { OnOk result (D.observable → (before : List Operation) (operation : Operation)
+            → self.old.window.history ≡ before ++ operation ∷ []
+            → AreCompared head.now before (records ((D.state disk.old).content Sealed)) self.old.wrong
+            → AreCompared head.now self.new.window.history (records ((D.state disk.old).content Sealed))
+            self.new.wrong) }
+        ensures wrong { OnOk result (IfSome self.new.wrong (IsSealOf seals.old.extents)) }
+        ensures worked { OnOk result (Worked (D.state disk.old) (D.state disk.new) seals.old seals.new) }
+        ensures reads { OnlyReads (D.state disk.old) (D.state disk.new) }
+        ensures fault { IfErr result (FailsBy D.observable (D.state disk.old) (D.state disk.new)) }
+        ensures refused { IfErr result IsNoCause }
+    {
+        let sealed = self.window.sealed();
+        if self.wrong.is_some() || !self.window.is_full() || sealed >= seals.len() {
+            return Ok(());
+        }
+        if !is_sealed(alloc, disk, head, &self.window, seals)? {
+            self.wrong = Some(sealed + 1);
+        }
+        Ok(())
+    }
+
+    /// Refuses a number of seals that the operations can't have, and then a wrong seal.
+    fn check(&self, found: u32) -> Result<(), LoadFault>
+        requires { (head : HeadValue) × HasReplayed head self.now.members self.now.window }
+        ensures counted { OnOk result ((head : HeadValue) → HasReplayed head self.now.members self.now.window
+            → IsSealCount head self.now.window.history found) }
+        ensures right { OnOk result (self.now.wrong ≡ None) }
+        ensures refused { (head : HeadValue) → HasReplayed head self.now.members self.now.window
+            → IfErr result (IsSealFault head self.now.window.history self.now.wrong found) }
+    {
+        let sealed = self.window.sealed();
+        if found != sealed && !(self.window.is_full() && found == sealed + 1) {
+            return Err(LoadFault::SealCount {
+                records: self.window.operations(),
+                seals: found,
+            });
+        }
+        match self.wrong {
+            Some(index) => Err(LoadFault::BadSeal { index }),
+            None => Ok(()),
+        }
+    }
+}
+
 /// Reads the journal's payload of an index. A payload that is read short is a bad record of this index at 0.
-fn payload_of<D: Disk>(disk: &mut D, journal: &mut Log, index: u32) -> Result<Vec<u8>, LoadFault>
+fn payload_of<D: Disk>(
+    disk: &mut D,
+    journal: &mut Log,
+    ahead: &mut Ahead,
+    index: u32,
+) -> Result<Vec<u8>, LoadFault>
     requires journal { IsReadable D.observable (D.state disk.old) Journal journal.old }
+    requires ahead { D.observable → IsAhead ahead.old ((D.state disk.old).content Journal) }
     requires within { index < length journal.old.extents }
     ensures payload { IfOk result (λ payload. D.observable
         → slice_get (records ((D.state disk.old).content Journal)) index ≡ Some payload.items) }
     ensures length { IfOk result (λ payload.
         slice_get (payload_lengths journal.old.extents) index ≡ Some (length payload.items)) }
+    ensures ahead { OnOk result (D.observable → IsAhead ahead.new ((D.state disk.new).content Journal)) }
     ensures worked { OnOk result (Worked (D.state disk.old) (D.state disk.new) journal.old journal.new) }
     ensures reads { OnlyReads (D.state disk.old) (D.state disk.new) }
     ensures fault { IfErr result (FailsBy D.observable (D.state disk.old) (D.state disk.new)) }
     ensures refused { IfErr result (RefusesRecord IsShort index) }
 {
-    match journal.read(disk, index) {
+    match journal.read_ahead(disk, index, ahead) {
         Ok(payload) => Ok(payload),
         Err(LogFault::DiskFault) => Err(LoadFault::DiskFault),
         Err(LogFault::Changed { .. }) => Err(LoadFault::BadRecord {
@@ -157,59 +275,79 @@ fn payload_of<D: Disk>(disk: &mut D, journal: &mut Log, index: u32) -> Result<Ve
 }
 
 /// Reads the head, the journal's first payload.
-fn head_of<D: Disk>(alloc: Global, disk: &mut D, journal: &mut Log) -> Result<Head, LoadFault>
+fn head_of<D: Disk>(
+    alloc: Global,
+    disk: &mut D,
+    journal: &mut Log,
+    ahead: &mut Ahead,
+) -> Result<Head, LoadFault>
     requires journal { IsReadable D.observable (D.state disk.old) Journal journal.old }
+    requires ahead { D.observable → IsAhead ahead.old ((D.state disk.old).content Journal) }
     requires some { 0 < length journal.old.extents }
     ensures rules { IfOk result IsHead }
     ensures payload { IfOk result (λ head. D.observable
         → slice_get (records ((D.state disk.old).content Journal)) 0 ≡ Some (text_of heads head)) }
+    ensures ahead { OnOk result (D.observable → IsAhead ahead.new ((D.state disk.new).content Journal)) }
     ensures worked { OnOk result (Worked (D.state disk.old) (D.state disk.new) journal.old journal.new) }
     ensures reads { OnlyReads (D.state disk.old) (D.state disk.new) }
     ensures fault { IfErr result (FailsBy D.observable (D.state disk.old) (D.state disk.new)) }
     ensures refused { IfErr result
         (RefusesRecord (IsShortOrBad IsNoHead journal.old.extents 0) 0) }
 {
-    let payload = payload_of(disk, journal, 0)?;
+    let payload = payload_of(disk, journal, ahead, 0)?;
     match read_head(alloc, payload.as_slice()) {
         Ok(head) => Ok(head),
         Err(fault) => Err(bad_record(0, fault)),
     }
 }
 
-/// Reads the operations, the payloads after the head, in order. Each has to be able to follow those before it.
-fn history_of<D: Disk>(
+/// Reads the operations, the payloads after the head, in order, and compares the seal of each window that fills.
+fn replay<D: Disk>(
     alloc: Global,
     disk: &mut D,
     journal: &mut Log,
+    ahead: &mut Ahead,
+    seals: &mut Log,
     head: &Head,
-    members: &mut Members,
-) -> Result<Vec<Op>, LoadFault>
+) -> Result<Replayed, LoadFault>
     requires journal { IsReadable D.observable (D.state disk.old) Journal journal.old }
+    requires ahead { D.observable → IsAhead ahead.old ((D.state disk.old).content Journal) }
+    requires seals { IsReadable D.observable (D.state disk.old) Sealed seals.old }
     requires some { 0 < length journal.old.extents }
     requires head { IsHead head.now }
     requires payload { D.observable
         → slice_get (records ((D.state disk.old).content Journal)) 0 ≡ Some (text_of heads head.now) }
-    requires members { IsTableOf members.old head.now.created [] }
-    ensures lawful { IfOk result (λ history. IsLawful head.now history.items) }
-    ensures members { IfOk result (λ history. IsTableOf members.new head.now.created history.items) }
-    ensures count { IfOk result (λ history. length journal.old.extents ≡ length history.items + 1) }
-    ensures long { IfOk result (λ history. least_frame * length history.items < journal.old.size) }
-    ensures payloads { IfOk result (λ history. D.observable
-        → records ((D.state disk.old).content Journal) ≡ journal_of head.now history.items) }
-    ensures worked { OnOk result (Worked (D.state disk.old) (D.state disk.new) journal.old journal.new) }
+    ensures replayed { IfOk result (λ replayed. HasReplayed head.now replayed.members replayed.window) }
+    ensures count { IfOk result (λ replayed. length journal.old.extents ≡ length replayed.window.history + 1) }
+    ensures long { IfOk result (λ replayed. least_frame * length replayed.window.history < journal.old.size) }
+    ensures payloads { IfOk result (λ replayed. D.observable
+        → records ((D.state disk.old).content Journal) ≡ journal_of head.now replayed.window.history) }
+    ensures compared { IfOk result (λ replayed. D.observable → AreCompared head.now replayed.window.history
+        (records ((D.state disk.old).content Sealed)) replayed.wrong) }
+    ensures wrong { IfOk result (λ replayed. IfSome replayed.wrong (IsSealOf seals.old.extents)) }
+    ensures worked { OnOk result (WorkedBoth (D.state disk.old) (D.state disk.new)
+        journal.old journal.new seals.old seals.new) }
     ensures reads { OnlyReads (D.state disk.old) (D.state disk.new) }
     ensures fault { IfErr result (FailsBy D.observable (D.state disk.old) (D.state disk.new)) }
     ensures refused { IfErr result (RefusesHistory head.now journal.old.extents) }
 {
-    let count = journal.len();
-    let mut history = Vec::with_capacity(alloc, count as usize - 1)?;
-    for index in 1..count {
-        members.prepare()?;
-        let operation = operation_of(alloc, disk, journal, head, members, index)?;
-        members.commit(&operation);
-        history.push(operation)?;
+    let window = Window::new(alloc, head.window)?;
+    let mut replayed = Replayed {
+        members: Members::new(alloc, head.created),
+        window,
+        wrong: None,
+    };
+    for index in 1..journal.len() {
+        if let Err(fault) = replayed.read_next(alloc, disk, journal, ahead, head, index) {
+            drop(replayed);
+            return Err(fault);
+        }
+        if let Err(fault) = replayed.compare_seal(alloc, disk, seals, head) {
+            drop(replayed);
+            return Err(fault);
+        }
     }
-    Ok(history)
+    Ok(replayed)
 }
 
 /// Reads an operation, which has to be able to follow those before it.
@@ -217,11 +355,13 @@ fn operation_of<D: Disk>(
     alloc: Global,
     disk: &mut D,
     journal: &mut Log,
+    ahead: &mut Ahead,
     head: &Head,
     members: &Members,
     index: u32,
 ) -> Result<Op, LoadFault>
     requires journal { IsReadable D.observable (D.state disk.old) Journal journal.old }
+    requires ahead { D.observable → IsAhead ahead.old ((D.state disk.old).content Journal) }
     requires within { (1 ≤ index) × (index < length journal.old.extents) }
     ensures rules { IfOk result (λ operation. IsOperation operation × IsSmall head.now.name operation) }
     ensures follows { IfOk result (λ operation. (created : ℤ) (history : List Operation)
@@ -231,6 +371,7 @@ fn operation_of<D: Disk>(
         ≡ Some (text_of operations operation)) }
     ensures length { IfOk result (λ operation. slice_get (payload_lengths journal.old.extents) index
         ≡ Some (length (text_of operations operation))) }
+    ensures ahead { OnOk result (D.observable → IsAhead ahead.new ((D.state disk.new).content Journal)) }
     ensures worked { OnOk result (Worked (D.state disk.old) (D.state disk.new) journal.old journal.new) }
     ensures reads { OnlyReads (D.state disk.old) (D.state disk.new) }
     ensures fault { (history : List Operation) → IsTableOf members.now head.now.created history
@@ -240,7 +381,7 @@ fn operation_of<D: Disk>(
         → IfErr result (RefusesRecord
         (IsShortOrBad (IsBadOperation head.now history) journal.old.extents index) index) }
 {
-    let payload = payload_of(disk, journal, index)?;
+    let payload = payload_of(disk, journal, ahead, index)?;
     match read_op(alloc, payload.as_slice()) {
         Ok(operation) => {
             if members.may_follow(&operation) && is_small(head, &operation) {
@@ -282,85 +423,35 @@ fn bad_record(index: u32, fault: CodecFault) -> LoadFault
     }
 }
 
-/// Compares the seals with the archives of the history: first their number, and then each in order.
-fn check_seals<D: Disk>(
+/// Whether the seal of the window, which is full, is the text of its archive. A seal that is read short isn't.
+fn is_sealed<D: Disk>(
     alloc: Global,
     disk: &mut D,
     head: &Head,
-    history: &[Op],
+    window: &Window,
     seals: &mut Log,
-) -> Result<(), LoadFault>
+) -> Result<bool, LoadFault>
     requires seals { IsReadable D.observable (D.state disk.old) Sealed seals.old }
-    requires head { IsHead head.now }
-    requires lawful { IsLawful head.now history.now }
-    ensures count { OnOk result (IsSealCount head.now history.now (length seals.old.extents)) }
-    ensures seals { OnOk result (D.observable
-        → AreSeals head.now history.now (records ((D.state disk.old).content Sealed))) }
+    requires size { window.now.size ≡ head.now.window }
+    requires full { IsFull head.now window.now.history }
+    requires within { (windows_of head.now window.now.history).sealed < length seals.old.extents }
+    ensures same { IfOk result (λ same. D.observable
+        → IsSameSeal head.now window.now.history (records ((D.state disk.old).content Sealed))
+        ((windows_of head.now window.now.history).sealed + 1) same) }
     ensures worked { OnOk result (Worked (D.state disk.old) (D.state disk.new) seals.old seals.new) }
     ensures reads { OnlyReads (D.state disk.old) (D.state disk.new) }
-    ensures fault { (D.observable → IsJournal (records ((D.state disk.old).content Journal)) head.now history.now)
-        → IfErr result (FailsBy D.observable (D.state disk.old) (D.state disk.new)) }
-    ensures refused { IfErr result (RefusesSeals head.now history.now seals.old.extents) }
+    ensures fault { IfErr result (FailsBy D.observable (D.state disk.old) (D.state disk.new)) }
+    ensures refused { IfErr result IsNoCause }
 {
-    let found = seals.len();
-    if !is_seal_count(head, history, found) {
-        return Err(LoadFault::SealCount {
-            records: history.len() as u32,
-            seals: found,
-        });
-    }
-    for index in 0..found {
-        check_seal(alloc, disk, head, history, seals, index)?;
-    }
-    Ok(())
-}
-
-/// Whether there may be this many seals.
-fn is_seal_count(head: &Head, history: &[Op], count: u32) -> bool
-    requires { length history.now ≤ history_limit }
-    ensures { IsTrue result ↔ IsSealCount head.now history.now count }
-{
-    count == sealed_windows(head, history) || count == full_windows(head, history)
-}
-
-/// Compares the seal of an index with the text of its archive.
-fn check_seal<D: Disk>(
-    alloc: Global,
-    disk: &mut D,
-    head: &Head,
-    history: &[Op],
-    seals: &mut Log,
-    index: u32,
-) -> Result<(), LoadFault>
-    requires seals { IsReadable D.observable (D.state disk.old) Sealed seals.old }
-    requires within { index < length seals.old.extents }
-    requires lawful { IsLawful head.now history.now }
-    requires full { index + 1 ≤ (windows_of head.now history.now).full }
-    ensures seal { OnOk result (D.observable → slice_get (records ((D.state disk.old).content Sealed)) index
-        ≡ Some (seal_of head.now history.now (index + 1))) }
-    ensures worked { OnOk result (Worked (D.state disk.old) (D.state disk.new) seals.old seals.new) }
-    ensures reads { OnlyReads (D.state disk.old) (D.state disk.new) }
-    ensures fault { IsSealCount head.now history.now (length seals.old.extents)
-        → (D.observable → IsJournal (records ((D.state disk.old).content Journal)) head.now history.now)
-        → (D.observable → AreSeals head.now history.now
-        (take index (records ((D.state disk.old).content Sealed))))
-        → IfErr result (FailsBy D.observable (D.state disk.old) (D.state disk.new)) }
-    ensures refused { IfErr result (RefusesSeal (index + 1)) }
-{
-    let number = index + 1;
-    let payload = match seals.read(disk, index) {
+    let payload = match seals.read(disk, window.sealed()) {
         Ok(payload) => payload,
         Err(LogFault::DiskFault) => return Err(LoadFault::DiskFault),
-        Err(LogFault::Changed { .. }) => return Err(LoadFault::BadSeal { index: number }),
+        Err(LogFault::Changed { .. }) => return Ok(false),
         Err(LogFault::NoMemory) => return Err(LoadFault::NoMemory),
     };
-    let document = archive(alloc, head, history, number)?;
+    let document = window.archive(head)?;
     let written = write_doc(alloc, &document);
     drop(document);
     let text = written?;
-    if payload == text {
-        Ok(())
-    } else {
-        Err(LoadFault::BadSeal { index: number })
-    }
+    Ok(payload == text)
 }

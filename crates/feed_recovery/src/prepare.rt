@@ -13,7 +13,6 @@ ghost use Rattle.member_rules.specs.declared.operation.Op.{Op as Operation};
 
 use crate::fault::PrepareFault;
 use crate::store::Store;
-use archive_sealer::archive;
 use atom_values::NoMemory;
 use atom_writer::write_doc;
 use feed_disk::Area;
@@ -170,8 +169,7 @@ impl Store {
         if !self.is_seal_missing() {
             return Ok(None);
         }
-        let number = self.seals.len() + 1;
-        let document = archive(self.alloc, &self.head, self.history.as_slice(), number)?;
+        let document = self.window.archive(&self.head)?;
         let written = write_doc(self.alloc, &document);
         drop(document);
         let text = written?;
@@ -193,7 +191,7 @@ impl Store {
     {
         // The rules of the two logs bound the number of operations. Only these calls tell them.
         let _ = (self.journal.size(), self.seals.size());
-        self.history.reserve(1)?;
+        self.window.prepare()?;
         self.members.prepare()?;
         self.journal.reserve()?;
         self.seals.reserve()

@@ -5,21 +5,22 @@ ghost use Rattle.feed_recovery.specs.Prepare.{IsMissing};
 ghost use Rattle.feed_recovery.specs.Store.{call_count, is_spent};
 ghost use Rattle.member_rules.specs.Fold.{state_of};
 
-use archive_sealer::{full_windows, sealed_windows};
+use archive_sealer::Window;
 use atom_values::Bytes;
 use feed_journal::Log;
-use member_rules::{Head, Members, Op, State};
+use member_rules::{Head, Members, State};
 use std::alloc::Global;
 use std::marker::Model;
 
-/// A feed's store: the head, the history, and the logs of the journal and of the seals. It doesn't hold its
-/// disk, which is lent to each call that reaches it.
+/// A feed's store: the head, the table of its members, the open window, and the logs of the journal and of the seals.
+/// It holds neither its disk, which is lent to each call that reaches it, nor the operations, which are in the journal.
+/// So it takes about 52 bytes for each member that was ever made, and 16 for each payload of its logs.
 #[derive(Debug, Drop)]
 pub struct Store {
     pub(crate) alloc: Global,
     pub(crate) head: Head,
-    pub(crate) history: Vec<Op>,
     pub(crate) members: Members,
+    pub(crate) window: Window,
     pub(crate) journal: Log,
     pub(crate) seals: Log,
     /// Whether a device call failed.
@@ -30,30 +31,31 @@ pub struct Store {
 }
 
 impl Model for Store {
-    ghost use Rattle.std.specs.Prelude.{◌≡◌, ◌-◌, vec_len, vec_capacity};
+    ghost use Rattle.std.specs.Prelude.{◌≡◌};
     ghost use Rattle.feed_recovery.specs.Store.{StoreValue, KeepsStore, KeepsNewest, is_spent};
 
     ghost Value = { StoreValue };
 
     ghost view = { λ s. record {
       head = s.head;
-      history = s.history.items;
+      history = s.window.history;
       members = s.members;
       journal = s.journal;
       seals = s.seals;
-      spare = vec_capacity s.history - vec_len s.history;
+      spare = s.window.spare;
     } };
 
     ghost invariant = { λ s.
         let store : StoreValue = record {
           head = s.head;
-          history = s.history.items;
+          history = s.window.history;
           members = s.members;
           journal = s.journal;
           seals = s.seals;
-          spare = vec_capacity s.history - vec_len s.history;
+          spare = s.window.spare;
         } in
-        KeepsStore store × (s.spent ≡ is_spent store) × KeepsNewest store s.newest };
+        KeepsStore store × (s.window.size ≡ s.head.window) × (s.spent ≡ is_spent store)
+        × KeepsNewest store s.newest };
 }
 
 impl Store {
@@ -61,7 +63,7 @@ impl Store {
     pub fn version(&self) -> u32
         ensures { result ≡ length self.now.history }
     {
-        self.history.len() as u32
+        self.window.operations()
     }
 
     /// Returns how many archives are sealed. Each has a number from 1 to this one.
@@ -69,7 +71,7 @@ impl Store {
         requires { is_spent self.now ≡ false }
         ensures { result ≡ sealed_count self.now }
     {
-        sealed_windows(&self.head, self.history.as_slice())
+        self.window.sealed()
     }
 
     /// Returns how many device calls the store's two logs have made since the load began, failed ones
@@ -111,7 +113,6 @@ impl Store {
         requires { is_spent self.now ≡ false }
         ensures { IsTrue result ↔ IsMissing self.now }
     {
-        let sealed = self.sealed();
-        full_windows(&self.head, self.history.as_slice()) != sealed && self.seals.len() == sealed
+        self.window.is_full() && self.seals.len() == self.window.sealed()
     }
 }

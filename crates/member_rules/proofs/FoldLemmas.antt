@@ -1,14 +1,14 @@
 -- The effect of one more operation on the values that are made of a list of operations.
 use Rattle.std.proofs.Common.{◌≡◌, inl, inr, ℕ, zero, suc, ◌+◌, ◌-◌, ◌<◌, ◌≤◌, ℤ, Bool, true, false, cond}
-use Rattle.std.proofs.Common.{if◌then◌else◌, ◌==◌, Some, List, [], ◌∷◌, ◌++◌, length, take, take-take, slice_get, refl}
-use Rattle.std.proofs.Common.{sym, ap, subst₂, ◌∙◌, arith, length-append, zero-add}
+use Rattle.std.proofs.Common.{if◌then◌else◌, ◌==◌, Some, List, [], ◌∷◌, ◌++◌, length, get_or, take, take-take, take_all}
+use Rattle.std.proofs.Common.{slice_get, refl, sym, ap, subst, subst₂, ◌∙◌, arith, length-append, add-one, zero-add}
 use Rattle.std.specs.Prelude.{option_map, unwrap_or}
 use Rattle.std.proofs.lemmas.Bool.{cases_lt}
 use Rattle.std.proofs.lemmas.Bool.Decides.{nat_tests}
-use Rattle.std.proofs.lemmas.List.{take-append-le}
+use Rattle.std.proofs.lemmas.List.{take_more, take-append-le}
 use Rattle.std.proofs.Math.Seq.{take-append_seam}
 use Rattle.std.proofs.lemmas.List.Sums.{fold-append, sum_by-append, count_by-le-length}
-use Rattle.std.proofs.lemmas.Option.{slice_get_within}
+use Rattle.std.proofs.lemmas.Option.{slice_get_cases, slice_get_within}
 use Rattle.member_rules.specs.declared.operation.Op.{Op}
 use Rattle.member_rules.specs.Operation.{moment_of, makes, names}
 use Rattle.member_rules.specs.Fold.{no_members, after_operation, fold_of, made, last_moment, last_naming}
@@ -23,6 +23,14 @@ pub made-push : (history : List Op) (operation : Op)
     → made (history ++ operation ∷ []) ≡ made history + (if makes operation then 1 else 0)
 made-push history operation = sum_by-append (λ o. cond (makes o) 1 0) history (operation ∷ [])
     ∙ ap (λ n. made history + n) (zero-add (cond (makes operation) 1 0))
+
+pub made-push-le : (history : List Op) (operation : Op) → made (history ++ operation ∷ []) ≤ made history + 1
+made-push-le history operation =
+    subst (λ n. n ≤ made history + 1) (sym (made-push history operation)) (at_most (makes operation))
+  where
+    at_most : (makes_one : Bool) → made history + (if makes_one then 1 else 0) ≤ made history + 1
+    at_most true = omega arith
+    at_most false = omega arith
 
 pub made-le-length : (history : List Op) → made history ≤ length history
 made-le-length history = count_by-le-length makes history
@@ -95,3 +103,28 @@ AreFollowing-take created history n following k other at =
     let got = get-take n history k other at in
     let front : take k (take n history) ≡ take k history = take-take k n history (omega (arith, got.0)) in
     rw front (following k other got.1)
+
+-- what holds of no operations, and of a history with one more that may follow, holds of each history
+pub by_operations : (created : ℤ) (P : List Op → Type 0) → P []
+    → ((past : List Op) (operation : Op) → AreFollowing created past → MayFollow created past operation → P past
+    → P (past ++ operation ∷ []))
+    → (history : List Op) → AreFollowing created history → P history
+by_operations created P none more history following =
+    subst P (take_all (length history) history (omega arith)) (up_to (length history) (omega arith))
+  where
+    front : (n : ℕ) (operation : Op) → n < length history → get_or history n operation ≡ operation
+        → take (suc n) history ≡ take n history ++ operation ∷ []
+    front n operation inside got =
+        ap (λ (k : ℕ). take k history) (sym (add-one n))
+        ∙ take_more history n operation inside
+        ∙ ap (λ (o : Op). take n history ++ o ∷ []) got
+
+    up_to : (n : ℕ) → n ≤ length history → P (take n history)
+    up_to zero within = none
+    up_to (suc n) within = elim (slice_get_cases history n).1 [
+      | inl found ↦
+          subst P (sym (front n found.0 found.1 found.3))
+          (more (take n history) found.0 (AreFollowing-take created history n following) (following n found.0 found.2)
+          (up_to n (omega arith)))
+      | inr past ↦ absurd (omega (arith, past.0))
+    ]

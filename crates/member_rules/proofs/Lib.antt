@@ -4,12 +4,14 @@ pub mod FoldLemmas
 pub mod StateLemmas
 -- serves `Members::live_count`
 pub mod LiveCountLemmas
--- serves `Members::commit`, `table`
+-- serves `Members::commit`, `table`, and callers of `Members::prepare`
 pub mod TableLemmas
 -- serves `decide`, `decision`
 pub mod DecisionLemmas
 -- serves `Members::may_follow`, `exact`
 pub mod MayFollowLemmas
+-- serves `Members::state` and `Members::edited`
+pub mod MemberLemmas
 -- serves `decide`, `follows` and `lawful`
 pub mod LawfulLemmas
 -- serves the plain functions
@@ -18,6 +20,8 @@ pub mod PlainLemmas
 pub mod VersionLemmas
 -- for the documents: the items of a list of operations by recursion, newest operation first
 pub mod NewestItemsLemmas
+-- serves `Members::commit`, `table`, and `Members::before`
+pub mod RecentLemmas
 -- serves `chain_shows_the_fold`, `cuts`: which item of a member is the last of a list of operations
 pub mod ItemsLemmas
 -- serves `chain_shows_the_fold`, `cuts`: what the items of a list of operations keep

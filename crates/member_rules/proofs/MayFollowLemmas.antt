@@ -16,7 +16,7 @@ use Rattle.member_rules.proofs.DecisionLemmas.{ord_max-later}
 use Rattle.member_rules.proofs.StateLemmas.{AreMembers, AreMembers-of, live_within}
 
 -- the member's entry fits its state
-abbrev LiveBy : State → Option EntryValue → Type 0
+abbrev pub LiveBy : State → Option EntryValue → Type 0
 LiveBy Never live = live ≡ None
 LiveBy (Live updated version) live = (stored : EntryValue) × (live ≡ Some stored) × (stored.updated ≡ updated)
 LiveBy (Deleted when) live = live ≡ None
@@ -44,7 +44,7 @@ live-parts None None version Never e h = refl
 live-parts None None version (Live updated v) e h = absurd (cc)
 live-parts None None version (Deleted moment) e h = absurd (cc)
 
-live-by_state : (created : ℤ) (history : List Op) (number : ℕ) (state : State) → AreFollowing created history
+pub live-by_state : (created : ℤ) (history : List Op) (number : ℕ) (state : State) → AreFollowing created history
     → state ≡ state_of history number → LiveBy state ((fold_of history).live number)
 unfolding state_of
 live-by_state created history number state following is =

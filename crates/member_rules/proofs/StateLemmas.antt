@@ -1,12 +1,10 @@
 -- The state of each member in a history, after one more operation.
 use Rattle.std.proofs.Common.{◌≡◌, ◌≢◌, inl, inr, ℕ, zero, suc, ◌+◌, ◌<◌, ◌≤◌, ℤ, Bool, true, false, not, if◌then◌else◌}
-use Rattle.std.proofs.Common.{◌==◌, Option, Some, None, option_map, List, [], ◌∷◌, ◌++◌, length, get_or, take, add-one}
-use Rattle.std.proofs.Common.{IsSomeAnd, true≢false, take_all, refl, sym, ap, ap₂, subst, ◌∙◌, arith}
+use Rattle.std.proofs.Common.{◌==◌, Option, Some, None, option_map, List, [], ◌∷◌, ◌++◌, length}
+use Rattle.std.proofs.Common.{IsSomeAnd, true≢false, refl, sym, ap, ap₂, subst, ◌∙◌, arith}
 use Rattle.std.specs.Prelude.{is_some, unwrap_or}
 use Rattle.std.proofs.lemmas.Bool.{cases_lt, cases_eq}
 use Rattle.std.proofs.lemmas.Bool.Decides.{nat_tests}
-use Rattle.std.proofs.lemmas.List.{take_more}
-use Rattle.std.proofs.lemmas.Option.{slice_get_cases}
 use Rattle.atom_values.specs.Entry.{EntryValue}
 use Rattle.deleted_entries.specs.Item.{item_number}
 use Rattle.deleted_entries.specs.declared.item.Item.{Item}
@@ -19,7 +17,7 @@ use Rattle.member_rules.specs.Operation.{item_of, makes, names}
 use Rattle.member_rules.specs.Fold.{Fold, set, no_members, with_item, after_operation, fold_of, made, last_naming}
 use Rattle.member_rules.specs.Fold.{state_by, state_of}
 use Rattle.member_rules.specs.History.{AreFollowing, Fits}
-use Rattle.member_rules.proofs.FoldLemmas.{fold_of-push, made-push, last_naming-push}
+use Rattle.member_rules.proofs.FoldLemmas.{fold_of-push, made-push, last_naming-push, by_operations}
 
 pub set-same : {A : Type 0} (number : ℕ) (value : Option A) (map : ℕ → Option A) → set number value map number ≡ value
 set-same number value map = grind (arith, nat_tests)
@@ -240,23 +238,9 @@ nobody_yet = nobody
 -- the members of a history in which each operation may follow those before it
 pub AreMembers-of : (created : ℤ) (history : List Op) → AreFollowing created history
     → AreMembers (fold_of history) (made history)
-AreMembers-of created history following = subst (λ (h : List Op). AreMembers (fold_of h) (made h))
-    (take_all (length history) history (omega arith)) (up_to (length history) (omega arith))
-  where
-    front : (n : ℕ) (operation : Op) → n < length history → get_or history n operation ≡ operation
-        → take (suc n) history ≡ take n history ++ operation ∷ []
-    front n operation inside got =
-        let more = take_more history n operation inside in
-        ap (λ (k : ℕ). take k history) (sym (add-one n)) ∙ more ∙ ap (λ (o : Op). take n history ++ o ∷ []) got
-
-    up_to : (n : ℕ) → n ≤ length history → AreMembers (fold_of (take n history)) (made (take n history))
-    up_to zero within = nobody_yet
-    up_to (suc n) within = elim (slice_get_cases history n).1 [
-      | inl found ↦ let front : take (suc n) history ≡ take n history ++ found.0 ∷ [] =
-          front n found.0 found.1 found.3 in
-          rw front (AreMembers-push (take n history) found.0 (up_to n (omega arith)) (following n found.0 found.2).fits)
-      | inr past ↦ absurd (omega (arith, past.0))
-    ]
+AreMembers-of created history following =
+    by_operations created (λ past. AreMembers (fold_of past) (made past)) nobody_yet
+    (λ past operation before follows are. AreMembers-push past operation are follows.fits) history following
 
 -- a number that is 0 or past the last member made was never a member's
 pub state_of-none : (history : List Op) (number : ℕ)

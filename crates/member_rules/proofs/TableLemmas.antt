@@ -1,29 +1,31 @@
 -- The table after one more operation.
 use Rattle.std.proofs.Common.{◌≡◌, ◌≢◌, inl, inr, ℕ, zero, suc, ◌+◌, ◌-◌, ◌<◌, ◌≤◌, ℤ, ◌≤ℤ◌, Bool, true, false}
 use Rattle.std.proofs.Common.{if◌then◌else◌, ◌==◌, Option, Some, None, option_map, List, [], ◌∷◌, ◌++◌, length}
-use Rattle.std.proofs.Common.{slice_get, slice_set, IsSomeAnd, length-append, length-set, refl, sym, ap, subst, ◌∙◌}
-use Rattle.std.proofs.Common.{arith}
+use Rattle.std.proofs.Common.{slice_get, slice_set, IsSomeAnd, length-append, length-set, refl, sym, ap, ap₂, subst}
+use Rattle.std.proofs.Common.{get_or, map, ◌∙◌, arith}
 use Rattle.std.specs.Prelude.{is_some, unwrap_or}
 use Rattle.std.proofs.lemmas.Bool.{cases_eq, cases_lt}
 use Rattle.atom_values.specs.Entry.{EntryValue}
 use Rattle.deleted_entries.specs.Item.{item_number}
 use Rattle.deleted_entries.specs.declared.item.Item.{Item}
 use Rattle.deleted_entries.specs.declared.item.Item.TheVariants.{Kept, Gone}
+use Rattle.recency_list.specs.Recency.{touched}
 use Rattle.member_rules.specs.declared.operation.Op.{Op}
 use Rattle.member_rules.specs.declared.operation.Op.TheVariants.{Add, Change, Remove}
 use Rattle.member_rules.specs.declared.state.State.{State}
 use Rattle.member_rules.specs.declared.state.State.TheVariants.{Live, Gone as Deleted}
 use Rattle.member_rules.specs.Removal.{RemovalValue}
-use Rattle.member_rules.specs.Operation.{item_of, names, moment_of}
+use Rattle.member_rules.specs.Operation.{item_of, names, moment_of, number_of}
 use Rattle.member_rules.specs.Fold.{Fold, with_item, fold_of, made, last_moment, last_naming, live_count, state_by}
 use Rattle.member_rules.specs.Fold.{state_of, count_up_to}
-use Rattle.member_rules.specs.History.{MayFollow, Fits, later_of}
+use Rattle.member_rules.specs.History.{AreFollowing, MayFollow, Fits, later_of}
 use Rattle.member_rules.specs.Table.{Table, IsTableOf, MayCommit}
-use Rattle.member_rules.proofs.FoldLemmas.{fold_of-push, made-push, last_moment-push, AreFollowing-push, get-push}
-use Rattle.member_rules.proofs.FoldLemmas.{get-push-other}
+use Rattle.member_rules.proofs.FoldLemmas.{fold_of-push, made-push, made-push-le, last_moment-push, get-push}
+use Rattle.member_rules.proofs.FoldLemmas.{AreFollowing-push, get-push-other}
 use Rattle.member_rules.proofs.StateLemmas.{AreMembers-of, live_within, state_with, state_of-push-item}
 use Rattle.member_rules.proofs.StateLemmas.{state_of-push-other, unnamed, is_there, differ, set-same, set-other}
 use Rattle.member_rules.proofs.LiveCountLemmas.{count-same, count-more, count-less}
+use Rattle.member_rules.proofs.RecentLemmas.{named_made, recent_members-push}
 
 -- a live state of a member comes from its live entry
 state_live : (gone : Option ℤ) (live : Option EntryValue) (version version' : ℕ) (updated : ℤ)
@@ -111,6 +113,14 @@ get-set-other (first ∷ rest) zero (suc k) item ne = refl
 get-set-other (first ∷ rest) (suc at) zero item ne = refl
 get-set-other (first ∷ rest) (suc at) (suc k) item ne = get-set-other rest at k item (omega arith)
 
+-- a write of an item that has the same in this respect
+pub map-set-same : {A B : Type 0} (f : A → B) (list : List A) (k : ℕ) (item default : A)
+    → f item ≡ f (get_or list k default) → map f (slice_set list k item) ≡ map f list
+map-set-same f [] k item default same = refl
+map-set-same f (first ∷ rest) zero item default same = ap (λ y. y ∷ map f rest) same
+map-set-same f (first ∷ rest) (suc k) item default same =
+    ap (λ ys. f first ∷ ys) (map-set-same f rest k item default same)
+
 -- an operation that names one member doesn't name others
 names_not : (operation : Op) (item : Item) (number : ℕ) → item_of operation ≡ Some item → item_number item ≢ number
     → names number operation ≡ false
@@ -184,20 +194,81 @@ own_live history operation item is =
     ap (λ (m : Fold). m.live (item_number item)) (fold_of-push history operation
     ∙ ap (λ o. unwrap_or (option_map (with_item (fold_of history)) o) (fold_of history)) is)
 
--- the facts of a new table that don't follow from its states
+-- the `edited` of the live members of a history
+abbrev AreEdited : List ℤ → List Op → Type 0
+AreEdited edited history = (number : ℕ) (entry : EntryValue) → (fold_of history).live number ≡ Some entry
+    → slice_get edited (number - 1) ≡ Some entry.edited
+
+-- a member that the operation doesn't name was live with the same entry
+live_before : (history : List Op) (operation : Op) (item : Item) (number : ℕ) (entry : EntryValue)
+    → item_of operation ≡ Some item → item_number item ≢ number
+    → (fold_of (history ++ operation ∷ [])).live number ≡ Some entry → (fold_of history).live number ≡ Some entry
+live_before history operation item number entry is ne live =
+    sym (unnamed (fold_of history) operation number (names_not operation item number is ne)).0
+    ∙ ap (λ (m : Fold). m.live number) (sym (fold_of-push history operation))
+    ∙ live
+
+-- a list that has that of the operation's entry at its member's place, and is as before at the others
+edited_kept : (created : ℤ) (history : List Op) (operation : Op) (entry : EntryValue) (edited new : List ℤ)
+    → item_of operation ≡ Some (Kept entry) → AreFollowing created history → length edited ≡ made history
+    → 1 ≤ entry.number → slice_get new (entry.number - 1) ≡ Some entry.edited
+    → ((k : ℕ) → k < length edited → k ≢ entry.number - 1 → slice_get new k ≡ slice_get edited k)
+    → AreEdited edited history → AreEdited new (history ++ operation ∷ [])
+edited_kept created history operation entry edited new is following size from own others are number stored live =
+    elim (cases_eq entry.number number) [
+      | inl same ↦
+          let entry_is : Some entry ≡ Some stored =
+          sym (own_live history operation (Kept entry) is ∙ set-same entry.number (Some entry) (fold_of history).live)
+          ∙ ap (fold_of (history ++ operation ∷ [])).live same
+          ∙ live in
+          let stored_is : entry ≡ stored = cc in
+          ap (λ (k : ℕ). slice_get new (k - 1)) (sym same)
+          ∙ own
+          ∙ ap (λ (e : EntryValue). Some e.edited) stored_is
+      | inr ne ↦
+          let was = live_before history operation (Kept entry) number stored is ne live in
+          let within = live_within (fold_of history) (made history) number (AreMembers-of created history following)
+          (ap is_some was) in
+          others (number - 1) (omega (arith, within.0, within.1)) (omega (arith, within.0)) ∙ are number stored was
+    ]
+
+-- a removal leaves the list
+edited_less : (history : List Op) (removal : RemovalValue) (edited : List ℤ) → AreEdited edited history
+    → AreEdited edited (history ++ Remove removal ∷ [])
+edited_less history removal edited are number stored live = elim (cases_eq removal.tombstone.number number) [
+  | inl same ↦
+      let none : None ≡ Some stored =
+      sym (own_live history (Remove removal) (Gone removal.tombstone) refl
+      ∙ set-same removal.tombstone.number None (fold_of history).live)
+      ∙ ap (fold_of (history ++ Remove removal ∷ [])).live same
+      ∙ live in
+      absurd (cc)
+  | inr ne ↦
+      are number stored (live_before history (Remove removal) (Gone removal.tombstone) number stored refl ne live)
+]
+
+-- the facts of a new table that don't follow from its states and their `edited`
 pub record Commits (table new : Table) (operation : Op) : Type 0 where
+  pub sizes : length table.edited ≡ length table.states
+  pub recent : new.recent ≡ touched (number_of operation) table.recent
   pub last : new.last ≡ moment_of operation
   pub operations : new.operations ≡ table.operations + 1
 
 -- a table after any operation that fits
-after_any : (created : ℤ) (history : List Op) (operation : Op) (table new : Table) → IsTableOf table created history
+after_any : (created : ℤ) (history : List Op) (operation : Op) (item : Item) (table new : Table)
+    → item_of operation ≡ Some item → IsTableOf table created history
     → MayFollow created history operation → Commits table new operation
     → length new.states ≡ made (history ++ operation ∷ []) → AreStates new.states (history ++ operation ∷ [])
+    → AreEdited new.edited (history ++ operation ∷ [])
     → new.live ≡ live_count (history ++ operation ∷ []) → IsTableOf new created (history ++ operation ∷ [])
-after_any created history operation table new of follows commits count states live = record {
+after_any created history operation item table new is of follows commits count states edited live = record {
   following = AreFollowing-push created history operation of.following follows;
   count = count;
   states = states;
+  edited = edited;
+  recent = commits.recent
+      ∙ ap₂ touched (ap (λ (o : Option Item). unwrap_or (option_map item_number o) 0) is) of.recent
+      ∙ sym (recent_members-push history operation item is);
   last = commits.last ∙ sym (last_moment-push created history operation);
   live = live;
   operations = omega (arith, commits.operations, of.operations, length-append history (operation ∷ []));
@@ -205,9 +276,10 @@ after_any created history operation table new of follows commits count states li
 
 pub IsTableOf-add : (created : ℤ) (history : List Op) (entry : EntryValue) (table new : Table)
     → IsTableOf table created history → MayFollow created history (Add entry) → Commits table new (Add entry)
-    → new.states ≡ table.states ++ Live entry.updated new.operations ∷ [] → new.live ≡ table.live + 1
+    → new.states ≡ table.states ++ Live entry.updated new.operations ∷ []
+    → new.edited ≡ table.edited ++ entry.edited ∷ [] → new.live ≡ table.live + 1
     → IsTableOf new created (history ++ Add entry ∷ [])
-IsTableOf-add created history entry table new of follows commits states live =
+IsTableOf-add created history entry table new of follows commits states edited live =
     let members = AreMembers-of created history of.following in
     let next : entry.number ≡ made history + 1 = follows.fits in
     let absent = (members.none_past entry.number (omega arith)).1 in
@@ -223,7 +295,9 @@ IsTableOf-add created history entry table new of follows commits states live =
     ap (count_up_to after) more
     ∙ count-more (fold_of history).live after (made history)
     (λ k ne. others_live history (Add entry) (Kept entry) k refl (omega arith)) here in
-    after_any created history (Add entry) table new of follows commits
+    let size : length table.edited ≡ made history = commits.sizes ∙ of.count in
+    let at : entry.number - 1 ≡ length table.edited = omega (arith, size) in
+    after_any created history (Add entry) (Kept entry) table new refl of follows commits
     (omega (
       arith,
       more,
@@ -233,13 +307,19 @@ IsTableOf-add created history entry table new of follows commits states live =
     ))
     (subst (λ (s : List State). AreStates s (history ++ Add entry ∷ [])) (sym pushed)
     (states_more history (Add entry) (Kept entry) table.states refl absent (omega (arith, of.count)) of.states))
+    (subst (λ (e : List ℤ). AreEdited e (history ++ Add entry ∷ [])) (sym edited)
+    (edited_kept created history (Add entry) entry table.edited (table.edited ++ entry.edited ∷ []) refl of.following
+    size (omega arith)
+    (ap (slice_get (table.edited ++ entry.edited ∷ [])) at ∙ get-push table.edited entry.edited)
+    (λ k inside ne. get-push-other table.edited entry.edited k inside) of.edited))
     (omega (arith, counted, live, of.live))
 
 pub IsTableOf-change : (created : ℤ) (history : List Op) (entry : EntryValue) (table new : Table)
     → IsTableOf table created history → MayFollow created history (Change entry) → Commits table new (Change entry)
     → new.states ≡ slice_set table.states (entry.number - 1) (Live entry.updated new.operations)
+    → new.edited ≡ slice_set table.edited (entry.number - 1) entry.edited
     → new.live ≡ table.live → IsTableOf new created (history ++ Change entry ∷ [])
-IsTableOf-change created history entry table new of follows commits states live =
+IsTableOf-change created history entry table new of follows commits states edited live =
     let before = (fold_of history).live in
     let after = (fold_of (history ++ Change entry ∷ [])).live in
     let was : is_some (before entry.number) ≡ true = is_there (before entry.number) _ follows.fits in
@@ -258,7 +338,8 @@ IsTableOf-change created history entry table new of follows commits states live 
     let none : made history + 0 ≡ made history = omega arith in
     let counted : live_count (history ++ Change entry ∷ []) ≡ live_count history =
     ap (count_up_to after) (more ∙ none) ∙ sym (count-same before after (made history) (λ k low high. each k)) in
-    after_any created history (Change entry) table new of follows commits
+    let size : length table.edited ≡ made history = commits.sizes ∙ of.count in
+    after_any created history (Change entry) (Kept entry) table new refl of follows commits
     (omega (
       arith,
       more,
@@ -269,6 +350,11 @@ IsTableOf-change created history entry table new of follows commits states live 
     (subst (λ (s : List State). AreStates s (history ++ Change entry ∷ [])) (sym put)
     (states_put history (Change entry) (Kept entry) table.states refl within.2 within.0
     (omega (arith, of.count, within.1)) of.states))
+    (subst (λ (e : List ℤ). AreEdited e (history ++ Change entry ∷ [])) (sym edited)
+    (edited_kept created history (Change entry) entry table.edited
+    (slice_set table.edited (entry.number - 1) entry.edited) refl of.following size within.0
+    (get-set table.edited (entry.number - 1) entry.edited (omega (arith, size, within.0, within.1)))
+    (λ k inside ne. get-set-other table.edited (entry.number - 1) k entry.edited ne) of.edited))
     (live ∙ of.live ∙ sym counted)
 
 -- a table of a history with a live member has a live one
@@ -286,8 +372,9 @@ live-pos created history table number of live =
 pub IsTableOf-remove : (created : ℤ) (history : List Op) (removal : RemovalValue) (table new : Table)
     → IsTableOf table created history → MayFollow created history (Remove removal) → Commits table new (Remove removal)
     → new.states ≡ slice_set table.states (removal.tombstone.number - 1) (Deleted removal.tombstone.when)
+    → new.edited ≡ table.edited
     → new.live + 1 ≡ table.live → IsTableOf new created (history ++ Remove removal ∷ [])
-IsTableOf-remove created history removal table new of follows commits states live =
+IsTableOf-remove created history removal table new of follows commits states edited live =
     let number = removal.tombstone.number in
     let before = (fold_of history).live in
     let after = (fold_of (history ++ Remove removal ∷ [])).live in
@@ -301,7 +388,7 @@ IsTableOf-remove created history removal table new of follows commits states liv
     count-less before after (made history) number within.0 within.1 was here
     (λ k ne. others_live history (Remove removal) (Gone removal.tombstone) k refl (omega arith))
     ∙ ap (λ m. count_up_to after m + 1) (sym (more ∙ none)) in
-    after_any created history (Remove removal) table new of follows commits
+    after_any created history (Remove removal) (Gone removal.tombstone) table new refl of follows commits
     (omega (
       arith,
       more,
@@ -312,49 +399,66 @@ IsTableOf-remove created history removal table new of follows commits states liv
     (subst (λ (s : List State). AreStates s (history ++ Remove removal ∷ [])) (sym states)
     (states_put history (Remove removal) (Gone removal.tombstone) table.states refl within.2 within.0
     (omega (arith, of.count, within.1)) of.states))
+    (subst (λ (e : List ℤ). AreEdited e (history ++ Remove removal ∷ [])) (sym edited)
+    (edited_less history removal table.edited of.edited))
     (omega (arith, counted, live, of.live))
 
 -- the same where the operation is known by an equation
+along : (table : Table) (operation is : Op) (created : ℤ) (history : List Op) → operation ≡ is
+    → MayCommit table operation → IsTableOf table created history → MayFollow created history is
+along table operation is created history same may of =
+    subst (MayFollow created history) same
+    (MayFollow-along table created may.created history may.history operation of may.table_of may.follows)
+
 pub commit-add : (table new : Table) (operation : Op) (entry : EntryValue) (created : ℤ) (history : List Op)
     → operation ≡ Add entry → MayCommit table operation → IsTableOf table created history
-    → new.last ≡ moment_of operation → new.operations ≡ table.operations + 1
-    → new.states ≡ table.states ++ Live entry.updated (table.operations + 1) ∷ [] → new.live ≡ table.live + 1
+    → Commits table new operation
+    → new.states ≡ table.states ++ Live entry.updated new.operations ∷ []
+    → new.edited ≡ table.edited ++ entry.edited ∷ [] → new.live ≡ table.live + 1
     → IsTableOf new created (history ++ operation ∷ [])
-commit-add table new operation entry created history is may of last operations states live =
+commit-add table new operation entry created history is may of commits states edited live =
     subst (λ (o : Op). IsTableOf new created (history ++ o ∷ [])) (sym is)
-    (IsTableOf-add created history entry table new of
-    (subst (MayFollow created history) is (MayFollow-along table created may.created history may.history operation of
-    may.table_of may.follows))
-    (record { last = last ∙ ap moment_of is; operations = operations })
-    (states ∙ ap (λ v. table.states ++ Live entry.updated v ∷ []) (sym operations)) live)
+    (IsTableOf-add created history entry table new of (along table operation (Add entry) created history is may of)
+    (subst (Commits table new) is commits) states edited live)
 
 pub commit-change : (table new : Table) (operation : Op) (entry : EntryValue) (created : ℤ) (history : List Op)
     → operation ≡ Change entry → MayCommit table operation → IsTableOf table created history
-    → new.last ≡ moment_of operation → new.operations ≡ table.operations + 1
-    → new.states ≡ slice_set table.states (entry.number - 1) (Live entry.updated (table.operations + 1))
-    → new.live ≡ table.live
+    → Commits table new operation
+    → new.states ≡ slice_set table.states (entry.number - 1) (Live entry.updated new.operations)
+    → new.edited ≡ slice_set table.edited (entry.number - 1) entry.edited → new.live ≡ table.live
     → IsTableOf new created (history ++ operation ∷ [])
-commit-change table new operation entry created history is may of last operations states live =
+commit-change table new operation entry created history is may of commits states edited live =
     subst (λ (o : Op). IsTableOf new created (history ++ o ∷ [])) (sym is)
     (IsTableOf-change created history entry table new of
-    (subst (MayFollow created history) is (MayFollow-along table created may.created history may.history operation of
-    may.table_of may.follows))
-    (record { last = last ∙ ap moment_of is; operations = operations })
-    (states ∙ ap (λ v. slice_set table.states (entry.number - 1) (Live entry.updated v)) (sym operations)) live)
+    (along table operation (Change entry) created history is may of)
+    (subst (Commits table new) is commits) states edited live)
 
 pub commit-remove : (table new : Table) (operation : Op) (removal : RemovalValue) (created : ℤ) (history : List Op)
     → operation ≡ Remove removal → MayCommit table operation → IsTableOf table created history
-    → new.last ≡ moment_of operation → new.operations ≡ table.operations + 1
+    → Commits table new operation
     → new.states ≡ slice_set table.states (removal.tombstone.number - 1) (Deleted removal.tombstone.when)
-    → new.live + 1 ≡ table.live
+    → new.edited ≡ table.edited → new.live + 1 ≡ table.live
     → IsTableOf new created (history ++ operation ∷ [])
-commit-remove table new operation removal created history is may of last operations states live =
+commit-remove table new operation removal created history is may of commits states edited live =
     subst (λ (o : Op). IsTableOf new created (history ++ o ∷ [])) (sym is)
     (IsTableOf-remove created history removal table new of
-    (subst (MayFollow created history) is (MayFollow-along table created may.created history may.history operation of
-    may.table_of may.follows))
-    (record { last = last ∙ ap moment_of is; operations = operations })
-    states live)
+    (along table operation (Remove removal) created history is may of)
+    (subst (Commits table new) is commits) states edited live)
+
+-- there is a slot for the operation's member, which is one of those made or the next one
+pub number-place : (table : Table) (operation : Op) → MayCommit table operation
+    → number_of operation ≤ length table.states + 1
+number-place table operation may =
+    let named = named_made may.created may.history operation may.table_of.following may.follows.fits in
+    let number = ap (λ (o : Option Item). unwrap_or (option_map item_number o) 0) named.1 in
+    omega (arith, number, named.3, made-push-le may.history operation, may.table_of.count)
+
+-- a new member has the next number
+pub add-number : (table : Table) (operation : Op) (entry : EntryValue) → operation ≡ Add entry
+    → MayCommit table operation → number_of operation ≡ length table.states + 1
+add-number table operation entry is may =
+    let fits : Fits may.history (Add entry) = subst (λ (o : Op). Fits may.history o) is may.follows.fits in
+    ap number_of is ∙ fits ∙ ap (λ n. n + 1) (sym may.table_of.count)
 
 -- a change has its member's place in the table, and a removal too
 pub change-place : (table : Table) (operation : Op) (entry : EntryValue) → operation ≡ Change entry
@@ -372,3 +476,18 @@ remove-place table operation removal is may =
     let within = live-pos may.created may.history table removal.tombstone.number may.table_of
     (is_there ((fold_of may.history).live removal.tombstone.number) _ fits) in
     (within.0, omega (arith, within.1, within.2))
+
+-- a table with other room is that of the same histories
+pub IsTableOf-with_room : (table new : Table) (created : ℤ) (history : List Op)
+    → new ≡ record table { spare = new.spare } → IsTableOf table created history → IsTableOf new created history
+IsTableOf-with_room table new created history same of =
+    subst (λ (t : Table). IsTableOf t created history) (sym same) record {
+      following = of.following;
+      count = of.count;
+      states = of.states;
+      edited = of.edited;
+      recent = of.recent;
+      last = of.last;
+      live = of.live;
+      operations = of.operations;
+    }

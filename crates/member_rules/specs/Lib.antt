@@ -7,6 +7,7 @@ pub mod History
 pub mod Decide
 pub mod Table
 pub mod Items
+pub mod Recent
 pub mod Windows
 pub mod Documents
 pub mod Shows

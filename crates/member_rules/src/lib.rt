@@ -1,8 +1,8 @@
 //! The rules on the members of a feed: the operation that an ask becomes, the members after a history, the documents of
-//! a history, and the bytes of operations and heads. Stands on `atom_writer`.
+//! a history, and the bytes of operations and heads. Stands on `atom_writer` and `recency_list`.
 //!
 //! - [`decide`] is exactly the decision that specs/ defines.
-//! - [`Members`] answers what the fold of a history does.
+//! - [`Members`] answers what the fold of a history does, and keeps the members in the order of their last operations.
 //! - The documents of a history show exactly its live entries: [`chain_shows_the_fold`] and the laws beside it.
 //! - [`op_bytes`] and [`head_bytes`] write operations and heads as bytes, and [`read_op`] and [`read_head`] read
 //!   exactly these bytes.

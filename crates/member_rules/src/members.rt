@@ -1,12 +1,17 @@
-ghost use Rattle.std.specs.Prelude.{◌≡◌, ◌≢◌, ◌↔◌, ℕ, ◌+◌, ◌<◌, ◌≤◌, [], ◌∷◌, ◌++◌, List, ℤ, IsTrue, OnOk};
+ghost use Rattle.std.specs.Prelude.{◌≡◌, ◌≢◌, ◌↔◌, ◌⊎◌, ℕ, ◌+◌, ◌<◌, ◌≤◌, [], ◌∷◌, ◌++◌, List, ℤ, IsTrue, OnOk};
+ghost use Rattle.std.specs.Prelude.{MatchOption, length, option_map};
 ghost use Rattle.member_rules.specs.declared.operation.Op.{Op};
-ghost use Rattle.member_rules.specs.Fold.{made, last_moment, live_count, state_of};
+ghost use Rattle.atom_values.specs.Entry.{EntryValue};
+ghost use Rattle.recency_list.specs.Recency.{first_of, older_than};
+ghost use Rattle.member_rules.specs.Fold.{fold_of, made, last_moment, live_count, state_of};
 ghost use Rattle.member_rules.specs.History.{Fits, MayFollow, history_limit};
-ghost use Rattle.member_rules.specs.Table.{IsTableOf, MayCommit};
+ghost use Rattle.member_rules.specs.Recent.{recent_members};
+ghost use Rattle.member_rules.specs.Table.{HasMember, IsTableOf, MayCommit};
 
 use crate::operation::Op;
 use crate::state::State;
 use atom_values::{NoMemory, Stamp};
+use recency_list::Recency;
 use std::alloc::Global;
 use std::marker::Model;
 
@@ -19,27 +24,39 @@ pub const HISTORY_LIMIT: u32 = 4_294_967_294;
 /// The table keeps no operations. So its contracts speak of each history that it is the table of.
 #[derive(Debug, Drop)]
 pub struct Members {
-    states: Vec<State>,
+    members: Vec<Member>,
+    /// The members by their last operations. A member's slot is its number, so slot 0 is never listed.
+    order: Recency,
     last: Stamp,
     live: u32,
     operations: u32,
 }
 
+/// What the table keeps of a member: its state, and the `edited` of the last entry that it had.
+#[derive(Clone, Copy, Debug)]
+struct Member {
+    state: State,
+    edited: Stamp,
+}
+
 impl Model for Members {
-    ghost use Rattle.std.specs.Prelude.{◌-◌, vec_len, vec_capacity};
-    ghost use Rattle.member_rules.specs.Table.{Table, AreCounts};
+    ghost use Rattle.std.specs.Prelude.{◌-◌, map, min, vec_len, vec_capacity};
+    ghost use Rattle.member_rules.specs.Table.{Table, AreCounts, AreOrdered};
 
     ghost Value = { Table };
 
     ghost view = { λ m. record {
-      states = m.states.items;
+      states = map (λ member. member.state) m.members.items;
+      edited = map (λ member. member.edited) m.members.items;
+      recent = m.order.list;
       last = m.last;
       live = m.live;
       operations = m.operations;
-      spare = vec_capacity m.states - vec_len m.states;
+      spare = min (vec_capacity m.members - vec_len m.members) (m.order.slots - 1 - vec_len m.members);
     } };
 
-    ghost invariant = { λ m. AreCounts (vec_len m.states) m.live m.operations };
+    ghost invariant = { λ m. AreCounts (vec_len m.members) m.live m.operations
+        × AreOrdered (vec_len m.members) m.order };
 }
 
 impl Members {
@@ -49,7 +66,8 @@ impl Members {
         ensures empty { result.operations ≡ 0 }
     {
         Members {
-            states: Vec::new(alloc),
+            members: Vec::new(alloc),
+            order: Recency::new(alloc),
             last: created,
             live: 0,
             operations: 0,
@@ -62,13 +80,51 @@ impl Members {
             → result ≡ state_of history number }
         ensures from_one { result ≢ State.Never → 1 ≤ number }
     {
-        match number.checked_sub(1) {
-            Some(at) => match self.states.get(at as usize) {
-                Some(state) => *state,
-                None => State::Never,
-            },
+        match self.member(number) {
+            Some(member) => member.state,
             None => State::Never,
         }
+    }
+
+    /// What the table keeps of the member with this number, if that was made.
+    fn member(&self, number: u32) -> Option<Member>
+        ensures { MatchOption result ((number ≡ 0) ⊎ (length self.now.states < number))
+            (λ member. HasMember self.now number member.state member.edited) }
+    {
+        let at = number.checked_sub(1)?;
+        self.members.get(at as usize).copied()
+    }
+
+    /// The `edited` of the entry of the member with this number, if it is live.
+    pub fn edited(&self, number: u32) -> Option<Stamp>
+        ensures { (created : ℤ) (history : List Op) → IsTableOf self.now created history
+            → result ≡ option_map (λ (entry : EntryValue). entry.edited) ((fold_of history).live number) }
+    {
+        let member = self.member(number)?;
+        match member.state {
+            State::Live { .. } => Some(member.edited),
+            State::Never | State::Gone { .. } => None,
+        }
+    }
+
+    /// The member whose last operation is the newest, or `None` if no member was made.
+    pub fn newest(&self) -> Option<u32>
+        ensures { (created : ℤ) (history : List Op) → IsTableOf self.now created history
+            → result ≡ first_of (recent_members history) }
+    {
+        self.order.front()
+    }
+
+    /// The member whose last operation comes next before that of the member with this number. `None` after the oldest
+    /// one, and for a number that no member has. So `newest` and `before` give all members.
+    pub fn before(&self, number: u32) -> Option<u32>
+        ensures { (created : ℤ) (history : List Op) → IsTableOf self.now created history
+            → result ≡ older_than number (recent_members history) }
+    {
+        if number == 0 || number as usize > self.members.len() {
+            return None;
+        }
+        self.order.older(number)
     }
 
     /// The moment of the last operation, or the one when the feed was made if there is none.
@@ -86,7 +142,7 @@ impl Members {
             → result ≡ made history }
         ensures few { result ≤ self.now.operations }
     {
-        self.states.len() as u32
+        self.members.len() as u32
     }
 
     /// How many members are live.
@@ -129,13 +185,15 @@ impl Members {
         }
     }
 
-    /// Makes room for one more operation. It answers `NoMemory` where memory ran out, and then nothing changed.
+    /// Makes room for one more operation. It answers `NoMemory` where memory ran out, and where no number is left for a
+    /// member. Then nothing changed but the room.
     pub fn prepare(&mut self) -> Result<(), NoMemory>
         ensures room { OnOk result (1 ≤ self.new.spare) }
         ensures same { self.new ≡ record self.old { spare = self.new.spare } }
     {
-        self.states.reserve(1)?;
-        Ok(())
+        let slots = (self.members.len() as u32).checked_add(2).ok_or(NoMemory)?;
+        self.members.reserve(1)?;
+        self.order.reserve(slots)
     }
 
     /// Adds an operation to the table, in the room that `prepare` made. It takes no memory, and the same time however
@@ -150,21 +208,26 @@ impl Members {
     {
         self.last = operation.moment();
         self.operations += 1;
+        self.order.move_to_front(operation.number());
         let version = self.operations;
         match operation {
             Op::Add(entry) => {
                 self.live += 1;
                 let updated = entry.updated;
-                self.states.push(State::Live { updated, version }).unwrap();
+                let state = State::Live { updated, version };
+                let edited = entry.edited;
+                self.members.push(Member { state, edited }).unwrap();
             }
             Op::Change(entry) => {
                 let updated = entry.updated;
-                self.states[entry.number as usize - 1] = State::Live { updated, version };
+                let state = State::Live { updated, version };
+                let edited = entry.edited;
+                self.members[entry.number as usize - 1] = Member { state, edited };
             }
             Op::Remove(removal) => {
                 self.live -= 1;
                 let when = removal.tombstone.when;
-                self.states[removal.tombstone.number as usize - 1] = State::Gone { when };
+                self.members[removal.tombstone.number as usize - 1].state = State::Gone { when };
             }
         }
     }

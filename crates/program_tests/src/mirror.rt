@@ -180,7 +180,7 @@ fn each_device_call_may_fail(rt: HostRuntime) {
     let pile = pile_of(&rt, alloc, &mut store, &[0, 1, 2, 3]);
     drop(store);
     let mut letters = Vec::new(alloc);
-    for call in 1..=38 {
+    for call in 1..=35 {
         let letter = letter_of(&rt, alloc, call, pile.as_slice());
         letters.push(letter).expect(&rt, "memory");
     }

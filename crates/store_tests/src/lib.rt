@@ -6,6 +6,8 @@
 #![tactic(auto)]
 
 #[cfg(test)]
+mod ahead;
+#[cfg(test)]
 mod commits;
 #[cfg(test)]
 mod disks;
@@ -13,6 +15,8 @@ mod disks;
 mod faults;
 #[cfg(test)]
 mod files;
+#[cfg(test)]
+mod grown;
 #[cfg(test)]
 mod images;
 #[cfg(test)]

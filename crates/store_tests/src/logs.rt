@@ -108,7 +108,7 @@ fn a_closed_gate_or_a_long_payload_ends_the_list(rt: HostRuntime) {
 fn a_log_counts_its_bytes_and_its_calls(rt: HostRuntime) {
     let mut disk = disk_of(&rt, rt.alloc(), &TWO, [0, 0]);
     let log = show_log(rt.alloc(), &mut disk).expect(&rt, "a log");
-    assert!(rt; (log.size, log.calls) == (14, 6));
+    assert!(rt; (log.size, log.calls) == (14, 5));
     drop((log, disk));
 }
 
@@ -232,8 +232,8 @@ fn each_device_call_of_an_append_may_fail(rt: HostRuntime) {
 #[test]
 fn a_failed_call_of_a_load_or_a_read_is_a_disk_fault(rt: HostRuntime) {
     let alloc = rt.alloc();
-    // The load makes the device calls 1 to 4, and the reads 5 and 6.
-    for call in 1u64..7 {
+    // The load makes the device calls 1 to 3, and the reads 4 and 5.
+    for call in 1u64..6 {
         let mut disk = disk_of(&rt, alloc, &TWO, [call, 0]);
         let fault = show_log(alloc, &mut disk).err();
         assert!(rt; fault == Some(LogFault::DiskFault), "call {call}");

@@ -16,7 +16,7 @@ use std::alloc::Global;
 use std::process::Abort;
 
 /// The clock in these tests.
-const NOW: u64 = 1_700_000_000_000;
+pub const NOW: u64 = 1_700_000_000_000;
 
 /// A store as its calls show it.
 #[derive(Clone, Copy, Debug, PartialEq, Eq)]
@@ -66,7 +66,12 @@ pub fn head(rt: &impl Abort, alloc: Global, window: u32, capacity: u64) -> Head
 }
 
 /// Makes the operation of an ask. Returns its member's number, the version that was prepared and the new version.
-fn change<D: Disk>(rt: &impl Abort, store: &mut Store, disk: &mut D, ask: Ask) -> (u32, u32, u32)
+pub fn change<D: Disk>(
+    rt: &impl Abort,
+    store: &mut Store,
+    disk: &mut D,
+    ask: Ask,
+) -> (u32, u32, u32)
     requires unspent { is_spent store.old ≡ false }
     requires stands { D.observable → StandsFor (D.state disk.old) store.old }
     ensures unspent { is_spent store.new ≡ false }

@@ -12,7 +12,7 @@ ghost use Rattle.feed_commands.specs.Line.{line_ask};
 
 use crate::commands::line::line_ask;
 use crate::commands::lines::{Lines, LinesFault};
-use archive_sealer::subscription;
+use archive_sealer::Window;
 use atom_values::{AtomText, NoMemory, Stamp};
 use atom_writer::{FeedName, write_doc};
 use chain_links::Base;
@@ -75,19 +75,21 @@ pub fn test_head(alloc: Global, window: u32) -> Result<Head, NoMemory>
 /// The capacity of that head, in bytes. `apply W` has no store, so nothing is held against it.
 const CAPACITY: u64 = 1_073_741_824;
 
-/// Returns the history that the lines of the input make from the empty one. Each line takes one moment of the clock.
+/// Returns the window that the lines of the input make from the empty one. Each line takes one moment of the clock.
 ///
-/// Its memory is one operation for each line, and a fixed buffer.
-pub fn history_of<C: Clock, I: Source>(
+/// Its memory follows the members and not the lines: a slot for each member, the items of one window, and a fixed
+/// buffer.
+pub fn window_of<C: Clock, I: Source>(
     alloc: Global,
     head: &Head,
     clock: &mut C,
     input: &mut I,
-) -> Result<Vec<Op>, Fault>
-    ensures history { IfOk result (λ history. I.observable → C.observable
+) -> Result<Window, Fault>
+    ensures history { IfOk result (λ window. I.observable → C.observable
         → applied_history head.now (C.coming clock.old) (I.state input.old).left
-        ≡ record { feed = history.items; fault = None }) }
-    ensures lawful { IfOk result (λ history. IsLawful head.now history.items) }
+        ≡ record { feed = window.history; fault = None }) }
+    ensures lawful { IfOk result (λ window. IsLawful head.now window.history) }
+    ensures size { IfOk result (λ window. window.size ≡ head.now.window) }
     ensures refused { IfErr result (λ fault. IsRefusal fault → I.observable → C.observable
         → (applied_history head.now (C.coming clock.old) (I.state input.old).left).fault ≡ Some fault) }
     ensures input_faults { CountsFault (I.state input.old).faults (I.state input.new).faults
@@ -99,15 +101,16 @@ pub fn history_of<C: Clock, I: Source>(
 {
     let mut lines = Lines::new(alloc)?;
     let mut members = Members::new(alloc, head.created);
-    let mut history = Vec::new(alloc);
+    let mut window = Window::new(alloc, head.window)?;
     while lines.next(input)? {
         members.prepare()?;
-        let number = history.len() as u64 + 1;
+        window.prepare()?;
+        let number = window.operations() as u64 + 1;
         let operation = operation_of(alloc, head, &members, number, clock, lines.line())?;
         members.commit(&operation);
-        history.push(operation)?;
+        window.commit(operation);
     }
-    Ok(history)
+    Ok(window)
 }
 
 /// Returns the operation that a line asks for, at the next moment of the clock. `members` is the table of the
@@ -146,7 +149,8 @@ fn operation_of<C: Clock>(
     }
 }
 
-/// Returns the text of the subscription document of the history that the lines of the input make.
+/// Returns the text of the subscription document of the history that the lines of the input make. Its memory follows the
+/// members and not the lines.
 pub fn apply<C: Clock, I: Source>(
     alloc: Global,
     window: u32,
@@ -167,10 +171,10 @@ pub fn apply<C: Clock, I: Source>(
     ensures no_disk { result ≢ Err Fault.Disk }
 {
     let head = test_head(alloc, window)?;
-    match history_of(alloc, &head, clock, input) {
-        Ok(history) => {
-            let doc = subscription(alloc, &head, history.as_slice());
-            drop(history);
+    match window_of(alloc, &head, clock, input) {
+        Ok(window) => {
+            let doc = window.subscription(&head);
+            drop(window);
             drop(head);
             let doc = doc?;
             let text = write_doc(alloc, &doc);

@@ -1,11 +1,12 @@
-use Rattle.std.proofs.Common.{◌≡◌, ◌+◌, ◌<◌, ◌≤◌, ℕ, List, [], ◌∷◌, ◌++◌, Option, None, length, drop, inl, refl, sym}
+use Rattle.std.proofs.Common.{◌≡◌, ◌+◌, ◌<◌, ◌≤◌, ℕ, List, [], ◌∷◌, ◌++◌, Option, None, length, take, drop, inl, refl, sym}
 use Rattle.std.proofs.Common.{◌∙◌, ap, subst, arith, length-append}
 use Rattle.std.specs.Prelude.{IfSome}
 use Rattle.std.proofs.lemmas.Grind.{common_steps}
+use Rattle.feed_disk.specs.declared.area.Area.{Area}
 use Rattle.feed_disk.proofs.MomentLemmas.{alone_begins, alone_joins}
 use Rattle.feed_journal.specs.Limits.{payload_limit, payload_count_limit}
 use Rattle.feed_journal.specs.Log.{KeepsLog}
-use Rattle.feed_disk.specs.Raised.{raised}
+use Rattle.feed_journal.specs.Ahead.{Gives, IsAhead}
 use Rattle.feed_journal.specs.Scan.{IsNext, header_bytes}
 use Rattle.feed_journal.specs.declared.extent.Extent.{Extent}
 use Rattle.feed_journal.proofs.CallLemmas.{calls_more}
@@ -17,7 +18,10 @@ use Rattle.feed_journal.proofs.scan.scan.Goals.{then-full-via-else-full+then-siz
 
 pub frames-init : goal.frames-init
 frames-init g c = record {
-  read = omega (arith, ap length c.new-extents.ensures.items);
+  ahead = λ tells. subst (λ (l : List ℕ).
+      l ≡ take (length l) (drop c.in_ok-ahead.ahead.from ((g.D.Disk.state c.args.disk.now).content c.args.area)))
+      (sym c.in_ok-ahead.ensures) refl;
+  read = omega (arith, ap length c.new-extents.ensures.items, ap length c.in_ok-ahead.ensures);
   rules = subst (λ (l : List Extent). KeepsLog l 1) (sym c.new-extents.ensures.items)
       (record { follow = refl; few = omega arith });
   within = c.requires.some;
@@ -40,12 +44,7 @@ returns-then-full-clause-scanned g c = λ tells. elim c.then-full.branch [
 
 pub returns-in_default-clause-read : goal.returns-in_default-clause-read
 returns-in_default-clause-read g c =
-    let m = g.D.Disk.state c.frames.disk in
-    let t = g.D.Disk.state c.next_frame.new.disk in
-    let read : raised m.bytes_read 0 ≤ t.bytes_read =
-    subst (λ (o : Option ℕ). raised m.bytes_read (header_bytes o) ≤ t.bytes_read) c.in_default.is
-    c.in_ok-length.ensures.read in
-    omega (arith, read, c.frames.invariant.read)
+    omega (arith, c.in_ok-length.ensures.read.read, c.frames.invariant.read)
 
 pub returns-in_default-clause-scanned : goal.returns-in_default-clause-scanned
 returns-in_default-clause-scanned g c = λ tells.
@@ -64,7 +63,7 @@ returns-in_err-length-clause-areas g c = λ a.
 
 pub returns-in_err-length-clause-calls : goal.returns-in_err-length-clause-calls
 returns-in_err-length-clause-calls g c = calls_more (g.D.Disk.state c.args.disk.now) (g.D.Disk.state c.frames.disk)
-    (g.D.Disk.state c.next_frame.new.disk) c.args.calls.now c.frames.calls c.next_frame.new.calls 1
+    (g.D.Disk.state c.next_frame.new.disk) c.args.calls.now c.frames.calls c.next_frame.new.calls
     c.frames.invariant.made c.next_frame.ensures.calls
 
 pub returns-in_default-clause-areas : goal.returns-in_default-clause-areas
@@ -74,7 +73,7 @@ returns-in_default-clause-areas g c = λ a.
 
 pub returns-in_default-clause-calls : goal.returns-in_default-clause-calls
 returns-in_default-clause-calls g c = calls_more (g.D.Disk.state c.args.disk.now) (g.D.Disk.state c.frames.disk)
-    (g.D.Disk.state c.next_frame.new.disk) c.args.calls.now c.frames.calls c.next_frame.new.calls 1
+    (g.D.Disk.state c.next_frame.new.disk) c.args.calls.now c.frames.calls c.next_frame.new.calls
     c.frames.invariant.made c.next_frame.ensures.calls
 
 pub returns-in_err-push-clause-areas : goal.returns-in_err-push-clause-areas
@@ -84,7 +83,7 @@ returns-in_err-push-clause-areas g c = λ a.
 
 pub returns-in_err-push-clause-calls : goal.returns-in_err-push-clause-calls
 returns-in_err-push-clause-calls g c = calls_more (g.D.Disk.state c.args.disk.now) (g.D.Disk.state c.frames.disk)
-    (g.D.Disk.state c.next_frame.new.disk) c.args.calls.now c.frames.calls c.next_frame.new.calls 1
+    (g.D.Disk.state c.next_frame.new.disk) c.args.calls.now c.frames.calls c.next_frame.new.calls
     c.frames.invariant.made c.next_frame.ensures.calls
 
 pub frames-preserved : goal.frames-preserved
@@ -103,14 +102,26 @@ frames-preserved g c =
     c.in_ok-length.ensures.within in
     let m = g.D.Disk.state c.frames.disk in
     let t = g.D.Disk.state c.next_frame.new.disk in
-    let read : raised m.bytes_read 5 ≤ t.bytes_read =
-    subst (λ (o : Option ℕ). raised m.bytes_read (header_bytes o) ≤ t.bytes_read) c.in-Some.is
+    let read : Gives m t end 5 c.frames.ahead c.next_frame.new.ahead =
+    subst (λ (o : Option ℕ). Gives m t end (header_bytes o) c.frames.ahead c.next_frame.new.ahead) c.in-Some.is
     c.in_ok-length.ensures.read in
     let next = λ (tells : g.D.Disk.observable). subst (IsNext (drop end content)) c.in-Some.is
     (subst (λ (l : List ℕ). IsNext (drop end l) c.in_ok-length.field-0)
     (c.frames.invariant.areas c.args.area).content (c.in_ok-length.ensures.found tells)) in
+    let areas = λ (a : Area). alone_joins (g.D.Disk.state c.args.disk.now) m t a (c.frames.invariant.areas a)
+    (c.next_frame.ensures.areas a) in
     record {
-      read = omega (arith, read, c.frames.invariant.read, ap length pushed, length-append extents (extent ∷ []));
+      ahead = λ tells. subst (IsAhead c.next_frame.new.ahead) (areas c.args.area).content
+          (c.in_ok-length.ensures.ahead tells);
+      read = omega (
+        arith,
+        read.read,
+        read.most,
+        c.frames.invariant.read,
+        ap length pushed,
+        length-append extents (extent ∷ []),
+        c.from.ensures,
+      );
       rules = subst (λ (l : List Extent). KeepsLog l (end + (c.from.result + 5) + 1)) (sym pushed)
           (subst (λ (m : ℕ). KeepsLog (extents ++ extent ∷ []) (m + 1)) sum (record {
             follow = follow_push_end extents end n c.frames.invariant.rules.follow within.0;
@@ -121,10 +132,9 @@ frames-preserved g c =
           (subst (λ (m : ℕ). Found (extents ++ extent ∷ []) m content) sum
           (found_more extents end content (c.frames.invariant.found tells) c.frames.invariant.rules.follow few n
           (next tells)));
-      areas = λ a. alone_joins (g.D.Disk.state c.args.disk.now) (g.D.Disk.state c.frames.disk)
-          (g.D.Disk.state c.next_frame.new.disk) a (c.frames.invariant.areas a) (c.next_frame.ensures.areas a);
+      areas = areas;
       made = calls_more (g.D.Disk.state c.args.disk.now) (g.D.Disk.state c.frames.disk)
-          (g.D.Disk.state c.next_frame.new.disk) c.args.calls.now c.frames.calls c.next_frame.new.calls 1
+          (g.D.Disk.state c.next_frame.new.disk) c.args.calls.now c.frames.calls c.next_frame.new.calls
           c.frames.invariant.made c.next_frame.ensures.calls;
       faults = c.in_ok-length.ensures.cause.worked ∙ c.frames.invariant.faults;
     }

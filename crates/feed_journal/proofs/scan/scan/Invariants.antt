@@ -1,5 +1,6 @@
 use Rattle.std.proofs.Common.{◌≡◌, ◌+◌, ◌-◌, ◌*◌, ◌<◌, ◌≤◌, length}
 use Rattle.feed_disk.specs.Raised.{raised}
+use Rattle.feed_journal.specs.Ahead.{IsAhead, left_from}
 use Rattle.feed_journal.specs.Limits.{header_length}
 use Rattle.feed_disk.specs.Moments.{LeavesAlone}
 use Rattle.feed_disk.specs.declared.area.Area.{Area}
@@ -14,7 +15,9 @@ invariant-frames g l = record {
   found : g.D.Disk.observable → Found l.extents.items l.end ((g.D.Disk.state l.fn.disk).content l.area);
   areas : (a : Area) → LeavesAlone (g.D.Disk.state l.fn.disk) (g.D.Disk.state l.disk) a;
   made : MakesSome (g.D.Disk.state l.fn.disk) (g.D.Disk.state l.disk) l.fn.calls l.calls;
-  read : raised (g.D.Disk.state l.fn.disk).bytes_read (header_length * length l.extents.items)
+  ahead : g.D.Disk.observable → IsAhead l.ahead ((g.D.Disk.state l.fn.disk).content l.area);
+  read : raised (g.D.Disk.state l.fn.disk).bytes_read
+      (header_length * length l.extents.items + left_from l.end l.ahead)
       ≤ (g.D.Disk.state l.disk).bytes_read;
   faults : (g.D.Disk.state l.disk).faults ≡ (g.D.Disk.state l.fn.disk).faults;
 }

@@ -13,7 +13,6 @@ returns-in_ok-text-in-Ok-clause-answer g c = λ source clock.
     rw (
       c.in_ok-text-in-Ok.ensures,
       c.in_ok-doc-in-Ok.ensures,
-      c.as_slice.ensures.value,
       ← c.in_ok-head.ensures,
       c.in-Ok.ensures.history source clock,
     ) refl

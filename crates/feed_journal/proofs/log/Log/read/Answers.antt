@@ -1,9 +1,9 @@
-use Rattle.std.proofs.Common.{◌≡◌, ◌+◌, ◌<◌, ◌≤◌, ℕ, List, length, take, drop, Some, sym, ◌∙◌, ap, subst, arith, rules}
+use Rattle.std.proofs.Common.{◌≡◌, ◌+◌, ◌<◌, ◌≤◌, length, Some, sym, subst, arith, rules}
 use Rattle.std.specs.Prelude.{slice_get}
 use Rattle.feed_journal.specs.Log.{LogValue, payloads_at}
 use Rattle.feed_journal.specs.Records.{records}
 use Rattle.feed_journal.specs.declared.extent.Extent.{Extent}
-use Rattle.feed_journal.proofs.ReadLemmas.{extents_within, get-payloads}
+use Rattle.feed_journal.proofs.ReadLemmas.{extents_within, payload_read}
 use Rattle.feed_journal.proofs.log.Log.read.Goals as goal
 
 pub read_exactly-requires : goal.read_exactly-requires
@@ -24,19 +24,15 @@ read_exactly-requires g c = λ tells.
 pub returns-in-Ok-true-clause-payload : goal.returns-in-Ok-true-clause-payload
 returns-in-Ok-true-clause-payload g c = λ tells.
     let s = g.D.Disk.state c.args.disk.now in
-    let content = s.content c.self.inside.area in
     let extents = c.self.inside.extents.items in
-    let listed : payloads_at extents content ≡ records content =
+    let listed : payloads_at extents (s.content c.self.inside.area) ≡ records (s.content c.self.inside.area) =
     subst (λ (v : LogValue). payloads_at v.extents (s.content v.area) ≡ records (s.content v.area))
     (sym c.self.view_is) (c.requires.listed tells) in
     let inside : c.args.index < length extents =
     subst (λ (v : LogValue). c.args.index < length v.extents) (sym c.self.view_is) c.requires.within in
     let long : length c.in_ok-bytes.bytes.items ≡ c.index-extent.result.now.length = search rules in
-    let bytes = (c.in-Ok-true.ensures.bytes tells).1 in
     subst (λ (v : LogValue). slice_get (records (s.content v.area)) c.args.index ≡ Some c.read_exactly.new.bytes.items)
     c.self.view_is
-    (ap (λ (l : List (List ℕ)). slice_get l c.args.index) (sym listed)
-    ∙ get-payloads extents content c.args.index c.index-extent.result.now inside
-    ∙ ap (λ (p : Extent). Some (take p.length (drop p.offset content))) (sym c.index-extent.ensures)
-    ∙ ap (λ (n : ℕ). Some (take n (drop c.index-extent.result.now.offset content))) (sym long)
-    ∙ ap (λ (l : List ℕ). Some l) (sym bytes))
+    (payload_read extents (s.content c.self.inside.area) c.args.index c.index-extent.result.now
+    c.in_ok-bytes.bytes.items c.read_exactly.new.bytes.items listed inside c.index-extent.ensures long
+    (c.in-Ok-true.ensures.bytes tells).1)

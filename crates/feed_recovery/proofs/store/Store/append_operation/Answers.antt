@@ -1,7 +1,5 @@
-use Rattle.std.proofs.Common.{◌≡◌, ◌≢◌, ◌+◌, ◌-◌, ◌||◌, ℕ, List, [], ◌∷◌, ◌++◌, length, sym, ◌∙◌, ap, subst, vec_len, arith}
+use Rattle.std.proofs.Common.{◌≡◌, ◌≢◌, ◌+◌, ◌||◌, ℕ, List, [], ◌∷◌, ◌++◌, length, sym, ◌∙◌, ap, subst}
 use Rattle.std.proofs.Common.{length-append}
-use Rattle.std.specs.Prelude.{vec_capacity}
-use Rattle.std.proofs.lemmas.Grind.{common_steps}
 use Rattle.atom_writer.specs.Pieced.{text_of}
 use Rattle.member_rules.specs.Coding.{operations}
 use Rattle.member_rules.specs.History.{IsLawful}
@@ -35,11 +33,11 @@ returns-clause-others g c = others g (goal.at.returns-clause-others g c).After-a
 abbrev store : (g : Over) → After-append g → StoreValue
 store g c = record {
   head = c.self.inside.head;
-  history = c.self.inside.history.items;
+  history = c.self.inside.window.history;
   members = c.self.inside.members;
   journal = c.self.inside.journal;
   seals = c.self.inside.seals;
-  spare = vec_capacity c.self.inside.history - vec_len c.self.inside.history;
+  spare = c.self.inside.window.spare;
 }
 
 lawful : (g : Over) (c : After-append g)
@@ -78,24 +76,23 @@ commit-requires-clause-follows g c =
     let before = (goal.at.commit-requires-clause-follows g c).After-append in
     record {
       created = c.self.inside.head.created;
-      history = c.self.inside.history.items;
+      history = c.self.inside.window.history;
       table_of = c.self.invariant.0.members;
-      follows = next_follows c.self.inside.head c.self.inside.history.items c.ready.inside.operation (lawful g before);
+      follows = next_follows c.self.inside.head c.self.inside.window.history c.ready.inside.operation (lawful g before);
     }
 
 pub invariant_of-self-2 : goal.invariant_of-self-2
 invariant_of-self-2 g c =
     let before = (goal.at.invariant_of-self-2 g c).After-append in
     let log = c.append.new.self in
-    let spare = vec_capacity c.push.new.self - vec_len c.push.new.self in
+    let spare = c.commit-2.new.self.spare in
     let keeps = c.self.invariant.0 in
     let operation = c.ready.inside.operation in
     let ok = appended g (goal.at.invariant_of-self-2 g c).In_default in
     let size : log.size ≡ c.self.inside.journal.size + length (text_of operations operation) + header_length =
     ap (λ (v : LogValue). v.size) ok
     ∙ ap (λ (l : List ℕ). c.self.inside.journal.size + length l + header_length) c.ready.invariant in
-    let pushed : c.self.inside.history.items ++ operation ∷ [] ≡ c.push.new.self.items = grind
-    (arith, common_steps) in (
+    let pushed = sym c.commit-2.ensures.history in (
       subst (λ (l : List Op). KeepsStore (record (store g before) {
         history = l;
         members = c.commit.new.self;
@@ -104,9 +101,10 @@ invariant_of-self-2 g c =
       })) pushed (keeps_added (store g before) operation (lawful g before) (full g before)
           c.windows_seal_in_turn.ensures c.commit.new.self log
           (counted g (goal.at.invariant_of-self-2 g c).In_default) spare c.operations_are_long.ensures keeps
-          (c.commit.ensures.table c.self.inside.head.created c.self.inside.history.items keeps.members)
+          (c.commit.ensures.table c.self.inside.head.created c.self.inside.window.history keeps.members)
           (ap (λ (v : LogValue). v.area) ok) size),
-      c.self.invariant.1 ∙ ap (λ (v : LogValue). v.spent || c.self.inside.seals.spent) (sym ok),
+      c.commit-2.ensures.size ∙ c.self.invariant.1,
+      c.self.invariant.2 ∙ ap (λ (v : LogValue). v.spent || c.self.inside.seals.spent) (sym ok),
       tt,
     )
 
@@ -116,7 +114,7 @@ returns-clause-stands g c = λ tells.
     let s = g.D.Disk.state c.args.disk.now in
     let t = g.D.Disk.state c.append.new.disk in
     let log = c.append.new.self in
-    let spare = vec_capacity c.push.new.self - vec_len c.push.new.self in
+    let spare = c.commit-2.new.self.spare in
     let area = c.self.invariant.0.journal_area in
     let operation = c.ready.inside.operation in
     let stands : StandsFor s (store g before) = subst (StandsFor s) (sym c.self.view_is) (c.requires.stands tells) in
@@ -126,7 +124,7 @@ returns-clause-stands g c = λ tells.
     c.ready.invariant (subst (λ (a : Area). records (t.content a)
     ≡ records (s.content a) ++ c.ready.inside.payload ∷ []) area list.list) in
     let alone = c.append.ensures.others Sealed (λ same. let clash : Sealed ≡ Journal = same ∙ area in cc) in
-    let pushed : c.self.inside.history.items ++ operation ∷ [] ≡ c.push.new.self.items = grind (arith, common_steps) in
+    let pushed = sym c.commit-2.ensures.history in
     subst (λ (l : List Op). StandsFor t (record (store g before) {
       history = l;
       members = c.commit.new.self;

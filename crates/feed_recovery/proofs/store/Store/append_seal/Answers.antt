@@ -1,6 +1,5 @@
-use Rattle.std.proofs.Common.{◌≡◌, ◌≢◌, ◌+◌, ◌-◌, ◌||◌, ℕ, List, [], ◌∷◌, ◌++◌, length, Option, Some, refl, sym, ◌∙◌, ap}
-use Rattle.std.proofs.Common.{subst, length-append, vec_len}
-use Rattle.std.specs.Prelude.{vec_capacity}
+use Rattle.std.proofs.Common.{◌≡◌, ◌≢◌, ◌+◌, ◌||◌, ℕ, List, [], ◌∷◌, ◌++◌, length, Option, Some, refl, sym, ◌∙◌, ap}
+use Rattle.std.proofs.Common.{subst, length-append}
 use Rattle.feed_disk.specs.Moments.{AlwaysLeaves, LeavesAlone, NowOnly}
 use Rattle.feed_disk.specs.declared.area.Area.{Area}
 use Rattle.feed_disk.specs.declared.area.Area.TheVariants.{Journal, Sealed}
@@ -78,11 +77,11 @@ pub invariant_of-self-in_default-append : goal.invariant_of-self-in_default-appe
 invariant_of-self-in_default-append g c =
     let store : StoreValue = record {
       head = c.self.inside.head;
-      history = c.self.inside.history.items;
+      history = c.self.inside.window.history;
       members = c.self.inside.members;
       journal = c.self.inside.journal;
       seals = c.self.inside.seals;
-      spare = vec_capacity c.self.inside.history - vec_len c.self.inside.history;
+      spare = c.self.inside.window.spare;
     } in
     let log = c.append.new.self in
     let ok = c.in_default-append.ensures.ok.log in
@@ -93,8 +92,9 @@ invariant_of-self-in_default-append g c =
     ap (λ (v : LogValue). length v.extents) ok ∙ length-append store.seals.extents (_ ∷ []) in (
       keeps_sealed store (c.sealed_windows_are_full.ensures store.head store.history keeps.head) due.0 c.in-Some.seal
           due.1 log keeps (ap (λ (v : LogValue). v.area) ok) count,
-      c.self.invariant.1 ∙ ap (λ (v : LogValue). store.journal.spent || v.spent) (sym ok),
-      c.self.invariant.2,
+      c.self.invariant.1,
+      c.self.invariant.2 ∙ ap (λ (v : LogValue). store.journal.spent || v.spent) (sym ok),
+      c.self.invariant.3,
     )
 
 pub returns-clause-stands : goal.returns-clause-stands

@@ -1,4 +1,4 @@
-use Rattle.std.proofs.Common.{List, ℕ, Err, ap, subst}
+use Rattle.std.proofs.Common.{List, ℕ, Err, ◌∙◌, ap, subst, arith}
 use Rattle.std.proofs.lemmas.Result.{err_from_is_err_and}
 use Rattle.feed_disk.specs.declared.area.Area.TheVariants.{Journal, Sealed, Mirror}
 use Rattle.feed_journal.specs.Records.{records}
@@ -148,3 +148,12 @@ returns-in_err-store-clause-refusal g c =
       seals_rules = c.in_ok-seals.ensures.log.0;
       refuses = c.in_err-store.ensures.refused;
     })
+
+pub returns-clause-faults : goal.returns-clause-faults
+returns-clause-faults g c = record {
+  later = omega (arith, c.load.ensures.faults.later, c.load-2.ensures.faults.later, c.reopen.ensures.reads.later);
+  failed = λ is. absurd (cc);
+  unfailed = λ not. c.in_ok-store.ensures.worked
+      ∙ c.load-2.ensures.faults.unfailed (λ is. let found = c.in_ok-seals.was in absurd (cc))
+      ∙ c.load.ensures.faults.unfailed (λ is. let found = c.in_ok-journal.was in absurd (cc));
+}

@@ -1,0 +1,11 @@
+use Rattle.std.proofs.Common.{◌≡◌, List, [], ◌-◌, ◌*◌, ◌/◌, length, refl, ap, sym, ◌∙◌, subst, arith}
+use Rattle.member_rules.specs.declared.operation.Op.{Op}
+use Rattle.recency_list.specs.Recency.{RecencyValue}
+use Rattle.archive_sealer.proofs.WindowLemmas.{IsKeptOf-none}
+use Rattle.archive_sealer.proofs.window.Window.new.Goals as goal
+
+pub invariant_of-result : goal.invariant_of-result
+invariant_of-result c =
+    IsKeptOf-none _ c.new.result.operations c.requires refl refl refl refl c.in_ok-items.ensures.items
+    (ap (λ (r : RecencyValue). r.list) c.in_ok-reserve.ensures.ok ∙ ap (λ (r : RecencyValue). r.list) c.new-order.ensures)
+    c.new.ensures
