@@ -42,6 +42,14 @@ inserts() {
     seq -f "INSERT INTO entries (title) VALUES ('Advisory number %.0f');" "$1"
 }
 
+# Prints seconds, and the changes a second.
+# usage: rate NAME SECONDS
+rate() {
+    awk -v name="$1" -v count="$count" -v seconds="$2" 'BEGIN {
+        printf "%-40s %12.3f %12.0f\n", name, seconds, count / seconds
+    }'
+}
+
 # Prints the seconds of a command whose input is a file, and its changes a second.
 # usage: measure NAME INPUT COMMAND..
 measure() {
@@ -49,9 +57,7 @@ measure() {
     shift 2
     began=$(date +%s.%N)
     "$@" <"$input" >"$memory/printed" || { echo "$name: failed" >&2; exit 1; }
-    awk -v name="$name" -v count="$count" -v began="$began" -v ended="$(date +%s.%N)" 'BEGIN {
-        printf "%-40s %12.3f %12.0f\n", name, ended - began, count / (ended - began)
-    }'
+    rate "$name" "$(awk -v began="$began" -v ended="$(date +%s.%N)" 'BEGIN { printf "%.6f", ended - began }')"
 }
 
 adds "$count" >"$memory/lines"
@@ -60,7 +66,9 @@ cd "$work" || exit 1
 printf '%-40s %12s %12s\n' "$count changes" seconds 'a second'
 init 100
 measure 'feed_tool apply' "$memory/lines" "$tool" apply
-measure 'the writes and syncs alone' /dev/null "$top/bench/store_loop.py" "$count" "$work/loop"
+# it prints its seconds without the start of the interpreter
+seconds=$("$top/bench/store_loop.py" "$count" "$work/loop") || exit 1
+rate 'the writes and syncs alone' "$seconds"
 if command -v sqlite3 >/dev/null; then
     measure 'sqlite3' "$memory/inserts" sqlite3 "$work/database"
 fi
