@@ -1,12 +1,12 @@
 -- A walk along a list of slots, from the first one on, that copies the item of each.
-use Rattle.std.proofs.Common.{◌≡◌, ℕ, suc, ◌+◌, ◌-◌, ◌<◌, ◌≤◌, List, [], ◌∷◌, ◌++◌, Option, Some, None, length, take, drop}
-use Rattle.std.proofs.Common.{nat_eq, slice_get, get_or, refl, sym, ap, ◌∙◌, subst, add-one, arith, inl, inr}
+use Rattle.std.proofs.Common.{◌≡◌, ℕ, ◌+◌, ◌<◌, ◌≤◌, List, [], ◌∷◌, ◌++◌, Option, Some, None, length, take, drop}
+use Rattle.std.proofs.Common.{nat_eq, slice_get, get_or, refl, sym, ap, ◌∙◌, subst, arith, inl, inr}
 use Rattle.std.specs.Prelude.{All, Contains}
 use Rattle.std.specs.List.{IsDistinct, filter_map, cons_option}
-use Rattle.std.proofs.lemmas.List.{append-nil, drop_more, drop_all, take_more, take_all, take-append-drop, length_push}
-use Rattle.std.proofs.lemmas.List.Elements.{filter_map-append, All-get_or, Contains-get_or}
+use Rattle.std.proofs.lemmas.List.{append-nil, drop_more, drop_all, take_more, take-append-drop, length_push}
+use Rattle.std.proofs.lemmas.List.Elements.{filter_map-append, All-get_or}
 use Rattle.std.proofs.lemmas.Bool.{cases_lt}
-use Rattle.std.proofs.lemmas.Option.{slice_get-get_or, none-some, same_Some}
+use Rattle.std.proofs.lemmas.Option.{none-some, same_Some}
 use Rattle.deleted_entries.specs.declared.item.Item.{Item}
 use Rattle.recency_list.specs.Recency.{RecencyValue, HasNoDoubles, first_of, older_than}
 use Rattle.recency_list.proofs.ApartLemmas.{split_distinct, older_than-split}

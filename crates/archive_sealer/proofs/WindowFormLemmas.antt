@@ -1,5 +1,5 @@
 -- The documents of a window, by what it keeps, and that they keep the rules of documents.
-use Rattle.std.proofs.Common.{◌≡◌, ℕ, ◌+◌, ◌-◌, ◌*◌, ◌/◌, ◌≤◌, ℤ, List, length, take, drop, slice_get, refl, sym, ap, ◌∙◌}
+use Rattle.std.proofs.Common.{◌≡◌, ℕ, ◌+◌, ◌-◌, ◌*◌, ◌/◌, ◌≤◌, ℤ, List, length, slice_get, refl, sym, ap, ◌∙◌}
 use Rattle.std.proofs.Common.{Option, subst, arith}
 use Rattle.std.specs.Prelude.{unwrap_or}
 use Rattle.std.specs.List.{filter_map}
@@ -12,11 +12,9 @@ use Rattle.atom_writer.specs.declared.doc.Kind.TheVariants.{Subscription, Archiv
 use Rattle.atom_writer.specs.Doc.{KeepsRules}
 use Rattle.member_rules.specs.declared.operation.Op.{Op}
 use Rattle.member_rules.specs.Head.{HeadValue, window_limit}
-use Rattle.member_rules.specs.Fold.{last_moment}
-use Rattle.member_rules.specs.Items.{items_of}
 use Rattle.member_rules.specs.History.{history_limit}
 use Rattle.member_rules.specs.Windows.{windows_of}
-use Rattle.member_rules.specs.Documents.{document_of, archive_of, subscription_of, archive, subscription}
+use Rattle.member_rules.specs.Documents.{archive_of, subscription_of, archive, subscription}
 use Rattle.member_rules.proofs.DocumentRulesLemmas.{archive-keeps, subscription-keeps}
 use Rattle.archive_sealer.specs.Window.{IsFull, IsKeptOf, IsOpenKind, Kept, open_document}
 use Rattle.archive_sealer.proofs.DocumentFormLemmas.{form-of_parts}

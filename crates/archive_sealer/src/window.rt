@@ -15,9 +15,9 @@ use atom_writer::{Doc, Kind, MAX_ITEMS};
 use chain_links::Span;
 use deleted_entries::Item;
 use member_rules::{Head, Op};
-use recency_list::Recency;
+use recency_list::{Recency, Steps};
 use std::alloc::Global;
-use std::marker::Model;
+use std::marker::{Brand, Model};
 
 /// The open window of a feed, from which its next documents are made. It keeps the last item of each member that its
 /// operations name, at most 100, and nothing of the operations before it. So its memory doesn't grow with the history.
@@ -143,7 +143,8 @@ impl Window {
         self.count += 1;
         self.last = Some(operation.moment());
         let slot = put(&mut self.items, item_of(operation));
-        self.order.move_to_front(slot);
+        let mut steps = Steps::<Brand>::new();
+        self.order.touch(slot, &mut steps);
     }
 
     /// The subscription document of the history. It is [`crate::subscription`] of all operations, but it looks only at

@@ -7,6 +7,9 @@ use Rattle.member_rules.specs.declared.operation.Op.{Op}
 use Rattle.member_rules.specs.declared.state.State.{State}
 use Rattle.member_rules.specs.declared.state.State.TheVariants.{Never, Live, Gone as Deleted}
 use Rattle.member_rules.specs.Fold.{fold_of, state_of}
+use Rattle.member_rules.specs.Member.{state_kept, edited_kept}
+use Rattle.member_rules.specs.declared.members.Member.{Member}
+use Rattle.member_rules.specs.declared.members.Member.TheVariants.{Live as KeptLive, Gone as KeptGone}
 use Rattle.member_rules.specs.Table.{HasMember, IsTableOf, Table}
 use Rattle.member_rules.proofs.MayFollowLemmas.{live-by_state}
 use Rattle.member_rules.proofs.StateLemmas.{state_of-zero, state_of-past}
@@ -21,7 +24,7 @@ module _ (table : Table) (created : ℤ) (history : List Op) (number : ℕ) (of 
     | inr past ↦ sym (state_of-past created history number of.following (omega (arith, of.count)))
   ]
 
-  pub state_of-member : (is : State) (at : ℤ) → HasMember table number is at → is ≡ state_of history number
+  pub state_of-member : (is : State) (at : Option ℤ) → HasMember table number is at → is ≡ state_of history number
   state_of-member is at has =
       let within = slice_get_within table.states (number - 1) is has.state in
       let here : number - 1 + 1 ≡ number = omega (arith, has.counted) in
@@ -34,20 +37,22 @@ module _ (table : Table) (created : ℤ) (history : List Op) (number : ℕ) (of 
   edited-none outside =
       sym (ap edited_of (live-by_state created history number Never of.following (state_of-none outside)))
 
-  pub edited-live : (is : State) (updated at : ℤ) (version : ℕ) → HasMember table number is at
-      → is ≡ Live updated version → Some at ≡ edited_of ((fold_of history).live number)
-  edited-live is updated at version has live =
+  edited-live : (updated at : ℤ) (version : ℕ) → HasMember table number (Live updated version) (Some at)
+      → Some at ≡ edited_of ((fold_of history).live number)
+  edited-live updated at version has =
       let entry = live-by_state created history number (Live updated version) of.following
-      (sym live ∙ state_of-member is at has) in
-      sym has.edited ∙ of.edited number entry.0 entry.1 ∙ sym (ap edited_of entry.1)
+      (state_of-member (Live updated version) (Some at) has) in
+      let kept : Some (Some at) ≡ Some (Some entry.0.edited) = sym has.edited ∙ of.edited number entry.0 entry.1 in
+      let same : Some at ≡ Some entry.0.edited = cc in
+      same ∙ sym (ap edited_of entry.1)
 
-  pub edited-not_live : (is : State) (at : ℤ) → HasMember table number is at
-      → (is ≡ Never) ⊎ ((when : ℤ) × (is ≡ Deleted when)) → None ≡ edited_of ((fold_of history).live number)
-  edited-not_live is at has not_live = elim not_live [
-    | inl never ↦
-        sym (ap edited_of (live-by_state created history number Never of.following
-        (sym never ∙ state_of-member is at has)))
-    | inr gone ↦
-        sym (ap edited_of (live-by_state created history number (Deleted gone.0) of.following
-        (sym gone.1 ∙ state_of-member is at has)))
-  ]
+  edited-gone : (when : ℤ) → HasMember table number (Deleted when) None
+      → None ≡ edited_of ((fold_of history).live number)
+  edited-gone when has =
+      sym (ap edited_of (live-by_state created history number (Deleted when) of.following
+      (state_of-member (Deleted when) None has)))
+
+  pub edited-member : (member : Member) → HasMember table number (state_kept member) (edited_kept member)
+      → edited_kept member ≡ edited_of ((fold_of history).live number)
+  edited-member (KeptLive version updated edited) has = edited-live updated edited version has
+  edited-member (KeptGone when) has = edited-gone when has

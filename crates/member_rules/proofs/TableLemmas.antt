@@ -2,7 +2,7 @@
 use Rattle.std.proofs.Common.{◌≡◌, ◌≢◌, inl, inr, ℕ, zero, suc, ◌+◌, ◌-◌, ◌<◌, ◌≤◌, ℤ, ◌≤ℤ◌, Bool, true, false}
 use Rattle.std.proofs.Common.{if◌then◌else◌, ◌==◌, Option, Some, None, option_map, List, [], ◌∷◌, ◌++◌, length}
 use Rattle.std.proofs.Common.{slice_get, slice_set, IsSomeAnd, length-append, length-set, refl, sym, ap, ap₂, subst}
-use Rattle.std.proofs.Common.{get_or, map, ◌∙◌, arith}
+use Rattle.std.proofs.Common.{◌∙◌, arith}
 use Rattle.std.specs.Prelude.{is_some, unwrap_or}
 use Rattle.std.proofs.lemmas.Bool.{cases_eq, cases_lt}
 use Rattle.atom_values.specs.Entry.{EntryValue}
@@ -113,14 +113,6 @@ get-set-other (first ∷ rest) zero (suc k) item ne = refl
 get-set-other (first ∷ rest) (suc at) zero item ne = refl
 get-set-other (first ∷ rest) (suc at) (suc k) item ne = get-set-other rest at k item (omega arith)
 
--- a write of an item that has the same in this respect
-pub map-set-same : {A B : Type 0} (f : A → B) (list : List A) (k : ℕ) (item default : A)
-    → f item ≡ f (get_or list k default) → map f (slice_set list k item) ≡ map f list
-map-set-same f [] k item default same = refl
-map-set-same f (first ∷ rest) zero item default same = ap (λ y. y ∷ map f rest) same
-map-set-same f (first ∷ rest) (suc k) item default same =
-    ap (λ ys. f first ∷ ys) (map-set-same f rest k item default same)
-
 -- an operation that names one member doesn't name others
 names_not : (operation : Op) (item : Item) (number : ℕ) → item_of operation ≡ Some item → item_number item ≢ number
     → names number operation ≡ false
@@ -195,9 +187,9 @@ own_live history operation item is =
     ∙ ap (λ o. unwrap_or (option_map (with_item (fold_of history)) o) (fold_of history)) is)
 
 -- the `edited` of the live members of a history
-abbrev AreEdited : List ℤ → List Op → Type 0
+abbrev AreEdited : List (Option ℤ) → List Op → Type 0
 AreEdited edited history = (number : ℕ) (entry : EntryValue) → (fold_of history).live number ≡ Some entry
-    → slice_get edited (number - 1) ≡ Some entry.edited
+    → slice_get edited (number - 1) ≡ Some (Some entry.edited)
 
 -- a member that the operation doesn't name was live with the same entry
 live_before : (history : List Op) (operation : Op) (item : Item) (number : ℕ) (entry : EntryValue)
@@ -209,9 +201,9 @@ live_before history operation item number entry is ne live =
     ∙ live
 
 -- a list that has that of the operation's entry at its member's place, and is as before at the others
-edited_kept : (created : ℤ) (history : List Op) (operation : Op) (entry : EntryValue) (edited new : List ℤ)
+edited_kept : (created : ℤ) (history : List Op) (operation : Op) (entry : EntryValue) (edited new : List (Option ℤ))
     → item_of operation ≡ Some (Kept entry) → AreFollowing created history → length edited ≡ made history
-    → 1 ≤ entry.number → slice_get new (entry.number - 1) ≡ Some entry.edited
+    → 1 ≤ entry.number → slice_get new (entry.number - 1) ≡ Some (Some entry.edited)
     → ((k : ℕ) → k < length edited → k ≢ entry.number - 1 → slice_get new k ≡ slice_get edited k)
     → AreEdited edited history → AreEdited new (history ++ operation ∷ [])
 edited_kept created history operation entry edited new is following size from own others are number stored live =
@@ -224,7 +216,7 @@ edited_kept created history operation entry edited new is following size from ow
           let stored_is : entry ≡ stored = cc in
           ap (λ (k : ℕ). slice_get new (k - 1)) (sym same)
           ∙ own
-          ∙ ap (λ (e : EntryValue). Some e.edited) stored_is
+          ∙ ap (λ (e : EntryValue). Some (Some e.edited)) stored_is
       | inr ne ↦
           let was = live_before history operation (Kept entry) number stored is ne live in
           let within = live_within (fold_of history) (made history) number (AreMembers-of created history following)
@@ -232,20 +224,26 @@ edited_kept created history operation entry edited new is following size from ow
           others (number - 1) (omega (arith, within.0, within.1)) (omega (arith, within.0)) ∙ are number stored was
     ]
 
--- a removal leaves the list
-edited_less : (history : List Op) (removal : RemovalValue) (edited : List ℤ) → AreEdited edited history
-    → AreEdited edited (history ++ Remove removal ∷ [])
-edited_less history removal edited are number stored live = elim (cases_eq removal.tombstone.number number) [
-  | inl same ↦
-      let none : None ≡ Some stored =
-      sym (own_live history (Remove removal) (Gone removal.tombstone) refl
-      ∙ set-same removal.tombstone.number None (fold_of history).live)
-      ∙ ap (fold_of (history ++ Remove removal ∷ [])).live same
-      ∙ live in
-      absurd (cc)
-  | inr ne ↦
-      are number stored (live_before history (Remove removal) (Gone removal.tombstone) number stored refl ne live)
-]
+-- a list that is as before at the others than the removed member
+edited_less : (created : ℤ) (history : List Op) (removal : RemovalValue) (edited new : List (Option ℤ))
+    → AreFollowing created history → 1 ≤ removal.tombstone.number
+    → ((k : ℕ) → k ≢ removal.tombstone.number - 1 → slice_get new k ≡ slice_get edited k)
+    → AreEdited edited history → AreEdited new (history ++ Remove removal ∷ [])
+edited_less created history removal edited new following from others are number stored live =
+    elim (cases_eq removal.tombstone.number number) [
+      | inl same ↦
+          let none : None ≡ Some stored =
+          sym (own_live history (Remove removal) (Gone removal.tombstone) refl
+          ∙ set-same removal.tombstone.number None (fold_of history).live)
+          ∙ ap (fold_of (history ++ Remove removal ∷ [])).live same
+          ∙ live in
+          absurd (cc)
+      | inr ne ↦
+          let was = live_before history (Remove removal) (Gone removal.tombstone) number stored refl ne live in
+          let within = live_within (fold_of history) (made history) number (AreMembers-of created history following)
+          (ap is_some was) in
+          others (number - 1) (omega (arith, within.0)) ∙ are number stored was
+    ]
 
 -- the facts of a new table that don't follow from its states and their `edited`
 pub record Commits (table new : Table) (operation : Op) : Type 0 where
@@ -277,7 +275,7 @@ after_any created history operation item table new is of follows commits count s
 pub IsTableOf-add : (created : ℤ) (history : List Op) (entry : EntryValue) (table new : Table)
     → IsTableOf table created history → MayFollow created history (Add entry) → Commits table new (Add entry)
     → new.states ≡ table.states ++ Live entry.updated new.operations ∷ []
-    → new.edited ≡ table.edited ++ entry.edited ∷ [] → new.live ≡ table.live + 1
+    → new.edited ≡ table.edited ++ Some entry.edited ∷ [] → new.live ≡ table.live + 1
     → IsTableOf new created (history ++ Add entry ∷ [])
 IsTableOf-add created history entry table new of follows commits states edited live =
     let members = AreMembers-of created history of.following in
@@ -307,17 +305,17 @@ IsTableOf-add created history entry table new of follows commits states edited l
     ))
     (subst (λ (s : List State). AreStates s (history ++ Add entry ∷ [])) (sym pushed)
     (states_more history (Add entry) (Kept entry) table.states refl absent (omega (arith, of.count)) of.states))
-    (subst (λ (e : List ℤ). AreEdited e (history ++ Add entry ∷ [])) (sym edited)
-    (edited_kept created history (Add entry) entry table.edited (table.edited ++ entry.edited ∷ []) refl of.following
+    (subst (λ (e : List (Option ℤ)). AreEdited e (history ++ Add entry ∷ [])) (sym edited)
+    (edited_kept created history (Add entry) entry table.edited (table.edited ++ Some entry.edited ∷ []) refl of.following
     size (omega arith)
-    (ap (slice_get (table.edited ++ entry.edited ∷ [])) at ∙ get-push table.edited entry.edited)
-    (λ k inside ne. get-push-other table.edited entry.edited k inside) of.edited))
+    (ap (slice_get (table.edited ++ Some entry.edited ∷ [])) at ∙ get-push table.edited (Some entry.edited))
+    (λ k inside ne. get-push-other table.edited (Some entry.edited) k inside) of.edited))
     (omega (arith, counted, live, of.live))
 
 pub IsTableOf-change : (created : ℤ) (history : List Op) (entry : EntryValue) (table new : Table)
     → IsTableOf table created history → MayFollow created history (Change entry) → Commits table new (Change entry)
     → new.states ≡ slice_set table.states (entry.number - 1) (Live entry.updated new.operations)
-    → new.edited ≡ slice_set table.edited (entry.number - 1) entry.edited
+    → new.edited ≡ slice_set table.edited (entry.number - 1) (Some entry.edited)
     → new.live ≡ table.live → IsTableOf new created (history ++ Change entry ∷ [])
 IsTableOf-change created history entry table new of follows commits states edited live =
     let before = (fold_of history).live in
@@ -350,11 +348,11 @@ IsTableOf-change created history entry table new of follows commits states edite
     (subst (λ (s : List State). AreStates s (history ++ Change entry ∷ [])) (sym put)
     (states_put history (Change entry) (Kept entry) table.states refl within.2 within.0
     (omega (arith, of.count, within.1)) of.states))
-    (subst (λ (e : List ℤ). AreEdited e (history ++ Change entry ∷ [])) (sym edited)
+    (subst (λ (e : List (Option ℤ)). AreEdited e (history ++ Change entry ∷ [])) (sym edited)
     (edited_kept created history (Change entry) entry table.edited
-    (slice_set table.edited (entry.number - 1) entry.edited) refl of.following size within.0
-    (get-set table.edited (entry.number - 1) entry.edited (omega (arith, size, within.0, within.1)))
-    (λ k inside ne. get-set-other table.edited (entry.number - 1) k entry.edited ne) of.edited))
+    (slice_set table.edited (entry.number - 1) (Some entry.edited)) refl of.following size within.0
+    (get-set table.edited (entry.number - 1) (Some entry.edited) (omega (arith, size, within.0, within.1)))
+    (λ k inside ne. get-set-other table.edited (entry.number - 1) k (Some entry.edited) ne) of.edited))
     (live ∙ of.live ∙ sym counted)
 
 -- a table of a history with a live member has a live one
@@ -372,7 +370,7 @@ live-pos created history table number of live =
 pub IsTableOf-remove : (created : ℤ) (history : List Op) (removal : RemovalValue) (table new : Table)
     → IsTableOf table created history → MayFollow created history (Remove removal) → Commits table new (Remove removal)
     → new.states ≡ slice_set table.states (removal.tombstone.number - 1) (Deleted removal.tombstone.when)
-    → new.edited ≡ table.edited
+    → new.edited ≡ slice_set table.edited (removal.tombstone.number - 1) None
     → new.live + 1 ≡ table.live → IsTableOf new created (history ++ Remove removal ∷ [])
 IsTableOf-remove created history removal table new of follows commits states edited live =
     let number = removal.tombstone.number in
@@ -399,8 +397,9 @@ IsTableOf-remove created history removal table new of follows commits states edi
     (subst (λ (s : List State). AreStates s (history ++ Remove removal ∷ [])) (sym states)
     (states_put history (Remove removal) (Gone removal.tombstone) table.states refl within.2 within.0
     (omega (arith, of.count, within.1)) of.states))
-    (subst (λ (e : List ℤ). AreEdited e (history ++ Remove removal ∷ [])) (sym edited)
-    (edited_less history removal table.edited of.edited))
+    (subst (λ (e : List (Option ℤ)). AreEdited e (history ++ Remove removal ∷ [])) (sym edited)
+    (edited_less created history removal table.edited (slice_set table.edited (number - 1) None) of.following within.0
+    (λ k ne. get-set-other table.edited (number - 1) k None ne) of.edited))
     (omega (arith, counted, live, of.live))
 
 -- the same where the operation is known by an equation
@@ -414,7 +413,7 @@ pub commit-add : (table new : Table) (operation : Op) (entry : EntryValue) (crea
     → operation ≡ Add entry → MayCommit table operation → IsTableOf table created history
     → Commits table new operation
     → new.states ≡ table.states ++ Live entry.updated new.operations ∷ []
-    → new.edited ≡ table.edited ++ entry.edited ∷ [] → new.live ≡ table.live + 1
+    → new.edited ≡ table.edited ++ Some entry.edited ∷ [] → new.live ≡ table.live + 1
     → IsTableOf new created (history ++ operation ∷ [])
 commit-add table new operation entry created history is may of commits states edited live =
     subst (λ (o : Op). IsTableOf new created (history ++ o ∷ [])) (sym is)
@@ -425,7 +424,7 @@ pub commit-change : (table new : Table) (operation : Op) (entry : EntryValue) (c
     → operation ≡ Change entry → MayCommit table operation → IsTableOf table created history
     → Commits table new operation
     → new.states ≡ slice_set table.states (entry.number - 1) (Live entry.updated new.operations)
-    → new.edited ≡ slice_set table.edited (entry.number - 1) entry.edited → new.live ≡ table.live
+    → new.edited ≡ slice_set table.edited (entry.number - 1) (Some entry.edited) → new.live ≡ table.live
     → IsTableOf new created (history ++ operation ∷ [])
 commit-change table new operation entry created history is may of commits states edited live =
     subst (λ (o : Op). IsTableOf new created (history ++ o ∷ [])) (sym is)
@@ -437,7 +436,7 @@ pub commit-remove : (table new : Table) (operation : Op) (removal : RemovalValue
     → operation ≡ Remove removal → MayCommit table operation → IsTableOf table created history
     → Commits table new operation
     → new.states ≡ slice_set table.states (removal.tombstone.number - 1) (Deleted removal.tombstone.when)
-    → new.edited ≡ table.edited → new.live + 1 ≡ table.live
+    → new.edited ≡ slice_set table.edited (removal.tombstone.number - 1) None → new.live + 1 ≡ table.live
     → IsTableOf new created (history ++ operation ∷ [])
 commit-remove table new operation removal created history is may of commits states edited live =
     subst (λ (o : Op). IsTableOf new created (history ++ o ∷ [])) (sym is)

@@ -5,6 +5,7 @@ pub mod Ask
 pub mod Fold
 pub mod History
 pub mod Decide
+pub mod Member
 pub mod Table
 pub mod Items
 pub mod Recent

@@ -1,5 +1,5 @@
 -- The table of all members after a list of operations.
-use Rattle.std.specs.Prelude.{◌≡◌, ℕ, ◌+◌, ◌-◌, ◌<◌, ◌≤◌, List, ℤ, Some, Contains, length, slice_get}
+use Rattle.std.specs.Prelude.{◌≡◌, ℕ, ◌+◌, ◌-◌, ◌<◌, ◌≤◌, List, ℤ, Option, Some, Contains, length, slice_get}
 use Rattle.atom_values.specs.Entry.{EntryValue}
 use Rattle.recency_list.specs.Recency.{RecencyValue}
 use Rattle.member_rules.specs.declared.operation.Op.{Op}
@@ -8,12 +8,12 @@ use Rattle.member_rules.specs.Fold.{fold_of, made, last_moment, live_count, stat
 use Rattle.member_rules.specs.History.{AreFollowing, MayFollow, history_limit}
 use Rattle.member_rules.specs.Recent.{recent_members}
 
--- the states of the members, in order of number from 1; the `edited` that is kept of each, which has to be that of its
--- entry only while it is live; the members by their last operations, newest first; the last moment; how many members are
--- live; how many operations there were; and how many more members there is room for
+-- the states of the members, in order of number from 1; the `edited` of each one's entry, if it is live; the members by
+-- their last operations, newest first; the last moment; how many members are live; how many operations there were; and
+-- how many more members there is room for
 pub record Table : Type 0 where
   pub states : List State
-  pub edited : List ℤ
+  pub edited : List (Option ℤ)
   pub recent : List ℕ
   pub last : ℤ
   pub live : ℕ
@@ -21,7 +21,7 @@ pub record Table : Type 0 where
   pub spare : ℕ
 
 -- the table has this state and this `edited` of the member with this number
-pub record HasMember (table : Table) (number : ℕ) (is : State) (at : ℤ) : Type 0 where
+pub record HasMember (table : Table) (number : ℕ) (is : State) (at : Option ℤ) : Type 0 where
   pub counted : 1 ≤ number
   pub state : slice_get table.states (number - 1) ≡ Some is
   pub edited : slice_get table.edited (number - 1) ≡ Some at
@@ -43,7 +43,7 @@ pub record IsTableOf (table : Table) (created : ℤ) (history : List Op) : Type 
   pub count : length table.states ≡ made history
   pub states : (k : ℕ) → k < length table.states → slice_get table.states k ≡ Some (state_of history (k + 1))
   pub edited : (number : ℕ) (entry : EntryValue) → (fold_of history).live number ≡ Some entry
-      → slice_get table.edited (number - 1) ≡ Some entry.edited
+      → slice_get table.edited (number - 1) ≡ Some (Some entry.edited)
   pub recent : table.recent ≡ recent_members history
   pub last : table.last ≡ last_moment created history
   pub live : table.live ≡ live_count history

@@ -1,19 +1,21 @@
 ghost use Rattle.std.specs.Prelude.{◌≡◌, ◌≢◌, ◌↔◌, ◌⊎◌, ℕ, ◌+◌, ◌<◌, ◌≤◌, [], ◌∷◌, ◌++◌, List, ℤ, IsTrue, OnOk};
 ghost use Rattle.std.specs.Prelude.{MatchOption, length, option_map};
+ghost use Rattle.member_rules.specs.declared.members.Member.TheVariants.{Live};
 ghost use Rattle.member_rules.specs.declared.operation.Op.{Op};
 ghost use Rattle.atom_values.specs.Entry.{EntryValue};
 ghost use Rattle.recency_list.specs.Recency.{first_of, older_than};
 ghost use Rattle.member_rules.specs.Fold.{fold_of, made, last_moment, live_count, state_of};
 ghost use Rattle.member_rules.specs.History.{Fits, MayFollow, history_limit};
+ghost use Rattle.member_rules.specs.Member.{state_kept, edited_kept};
 ghost use Rattle.member_rules.specs.Recent.{recent_members};
 ghost use Rattle.member_rules.specs.Table.{HasMember, IsTableOf, MayCommit};
 
 use crate::operation::Op;
 use crate::state::State;
-use atom_values::{NoMemory, Stamp};
-use recency_list::Recency;
+use atom_values::{Entry, NoMemory, Stamp};
+use recency_list::{Recency, Steps};
 use std::alloc::Global;
-use std::marker::Model;
+use std::marker::{Brand, Model};
 
 /// The most operations of a history.
 pub const HISTORY_LIMIT: u32 = 4_294_967_294;
@@ -32,22 +34,69 @@ pub struct Members {
     operations: u32,
 }
 
-/// What the table keeps of a member: its state, and the `edited` of the last entry that it had.
+/// What the table keeps of a member.
 #[derive(Clone, Copy, Debug)]
-struct Member {
-    state: State,
-    edited: Stamp,
+enum Member {
+    /// It has an entry, which the operation `version` set.
+    Live {
+        // The first field, so that it takes the place behind the variant's tag and a member has 24 bytes.
+        version: u32,
+        updated: Stamp,
+        edited: Stamp,
+    },
+    /// It was deleted at this moment.
+    Gone {
+        when: Stamp,
+    },
+}
+
+impl Member {
+    /// The member whose entry the operation `version` set.
+    fn live(version: u32, entry: &Entry) -> Member
+        ensures { result ≡ Live version entry.now.updated entry.now.edited }
+    {
+        Member::Live {
+            version,
+            updated: entry.updated,
+            edited: entry.edited,
+        }
+    }
+
+    /// Its state.
+    fn state(self) -> State
+        ensures { result ≡ state_kept self }
+    {
+        match self {
+            Member::Live {
+                version,
+                updated,
+                ..
+            } => State::Live { updated, version },
+            Member::Gone { when } => State::Gone { when },
+        }
+    }
+
+    /// The `edited` of its entry, if it is live.
+    fn edited(self) -> Option<Stamp>
+        ensures { result ≡ edited_kept self }
+    {
+        match self {
+            Member::Live { edited, .. } => Some(edited),
+            Member::Gone { .. } => None,
+        }
+    }
 }
 
 impl Model for Members {
     ghost use Rattle.std.specs.Prelude.{◌-◌, map, min, vec_len, vec_capacity};
+    ghost use Rattle.member_rules.specs.Member.{state_kept, edited_kept};
     ghost use Rattle.member_rules.specs.Table.{Table, AreCounts, AreOrdered};
 
     ghost Value = { Table };
 
     ghost view = { λ m. record {
-      states = map (λ member. member.state) m.members.items;
-      edited = map (λ member. member.edited) m.members.items;
+      states = map state_kept m.members.items;
+      edited = map edited_kept m.members.items;
       recent = m.order.list;
       last = m.last;
       live = m.live;
@@ -81,7 +130,7 @@ impl Members {
         ensures from_one { result ≢ State.Never → 1 ≤ number }
     {
         match self.member(number) {
-            Some(member) => member.state,
+            Some(member) => member.state(),
             None => State::Never,
         }
     }
@@ -89,7 +138,7 @@ impl Members {
     /// What the table keeps of the member with this number, if that was made.
     fn member(&self, number: u32) -> Option<Member>
         ensures { MatchOption result ((number ≡ 0) ⊎ (length self.now.states < number))
-            (λ member. HasMember self.now number member.state member.edited) }
+            (λ member. HasMember self.now number (state_kept member) (edited_kept member)) }
     {
         let at = number.checked_sub(1)?;
         self.members.get(at as usize).copied()
@@ -100,11 +149,7 @@ impl Members {
         ensures { (created : ℤ) (history : List Op) → IsTableOf self.now created history
             → result ≡ option_map (λ (entry : EntryValue). entry.edited) ((fold_of history).live number) }
     {
-        let member = self.member(number)?;
-        match member.state {
-            State::Live { .. } => Some(member.edited),
-            State::Never | State::Gone { .. } => None,
-        }
+        self.member(number)?.edited()
     }
 
     /// The member whose last operation is the newest, or `None` if no member was made.
@@ -208,26 +253,21 @@ impl Members {
     {
         self.last = operation.moment();
         self.operations += 1;
-        self.order.move_to_front(operation.number());
+        let mut steps = Steps::<Brand>::new();
+        self.order.touch(operation.number(), &mut steps);
         let version = self.operations;
         match operation {
             Op::Add(entry) => {
                 self.live += 1;
-                let updated = entry.updated;
-                let state = State::Live { updated, version };
-                let edited = entry.edited;
-                self.members.push(Member { state, edited }).unwrap();
+                self.members.push(Member::live(version, entry)).unwrap();
             }
             Op::Change(entry) => {
-                let updated = entry.updated;
-                let state = State::Live { updated, version };
-                let edited = entry.edited;
-                self.members[entry.number as usize - 1] = Member { state, edited };
+                self.members[entry.number as usize - 1] = Member::live(version, entry);
             }
             Op::Remove(removal) => {
                 self.live -= 1;
                 let when = removal.tombstone.when;
-                self.members[removal.tombstone.number as usize - 1].state = State::Gone { when };
+                self.members[removal.tombstone.number as usize - 1] = Member::Gone { when };
             }
         }
     }

@@ -1,11 +1,11 @@
 //! Changes of an order and of a plain list.
 
-ghost use Rattle.std.specs.Prelude.{◌≡◌, ◌<◌, ◌≤◌};
+ghost use Rattle.std.specs.Prelude.{◌≡◌, ◌≤◌};
 
 use recency_list::{Recency, Steps};
 use std::alloc::Global;
+use std::marker::Brand;
 use std::process::Abort;
-use std::sync::ledger::{Blank, Ledger};
 
 /// The number of slots.
 pub const SLOTS: u32 = 6;
@@ -21,15 +21,12 @@ pub enum Change {
     Clear,
 }
 
-/// Makes a change, in a ledger of its own.
-pub fn make<L: Ledger>(order: &mut Recency, change: Change, blank: Blank)
-    requires slots { SLOTS ≤ order.old.slots }
-    requires name { blank.name ≡ L.name }
-    requires parts { blank.parts ≡ L.parts }
-    requires some { 0 < blank.parts }
+/// Makes a change, with a counter of its own.
+pub fn make(order: &mut Recency, change: Change)
+    requires { SLOTS ≤ order.old.slots }
     ensures { order.new.slots ≡ order.old.slots }
 {
-    let mut steps = Steps::<L>::new(blank);
+    let mut steps = Steps::<Brand>::new();
     match change {
         Change::Touch(slot) => order.touch(slot % SLOTS, &mut steps),
         Change::Remove(slot) => order.remove(slot % SLOTS, &mut steps),

@@ -5,9 +5,7 @@ ghost use Rattle.std.specs.Prelude.{◌≡◌, ◌≤◌};
 use crate::changes::{Change, SLOTS, change_plain, make, random, walked};
 use recency_list::Recency;
 use std::alloc::Global;
-use std::marker::Brand;
 use std::process::Abort;
-use std::sync::ledger::Blank;
 
 /// An order over `SLOTS` slots.
 fn order_of(rt: &impl Abort, alloc: Global) -> Recency
@@ -22,7 +20,7 @@ fn order_of(rt: &impl Abort, alloc: Global) -> Recency
 fn list_after(rt: &impl Abort, alloc: Global, changes: &[Change]) -> Vec<u32> {
     let mut order = order_of(rt, alloc);
     for &made in changes {
-        make::<Brand>(&mut order, made, Blank::new(1));
+        make(&mut order, made);
     }
     walked(rt, alloc, &order)
 }
@@ -96,7 +94,7 @@ fn follows_a_plain_list(rt: HostRuntime) {
     let mut order = order_of(&rt, rt.alloc());
     let mut plain = Vec::new(rt.alloc());
     for &made in &random(&rt, rt.alloc()) {
-        make::<Brand>(&mut order, made, Blank::new(1));
+        make(&mut order, made);
         change_plain(&rt, &mut plain, made);
         let found = walked(&rt, rt.alloc(), &order);
         assert!(rt; found == plain);
@@ -106,8 +104,8 @@ fn follows_a_plain_list(rt: HostRuntime) {
 #[test]
 fn keeps_its_list_as_it_grows(rt: HostRuntime) {
     let mut order = order_of(&rt, rt.alloc());
-    make::<Brand>(&mut order, Change::Touch(3), Blank::new(1));
-    make::<Brand>(&mut order, Change::Touch(1), Blank::new(1));
+    make(&mut order, Change::Touch(3));
+    make(&mut order, Change::Touch(1));
     for slots in [0, SLOTS, 4 * SLOTS] {
         assert!(rt; order.reserve(slots) == Ok(()));
         assert!(rt; walked(&rt, rt.alloc(), &order).as_slice() == [1, 3].as_slice());

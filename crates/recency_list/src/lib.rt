@@ -8,6 +8,7 @@
 //! ```
 //! let mut order = Recency::new(alloc);
 //! order.reserve(3)?;
+//! let mut steps = Steps::<Brand>::new();
 //! order.touch(2, &mut steps);
 //! order.touch(0, &mut steps);
 //! let newest = order.front(); // Some(0)
@@ -22,6 +23,7 @@ mod links;
 mod recency;
 mod slots;
 mod steps;
+mod ticks;
 
 pub use recency::Recency;
 #[doc(hidden)]

@@ -7,7 +7,7 @@ ghost use Rattle.std.specs.Option.{ForSome};
 ghost use Rattle.recency_list.specs.Links.{facing_newer_at, facing_older_at, IsOrder, listed};
 ghost use Rattle.recency_list.specs.Recency.{without, TakesSteps};
 
-use crate::slots::{Slot, Slots};
+use crate::slots::{Slot, Slots, UNLISTED};
 use crate::steps::Steps;
 use std::sync::ledger::Ledger;
 
@@ -23,7 +23,10 @@ fn set_newer<L: Ledger>(
     ensures cost { TakesSteps steps.old steps.new 1 }
 {
     if let Some(at) = at {
-        let slot = slots.get(at).with_newer(newer);
+        let slot = Slot {
+            newer,
+            older: slots.get(at).older,
+        };
         slots.write(at, slot, steps);
     }
 }
@@ -40,9 +43,21 @@ fn set_older<L: Ledger>(
     ensures cost { TakesSteps steps.old steps.new 1 }
 {
     if let Some(at) = at {
-        let slot = slots.get(at).with_older(older);
+        let slot = Slot {
+            newer: slots.get(at).newer,
+            older,
+        };
         slots.write(at, slot, steps);
     }
+}
+
+/// Whether a slot is in the list. One that is has a newer neighbour, unless it is the first.
+fn is_listed(slots: &Slots, first: Option<u32>, slot: u32) -> bool
+    requires exists { slot < length slots.now }
+    requires order { IsOrder slots.now first (listed slots.now first) }
+    ensures { result ≡ list_any (λ other. slot == other) (listed slots.now first) }
+{
+    first == Some(slot) || slots.get(slot).newer.is_some()
 }
 
 /// Takes a slot out of the list and returns the first slot of what is left.
@@ -58,17 +73,16 @@ pub fn unlink<L: Ledger>(
     ensures count { length slots.new ≡ length slots.old }
     ensures cost { TakesSteps steps.old steps.new 3 }
 {
-    match slots.get(slot) {
-        Slot::Unlisted => first,
-        Slot::Listed { newer, older } => {
-            set_older(slots, newer, older, steps);
-            set_newer(slots, older, newer, steps);
-            slots.write(slot, Slot::Unlisted, steps);
-            match newer {
-                None => older,
-                Some(_) => first,
-            }
-        }
+    if !is_listed(slots, first, slot) {
+        return first;
+    }
+    let Slot { newer, older } = slots.get(slot);
+    set_older(slots, newer, older, steps);
+    set_newer(slots, older, newer, steps);
+    slots.write(slot, UNLISTED, steps);
+    match newer {
+        None => older,
+        Some(_) => first,
     }
 }
 
@@ -84,7 +98,7 @@ pub fn link_first<L: Ledger>(slots: &mut Slots, first: Option<u32>, slot: u32, s
     set_newer(slots, first, Some(slot), steps);
     slots.write(
         slot,
-        Slot::Listed {
+        Slot {
             newer: None,
             older: first,
         },

@@ -2,12 +2,12 @@ ghost use Rattle.std.specs.Prelude.{◌≡◌, ◌<◌, ◌∷◌, [], max, Cont
 ghost use Rattle.recency_list.specs.Recency.{HasNoDoubles, TakesSteps, first_of, older_than, touched, without};
 
 use crate::links::{link_first, unlink};
-use crate::slots::{Slot, Slots};
+use crate::slots::Slots;
 use crate::steps::Steps;
 use atom_values::NoMemory;
 use std::alloc::Global;
-use std::marker::{Brand, Model};
-use std::sync::ledger::{Blank, Ledger};
+use std::marker::Model;
+use std::sync::ledger::Ledger;
 
 /// A list of slots without doubles, the newest first, and the number of slots that exist.
 #[derive(Debug, Drop)]
@@ -63,15 +63,6 @@ impl Recency {
         self.first = Some(slot);
     }
 
-    /// Moves a slot to the front as [`Recency::touch`] does, for a caller that doesn't count the writes.
-    pub fn move_to_front(&mut self, slot: u32)
-        requires { slot < self.old.slots }
-        ensures list { self.new ≡ record self.old { list = touched slot self.old.list } }
-        ensures rules { HasNoDoubles self.new }
-    {
-        touch_in::<Brand>(self, slot, Blank::new(1));
-    }
-
     /// Takes a slot out of the list, if it is there. The others keep their order. Takes no memory, and at most six writes
     /// to slots.
     pub fn remove<L: Ledger>(&mut self, slot: u32, steps: &mut Steps<L>)
@@ -107,22 +98,6 @@ impl Recency {
         ensures listed { IfSome result (Contains self.now.list) }
         ensures rules { HasNoDoubles self.now }
     {
-        match self.slots.get(slot) {
-            Slot::Listed { older, .. } => older,
-            Slot::Unlisted => unreachable!(),
-        }
+        self.slots.get(slot).older
     }
-}
-
-/// Moves a slot to the front, and counts the writes in a new ledger.
-fn touch_in<L: Ledger>(order: &mut Recency, slot: u32, blank: Blank)
-    requires exists { slot < order.old.slots }
-    requires name { blank.name ≡ L.name }
-    requires parts { blank.parts ≡ L.parts }
-    requires some { 0 < blank.parts }
-    ensures list { order.new ≡ record order.old { list = touched slot order.old.list } }
-    ensures rules { HasNoDoubles order.new }
-{
-    let mut steps = Steps::<L>::new(blank);
-    order.touch(slot, &mut steps);
 }

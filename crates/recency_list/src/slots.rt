@@ -1,6 +1,5 @@
 ghost use Rattle.std.specs.Prelude.{◌≡◌, ◌+◌, ◌-◌, ◌<◌, [], ◌++◌, length, set, replicate, OnOk, OnErr};
-ghost use Rattle.recency_list.specs.Links.{facing_newer, facing_older, slot_at};
-ghost use Rattle.recency_list.specs.declared.slots.Slot.TheVariants.{Unlisted};
+ghost use Rattle.recency_list.specs.Links.{slot_at, unlisted};
 
 use crate::steps::Steps;
 use atom_values::NoMemory;
@@ -8,39 +7,18 @@ use std::alloc::Global;
 use std::marker::Model;
 use std::sync::ledger::Ledger;
 
-/// A slot's place in the list.
+/// A slot's neighbours in the list. `None` is an end of the list. A slot that isn't in the list has no neighbours.
 #[derive(Clone, Copy, Debug, PartialEq, Eq)]
-pub enum Slot {
-    /// The slot isn't in the list.
-    Unlisted,
-    /// The slot is in the list between these neighbours. `None` is an end of the list.
-    Listed {
-        newer: Option<u32>,
-        older: Option<u32>,
-    },
+pub struct Slot {
+    pub newer: Option<u32>,
+    pub older: Option<u32>,
 }
 
-impl Slot {
-    /// The slot with another newer neighbour, if it is in the list.
-    pub fn with_newer(self, newer: Option<u32>) -> Slot
-        ensures { result ≡ facing_newer newer self }
-    {
-        match self {
-            Slot::Unlisted => Slot::Unlisted,
-            Slot::Listed { older, .. } => Slot::Listed { newer, older },
-        }
-    }
-
-    /// The slot with another older neighbour, if it is in the list.
-    pub fn with_older(self, older: Option<u32>) -> Slot
-        ensures { result ≡ facing_older older self }
-    {
-        match self {
-            Slot::Unlisted => Slot::Unlisted,
-            Slot::Listed { newer, .. } => Slot::Listed { newer, older },
-        }
-    }
-}
+/// A slot that isn't in the list.
+pub(crate) const UNLISTED: Slot = Slot {
+    newer: None,
+    older: None,
+};
 
 /// The slots. A write to one of them is a step.
 #[derive(Debug, Drop)]
@@ -90,20 +68,20 @@ impl Slots {
     /// Error: `NoMemory`, with the slots as before.
     pub fn grow(&mut self, count: u32) -> Result<(), NoMemory>
         ensures ok { OnOk result
-            (self.new ≡ self.old ++ replicate (count - length self.old) Unlisted) }
+            (self.new ≡ self.old ++ replicate (count - length self.old) unlisted) }
         ensures err { OnErr result (self.new ≡ self.old) }
     {
         let count = count as usize;
         if self.slots.len() < count {
-            self.slots.resize(count, Slot::Unlisted)?;
+            self.slots.resize(count, UNLISTED)?;
         }
         Ok(())
     }
 
     /// Takes every slot out of the list. The number of slots stays.
     pub fn clear(&mut self)
-        ensures { self.new ≡ replicate (length self.old) Unlisted }
+        ensures { self.new ≡ replicate (length self.old) unlisted }
     {
-        self.slots.as_mut_slice().fill(Slot::Unlisted);
+        self.slots.as_mut_slice().fill(UNLISTED);
     }
 }

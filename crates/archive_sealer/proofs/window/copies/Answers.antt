@@ -1,7 +1,6 @@
-use Rattle.std.proofs.Common.{◌≡◌, Some, None, Option, [], ◌∷◌, ◌++◌, ap, sym, ◌∙◌, refl, rules}
+use Rattle.std.proofs.Common.{◌≡◌, Some, refl}
 use Rattle.std.specs.Prelude.{slice_get}
 use Rattle.std.proofs.lemmas.Option.{slice_get_read}
-use Rattle.deleted_entries.specs.declared.item.Item.{Item}
 use Rattle.archive_sealer.proofs.CopiesLemmas.{IsWalked-more, IsWalked-all, walked-there, walked-contains}
 use Rattle.archive_sealer.proofs.window.copies.Goals as goal
 

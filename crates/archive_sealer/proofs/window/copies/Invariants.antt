@@ -1,7 +1,4 @@
-use Rattle.std.proofs.Common.{◌≡◌, ◌-◌, length, take, drop}
-use Rattle.std.specs.Prelude.{slice_get}
-use Rattle.std.specs.List.{filter_map}
-use Rattle.recency_list.specs.Recency.{HasNoDoubles, first_of}
+use Rattle.std.proofs.Common.{◌-◌, length}
 use Rattle.archive_sealer.proofs.CopiesLemmas.{IsWalked}
 use Rattle.archive_sealer.proofs.window.copies.Given as goal
 

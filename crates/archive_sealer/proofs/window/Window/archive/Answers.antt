@@ -2,7 +2,6 @@ use Rattle.std.proofs.Common.{◌≡◌, ◌+◌, ◌≤◌, length, ap, sym, �
 use Rattle.std.specs.Prelude.{IfOk}
 use Rattle.atom_writer.specs.declared.doc.Kind.TheVariants.{Archive}
 use Rattle.atom_writer.specs.Doc.{DocValue}
-use Rattle.member_rules.specs.Windows.{windows_of}
 use Rattle.archive_sealer.specs.Window.{WindowValue, open_document}
 use Rattle.archive_sealer.proofs.WindowCountLemmas.{sealed-is}
 use Rattle.archive_sealer.proofs.WindowFormLemmas.{archive-is}

@@ -34,4 +34,4 @@ invariant_of-self c =
     subst (λ (v : WindowValue). length v.history < history_limit) (sym c.self.view_is) c.requires.few in
     IsKeptOf-more _ _ _ _ history _ c.args.operation c.item_of.result c.put-slot.result ready.fields few
     c.item_of.ensures c.put-slot.ensures refl (ap Some c.moment.ensures)
-    (ap (λ (r : RecencyValue). r.list) c.move_to_front.ensures.list) ready.past
+    (ap (λ (r : RecencyValue). r.list) c.touch.ensures.list) ready.past

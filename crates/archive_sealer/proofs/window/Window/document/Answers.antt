@@ -1,8 +1,8 @@
-use Rattle.std.proofs.Common.{◌≡◌, ◌+◌, ◌≤◌, List, Option, length, ap, sym, ◌∙◌, subst, ℤ}
+use Rattle.std.proofs.Common.{◌≡◌, ◌+◌, ◌≤◌, List, length, ap, sym, ◌∙◌, subst}
 use Rattle.std.specs.Prelude.{slice_get, unwrap_or}
 use Rattle.std.specs.List.{filter_map}
 use Rattle.deleted_entries.specs.declared.item.Item.{Item}
-use Rattle.atom_writer.specs.Doc.{DocValue, KeepsRules}
+use Rattle.atom_writer.specs.Doc.{KeepsRules}
 use Rattle.member_rules.specs.declared.operation.Op.{Op}
 use Rattle.member_rules.specs.Head.{HeadValue, window_limit}
 use Rattle.member_rules.specs.History.{history_limit}

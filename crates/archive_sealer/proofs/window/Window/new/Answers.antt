@@ -1,5 +1,4 @@
-use Rattle.std.proofs.Common.{◌≡◌, List, [], ◌-◌, ◌*◌, ◌/◌, length, refl, ap, sym, ◌∙◌, subst, arith}
-use Rattle.member_rules.specs.declared.operation.Op.{Op}
+use Rattle.std.proofs.Common.{refl, ap, ◌∙◌}
 use Rattle.recency_list.specs.Recency.{RecencyValue}
 use Rattle.archive_sealer.proofs.WindowLemmas.{IsKeptOf-none}
 use Rattle.archive_sealer.proofs.window.Window.new.Goals as goal

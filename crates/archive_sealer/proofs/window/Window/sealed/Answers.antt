@@ -1,4 +1,4 @@
-use Rattle.std.proofs.Common.{◌≡◌, length, ap, sym, ◌∙◌}
+use Rattle.std.proofs.Common.{length, ap, sym, ◌∙◌}
 use Rattle.archive_sealer.specs.Window.{WindowValue}
 use Rattle.archive_sealer.proofs.WindowCountLemmas.{sealed-is}
 use Rattle.archive_sealer.proofs.window.Window.sealed.Goals as goal

@@ -1,56 +1,57 @@
-use Rattle.std.proofs.Common.{◌≡◌, ◌+◌, ◌-◌, ◌++◌, ◌∷◌, [], length, map, slice_set, vec_len, ap, ap₂, sym, subst, ◌∙◌}
+use Rattle.std.proofs.Common.{◌≡◌, ℕ, ◌+◌, ◌-◌, ◌++◌, ◌∷◌, [], length, map, slice_set, vec_len, ap, ap₂, sym, subst, ◌∙◌}
 use Rattle.std.proofs.Common.{rules, arith}
 use Rattle.std.proofs.lemmas.List.{length-map, map_push, map-set}
 use Rattle.atom_values.specs.Entry.{EntryValue}
 use Rattle.deleted_entries.specs.Tombstone.{TombstoneValue}
 use Rattle.recency_list.specs.Recency.{RecencyValue, touched}
+use Rattle.member_rules.specs.Member.{state_kept, edited_kept}
 use Rattle.member_rules.specs.Operation.{number_of}
 use Rattle.member_rules.specs.Removal.{RemovalValue}
 use Rattle.member_rules.specs.Table.{AreOrdered, Table}
 use Rattle.member_rules.specs.declared.members.Member.{Member}
+use Rattle.member_rules.specs.declared.members.Member.TheVariants.{Live, Gone}
 use Rattle.member_rules.specs.declared.operation.Removal.TheInside.{Inside}
-use Rattle.member_rules.specs.declared.state.State.TheVariants.{Live, Gone as Deleted}
 use Rattle.member_rules.proofs.RecentLemmas.{AreOrdered-more, AreOrdered-same}
 use Rattle.member_rules.proofs.TableLemmas.{commit-add, commit-change, commit-remove, change-place, remove-place}
-use Rattle.member_rules.proofs.TableLemmas.{number-place, add-number, map-set-same}
+use Rattle.member_rules.proofs.TableLemmas.{number-place, add-number}
 use Rattle.member_rules.proofs.members.Members.commit.Goals as goal
-use Rattle.member_rules.proofs.members.Members.commit.Goals.{After-move_to_front}
+use Rattle.member_rules.proofs.members.Members.commit.Goals.{After-touch}
 
-pub move_to_front-requires : goal.move_to_front-requires
-move_to_front-requires c =
+pub touch-requires : goal.touch-requires
+touch-requires c =
     let place = number-place c.args.self.now c.args.operation.now c.requires.follows in
     let size = ap (λ (t : Table). length t.states) c.self.view_is in
     let spare = ap (λ (t : Table). t.spare) c.self.view_is in
     let len = c.self.inside.members.ok.0 in
-    omega (arith, length-map c.self.inside.members.items (λ (member : Member). member.state))
+    omega (arith, length-map c.self.inside.members.items state_kept)
 
 pub invariant_of-self : goal.invariant_of-self
 invariant_of-self c =
     let next = add-number c.args.self.now c.args.operation.now c.in-Add.entry c.in-Add.is c.requires.follows in
     let size = ap (λ (t : Table). length t.states) c.self.view_is in
-    let same = length-map c.self.inside.members.items (λ (member : Member). member.state) in
+    let same = length-map c.self.inside.members.items state_kept in
     let spare = ap (λ (t : Table). t.spare) c.self.view_is in
     let len = c.self.inside.members.ok.0 in
     let more : vec_len c.push.new.self ≡ vec_len c.self.inside.members + 1 = search rules in
     let ordered = AreOrdered-more (vec_len c.self.inside.members) c.number.result c.self.inside.order c.self.invariant.1
     (omega arith) (omega arith) in (
       search rules,
-      subst (λ n. AreOrdered n c.move_to_front.new.self) (sym more)
-          (subst (AreOrdered (vec_len c.self.inside.members + 1)) (sym c.move_to_front.ensures.list) ordered),
+      subst (λ n. AreOrdered n c.touch.new.self) (sym more)
+          (subst (AreOrdered (vec_len c.self.inside.members + 1)) (sym c.touch.ensures.list) ordered),
     )
 
 pub index_mut-requires : goal.index_mut-requires
 index_mut-requires c =
     let place = change-place c.args.self.now c.args.operation.now c.in-Change.entry c.in-Change.is c.requires.follows in
-    let number = ap (λ (e : EntryValue). e.number) c.entry-in-Change.view_is in
+    let number = ap (λ (e : EntryValue). e.number) c.entry.view_is in
     let size = ap (λ (t : Table). length t.states) c.self.view_is in
     let len = c.self.inside.members.ok.0 in
-    omega (arith, length-map c.self.inside.members.items (λ (member : Member). member.state))
+    omega (arith, length-map c.self.inside.members.items state_kept)
 
 pub invariant_of-self-in-Change : goal.invariant_of-self-in-Change
 invariant_of-self-in-Change c = (
   search rules,
-  subst (AreOrdered (vec_len c.self.inside.members)) (sym c.move_to_front.ensures.list)
+  subst (AreOrdered (vec_len c.self.inside.members)) (sym c.touch.ensures.list)
       (AreOrdered-same (vec_len c.self.inside.members) c.number.result c.self.inside.order c.self.invariant.1),
 )
 
@@ -69,40 +70,36 @@ index_mut-requires-in-Remove c =
     ∙ ap (λ (r : RemovalValue). r.tombstone.number) c.removal.view_is in
     let size = ap (λ (t : Table). length t.states) c.self.view_is in
     let len = c.self.inside.members.ok.0 in
-    omega (arith, place.1, length-map c.self.inside.members.items (λ (member : Member). member.state))
+    omega (arith, place.1, length-map c.self.inside.members.items state_kept)
 
 pub invariant_of-self-in-Remove : goal.invariant_of-self-in-Remove
 invariant_of-self-in-Remove c = (
   search rules,
-  subst (AreOrdered (vec_len c.self.inside.members)) (sym c.move_to_front.ensures.list)
+  subst (AreOrdered (vec_len c.self.inside.members)) (sym c.touch.ensures.list)
       (AreOrdered-same (vec_len c.self.inside.members) c.number.result c.self.inside.order c.self.invariant.1),
 )
 
-sizes : (c : After-move_to_front) → length c.args.self.now.edited ≡ length c.args.self.now.states
+sizes : (c : After-touch) → length c.args.self.now.edited ≡ length c.args.self.now.states
 sizes c =
     let items = c.self.inside.members.items in
     let states = ap (λ (t : Table). length t.states) c.self.view_is in
     let edited = ap (λ (t : Table). length t.edited) c.self.view_is in
     sym edited
-    ∙ length-map items (λ (member : Member). member.edited)
-    ∙ sym (length-map items (λ (member : Member). member.state))
+    ∙ length-map items edited_kept
+    ∙ sym (length-map items state_kept)
     ∙ states
 
-recent : (c : After-move_to_front) → c.move_to_front.new.self.list
+recent : (c : After-touch) → c.touch.new.self.list
     ≡ touched (number_of c.args.operation.now) c.args.self.now.recent
 recent c =
-    ap (λ (order : RecencyValue). order.list) c.move_to_front.ensures.list
+    ap (λ (order : RecencyValue). order.list) c.touch.ensures.list
     ∙ ap₂ touched c.number.ensures (ap (λ (t : Table). t.recent) c.self.view_is)
 
 pub returns-in-Add-clause-table : goal.returns-in-Add-clause-table
 returns-in-Add-clause-table c = λ created history of.
-    let start = (goal.at.returns-in-Add-clause-table c).After-move_to_front in
+    let start = (goal.at.returns-in-Add-clause-table c).After-touch in
     let items = c.self.inside.members.items in
-    let member : Member = record {
-      state = Live c.entry.inside.updated (c.self.inside.operations + 1);
-      edited = c.entry.inside.edited;
-    } in
-    let pushed : c.push.new.self.items ≡ items ++ member ∷ [] = rw c.unwrap.ensures at c.push.ensures.items in
+    let pushed : c.push.new.self.items ≡ items ++ c.live.result ∷ [] = rw c.unwrap.ensures at c.push.ensures.items in
     commit-add c.args.self.now _ c.args.operation.now c.in-Add.entry created history c.in-Add.is c.requires.follows of
     (record {
       sizes = sizes start;
@@ -110,24 +107,21 @@ returns-in-Add-clause-table c = λ created history of.
       last = c.moment-self-inside.ensures;
       operations = ap (λ (t : Table). t.operations + 1) c.self.view_is;
     })
-    (ap (map (λ (m : Member). m.state)) pushed
-    ∙ map_push (λ (m : Member). m.state) items member
-    ∙ ap₂ (λ (t : Table) (e : EntryValue). t.states ++ Live e.updated (c.self.inside.operations + 1) ∷ [])
-    c.self.view_is c.entry.view_is)
-    (ap (map (λ (m : Member). m.edited)) pushed
-    ∙ map_push (λ (m : Member). m.edited) items member
-    ∙ ap₂ (λ (t : Table) (e : EntryValue). t.edited ++ e.edited ∷ []) c.self.view_is c.entry.view_is)
+    (ap (map state_kept) pushed
+    ∙ map_push state_kept items c.live.result
+    ∙ ap₂ (λ (t : Table) (m : Member). t.states ++ state_kept m ∷ []) c.self.view_is c.live.ensures)
+    (ap (map edited_kept) pushed
+    ∙ map_push edited_kept items c.live.result
+    ∙ ap₂ (λ (t : Table) (m : Member). t.edited ++ edited_kept m ∷ []) c.self.view_is c.live.ensures)
     (ap (λ (t : Table). t.live + 1) c.self.view_is)
 
 pub returns-in-Change-clause-table : goal.returns-in-Change-clause-table
 returns-in-Change-clause-table c = λ created history of.
-    let start = (goal.at.returns-in-Change-clause-table c).After-move_to_front in
+    let start = (goal.at.returns-in-Change-clause-table c).After-touch in
     let items = c.self.inside.members.items in
-    let at = c.entry-in-Change.inside.number - 1 in
-    let member : Member = record {
-      state = Live c.entry-in-Change.inside.updated (c.self.inside.operations + 1);
-      edited = c.entry-in-Change.inside.edited;
-    } in
+    let at = c.entry.inside.number - 1 in
+    let number = ap (λ (e : EntryValue). e.number) c.entry.view_is in
+    let member = Live (c.self.inside.operations + 1) c.in-Change.entry.updated c.in-Change.entry.edited in
     commit-change c.args.self.now _ c.args.operation.now c.in-Change.entry created history c.in-Change.is
     c.requires.follows of
     (record {
@@ -136,18 +130,17 @@ returns-in-Change-clause-table c = λ created history of.
       last = c.moment-self-inside.ensures;
       operations = ap (λ (t : Table). t.operations + 1) c.self.view_is;
     })
-    (map-set (λ (m : Member). m.state) items at member
-    ∙ ap₂ (λ (t : Table) (e : EntryValue).
-    slice_set t.states (e.number - 1) (Live e.updated (c.self.inside.operations + 1)))
-    c.self.view_is c.entry-in-Change.view_is)
-    (map-set (λ (m : Member). m.edited) items at member
-    ∙ ap₂ (λ (t : Table) (e : EntryValue). slice_set t.edited (e.number - 1) e.edited)
-    c.self.view_is c.entry-in-Change.view_is)
+    (map-set state_kept items at c.live-in-Change.result
+    ∙ ap₂ (λ (t : Table) (m : Member). slice_set t.states at (state_kept m)) c.self.view_is c.live-in-Change.ensures
+    ∙ ap (λ (n : ℕ). slice_set c.args.self.now.states (n - 1) (state_kept member)) number)
+    (map-set edited_kept items at c.live-in-Change.result
+    ∙ ap₂ (λ (t : Table) (m : Member). slice_set t.edited at (edited_kept m)) c.self.view_is c.live-in-Change.ensures
+    ∙ ap (λ (n : ℕ). slice_set c.args.self.now.edited (n - 1) (edited_kept member)) number)
     (ap (λ (t : Table). t.live) c.self.view_is)
 
 pub returns-in-Remove-clause-table : goal.returns-in-Remove-clause-table
 returns-in-Remove-clause-table c = λ created history of.
-    let start = (goal.at.returns-in-Remove-clause-table c).After-move_to_front in
+    let start = (goal.at.returns-in-Remove-clause-table c).After-touch in
     let place = remove-place c.args.self.now c.args.operation.now c.in-Remove.removal c.in-Remove.is c.requires.follows
     in
     let live = ap (λ (t : Table). t.live) c.self.view_is in
@@ -155,8 +148,7 @@ returns-in-Remove-clause-table c = λ created history of.
     ∙ ap (λ (r : RemovalValue). r.tombstone) c.removal.view_is in
     let items = c.self.inside.members.items in
     let at = c.removal-inside.inside.0.0.number - 1 in
-    let was = c.index_mut-in-Remove.result.now in
-    let member : Member = record { state = Deleted c.removal-inside.inside.0.0.when; edited = was.edited } in
+    let member = Gone c.removal-inside.inside.0.0.when in
     commit-remove c.args.self.now _ c.args.operation.now c.in-Remove.removal created history c.in-Remove.is
     c.requires.follows of
     (record {
@@ -165,10 +157,10 @@ returns-in-Remove-clause-table c = λ created history of.
       last = c.moment-self-inside.ensures;
       operations = ap (λ (t : Table). t.operations + 1) c.self.view_is;
     })
-    (map-set (λ (m : Member). m.state) items at member
-    ∙ ap₂ (λ (t : Table) (x : TombstoneValue). slice_set t.states (x.number - 1) (Deleted x.when)) c.self.view_is
-    tombstone)
-    (map-set-same (λ (m : Member). m.edited) items at member was
-    (ap (λ (m : Member). m.edited) c.index_mut-in-Remove.ensures.value)
-    ∙ ap (λ (t : Table). t.edited) c.self.view_is)
+    (map-set state_kept items at member
+    ∙ ap₂ (λ (t : Table) (x : TombstoneValue). slice_set t.states (x.number - 1) (state_kept (Gone x.when)))
+    c.self.view_is tombstone)
+    (map-set edited_kept items at member
+    ∙ ap₂ (λ (t : Table) (x : TombstoneValue). slice_set t.edited (x.number - 1) (edited_kept (Gone x.when)))
+    c.self.view_is tombstone)
     (omega (arith, place.0))

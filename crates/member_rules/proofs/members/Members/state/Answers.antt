@@ -1,3 +1,5 @@
+use Rattle.std.proofs.Common.{◌∙◌}
+use Rattle.member_rules.specs.Member.{state_kept, edited_kept}
 use Rattle.member_rules.proofs.MemberLemmas.{state_of-none, state_of-member}
 use Rattle.member_rules.proofs.members.Members.state.Goals as goal
 
@@ -7,5 +9,5 @@ returns-in-None-clause-state c = λ created history of.
 
 pub returns-in-Some-clause-state : goal.returns-in-Some-clause-state
 returns-in-Some-clause-state c = λ created history of.
-    state_of-member c.args.self.now created history c.args.number of c.in-Some.member.state c.in-Some.member.edited
-    c.in-Some.ensures
+    c.state.ensures ∙ state_of-member c.args.self.now created history c.args.number of
+    (state_kept c.in-Some.member) (edited_kept c.in-Some.member) c.in-Some.ensures

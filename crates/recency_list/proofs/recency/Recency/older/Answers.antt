@@ -3,32 +3,33 @@ use Rattle.std.specs.Prelude.{Contains, IfSome}
 use Rattle.recency_list.specs.Links.{listed}
 use Rattle.recency_list.specs.Recency.{RecencyValue, older_than}
 use Rattle.recency_list.proofs.ApartLemmas.{older_contained}
-use Rattle.recency_list.proofs.LinkLemmas.{listed_below}
-use Rattle.recency_list.proofs.OrderLemmas.{contained, next_is, no_doubles}
+use Rattle.recency_list.proofs.OrderLemmas.{contained, exists, next_is, no_doubles}
 use Rattle.recency_list.proofs.recency.Recency.older.Goals as goal
+use Rattle.recency_list.proofs.recency.Recency.older.Goals.{After-get}
 
 pub get-requires : goal.get-requires
 get-requires c =
     let inside = c.self.inside in
-    listed_below inside.slots c.args.slot
+    exists inside.slots inside.first (listed inside.slots inside.first) c.self.invariant c.args.slot
     (contained inside.slots inside.first (listed inside.slots inside.first) c.self.invariant c.args.slot
     (subst (λ (v : RecencyValue). Contains v.list c.args.slot) (sym c.self.view_is) c.requires))
 
-pub returns-clause-next : goal.returns-clause-next
-returns-clause-next c =
+next : (c : After-get) → c.get.result.older ≡ older_than c.args.slot c.args.self.now.list
+next c =
     let inside = c.self.inside in
-    next_is inside.slots inside.first (listed inside.slots inside.first) c.self.invariant c.args.slot
-    c.in-Listed.newer c.in-Listed.older (sym c.in-Listed.ensures)
+    let list = listed inside.slots inside.first in
+    next_is inside.slots inside.first list c.self.invariant c.args.slot
+    (contained inside.slots inside.first list c.self.invariant c.args.slot
+    (subst (λ (v : RecencyValue). Contains v.list c.args.slot) (sym c.self.view_is) c.requires))
+    c.get.result.newer c.get.result.older (sym c.get.ensures)
     ∙ ap (λ (v : RecencyValue). older_than c.args.slot v.list) c.self.view_is
+
+pub returns-clause-next : goal.returns-clause-next
+returns-clause-next c = next c
 
 pub returns-clause-listed : goal.returns-clause-listed
 returns-clause-listed c =
-    let inside = c.self.inside in
-    let next : c.in-Listed.older ≡ older_than c.args.slot c.args.self.now.list =
-    next_is inside.slots inside.first (listed inside.slots inside.first) c.self.invariant c.args.slot
-    c.in-Listed.newer c.in-Listed.older (sym c.in-Listed.ensures)
-    ∙ ap (λ (v : RecencyValue). older_than c.args.slot v.list) c.self.view_is in
-    subst (λ (o : Option ℕ). IfSome o (Contains c.args.self.now.list)) (sym next)
+    subst (λ (o : Option ℕ). IfSome o (Contains c.args.self.now.list)) (sym (next c))
     (older_contained c.args.slot c.args.self.now.list)
 
 pub returns-clause-rules : goal.returns-clause-rules
