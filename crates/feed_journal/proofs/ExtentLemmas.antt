@@ -1,9 +1,9 @@
 -- The extents of a log's payloads.
 use Rattle.std.proofs.Common.{◌≡◌, ℕ, ◌+◌, ◌-◌, ◌<◌, ◌≤◌, List, [], ◌∷◌, ◌++◌, length, take, drop, refl, sym, ◌∙◌, ap}
-use Rattle.std.proofs.Common.{arith, length-take, length-drop}
+use Rattle.std.proofs.Common.{arith, length-append, length-take, length-drop}
 use Rattle.std.proofs.lemmas.List.{map-append, drop-take, take-take}
-use Rattle.feed_journal.specs.Limits.{payload_limit}
-use Rattle.feed_journal.specs.Log.{payloads_at, Follow}
+use Rattle.feed_journal.specs.Limits.{payload_limit, payload_count_limit}
+use Rattle.feed_journal.specs.Log.{payloads_at, Follow, KeepsLog}
 use Rattle.feed_journal.specs.Records.{size_of}
 use Rattle.feed_journal.specs.declared.extent.Extent.{Extent}
 
@@ -50,6 +50,16 @@ pub follow_push : (from : ℕ) (extents : List Extent) (size : ℕ) (extent : Ex
 follow_push from [] size extent follow at small = (omega arith, small, omega arith)
 follow_push from (first ∷ extents) size extent follow at small =
     (follow.0, follow.1, follow_push (from + first.length + 5) extents size extent follow.2 at small)
+
+-- the rule of a log, with one payload more
+pub keeps_push : (extents : List Extent) (size n : ℕ) → KeepsLog extents size → length extents < payload_count_limit
+    → n ≤ payload_limit → KeepsLog (extents ++ record { offset = size + 4; length = n } ∷ []) (size + n + 5)
+keeps_push extents size n keeps few small =
+    let extent : Extent = record { offset = size + 4; length = n } in
+    record {
+      follow = follow_push 0 extents size extent keeps.follow (omega arith) small;
+      few = omega (arith, few, length-append extents (extent ∷ []));
+    }
 
 pub payloads_push : (extents : List Extent) (extent : Extent) (bytes : List ℕ)
     → payloads_at (extents ++ extent ∷ []) bytes

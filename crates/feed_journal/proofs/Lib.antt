@@ -1,20 +1,22 @@
 -- `Ahead::read`: `bytes`
 pub mod AheadLemmas
--- `Log::append`: `moments`, for the two writes, and the content after them
+-- `Frames::append`: `moments`, for the two writes, and the content after them
 pub mod AppendLemmas
--- `Log::append`: `moments` for the four device calls, and the clauses on their number
+-- `Frames::append`: `moments` for the four device calls, and the clauses on the number of device calls
 pub mod CallLemmas
 -- the rule of `Log`, and the clauses `listed`
 pub mod ExtentLemmas
--- `Log::append`: `list`, `listed`, `size` and `rests`
+-- `Frames::append`: `list`, `listed`, `size` and `rests`
 pub mod ListLemmas
--- `Log::load`: `size` and `rests`
+-- `Log::load`: `size` and `rests`; `FrameReader::open`: `closed`
 pub mod LoadLemmas
--- `Log::read` and `Log::read_ahead`: `payload`, `length` and `never`
+-- `Frames::read`: `payload`, `length` and `never`
 pub mod ReadLemmas
+-- `FrameReader::next`: `listed` and `begins`
+pub mod ReadingLemmas
 -- the payloads of an area, for all of these
 pub mod RecordLemmas
--- `Log::load`: `listed`
+-- `Log::load`: `listed`; `FrameReader::next`: `payload` and `reading`
 pub mod ScanLemmas
--- `Log::load`: `moments`, `same` and `content`
+-- `settle_area`: `moments`, `same` and `content`
 pub mod SettleLemmas

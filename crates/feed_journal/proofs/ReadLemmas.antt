@@ -1,7 +1,8 @@
 -- The payload of an index.
 use Rattle.std.proofs.Common.{◌≡◌, inl, inr, ℕ, zero, suc, ◌+◌, ◌<◌, ◌≤◌, List, [], ◌∷◌, length, get_or, take, drop}
-use Rattle.std.proofs.Common.{Some, refl, sym, ◌∙◌, ap, arith, length-take, length-drop}
-use Rattle.std.specs.Prelude.{slice_get}
+use Rattle.std.proofs.Common.{Some, sym, ◌∙◌, ap, subst, arith, length-take, length-drop}
+use Rattle.std.specs.Prelude.{slice_get, option_map}
+use Rattle.std.proofs.lemmas.Option.{slice_get-map, slice_get_within, get_or_from_slice_get}
 use Rattle.std.proofs.lemmas.Bool.{cases_Bool}
 use Rattle.std.proofs.lemmas.List.{drop-drop}
 use Rattle.feed_journal.specs.Log.{payloads_at, payload_lengths, Follow}
@@ -62,27 +63,23 @@ extents_within (suc n) from (extent ∷ extents) size content follow same k d in
         (drop-drop (length_at (drop from content) + 5) from content ∙ ap (λ (m : ℕ). drop m content) sum)) k d
         (omega arith)
 
-get-payloads : (extents : List Extent) (content : List ℕ) (k : ℕ) (d : Extent) → k < length extents
-    → slice_get (payloads_at extents content) k
-    ≡ Some (take (get_or extents k d).length (drop (get_or extents k d).offset content))
-get-payloads [] content k d inside = absurd (omega arith)
-get-payloads (extent ∷ extents) content zero d inside = refl
-get-payloads (extent ∷ extents) content (suc k) d inside = get-payloads extents content k d (omega arith)
+module _ (extents : List Extent) (k : ℕ) (extent : Extent) (place : slice_get extents k ≡ Some extent) where
+  pub place_within : (size : ℕ) (content : List ℕ) → Follow 0 extents size
+      → payloads_at extents content ≡ records content → extent.offset + extent.length ≤ length content
+  place_within size content follow listed =
+      subst (λ (p : Extent). p.offset + p.length ≤ length content) (get_or_from_slice_get extents k extent extent place)
+      (extents_within _ 0 extents size content follow listed k extent (slice_get_within extents k extent place))
 
-pub get-lengths : (extents : List Extent) (k : ℕ) (d : Extent) → k < length extents
-    → slice_get (payload_lengths extents) k ≡ Some (get_or extents k d).length
-get-lengths [] k d inside = absurd (omega arith)
-get-lengths (extent ∷ extents) zero d inside = refl
-get-lengths (extent ∷ extents) (suc k) d inside = get-lengths extents k d (omega arith)
+  pub place_length : slice_get (payload_lengths extents) k ≡ Some extent.length
+  place_length = slice_get-map (λ (p : Extent). p.length) extents k ∙ ap (option_map (λ (p : Extent). p.length)) place
 
--- the bytes of an extent are its payload
-pub payload_read : (extents : List Extent) (content : List ℕ) (k : ℕ) (extent : Extent) (old new : List ℕ)
-    → payloads_at extents content ≡ records content → k < length extents → extent ≡ get_or extents k extent
-    → length old ≡ extent.length → new ≡ take (length old) (drop extent.offset content)
-    → slice_get (records content) k ≡ Some new
-payload_read extents content k extent old new listed inside is long bytes =
-    ap (λ (l : List (List ℕ)). slice_get l k) (sym listed)
-    ∙ get-payloads extents content k extent inside
-    ∙ ap (λ (p : Extent). Some (take p.length (drop p.offset content))) (sym is)
-    ∙ ap (λ (n : ℕ). Some (take n (drop extent.offset content))) (sym long)
-    ∙ ap (λ (l : List ℕ). Some l) (sym bytes)
+  -- the bytes of an extent are its payload
+  pub place_read : (content old new : List ℕ) → payloads_at extents content ≡ records content
+      → length old ≡ extent.length → new ≡ take (length old) (drop extent.offset content)
+      → slice_get (records content) k ≡ Some new
+  place_read content old new listed long bytes =
+      ap (λ (l : List (List ℕ)). slice_get l k) (sym listed)
+      ∙ slice_get-map (λ (p : Extent). take p.length (drop p.offset content)) extents k
+      ∙ ap (option_map (λ (p : Extent). take p.length (drop p.offset content))) place
+      ∙ ap (λ (n : ℕ). Some (take n (drop extent.offset content))) (sym long)
+      ∙ ap (λ (l : List ℕ). Some l) (sym bytes)

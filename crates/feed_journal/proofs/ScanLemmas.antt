@@ -3,18 +3,19 @@ use Rattle.std.proofs.Common.{◌≡◌, inl, inr, ℕ, suc, ◌+◌, ◌-◌, �
 use Rattle.std.proofs.Common.{List, [], ◌∷◌, ◌++◌, length, get_or, take, drop, Option, None, Some, refl, sym, ◌∙◌, ap}
 use Rattle.std.proofs.Common.{subst, arith, length-append, length-take, length-drop, get_or-take, take-append-drop}
 use Rattle.std.proofs.Common.{append_assoc}
-use Rattle.std.specs.Prelude.{IfSome}
+use Rattle.std.specs.Prelude.{IfSome, slice_get}
 use Rattle.std.specs.Int.{w32, to_be_bytes, from_be_bytes}
 use Rattle.std.proofs.lemmas.Bool.{cases_Bool, cond-true, cond-false, and_parts, and_from, eqb-true, leb-true, ltb-true}
 use Rattle.std.proofs.lemmas.Bool.{false_from_ne_true, eq-eqb, le-leb, lt-ltb, true≢false}
 use Rattle.std.proofs.lemmas.List.{append-nil, take-take, drop-take, drop-drop}
 use Rattle.feed_journal.specs.Limits.{payload_limit, payload_count_limit}
 use Rattle.feed_journal.specs.Log.{payloads_at, Follow, IsScanned}
+use Rattle.feed_journal.specs.Reading.{AreFirst}
 use Rattle.feed_journal.specs.Records.{length_at, has_frame, records_up_to, records, frame, frames}
 use Rattle.feed_journal.specs.Scan.{IsHeader, IsNext}
 use Rattle.feed_journal.specs.declared.extent.Extent.{Extent}
 use Rattle.feed_journal.proofs.RecordLemmas.{frame_parts, frame_from, reads_more, reads_none, short_none, frames-push}
-use Rattle.feed_journal.proofs.ExtentLemmas.{follow_push, payloads_push}
+use Rattle.feed_journal.proofs.ExtentLemmas.{follow_push, payloads_push, length-payloads}
 
 module _ (bytes header : List ℕ) (behind : ℕ) (is_header : header ≡ take 5 bytes)
     (long : length bytes ≡ behind + 5) where
@@ -82,20 +83,18 @@ module _ (bytes header : List ℕ) (behind : ℕ) (is_header : header ≡ take 5
           take_five [] short = absurd (omega arith)
           take_five (x ∷ xs) enough = refl
 
--- the frames found so far, which end at an offset before the end of the content
-pub record Found (extents : List Extent) (end : ℕ) (content : List ℕ) : Type 0 where
-  pub below : end < length content
-  pub so_far : records content ≡ payloads_at extents content
-      ++ records_up_to (min (length content) payload_count_limit - length extents) (drop end content)
-  pub begins : content ≡ frames (payloads_at extents content) ++ drop end content
-
 pub follow_many : (from : ℕ) (extents : List Extent) (size : ℕ) → Follow from extents size
     → from + 5 * length extents < size
 follow_many from [] size follow = omega arith
 follow_many from (extent ∷ extents) size follow =
     omega (arith, follow_many (from + extent.length + 5) extents size follow.2)
 
-pub found_none : (content : List ℕ) → 0 < length content → Found [] 0 content
+get_behind : (before : List (List ℕ)) (x : List ℕ) (after : List (List ℕ))
+    → slice_get (before ++ x ∷ after) (length before) ≡ Some x
+get_behind [] x after = refl
+get_behind (y ∷ before) x after = get_behind before x after
+
+pub found_none : (content : List ℕ) → 0 < length content → AreFirst [] 0 content
 found_none content some =
     let fuel : min (length content) payload_count_limit
     ≡ min (length content) payload_count_limit - length {A = Extent} [] = omega arith in
@@ -105,7 +104,7 @@ found_none content some =
       begins = refl;
     }
 
-module _ (extents : List Extent) (end : ℕ) (content : List ℕ) (found : Found extents end content)
+module _ (extents : List Extent) (end : ℕ) (content : List ℕ) (found : AreFirst extents end content)
     (follow : Follow 0 extents (end + 1)) where
   -- if no frame follows, these are all
   pub found_all : records_up_to (min (length content) payload_count_limit - length extents) (drop end content) ≡ []
@@ -172,7 +171,7 @@ module _ (extents : List Extent) (end : ℕ) (content : List ℕ) (found : Found
         (drop-drop n (end + 5) content ∙ ap (λ (m : ℕ). drop m content) rest_of))
         ∙ sym (append_assoc (1 ∷ to_be_bytes w32 (length payload)) payload (drop (end + n + 5) content))
 
-    pub found_more : Found (extents ++ extent ∷ []) (end + n + 5) content
+    pub found_more : AreFirst (extents ++ extent ∷ []) (end + n + 5) content
     found_more = record {
       below = omega (arith, short);
       so_far =
@@ -199,6 +198,16 @@ module _ (extents : List Extent) (end : ℕ) (content : List ℕ) (found : Found
           ∙ sym (frames-push (payloads_at extents content) payload (drop (end + n + 5) content))
           ∙ ap (λ (l : List (List ℕ)). frames l ++ drop (end + n + 5) content) (sym pushed);
     }
+
+    pub payload_next : slice_get (records content) (length extents) ≡ Some payload
+    payload_next =
+        let rest = records_up_to (min (length content) payload_count_limit - length (extents ++ extent ∷ []))
+        (drop (end + n + 5) content) in
+        ap (λ (l : List (List ℕ)). slice_get l (length extents)) (found_more.so_far
+        ∙ ap (λ (l : List (List ℕ)). l ++ rest) pushed
+        ∙ append_assoc (payloads_at extents content) (payload ∷ []) rest)
+        ∙ ap (slice_get (payloads_at extents content ++ payload ∷ rest)) (sym (length-payloads extents content))
+        ∙ get_behind (payloads_at extents content) payload rest
 
 pub follow_push_end : (extents : List Extent) (end n : ℕ) → Follow 0 extents (end + 1) → n ≤ payload_limit
     → Follow 0 (extents ++ record { offset = end + 5; length = n } ∷ []) (end + n + 5 + 1)

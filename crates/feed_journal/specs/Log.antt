@@ -3,10 +3,11 @@ use Rattle.std.specs.Prelude.{◌≡◌, ◌⊎◌, ℕ, ◌+◌, ◌<◌, ◌�
 use Rattle.std.specs.Prelude.{Result, OnOk}
 use Rattle.atom_values.specs.Counts.{HasCause}
 use Rattle.feed_disk.specs.Disk.{DiskState}
+use Rattle.feed_disk.specs.Moments.{AlwaysLeaves, NowOnly}
 use Rattle.feed_disk.specs.Raised.{raised}
 use Rattle.feed_disk.specs.declared.area.Area.{Area}
 use Rattle.feed_journal.specs.Limits.{area_limit, payload_limit, payload_count_limit, header_length}
-use Rattle.feed_journal.specs.Records.{records, frames, size_of}
+use Rattle.feed_journal.specs.Records.{records, frames, size_of, Begins, IsStep}
 use Rattle.feed_journal.specs.declared.extent.Extent.{Extent}
 
 -- its area, its payloads' extents, its bytes up to the closed gate and with it, its device calls, whether it is spent,
@@ -68,6 +69,22 @@ pub record ListsPayload (payload : List ℕ) (log : LogValue) (before after : Li
   pub list : records after ≡ records before ++ payload ∷ []
   pub listed : IsListed log after
   pub size : log.size ≡ size_of (records after)
+
+-- At each moment within an append, a crash leaves the list before or the list with the payload. Each image before began
+-- with the list and a closed gate.
+abbrev pub LeavesOneList : DiskState → DiskState → Area → List ℕ → Type 0
+LeavesOneList s t area payload =
+    let before = records (s.content area) in
+    NowOnly s area (Begins before) → AlwaysLeaves s t area (IsStep before payload)
+
+-- each image begins with the list and a closed gate, as each image before did
+abbrev pub KeepsAtRest : DiskState → DiskState → Area → Type 0
+KeepsAtRest s t area =
+    NowOnly s area (Begins (records (s.content area))) → NowOnly t area (Begins (records (t.content area)))
+
+-- all that was written is synced, so a crash leaves the content
+abbrev pub IsSynced : DiskState → Area → Type 0
+IsSynced s area = (i : List ℕ) → s.image_now area i → i ≡ s.content area
 
 -- n device calls, on the disk's clock and on the log's counter
 pub record MakesCalls (s t : DiskState) (before after n : ℕ) : Type 0 where

@@ -35,9 +35,13 @@ abbrev pub size_of : List (List ℕ) → ℕ
 size_of [] = 1
 size_of (payload ∷ payloads) = length payload + header_length + size_of payloads
 
+-- the byte after the frames isn't an open gate
+abbrev pub IsClosed : List ℕ → Type 0
+IsClosed bytes = slice_index bytes (size_of (records bytes) - 1) ≢ open_gate
+
 -- the area is too short for a payload, or the byte after its frames isn't an open gate
 abbrev pub IsWhole : List ℕ → Type 0
-IsWhole bytes = (length bytes < least_size) ⊎ (slice_index bytes (size_of (records bytes) - 1) ≢ open_gate)
+IsWhole bytes = (length bytes < least_size) ⊎ IsClosed bytes
 
 abbrev pub frame : List ℕ → List ℕ
 frame payload = open_gate ∷ to_be_bytes w32 (length payload) ++ payload

@@ -25,7 +25,7 @@ impl From<Failed> for DiskFault {
     }
 }
 
-/// Why `Log::load` or `Log::read` returned no value.
+/// Why a call of `Log`, `Frames` or `FrameReader` returned no value.
 #[derive(Clone, Copy, Debug, PartialEq, Eq, Hash)]
 pub enum LogFault {
     /// A device call failed.

@@ -1,25 +1,21 @@
-ghost use Rattle.std.specs.Prelude.{◌≡◌, ◌≢◌, ◌+◌, ◌-◌, ◌*◌, ◌<◌, ◌≤◌, ℕ, true, false};
-ghost use Rattle.std.specs.Prelude.{List, [], ◌∷◌, ◌++◌, length, take, drop, slice_get};
-ghost use Rattle.std.specs.Prelude.{OnOk, OnErr, IfOk, IsTrue, ◌↔◌};
-ghost use Rattle.atom_values.specs.Counts.{CountsFault, HasCause, counted};
+ghost use Rattle.std.specs.Prelude.{◌≡◌, ◌≢◌, ◌+◌, ◌*◌, ◌<◌, ◌≤◌, ℕ, false, length, slice_get};
+ghost use Rattle.std.specs.Prelude.{true, OnOk, OnErr, IfOk, Some, IsTrue, ◌↔◌};
+ghost use Rattle.atom_values.specs.Counts.{CountsFault};
 ghost use Rattle.feed_disk.specs.Moments.{AlwaysLeaves, LeavesAlone, NowOnly};
 ghost use Rattle.feed_disk.specs.Raised.{raised};
 ghost use Rattle.feed_disk.specs.declared.area.Area.{Area as AreaValue};
-ghost use Rattle.feed_journal.specs.Ahead.{IsAhead};
-ghost use Rattle.feed_journal.specs.Limits.{payload_limit, header_length};
-ghost use Rattle.feed_journal.specs.Log.{HasRoomFor, IsAppended, IsListed, IsLog, ListsPayload};
-ghost use Rattle.feed_journal.specs.Log.{MakesCalls, MakesOrFails, MakesSome, payload_lengths, payloads_at};
-ghost use Rattle.feed_journal.specs.Records.{records, size_of, padded, IsWhole, Begins, IsStep, StandsFor};
+ghost use Rattle.feed_journal.specs.Limits.{header_length};
+ghost use Rattle.feed_journal.specs.Log.{HasRoomFor, IsAppended, IsListed, IsLog, IsSynced, KeepsAtRest, LeavesOneList};
+ghost use Rattle.feed_journal.specs.Log.{ListsPayload, MakesCalls, MakesOrFails, MakesSome, payload_lengths, payloads_at};
+ghost use Rattle.feed_journal.specs.Records.{records, size_of, padded, IsWhole, Begins, StandsFor};
 
-use crate::ahead::Ahead;
-use crate::append::write_frame;
 use crate::extent::Extent;
 use crate::fault::{DiskFault, LogFault};
 use crate::framed::Framed;
-use crate::limits::HEADER_LENGTH;
-use crate::scan::scan;
+use crate::frames::Frames;
+use crate::scan::{Scanned, scan};
 use crate::settle::settle_area;
-use atom_values::{Failed, NoMemory};
+use atom_values::NoMemory;
 use feed_disk::{Area, Disk};
 use std::alloc::Global;
 use std::marker::Model;
@@ -29,30 +25,19 @@ use std::marker::Model;
 #[derive(Debug, Drop)]
 pub struct Log {
     alloc: Global,
-    area: Area,
-    extents: Vec<Extent>,
-    size: u64,
-    calls: u64,
-    /// Whether a device call failed. Only contracts read it.
-    spent: bool,
+    frames: Frames,
+    places: Vec<Extent>,
 }
 
 impl Model for Log {
-    ghost use Rattle.std.specs.Prelude.{◌-◌, vec_len, vec_capacity};
-    ghost use Rattle.feed_journal.specs.Log.{LogValue, KeepsLog};
+    ghost use Rattle.std.specs.Prelude.{◌≡◌, ◌-◌, vec_len, vec_capacity};
+    ghost use Rattle.feed_journal.specs.Log.{LogValue, IsLog};
 
     ghost Value = { LogValue };
 
-    ghost view = { λ l. record {
-      area = l.area;
-      extents = l.extents.items;
-      size = l.size;
-      calls = l.calls;
-      spent = l.spent;
-      spare = vec_capacity l.extents - vec_len l.extents;
-    } };
+    ghost view = { λ l. record l.frames { spare = vec_capacity l.places - vec_len l.places } };
 
-    ghost invariant = { λ l. KeepsLog l.extents.items l.size };
+    ghost invariant = { λ l. IsLog l.frames × (l.places.items ≡ l.frames.extents) };
 }
 
 impl Log {
@@ -79,8 +64,7 @@ impl Log {
             → (D.state disk.new).content area ≡ padded ((D.state disk.old).content area)) }
 
         // The content is synced. If it was whole, it begins with the list and a closed gate.
-        ensures certain { OnOk result (D.observable → (i : List ℕ)
-            → (D.state disk.new).image_now area i → i ≡ (D.state disk.new).content area) }
+        ensures certain { OnOk result (D.observable → IsSynced (D.state disk.new) area) }
         ensures rests { OnOk result (D.observable → IsWhole ((D.state disk.old).content area)
             → NowOnly (D.state disk.new) area (Begins (records ((D.state disk.new).content area)))) }
         ensures moments { D.observable → AlwaysLeaves (D.state disk.old) (D.state disk.new) area
@@ -99,14 +83,15 @@ impl Log {
     {
         let mut calls = 0;
         let size = settle_area(disk, area, &mut calls)?;
-        let (extents, end) = scan(alloc, disk, area, size, &mut calls)?;
+        let Scanned {
+            places,
+            extents,
+            end,
+        } = scan(alloc, disk, area, size, &mut calls)?;
         Ok(Log {
             alloc,
-            area,
-            extents,
-            size: end + 1,
-            calls,
-            spent: false,
+            frames: Frames::of(alloc, area, extents, end + 1, calls),
+            places,
         })
     }
 
@@ -116,7 +101,7 @@ impl Log {
         ensures calls { result ≡ self.now.calls }
         ensures rules { IsLog self.now }
     {
-        self.calls
+        self.frames.calls()
     }
 
     /// Returns the number of payloads.
@@ -124,7 +109,7 @@ impl Log {
         requires { self.now.spent ≡ false }
         ensures { result ≡ length self.now.extents }
     {
-        self.extents.len() as u32
+        self.places.len() as u32
     }
 
     /// Returns the number of bytes up to the closed gate after the payloads, which is counted too.
@@ -133,7 +118,7 @@ impl Log {
         ensures size { result ≡ self.now.size }
         ensures rules { IsLog self.now }
     {
-        self.size
+        self.frames.size()
     }
 
     /// Makes room for one more payload, so that its append takes no memory.
@@ -143,7 +128,7 @@ impl Log {
         ensures ok { OnOk result (0 < self.new.spare) }
         ensures spare { self.old.spare ≤ self.new.spare }
     {
-        self.extents.reserve(1)?;
+        self.places.reserve(1)?;
         Ok(())
     }
 
@@ -152,7 +137,7 @@ impl Log {
         requires { self.now.spent ≡ false }
         ensures { IsTrue result ↔ (self.now.size + (length framed.now + header_length) ≤ capacity) }
     {
-        u128::from(self.size) + u128::from(framed.needed()) <= u128::from(capacity)
+        self.frames.fits(framed, capacity)
     }
 
     /// Appends the payload, in four device calls. Takes no memory.
@@ -173,19 +158,11 @@ impl Log {
             ((D.state disk.old).content self.old.area) ((D.state disk.new).content self.old.area)) }
         ensures rules { IsLog self.new }
 
-        // If each image before began with the list and a closed gate, so does each image after, and at each
-        // moment between an image had the one list or the other.
-        ensures moments { let before = records ((D.state disk.old).content self.old.area) in
-            D.observable → NowOnly (D.state disk.old) self.old.area (Begins before)
-            → AlwaysLeaves (D.state disk.old) (D.state disk.new) self.old.area (IsStep before framed.now) }
+        ensures moments { D.observable
+            → LeavesOneList (D.state disk.old) (D.state disk.new) self.old.area framed.now }
         ensures rests { OnOk result (D.observable
-            → NowOnly (D.state disk.old) self.old.area
-            (Begins (records ((D.state disk.old).content self.old.area)))
-            → NowOnly (D.state disk.new) self.old.area
-            (Begins (records ((D.state disk.new).content self.old.area)))) }
-        ensures certain { OnOk result (D.observable → (i : List ℕ)
-            → (D.state disk.new).image_now self.old.area i
-            → i ≡ (D.state disk.new).content self.old.area) }
+            → KeepsAtRest (D.state disk.old) (D.state disk.new) self.old.area) }
+        ensures certain { OnOk result (D.observable → IsSynced (D.state disk.new) self.old.area) }
         ensures others { (a : AreaValue) → a ≢ self.old.area
             → LeavesAlone (D.state disk.old) (D.state disk.new) a }
 
@@ -193,20 +170,9 @@ impl Log {
             result }
         ensures read { (D.state disk.new).bytes_read ≡ (D.state disk.old).bytes_read }
     {
-        let size = self.size;
-        let mut calls = self.calls;
-        let outcome = write_frame(disk, self.area, size, framed, &mut calls);
-        self.calls = calls;
-        match outcome {
-            Ok(()) => {
-                self.add_extent(framed.length());
-                Ok(())
-            }
-            Err(_) => {
-                self.spent = true;
-                Err(DiskFault)
-            }
-        }
+        let place = self.frames.append(disk, framed)?;
+        self.places.push(place).unwrap();
+        Ok(())
     }
 
     /// Reads the payload of an index, counted from 0, in one device call.
@@ -241,107 +207,7 @@ impl Log {
         ensures faults { CountsFault (D.state disk.old).faults (D.state disk.new).faults
             (result ≡ Err LogFault.DiskFault) }
     {
-        let extent = self.extents[index as usize];
-        let mut bytes = vec![in self.alloc; 0u8; extent.length as usize]?;
-        self.calls = self.calls.saturating_add(1);
-        match read_exactly(disk, self.area, extent.offset, &mut bytes) {
-            Ok(true) => Ok(bytes),
-            Ok(false) => Err(LogFault::Changed { index }),
-            Err(_) => {
-                self.spent = true;
-                Err(LogFault::DiskFault)
-            }
-        }
+        let place = self.places[index as usize];
+        self.frames.read(disk, place, index)
     }
-
-    /// Reads the payload of an index, counted from 0, from the bytes that were read ahead. If they don't have all
-    /// of it, one device call reads ahead from the payload's start on. A payload that is longer than the capacity
-    /// of `ahead` is read as by `read`.
-    ///
-    /// Errors: those of `read`.
-    pub fn read_ahead<D: Disk>(
-        &mut self,
-        disk: &mut D,
-        index: u32,
-        ahead: &mut Ahead,
-    ) -> Result<Vec<u8>, LogFault>
-        requires unspent { self.old.spent ≡ false }
-        requires within { index < length self.old.extents }
-        requires listed { D.observable → payloads_at self.old.extents ((D.state disk.old).content self.old.area)
-            ≡ records ((D.state disk.old).content self.old.area) }
-        requires ahead { D.observable → IsAhead ahead.old ((D.state disk.old).content self.old.area) }
-        ensures payload { IfOk result (λ payload. D.observable
-            → slice_get (records ((D.state disk.old).content self.old.area)) index ≡ Some payload.items) }
-        ensures length { IfOk result (λ payload.
-            slice_get (payload_lengths self.old.extents) index ≡ Some (length payload.items)) }
-        ensures ahead { D.observable → IsAhead ahead.new ((D.state disk.new).content self.old.area) }
-        ensures never { D.observable → (n : ℕ) → result ≢ Err (LogFault.Changed n) }
-        ensures changed { (n : ℕ) → result ≡ Err (LogFault.Changed n) → n ≡ index }
-        ensures log { result ≢ Err LogFault.DiskFault
-            → self.new ≡ record self.old { calls = self.new.calls } }
-        ensures spent { result ≡ Err LogFault.DiskFault
-            → self.new ≡ record self.old { calls = self.new.calls; spent = true } }
-        ensures areas { (a : AreaValue) → LeavesAlone (D.state disk.old) (D.state disk.new) a }
-        ensures calls { MakesSome (D.state disk.old) (D.state disk.new) self.old.calls self.new.calls }
-        ensures faults { CountsFault (D.state disk.old).faults (D.state disk.new).faults
-            (result ≡ Err LogFault.DiskFault) }
-    {
-        let extent = self.extents[index as usize];
-        let mut bytes = vec![in self.alloc; 0u8; extent.length as usize]?;
-        let mut calls = self.calls;
-        let outcome = ahead.read_exactly(disk, self.area, extent.offset, &mut bytes, &mut calls);
-        self.calls = calls;
-        match outcome {
-            Ok(true) => Ok(bytes),
-            Ok(false) => Err(LogFault::Changed { index }),
-            Err(fault) => {
-                self.spent = true;
-                Err(LogFault::from(fault))
-            }
-        }
-    }
-
-    /// Adds the extent of a payload of `count` bytes that was appended. Takes no memory.
-    fn add_extent(&mut self, count: u32)
-        requires room { HasRoomFor count self.old }
-        requires small { count ≤ payload_limit }
-        ensures log { self.new ≡ record self.old {
-          extents = self.old.extents ++ record { offset = self.old.size + 4; length = count } ∷ [];
-          size = self.old.size + count + header_length;
-          spare = self.new.spare;
-        } }
-        ensures spare { self.old.spare ≤ self.new.spare + 1 }
-        ensures rules { IsLog self.new }
-    {
-        // The payload begins after its length in 4 bytes, which begins after the gate at `size - 1`.
-        let offset = self.size + 4;
-        let extent = Extent {
-            offset,
-            length: count,
-        };
-        self.extents.push(extent).unwrap();
-        self.size += u64::from(count) + HEADER_LENGTH;
-    }
-}
-
-/// Fills `bytes` from offset `at` of an area on, and returns whether the read gave all of them.
-fn read_exactly<D: Disk>(
-    disk: &mut D,
-    area: Area,
-    at: u64,
-    bytes: &mut Vec<u8>,
-) -> Result<bool, Failed>
-    requires { D.observable → at + length bytes.old.items ≤ length ((D.state disk.old).content area) }
-    ensures bytes { D.observable → IfOk result (λ whole. IsTrue whole
-        × (bytes.new.items ≡ take (length bytes.old.items) (drop at ((D.state disk.old).content area)))) }
-    ensures length { length bytes.new.items ≡ length bytes.old.items }
-    ensures read { IfOk result (λ whole. whole ≡ true → (D.state disk.new).bytes_read
-        ≡ raised (D.state disk.old).bytes_read (length bytes.new.items)) }
-    ensures areas { (a : AreaValue) → LeavesAlone (D.state disk.old) (D.state disk.new) a }
-    ensures calls { (D.state disk.new).clock ≡ counted (D.state disk.old).clock }
-    ensures cause { HasCause (D.state disk.old).faults (D.state disk.new).faults result }
-{
-    let wanted = bytes.len();
-    let count = disk.read(area, at, bytes.as_mut_slice())?;
-    Ok(count == wanted)
 }

@@ -12,6 +12,7 @@ ghost use Rattle.feed_journal.specs.declared.fault.LogFault.TheVariants.{DiskFau
 
 use crate::ahead::Ahead;
 use crate::extent::Extent;
+use crate::extents::Extents;
 use crate::fault::LogFault;
 use crate::limits::{HEADER_LENGTH, OPEN_GATE, PAYLOAD_COUNT_LIMIT, PAYLOAD_LIMIT};
 use atom_values::Failed;
@@ -39,7 +40,7 @@ fn length_in(header: [u8; 5], after: u64) -> Option<u32>
 
 /// Reads the header at offset `at` of an area of this size, and returns the payload's length if a frame is
 /// there. It counts its device call.
-fn next_frame<D: Disk>(
+pub fn next_frame<D: Disk>(
     disk: &mut D,
     area: Area,
     at: u64,
@@ -68,43 +69,64 @@ fn next_frame<D: Disk>(
     Ok(length_in(header, size - at - HEADER_LENGTH))
 }
 
-/// Returns the extents of the payloads of an area of this size, and the offset at which their frames end. It
-/// counts its device calls.
+/// The payloads that a scan found.
+#[derive(Drop)]
+pub struct Scanned {
+    pub places: Vec<Extent>,
+    /// The places again, as `Frames` has them.
+    pub extents: Extents,
+    /// The offset at which their frames end.
+    pub end: u64,
+}
+
+/// Finds the payloads of an area of this size. It counts its device calls.
 pub fn scan<D: Disk>(
     alloc: Global,
     disk: &mut D,
     area: Area,
     size: u64,
     calls: &mut u64,
-) -> Result<(Vec<Extent>, u64), LogFault>
+) -> Result<Scanned, LogFault>
     requires some { 0 < size }
     requires size { D.observable → size ≡ length ((D.state disk.old).content area) }
-    ensures rules { IfOk result (λ found. KeepsLog found.0.items (found.1 + 1)) }
-    ensures within { IfOk result (λ found. found.1 < size) }
+    ensures rules { IfOk result (λ found. KeepsLog found.extents.list (found.end + 1)
+        × (found.places.items ≡ found.extents.list)) }
+    ensures within { IfOk result (λ found. found.end < size) }
     ensures scanned { IfOk result (λ found.
-        D.observable → IsScanned found.0.items found.1 ((D.state disk.old).content area)) }
+        D.observable → IsScanned found.extents.list found.end ((D.state disk.old).content area)) }
     ensures areas { (a : AreaValue) → LeavesAlone (D.state disk.old) (D.state disk.new) a }
     ensures calls { MakesSome (D.state disk.old) (D.state disk.new) calls.old calls.new }
     ensures faults { CountsFault (D.state disk.old).faults (D.state disk.new).faults (result ≡ Err DiskFailed) }
     ensures unchanged { (index : ℕ) → result ≢ Err (Changed index) }
     ensures read { IfOk result (λ found. raised (D.state disk.old).bytes_read
-        (header_length * length found.0.items) ≤ (D.state disk.new).bytes_read) }
+        (header_length * length found.extents.list) ≤ (D.state disk.new).bytes_read) }
 {
     let mut ahead = Ahead::new(alloc, HEADERS_AHEAD)?;
-    let mut extents = Vec::new(alloc);
+    let mut places = Vec::new(alloc);
+    let mut extents = Extents::new();
     let mut end = 0;
     'frames: loop {
-        let full = extents.len() >= PAYLOAD_COUNT_LIMIT;
+        let full = places.len() >= PAYLOAD_COUNT_LIMIT;
         if full || size - end <= HEADER_LENGTH {
-            return Ok((extents, end));
+            return Ok(Scanned {
+                places,
+                extents,
+                end,
+            });
         }
         let Some(length) = next_frame(disk, area, end, size, &mut ahead, calls)? else {
-            return Ok((extents, end));
+            return Ok(Scanned {
+                places,
+                extents,
+                end,
+            });
         };
-        extents.push(Extent {
+        let place = Extent {
             offset: end + HEADER_LENGTH,
             length,
-        })?;
+        };
+        places.push(place)?;
+        extents = Extents::with(&extents, &place);
         end += u64::from(length) + HEADER_LENGTH;
     }
 }

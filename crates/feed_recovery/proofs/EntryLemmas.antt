@@ -1,7 +1,7 @@
 -- The entry that an operation's bytes set.
-use Rattle.std.proofs.Common.{◌≡◌, ◌⊎◌, inl, inr, ⊎_elim, ℕ, zero, suc, ◌-◌, ◌≤◌, List, Some, Ok, Err, Result, sym, ◌∙◌}
-use Rattle.std.proofs.Common.{ap, ℤ, Global, Vec, Option, None, length, subst, arith}
-use Rattle.std.specs.Prelude.{slice_get, option_map, IfOk, OnOk}
+use Rattle.std.proofs.Common.{◌≡◌, ◌⊎◌, inl, inr, ⊎_elim, ℕ, zero, suc, ◌-◌, ◌<◌, ◌≤◌, List, [], ◌∷◌, Some, Ok, Err}
+use Rattle.std.proofs.Common.{Result, sym, ◌∙◌, ap, ℤ, Global, Vec, Option, None, length, subst, arith}
+use Rattle.std.specs.Prelude.{slice_get, option_map, is_some, IfOk, OnOk}
 use Rattle.std.proofs.lemmas.Option.{slice_get_within, slice_get-map, get_or_from_slice_get}
 use Rattle.atom_values.specs.Entry.{EntryValue, IsEntry}
 use Rattle.atom_writer.specs.Pieced.{text_of}
@@ -17,9 +17,9 @@ use Rattle.member_rules.specs.declared.state.State.TheVariants.{Live}
 use Rattle.member_rules.proofs.VersionLemmas.{version-is}
 use Rattle.feed_recovery.specs.Opening.{IsJournal}
 use Rattle.member_rules.specs.Coding.{operations}
-use Rattle.member_rules.specs.Fold.{fold_of, state_of}
+use Rattle.member_rules.specs.Fold.{fold_of, made, state_of}
 use Rattle.member_rules.specs.Head.{HeadValue, IsHead}
-use Rattle.member_rules.specs.History.{IsLawful}
+use Rattle.member_rules.specs.History.{AreFollowing, IsLawful}
 use Rattle.member_rules.specs.Operation.{IsOperation}
 use Rattle.member_rules.specs.declared.codec.CodecFault.{CodecFault}
 use Rattle.member_rules.specs.declared.codec.CodecFault.TheVariants.{BadField, NoMemory}
@@ -28,6 +28,7 @@ use Rattle.member_rules.specs.declared.operation.Op.TheVariants.{Add, Change, Re
 use Rattle.member_rules.specs.Removal.{RemovalValue}
 use Rattle.member_rules.proofs.LawLemmas.{law-of_chain}
 use Rattle.member_rules.proofs.OperationLemmas.{operations_compared}
+use Rattle.member_rules.proofs.StateLemmas.{AreMembers-of, live_within}
 
 -- these bytes are read as an operation that sets this entry, unless memory runs out
 module _ (result : Result Op CodecFault) (payload : List ℕ) (entry : EntryValue) (is_entry : IsEntry entry)
@@ -113,6 +114,19 @@ state_within history number version updated state =
       slice_get_within history (version - 1) (Change set.entry)
           changed,
     )) set.set_by
+
+-- a live member has a number from 1
+pub live_from_one : (created : ℤ) (history : List Op) (number version : ℕ) (updated : ℤ) → AreFollowing created history
+    → state_of history number ≡ Live updated version → 1 ≤ number
+live_from_one created history number version updated following state =
+    (live_within (fold_of history) (made history) number (AreMembers-of created history following)
+    (ap is_some (version-is history number updated version state).live)).0
+
+-- an index within a list has an item
+pub item_there : {A : Type 0} (list : List A) (index : ℕ) → index < length list → None ≡ slice_get list index → ⊥
+item_there [] index within none = absurd (omega arith)
+item_there (first ∷ rest) zero within none = cc
+item_there (first ∷ rest) (suc index) within none = item_there rest index (omega arith) none
 
 -- the `edited` that the table has for a member is that of its live entry
 pub edited_is : (edited : ℤ) (found : Option EntryValue) (entry : EntryValue)

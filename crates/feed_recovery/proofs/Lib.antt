@@ -16,6 +16,8 @@ pub mod HistoryLemmas
 pub mod InitLemmas
 -- `Store::load`: `moments` and `settled`
 pub mod LoadedLemmas
+-- `Places::commit`: the places after one more operation
+pub mod PlacesLemmas
 -- `Store::load`: its steps, which write nothing
 pub mod ReadingLemmas
 -- `Store::load`: `refusal`, its refusals over any disk

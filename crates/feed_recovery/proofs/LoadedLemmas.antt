@@ -6,8 +6,8 @@ use Rattle.feed_disk.specs.Moments.{AlwaysLeaves, LeavesAlone, NowOnly}
 use Rattle.feed_disk.specs.declared.area.Area.{Area}
 use Rattle.feed_disk.specs.declared.area.Area.TheVariants.{Journal, Sealed, Mirror}
 use Rattle.feed_disk.proofs.MomentLemmas.{alone_joins, alone_leaves, always_joins, always_weaker}
-use Rattle.feed_journal.specs.Log.{MakesCalls, MakesSome}
-use Rattle.feed_journal.specs.Records.{records, Begins, IsWhole, StandsFor as ImageStandsFor}
+use Rattle.feed_journal.specs.Log.{IsSynced, MakesCalls, MakesSome}
+use Rattle.feed_journal.specs.Records.{records, Begins, IsClosed, IsWhole, StandsFor as ImageStandsFor}
 use Rattle.feed_journal.proofs.CallLemmas.{calls_then}
 use Rattle.feed_recovery.specs.Loading.{OnlyReads}
 use Rattle.feed_recovery.specs.Opening.{AreSeals, IsJournal, Opens}
@@ -153,16 +153,19 @@ module _ (s m t u : DiskState) (first : (a : Area) → a ≢ Journal → LeavesA
     all_same reads Sealed = ap records (reads.areas Sealed).content ∙ sealed_same
     all_same reads Mirror = ap records (mirror_alone reads).content
 
-  pub loaded_rests : OnlyReads t u
-      → (IsWhole (s.content Journal) → NowOnly m Journal (Begins (records (m.content Journal))))
+  pub loaded_rests : OnlyReads t u → IsSynced m Journal → (IsWhole (s.content Journal) → IsClosed (m.content Journal))
+      → (IsClosed (u.content Journal) → Begins (records (u.content Journal)) (u.content Journal))
       → (IsWhole (m.content Sealed) → NowOnly t Sealed (Begins (records (t.content Sealed))))
       → AreWhole s → IsAtRest u
-  loaded_rests reads rests rests' whole = record {
-    journal = begins_still m u Journal
-        (alone_joins m t u Journal (second Journal journal_sealed) (reads.areas Journal)) (rests whole.journal);
-    sealed = begins_still t u Sealed (reads.areas Sealed)
-        (rests' (subst IsWhole (sym (first Sealed sealed_journal).content) whole.sealed));
-  }
+  loaded_rests reads synced closed begins rests whole =
+      let alone = alone_joins m t u Journal (second Journal journal_sealed) (reads.areas Journal) in
+      record {
+        journal = λ i may. subst (Begins (records (u.content Journal)))
+            (alone.content ∙ sym (synced i (alone.now i may)))
+            (begins (subst IsClosed (sym alone.content) (closed whole.journal)));
+        sealed = begins_still t u Sealed (reads.areas Sealed)
+            (rests (subst IsWhole (sym (first Sealed sealed_journal).content) whole.sealed));
+      }
 
 -- the device calls of two loads, and of what comes then
 pub loaded_calls : (s m t u : DiskState) (a b c n k : ℕ) → MakesCalls s m 0 a n → MakesCalls m t 0 b k

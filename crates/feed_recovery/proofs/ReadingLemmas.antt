@@ -1,6 +1,6 @@
 -- The steps of a load, one after another.
 use Rattle.std.proofs.Common.{◌≡◌, inl, inr, ℕ, ◌+◌, ◌≤◌, min, sym, refl, ◌∙◌, ap, subst, arith}
-use Rattle.std.proofs.Common.{List, length, take, Option, Some}
+use Rattle.std.proofs.Common.{List, [], ◌∷◌, ◌++◌, length, take, Option, Some, length-append}
 use Rattle.std.specs.Prelude.{slice_get}
 use Rattle.atom_writer.specs.Pieced.{IsNoText, IsPlaceOfRefusal}
 use Rattle.atom_values.specs.Counts.{counter_limit}
@@ -8,17 +8,20 @@ use Rattle.feed_disk.specs.Disk.{DiskState}
 use Rattle.feed_disk.specs.declared.area.Area.{Area}
 use Rattle.feed_disk.specs.declared.area.Area.TheVariants.{Journal, Sealed}
 use Rattle.feed_disk.proofs.MomentLemmas.{alone_begins, alone_joins}
-use Rattle.feed_journal.specs.Log.{IsListed, IsLog, LogValue, MakesSome}
+use Rattle.feed_journal.specs.Log.{IsListed, IsLog, LogValue, MakesSome, payload_lengths}
+use Rattle.feed_journal.specs.Reading.{HasRead, IsReading, ReadingValue}
 use Rattle.feed_journal.specs.Records.{records}
+use Rattle.feed_journal.specs.declared.extent.Extent.{Extent}
 use Rattle.feed_journal.proofs.ExtentLemmas.{length-payloads}
-use Rattle.feed_recovery.specs.Faults.{IsLoadFault}
-use Rattle.feed_recovery.specs.Loading.{FailsBy, HasRaised, IsReadable, IsSealFault, OnlyReads, Worked}
-use Rattle.feed_recovery.specs.Loading.{AreCompared, WorkedBoth, calls_of, fault_of}
-use Rattle.feed_recovery.specs.Opening.{AreSeals, IsJournal, IsSealCount, seal_of}
+use Rattle.feed_recovery.specs.Faults.{IsBadOperation, IsFirstBad, IsLoadFault}
+use Rattle.feed_recovery.specs.Loading.{AreCompared, FailsBy, HasRaised, IsReadable, IsReader, IsSealFault, OnlyReads}
+use Rattle.feed_recovery.specs.Loading.{ReadsOn, Worked, WorkedBoth, calls_of, fault_of}
+use Rattle.feed_recovery.specs.Opening.{IsJournal, IsSealCount}
+use Rattle.feed_recovery.specs.Refused.{RefusesRecord}
 use Rattle.feed_recovery.specs.declared.fault.LoadFault.{LoadFault}
 use Rattle.feed_recovery.specs.declared.fault.LoadFault.TheVariants.{NotInit, BadRecord, SealCount, BadSeal}
 use Rattle.feed_recovery.specs.declared.fault.LoadFault.TheVariants.{DiskFault, NoMemory}
-use Rattle.member_rules.specs.Coding.{heads, operations}
+use Rattle.member_rules.specs.Coding.{heads}
 use Rattle.member_rules.specs.Head.{HeadValue}
 use Rattle.member_rules.specs.declared.codec.CodecFault.{CodecFault}
 use Rattle.member_rules.specs.declared.codec.CodecFault.TheVariants.{BadField, NoMemory as CodecNoMemory}
@@ -64,49 +67,67 @@ calls-too s t before after other from to is is' (inr some) = inr (
 )
 
 -- no call was made
-pub worked-begin : (s : DiskState) (journal seals : LogValue) → WorkedBoth s s journal journal seals seals
-worked-begin s journal seals = record {
-  journal_log = refl;
-  seals_log = refl;
-  calls = inl (refl, refl);
-  faults = refl;
-}
+pub worked-begin : (s : DiskState) (reader : ReadingValue) (seals : LogValue) → WorkedBoth s s reader reader seals seals
+worked-begin s reader seals = record { seals_log = refl; calls = inl (refl, refl); faults = refl }
 
 same-log : (a b c : LogValue) → b ≡ record a { calls = b.calls } → c ≡ record b { calls = c.calls }
     → c ≡ record a { calls = c.calls }
 same-log a b c first second = second ∙ ap (λ (l : LogValue). record l { calls = c.calls }) first
 
-pub worked-journal : (s t u : DiskState) (a b c seals seals' : LogValue) → WorkedBoth s t a b seals seals'
-    → Worked t u b c → WorkedBoth s u a c seals seals'
-worked-journal s t u a b c seals seals' first second = record {
-  journal_log = same-log a b c first.journal_log second.log;
+pub worked-reader : (s t u : DiskState) (a b c : ReadingValue) (seals seals' : LogValue) → WorkedBoth s t a b seals seals'
+    → ReadsOn t u b c → WorkedBoth s u a c seals seals'
+worked-reader s t u a b c seals seals' first second = record {
   seals_log = first.seals_log;
-  calls = some_join s t u (calls_of a seals) (calls_of b seals') (calls_of c seals') first.calls
-      (calls-too t u b.calls c.calls seals'.calls (calls_of b seals') (calls_of c seals') refl refl second.calls);
+  calls = some_join s t u (calls_of a.log seals) (calls_of b.log seals') (calls_of c.log seals') first.calls
+      (calls-too t u b.log.calls c.log.calls seals'.calls (calls_of b.log seals') (calls_of c.log seals') refl refl
+      second.calls);
   faults = second.faults ∙ first.faults;
 }
 
-pub worked-seals : (s t u : DiskState) (journal journal' a b c : LogValue) → WorkedBoth s t journal journal' a b
-    → Worked t u b c → WorkedBoth s u journal journal' a c
-worked-seals s t u journal journal' a b c first second = record {
-  journal_log = first.journal_log;
+pub worked-seals : (s t u : DiskState) (reader reader' : ReadingValue) (a b c : LogValue)
+    → WorkedBoth s t reader reader' a b → Worked t u b c → WorkedBoth s u reader reader' a c
+worked-seals s t u reader reader' a b c first second = record {
   seals_log = same-log a b c first.seals_log second.log;
-  calls = some_join s t u (calls_of journal a) (calls_of journal' b) (calls_of journal' c) first.calls
-      (calls-too t u b.calls c.calls journal'.calls (calls_of journal' b) (calls_of journal' c) (omega arith)
+  calls = some_join s t u (calls_of reader.log a) (calls_of reader'.log b) (calls_of reader'.log c) first.calls
+      (calls-too t u b.calls c.calls reader'.log.calls (calls_of reader'.log b) (calls_of reader'.log c) (omega arith)
       (omega arith) second.calls);
   faults = second.faults ∙ first.faults;
 }
 
-pub worked-both : (s t u : DiskState) (a b c seals seals' : LogValue) → Worked s t a b
+pub worked-after : (s t u : DiskState) (a b c : ReadingValue) (seals seals' : LogValue) → ReadsOn s t a b
     → WorkedBoth t u b c seals seals' → WorkedBoth s u a c seals seals'
-worked-both s t u a b c seals seals' first second = record {
-  journal_log = same-log a b c first.log second.journal_log;
+worked-after s t u a b c seals seals' first second = record {
   seals_log = second.seals_log;
-  calls = some_join s t u (calls_of a seals) (calls_of b seals) (calls_of c seals')
-      (calls-too s t a.calls b.calls seals.calls (calls_of a seals) (calls_of b seals) refl refl first.calls)
-      second.calls;
+  calls = some_join s t u (calls_of a.log seals) (calls_of b.log seals) (calls_of c.log seals')
+      (calls-too s t a.log.calls b.log.calls seals.calls (calls_of a.log seals) (calls_of b.log seals) refl refl
+      first.calls) second.calls;
   faults = second.faults ∙ first.faults;
 }
+
+-- the reader of an area that is left alone
+pub reader_alone : (observable : Type 0) (s t : DiskState) (reader : ReadingValue) → IsReader observable s reader
+    → OnlyReads s t → IsReader observable t reader
+reader_alone observable s t reader is reads = record {
+  area = is.area;
+  unspent = is.unspent;
+  reading = λ tells. subst (IsReading reader) (sym (reads.areas Journal).content) (is.reading tells);
+}
+
+lengths-push : (extents : List Extent) (extent : Extent)
+    → slice_get (payload_lengths (extents ++ extent ∷ [])) (length extents) ≡ Some extent.length
+lengths-push [] extent = refl
+lengths-push (first ∷ rest) extent = lengths-push rest extent
+
+-- the log after one more frame
+module _ (extent : Extent) (payload : List ℕ) (before after : LogValue) (read : HasRead extent payload before after) where
+  pub read_count : length after.extents ≡ length before.extents + 1
+  read_count = ap (λ (l : LogValue). length l.extents) read.log ∙ length-append before.extents (extent ∷ [])
+
+  pub read_length : slice_get (payload_lengths after.extents) (length before.extents) ≡ Some (length payload)
+  read_length =
+      ap (λ (l : LogValue). slice_get (payload_lengths l.extents) (length before.extents)) read.log
+      ∙ lengths-push before.extents extent
+      ∙ ap Some (sym read.whole)
 
 -- a log can still be read after a step that worked
 pub readable_later : (observable : Type 0) (s t : DiskState) (a : Area) (before after : LogValue)
@@ -133,10 +154,6 @@ readable_alone observable s t a log readable reads = record {
   rules = readable.rules;
   listed = λ tells. subst (IsListed log) (sym (reads.areas a).content) (readable.listed tells);
 }
-
--- out of memory has no cause in the payloads
-pub memory_fails : (observable : Type 0) (s t : DiskState) → t.faults ≡ s.faults → FailsBy observable s t NoMemory
-memory_fails observable s t same = record { area = tt; cause = λ tells. tt; faults = same }
 
 -- a fault of a step is that of all steps until then
 pub fails_later : (observable : Type 0) (s t u : DiskState) (fault : LoadFault) → OnlyReads s t → t.faults ≡ s.faults
@@ -166,32 +183,38 @@ head_fails observable s t (BadField at) payload same there refused = record {
 head_fails observable s t CodecNoMemory payload same there refused =
     record { area = tt; cause = λ tells. tt; faults = same }
 
--- or of an operation, after these
-pub operation_fails : (observable : Type 0) (s t : DiskState) (codec : CodecFault) (index : ℕ) (head : HeadValue)
-    (history : List Op) (payload : List ℕ) → 1 ≤ index
+-- or of an operation that may follow these
+pub operation_fails : (observable : Type 0) (s t : DiskState) (index : ℕ) (head : HeadValue) (history : List Op)
+    (payload : List ℕ) (fault : LoadFault) → 1 ≤ index
     → (observable → IsJournal (take index (records (s.content Journal))) head history) → t.faults ≡ s.faults
     → (observable → slice_get (records (s.content Journal)) index ≡ Some payload)
-    → ((at : ℕ) → codec ≡ BadField at → IsNoText operations payload × IsPlaceOfRefusal operations payload at)
-    → FailsBy observable s t (fault_of index codec)
-operation_fails observable s t (BadField at) index head history payload from_one before same there refused = record {
-  area = refl;
-  cause = λ tells. (
-    refl,
-    inr (
-      from_one,
-      record {
-        head = head;
-        history = history;
-        before = before tells;
-        payload = payload;
-        there = there tells;
-        bad = inl (refused at refl);
-      },
-    ),
-  );
-  faults = same;
-}
-operation_fails observable s t CodecNoMemory index head history payload from_one before same there refused =
+    → RefusesRecord (IsBadOperation head history payload) index fault → FailsBy observable s t fault
+operation_fails observable s t index head history payload NotInit from_one before same there refused = absurd refused
+operation_fails observable s t index head history payload (BadRecord area named at) from_one before same there
+    (is_area, is, bad) = record {
+      area = is_area;
+      cause = λ tells. (
+        is_area,
+        inr (
+          omega (arith, is, from_one),
+          subst (λ (n : ℕ). IsFirstBad (records (s.content Journal)) n at) (sym is) (record {
+            head = head;
+            history = history;
+            before = before tells;
+            payload = payload;
+            there = there tells;
+            bad = bad;
+          }),
+        ),
+      );
+      faults = same;
+    }
+operation_fails observable s t index head history payload (SealCount count found) from_one before same there refused =
+    absurd refused
+operation_fails observable s t index head history payload (BadSeal number) from_one before same there refused =
+    absurd refused
+operation_fails observable s t index head history payload DiskFault from_one before same there refused = absurd refused
+operation_fails observable s t index head history payload NoMemory from_one before same there refused =
     record { area = tt; cause = λ tells. tt; faults = same }
 
 -- the log has as many extents as the content has payloads

@@ -1,16 +1,18 @@
 -- The refusals of the steps of a load, over any disk.
-use Rattle.std.proofs.Common.{◌≡◌, inl, inr, false, ℕ, ◌+◌, ◌<◌, List, [], length, Option, refl, sym, ◌∙◌, subst, arith}
-use Rattle.std.specs.Prelude.{IfSome}
+use Rattle.std.proofs.Common.{◌≡◌, inl, inr, false, ℕ, ◌+◌, ◌<◌, List, [], ◌∷◌, ◌++◌, length, Option, Some, refl, sym}
+use Rattle.std.proofs.Common.{◌∙◌, ap, subst, arith, length-append}
+use Rattle.std.specs.Prelude.{IfSome, slice_get}
+use Rattle.feed_disk.specs.declared.area.Area.{Area}
 use Rattle.feed_disk.specs.declared.area.Area.TheVariants.{Journal}
-use Rattle.feed_journal.specs.Log.{LogValue, IsLog}
+use Rattle.feed_journal.specs.Limits.{header_length}
+use Rattle.feed_journal.specs.Log.{LogValue, IsLog, payload_lengths}
 use Rattle.feed_journal.specs.declared.extent.Extent.{Extent}
 use Rattle.feed_journal.specs.declared.fault.LogFault.{LogFault}
 use Rattle.feed_journal.specs.declared.fault.LogFault.TheVariants.{DiskFault as LogDiskFault, NoMemory as LogNoMemory}
 use Rattle.feed_journal.specs.declared.fault.LogFault.TheVariants.{Changed}
 use Rattle.feed_recovery.specs.Faults.{IsBadOperation}
 use Rattle.feed_recovery.specs.Loading.{IsNoCause, IsSealFault, IsSealOf, fault_of}
-use Rattle.feed_recovery.specs.Refused.{IsNoHead, IsRefusal, IsShort, IsShortOrBad, RefusesHistory, RefusesRecord}
-use Rattle.feed_recovery.specs.Refused.{Refuses}
+use Rattle.feed_recovery.specs.Refused.{IsBadAfter, IsNoHead, IsRefusal, Refuses, RefusesNext, RefusesRecord}
 use Rattle.feed_recovery.specs.declared.fault.LoadFault.{LoadFault}
 use Rattle.feed_recovery.specs.declared.fault.LoadFault.TheVariants.{NotInit, BadRecord, SealCount, BadSeal}
 use Rattle.feed_recovery.specs.declared.fault.LoadFault.TheVariants.{DiskFault, NoMemory}
@@ -20,77 +22,137 @@ use Rattle.member_rules.specs.declared.codec.CodecFault.{CodecFault}
 use Rattle.member_rules.specs.declared.codec.CodecFault.TheVariants.{BadField, NoMemory as CodecNoMemory}
 use Rattle.member_rules.specs.declared.operation.Op.{Op}
 
--- a payload that is read short isn't taken
-pub refused-short : (bad : List ℕ → ℕ → Type 0) (extents : List Extent) (index : ℕ) (fault : LoadFault)
-    → RefusesRecord IsShort index fault → RefusesRecord (IsShortOrBad bad extents index) index fault
-refused-short bad extents index NotInit refused = refused
-refused-short bad extents index (BadRecord area named at) (is_area, is, short) = (is_area, is, inl short)
-refused-short bad extents index (SealCount records seals) refused = refused
-refused-short bad extents index (BadSeal number) refused = refused
-refused-short bad extents index DiskFault refused = tt
-refused-short bad extents index NoMemory refused = tt
-
--- nor one whose bytes aren't those of a value
+-- a payload whose bytes aren't those of a value isn't taken
 pub refused-codec : (place : ℕ → Type 0) (index : ℕ) (codec : CodecFault)
     → ((at : ℕ) → codec ≡ BadField at → place at) → RefusesRecord place index (fault_of index codec)
 refused-codec place index (BadField at) refused = (refl, refl, refused at refl)
 refused-codec place index CodecNoMemory refused = tt
 
--- an operation that isn't taken after a history
-pub refused-after : (head : HeadValue) (history : List Op) (extents : List Extent) (index : ℕ) (fault : LoadFault)
-    → IsLawful head history → index ≡ length history + 1 → index < length extents
-    → RefusesRecord (IsShortOrBad (IsBadOperation head history) extents index) index fault
-    → RefusesHistory head extents fault
-refused-after head history extents index NotInit lawful follows within refused = refused
-refused-after head history extents index (BadRecord area named at) lawful follows within (is_area, is, place) = (
-  is_area,
-  record {
-    history = history;
-    lawful = lawful;
-    follows = is ∙ follows;
-    within = subst (λ (n : ℕ). n < length extents) (sym is) within;
-    place = subst (λ (n : ℕ). IsShortOrBad (IsBadOperation head history) extents n at) (sym is) place;
-  },
-)
-refused-after head history extents index (SealCount records seals) lawful follows within refused = refused
-refused-after head history extents index (BadSeal number) lawful follows within refused = refused
-refused-after head history extents index DiskFault lawful follows within refused = tt
-refused-after head history extents index NoMemory lawful follows within refused = tt
+-- the log with one more frame, whose payload has this length
+abbrev longer : LogValue → ℕ → LogValue
+longer log said = record log {
+  extents = log.extents ++ record { offset = log.size + 4; length = said } ∷ [];
+  size = log.size + said + header_length;
+}
+
+within-longer : (log : LogValue) (said : ℕ) → length log.extents < length (longer log said).extents
+within-longer log said =
+    omega (arith, length-append log.extents (record { offset = log.size + 4; length = said } ∷ []))
+
+abbrev no_payloads : LogValue
+no_payloads = record { area = Journal; extents = []; size = 1; calls = 0; spent = false; spare = 0 }
+
+no_payloads_rules : IsLog no_payloads
+no_payloads_rules = record { follow = refl; few = omega arith }
+
+-- a refusal that no seal has a part in
+refuses : (journal : LogValue) (fault : LoadFault) → IsLog journal → Refuses journal.extents [] fault → IsRefusal fault
+refuses journal fault rules why = record {
+  journal = journal;
+  seals = no_payloads;
+  journal_rules = rules;
+  seals_rules = no_payloads_rules;
+  refuses = why;
+}
+
+spends : (fault : LoadFault) → Refuses [] [] fault → IsRefusal fault
+spends fault why = refuses no_payloads fault no_payloads_rules why
 
 -- a failed call or out of memory
-pub refused-without : (head : HeadValue) (extents : List Extent) (fault : LoadFault) → IsNoCause fault
-    → RefusesHistory head extents fault
-refused-without head extents NotInit refused = absurd refused
-refused-without head extents (BadRecord area named at) refused = absurd refused
-refused-without head extents (SealCount records seals) refused = absurd refused
-refused-without head extents (BadSeal number) refused = absurd refused
-refused-without head extents DiskFault refused = tt
-refused-without head extents NoMemory refused = tt
+pub refusal-without : (fault : LoadFault) → IsNoCause fault → IsRefusal fault
+refusal-without NotInit refused = absurd refused
+refusal-without (BadRecord area index at) refused = absurd refused
+refusal-without (SealCount records seals) refused = absurd refused
+refusal-without (BadSeal number) refused = absurd refused
+refusal-without DiskFault refused = spends DiskFault tt
+refusal-without NoMemory refused = spends NoMemory tt
+
+-- the frame of the head isn't read
+pub refusal-first : (log : LogValue) (fault : LoadFault) → log.extents ≡ [] → RefusesNext log fault → IsRefusal fault
+refusal-first log NotInit none refused = absurd refused
+refusal-first log (BadRecord area index at) none (is_area, short, lacks) =
+    refuses (longer log lacks.length_said) (BadRecord area index at) lacks.rules (
+      is_area,
+      inl (record {
+        first = lacks.is_next ∙ ap length none;
+        some = omega (arith, within-longer log lacks.length_said);
+        place = inl short;
+      }),
+    )
+refusal-first log (SealCount records seals) none refused = absurd refused
+refusal-first log (BadSeal number) none refused = absurd refused
+refusal-first log DiskFault none refused = spends DiskFault tt
+refusal-first log NoMemory none refused = spends NoMemory tt
 
 -- the head isn't taken
-pub refuses-head : (journal seals : List Extent) (fault : LoadFault) → 0 < length journal
-    → RefusesRecord (IsShortOrBad IsNoHead journal 0) 0 fault → Refuses journal seals fault
-refuses-head journal seals NotInit some refused = absurd refused
-refuses-head journal seals (BadRecord area index at) some (is_area, is, place) =
-    (is_area, inl (record { first = is; some = some; place = place }))
-refuses-head journal seals (SealCount records found) some refused = absurd refused
-refuses-head journal seals (BadSeal number) some refused = absurd refused
-refuses-head journal seals DiskFault some refused = tt
-refuses-head journal seals NoMemory some refused = tt
+pub refusal-head : (log : LogValue) (payload : List ℕ) (fault : LoadFault) → IsLog log → length log.extents ≡ 1
+    → slice_get (payload_lengths log.extents) 0 ≡ Some (length payload) → RefusesRecord (IsNoHead payload) 0 fault
+    → IsRefusal fault
+refusal-head log payload NotInit rules one whole refused = absurd refused
+refusal-head log payload (BadRecord area index at) rules one whole (is_area, is, bad) =
+    refuses log (BadRecord area index at) rules (
+      is_area,
+      inl (record {
+        first = is;
+        some = omega (arith, one);
+        place = inr (record { payload = payload; whole = whole; is_bad = bad });
+      }),
+    )
+refusal-head log payload (SealCount records seals) rules one whole refused = absurd refused
+refusal-head log payload (BadSeal number) rules one whole refused = absurd refused
+refusal-head log payload DiskFault rules one whole refused = absurd refused
+refusal-head log payload NoMemory rules one whole refused = spends NoMemory tt
 
--- or the history after it
-pub refuses-history : (journal seals : List Extent) (head : HeadValue) (fault : LoadFault) → IsHead head
-    → RefusesHistory head journal fault → Refuses journal seals fault
-refuses-history journal seals head NotInit is_head refused = absurd refused
-refuses-history journal seals head (BadRecord area index at) is_head (is_area, after) =
-    (is_area, inr (record { head = head; is_head = is_head; after = after }))
-refuses-history journal seals head (SealCount records found) is_head refused = absurd refused
-refuses-history journal seals head (BadSeal number) is_head refused = absurd refused
-refuses-history journal seals head DiskFault is_head refused = tt
-refuses-history journal seals head NoMemory is_head refused = tt
+-- after the operations of this history
+module _ (head : HeadValue) (history : List Op) (is_head : IsHead head) (lawful : IsLawful head history)
+    (log : LogValue) where
+  later : (journal : LogValue) (area : Area) (index at : ℕ) → IsLog journal → area ≡ Journal
+      → IsBadAfter head journal.extents index at → IsRefusal (BadRecord area index at)
+  later journal area index at rules is_area after = refuses journal (BadRecord area index at) rules
+      (is_area, inr (record { head = head; is_head = is_head; after = after }))
 
--- or the seals
-pub refuses-seals : (journal seals : List Extent) (head : HeadValue) (history : List Op) (wrong : Option ℕ)
+  -- the next frame isn't read
+  pub refusal-next : (fault : LoadFault) → length log.extents ≡ length history + 1 → RefusesNext log fault
+      → IsRefusal fault
+  refusal-next NotInit count refused = absurd refused
+  refusal-next (BadRecord area index at) count (is_area, short, lacks) =
+      later (longer log lacks.length_said) area index at lacks.rules is_area (record {
+        history = history;
+        lawful = lawful;
+        follows = lacks.is_next ∙ count;
+        within = omega (arith, lacks.is_next, within-longer log lacks.length_said);
+        place = inl short;
+      })
+  refusal-next (SealCount records seals) count refused = absurd refused
+  refusal-next (BadSeal number) count refused = absurd refused
+  refusal-next DiskFault count refused = spends DiskFault tt
+  refusal-next NoMemory count refused = spends NoMemory tt
+
+  -- its operation isn't taken
+  pub refusal-operation : (payload : List ℕ) (fault : LoadFault) → IsLog log
+      → length history + 1 < length log.extents
+      → slice_get (payload_lengths log.extents) (length history + 1) ≡ Some (length payload)
+      → RefusesRecord (IsBadOperation head history payload) (length history + 1) fault → IsRefusal fault
+  refusal-operation payload NotInit rules within whole refused = absurd refused
+  refusal-operation payload (BadRecord area index at) rules within whole (is_area, is, bad) =
+      later log area index at rules is_area (record {
+        history = history;
+        lawful = lawful;
+        follows = is;
+        within = omega (arith, is, within);
+        place = inr (record {
+          payload = payload;
+          whole = subst (λ (n : ℕ). slice_get (payload_lengths log.extents) n ≡ Some (length payload)) (sym is) whole;
+          is_bad = bad;
+        });
+      })
+  refusal-operation payload (SealCount records seals) rules within whole refused = absurd refused
+  refusal-operation payload (BadSeal number) rules within whole refused = absurd refused
+  refusal-operation payload DiskFault rules within whole refused = absurd refused
+  refusal-operation payload NoMemory rules within whole refused = spends NoMemory tt
+
+-- the seals can't be those of this journal
+refuses-seals : (journal seals : List Extent) (head : HeadValue) (history : List Op) (wrong : Option ℕ)
     (fault : LoadFault) → IsHead head → IsLawful head history → length journal ≡ length history + 1
     → IfSome wrong (IsSealOf seals) → IsSealFault head history wrong (length seals) fault → Refuses journal seals fault
 refuses-seals journal seals head history wrong NotInit is_head lawful many listed refused = absurd refused
@@ -111,19 +173,17 @@ refuses-seals journal seals head history wrong (BadSeal number) is_head lawful m
 refuses-seals journal seals head history wrong DiskFault is_head lawful many listed refused = absurd refused
 refuses-seals journal seals head history wrong NoMemory is_head lawful many listed refused = absurd refused
 
-abbrev no_payloads : LogValue
-no_payloads = record { area = Journal; extents = []; size = 1; calls = 0; spent = false; spare = 0 }
-
-no_payloads_rules : IsLog no_payloads
-no_payloads_rules = record { follow = refl; few = omega arith }
-
-spends : (fault : LoadFault) → Refuses [] [] fault → IsRefusal fault
-spends fault refuses = record {
-  journal = no_payloads;
-  seals = no_payloads;
-  journal_rules = no_payloads_rules;
-  seals_rules = no_payloads_rules;
-  refuses = refuses;
+-- so a load of both refuses
+pub refusal-seals : (journal seals : LogValue) (head : HeadValue) (history : List Op) (wrong : Option ℕ)
+    (fault : LoadFault) → IsLog journal → IsLog seals → IsHead head → IsLawful head history
+    → length journal.extents ≡ length history + 1 → IfSome wrong (IsSealOf seals.extents)
+    → IsSealFault head history wrong (length seals.extents) fault → IsRefusal fault
+refusal-seals journal seals head history wrong fault rules rules' is_head lawful many listed refused = record {
+  journal = journal;
+  seals = seals;
+  journal_rules = rules;
+  seals_rules = rules';
+  refuses = refuses-seals journal.extents seals.extents head history wrong fault is_head lawful many listed refused;
 }
 
 -- a log isn't loaded only if a call fails or memory runs out

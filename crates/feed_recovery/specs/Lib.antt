@@ -9,3 +9,4 @@ pub mod Prepare
 pub mod Commit
 pub mod Documents
 pub mod Stored
+pub mod Places

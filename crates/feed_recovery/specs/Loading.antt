@@ -1,5 +1,6 @@
 -- The steps of a load, of which none writes.
-use Rattle.std.specs.Prelude.{◌≡◌, ◌↔◌, ◌+◌, ◌-◌, ◌≤◌, ℕ, min, false, List, [], ◌∷◌, ◌++◌, length, take, slice_get}
+use Rattle.std.specs.Prelude.{◌≡◌, ◌↔◌, ◌+◌, ◌-◌, ◌*◌, ◌<◌, ◌≤◌, ℕ, min, false, List, [], ◌∷◌, ◌++◌, length, take}
+use Rattle.std.specs.Prelude.{slice_get}
 use Rattle.std.specs.Prelude.{Bool, IsTrue, Option, Some, None}
 use Rattle.archive_sealer.specs.Window.{WindowValue}
 use Rattle.atom_values.specs.Counts.{HasRisen, counter_limit}
@@ -8,11 +9,14 @@ use Rattle.feed_disk.specs.Moments.{LeavesAlone}
 use Rattle.feed_disk.specs.declared.area.Area.{Area}
 use Rattle.feed_disk.specs.declared.area.Area.TheVariants.{Journal, Sealed}
 use Rattle.atom_writer.specs.Pieced.{text_of}
-use Rattle.feed_journal.specs.Log.{IsListed, IsLog, LogValue, MakesSome, payload_lengths}
-use Rattle.feed_journal.specs.Records.{records}
+use Rattle.feed_journal.specs.Log.{IsListed, IsLog, LogValue, MakesSome}
+use Rattle.feed_journal.specs.Reading.{IsReading, ReadingValue}
+use Rattle.feed_journal.specs.Records.{records, Begins, IsClosed}
 use Rattle.feed_journal.specs.declared.extent.Extent.{Extent}
 use Rattle.feed_recovery.specs.Faults.{IsFirstWrong, IsLoadFault}
 use Rattle.feed_recovery.specs.Opening.{AreSeals, IsSealCount, seal_of}
+use Rattle.feed_recovery.specs.Places.{ArePlaces}
+use Rattle.feed_recovery.specs.Store.{least_frame}
 use Rattle.feed_recovery.specs.declared.fault.LoadFault.{LoadFault}
 use Rattle.feed_recovery.specs.declared.fault.LoadFault.TheVariants.{NotInit, BadRecord, SealCount, BadSeal}
 use Rattle.feed_recovery.specs.declared.fault.LoadFault.TheVariants.{DiskFault, NoMemory}
@@ -25,6 +29,17 @@ use Rattle.member_rules.specs.Windows.{windows_of}
 use Rattle.member_rules.specs.declared.operation.Op.{Op}
 use Rattle.member_rules.specs.declared.codec.CodecFault.{CodecFault}
 use Rattle.member_rules.specs.declared.codec.CodecFault.TheVariants.{BadField, NoMemory as CodecNoMemory}
+
+-- the reader of the journal, of which no call failed
+pub record IsReader (observable : Type 0) (disk : DiskState) (reader : ReadingValue) : Type 0 where
+  pub area : reader.log.area ≡ Journal
+  pub unspent : reader.log.spent ≡ false
+  pub reading : observable → IsReading reader (disk.content Journal)
+
+-- before the first frame
+pub record IsAtFirst (observable : Type 0) (disk : DiskState) (reader : ReadingValue) : Type 0 where
+  pub first : IsReader observable disk reader
+  pub none : reader.log.extents ≡ []
 
 -- the log of this area, of which no call failed; its list is the payloads of the content
 pub record IsReadable (observable : Type 0) (disk : DiskState) (a : Area) (log : LogValue) : Type 0 where
@@ -43,6 +58,24 @@ pub record Worked (s t : DiskState) (before after : LogValue) : Type 0 where
   pub log : after ≡ record before { calls = after.calls }
   pub calls : MakesSome s t before.calls after.calls
   pub faults : t.faults ≡ s.faults
+
+-- device calls through the reader worked
+pub record ReadsOn (s t : DiskState) (before after : ReadingValue) : Type 0 where
+  pub rules : IsLog after.log
+  pub calls : MakesSome s t before.log.calls after.log.calls
+  pub faults : t.faults ≡ s.faults
+  pub limit : after.limit ≡ before.limit
+  pub within : after.log.size ≤ after.limit
+
+-- the log's list is the payloads of the content, which begins with their frames if a closed gate is after them
+pub record ListsAll (log : LogValue) (content : List ℕ) : Type 0 where
+  pub listed : IsListed log content
+  pub begins : IsClosed content → Begins (records content) content
+
+-- no frame is left, and the log is as it was but for the number of calls
+pub record HasReadAll (observable : Type 0) (content : List ℕ) (before after : LogValue) : Type 0 where
+  pub log : after ≡ record before { calls = after.calls }
+  pub lists : observable → ListsAll after content
 
 -- a bad record is one of the journal
 abbrev pub NamesJournal : LoadFault → Type 0
@@ -84,20 +117,30 @@ pub record HasReplayed (head : HeadValue) (members : Table) (window : WindowValu
   pub size : window.size ≡ head.window
   pub table : IsTableOf members head.created window.history
 
--- the payload of this index was taken as the next operation
-pub record IsTaken (observable : Type 0) (payloads : List (List ℕ)) (extents : List Extent) (index : ℕ)
-    (before after : List Op) : Type 0 where
+-- the log has the frame of the head and one for each operation, and each live member has a place
+pub record LogsHistory (log : LogValue) (history : List Op) (places : List Extent) : Type 0 where
+  pub rules : IsLog log
+  pub count : length log.extents ≡ length history + 1
+  pub long : least_frame * length history < log.size
+  pub placed : ArePlaces places history log.extents
+
+-- the payload was taken as the next operation
+pub record IsTaken (payload : List ℕ) (before after : List Op) : Type 0 where
   pub operation : Op
   pub history : after ≡ before ++ operation ∷ []
   pub rules : IsOperation operation
-  pub payload : observable → slice_get payloads index ≡ Some (text_of operations operation)
-  pub long : slice_get (payload_lengths extents) index ≡ Some (length (text_of operations operation))
+  pub bytes : payload ≡ text_of operations operation
 
--- device calls through both logs worked, and the logs are as they were but for the numbers of these calls
-pub record WorkedBoth (s t : DiskState) (journal journal' seals seals' : LogValue) : Type 0 where
-  pub journal_log : journal' ≡ record journal { calls = journal'.calls }
+-- there is one more operation, and its frame was read
+pub record HasGrown (before after : List Op) (log log' : LogValue) : Type 0 where
+  pub operation : Op
+  pub history : after ≡ before ++ operation ∷ []
+  pub longer : log.size < log'.size
+
+-- device calls through the reader and the log of the seals worked; that log is as it was but for the number of its calls
+pub record WorkedBoth (s t : DiskState) (reader reader' : ReadingValue) (seals seals' : LogValue) : Type 0 where
   pub seals_log : seals' ≡ record seals { calls = seals'.calls }
-  pub calls : MakesSome s t (calls_of journal seals) (calls_of journal' seals')
+  pub calls : MakesSome s t (calls_of reader.log seals) (calls_of reader'.log seals')
   pub faults : t.faults ≡ s.faults
 
 -- the payload of this seal, counted from 1, is the text of its archive exactly if `same`

@@ -1,9 +1,10 @@
--- Why a load refuses, over any disk: also over one whose content contracts don't see. Then the list of the log that was
--- loaded stands for the payloads. A payload is read short if the disk gives less of it than the log has for it.
+-- Why a load refuses, over any disk: also over one whose content contracts don't see. Then the extents of the frames that
+-- were read stand for the payloads. A payload is read short if the disk gives less of it than its frame's header says.
 use Rattle.std.specs.Prelude.{◌≡◌, ◌⊎◌, ℕ, ◌+◌, ◌<◌, ◌≤◌, List, length, Some, slice_get}
 use Rattle.atom_writer.specs.Pieced.{IsNoText, IsPlaceOfRefusal}
 use Rattle.feed_disk.specs.declared.area.Area.TheVariants.{Journal}
 use Rattle.feed_journal.specs.Log.{LogValue, IsLog, payload_lengths}
+use Rattle.feed_journal.specs.Reading.{LacksNext}
 use Rattle.feed_journal.specs.declared.extent.Extent.{Extent}
 use Rattle.feed_recovery.specs.Faults.{IsBadOperation}
 use Rattle.feed_recovery.specs.Opening.{IsSealCount}
@@ -33,14 +34,23 @@ IsShort at = at ≡ 0
 abbrev pub IsShortOrBad : (List ℕ → ℕ → Type 0) → List Extent → ℕ → ℕ → Type 0
 IsShortOrBad bad extents index at = IsShort at ⊎ IsBadThere bad extents index at
 
--- The journal's payload of this index isn't taken: the fault names it, and an offset that `place` allows. A failed call
--- and out of memory name nothing.
+-- the next frame after those of this log isn't read: its payload is short, a call failed, or memory ran out
+abbrev pub RefusesNext : LogValue → LoadFault → Type 0
+RefusesNext log NotInit = ⊥
+RefusesNext log (BadRecord area index at) = (area ≡ Journal) × IsShort at × LacksNext log index
+RefusesNext log (SealCount records seals) = ⊥
+RefusesNext log (BadSeal number) = ⊥
+RefusesNext log DiskFault = Unit {0}
+RefusesNext log NoMemory = Unit {0}
+
+-- The journal's payload of this index isn't taken: the fault names it, and an offset that `place` allows. Out of memory
+-- names nothing.
 abbrev pub RefusesRecord : (ℕ → Type 0) → ℕ → LoadFault → Type 0
 RefusesRecord place index NotInit = ⊥
 RefusesRecord place index (BadRecord area named at) = (area ≡ Journal) × (named ≡ index) × place at
 RefusesRecord place index (SealCount records seals) = ⊥
 RefusesRecord place index (BadSeal number) = ⊥
-RefusesRecord place index DiskFault = Unit {0}
+RefusesRecord place index DiskFault = ⊥
 RefusesRecord place index NoMemory = Unit {0}
 
 -- the payload of this index comes after those of a lawful history, and was read short, or can't follow them
@@ -50,15 +60,6 @@ pub record IsBadAfter (head : HeadValue) (extents : List Extent) (index at : ℕ
   pub follows : index ≡ length history + 1
   pub within : index < length extents
   pub place : IsShortOrBad (IsBadOperation head history) extents index at
-
--- an operation of the journal isn't taken
-abbrev pub RefusesHistory : HeadValue → List Extent → LoadFault → Type 0
-RefusesHistory head extents NotInit = ⊥
-RefusesHistory head extents (BadRecord area index at) = (area ≡ Journal) × IsBadAfter head extents index at
-RefusesHistory head extents (SealCount records seals) = ⊥
-RefusesHistory head extents (BadSeal number) = ⊥
-RefusesHistory head extents DiskFault = Unit {0}
-RefusesHistory head extents NoMemory = Unit {0}
 
 -- the first payload, if there is one, isn't taken
 pub record IsBadFirst (extents : List Extent) (index at : ℕ) : Type 0 where

@@ -139,12 +139,16 @@ impl Store {
             payload,
             ..
         } = ready;
-        if let Err(fault) = self.journal.append(disk, &payload) {
-            self.spent = true;
-            drop(operation);
-            return Err(fault);
-        }
+        let place = match self.journal.append(disk, &payload) {
+            Ok(place) => place,
+            Err(fault) => {
+                self.spent = true;
+                drop(operation);
+                return Err(fault);
+            }
+        };
         self.newest = None;
+        self.places.commit(&operation, place);
         self.members.commit(&operation);
         self.window.commit(operation);
         Ok(version)

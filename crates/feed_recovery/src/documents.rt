@@ -20,7 +20,7 @@ use crate::store::Store;
 use atom_values::{Bytes, Entry, NoMemory, Stamp};
 use atom_writer::{FeedName, write_doc, write_member};
 use feed_disk::Disk;
-use feed_journal::LogFault;
+use feed_journal::{Extent, LogFault};
 use member_rules::{CodecFault, Op, State, read_op};
 use std::alloc::Global;
 
@@ -141,7 +141,11 @@ impl Store {
             // A live member has an entry.
             unreachable!();
         };
-        let payload = self.read_operation(disk, version)?;
+        let Some(place) = self.places.get(number) else {
+            // It has a place too.
+            unreachable!();
+        };
+        let payload = self.read_operation(disk, place, version)?;
         document_of(
             self.alloc,
             &self.head.name,
@@ -153,14 +157,15 @@ impl Store {
         )
     }
 
-    /// Reads the bytes of operation `version`, counted from 1, from the journal.
+    /// Reads the bytes of operation `version`, counted from 1, from its place in the journal.
     fn read_operation<D: Disk>(
         &mut self,
         disk: &mut D,
+        place: Extent,
         version: u32,
     ) -> Result<Vec<u8>, MemberFault>
         requires unspent { is_spent self.old ≡ false }
-        requires within { version ≤ length self.old.history }
+        requires place { slice_get self.old.journal.extents version ≡ Some place }
         requires stands { D.observable → StandsFor (D.state disk.old) self.old }
         ensures payload { IfOk result (λ payload. D.observable
             → slice_get (records ((D.state disk.old).content Journal)) version ≡ Some payload.items) }
@@ -180,7 +185,7 @@ impl Store {
         ensures faults { CountsFault (D.state disk.old).faults (D.state disk.new).faults
             (result ≡ Err MemberFault.DiskFault) }
     {
-        match self.journal.read(disk, version) {
+        match self.journal.read(disk, place, version) {
             Ok(payload) => Ok(payload),
             Err(LogFault::DiskFault) => {
                 self.spent = true;

@@ -26,6 +26,7 @@ mod fault;
 mod init;
 mod laws;
 mod load;
+mod places;
 mod prepare;
 mod store;
 

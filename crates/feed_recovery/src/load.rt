@@ -1,4 +1,4 @@
-ghost use Rattle.std.specs.Prelude.{◌≡◌, ◌↔◌, ◌⊎◌, ◌+◌, ◌*◌, ◌<◌, ◌≤◌, ◌++◌, ◌∷◌, ℕ, ℤ, false};
+ghost use Rattle.std.specs.Prelude.{◌≡◌, ◌↔◌, ◌⊎◌, ◌+◌, ◌<◌, ◌++◌, ◌∷◌, ℕ, ℤ, true, false};
 ghost use Rattle.std.specs.Prelude.{List, [], length, slice_get, take, Some, None, IfOk, IfSome, IfErr, OnOk, IsTrue};
 ghost use Rattle.archive_sealer.specs.Window.{IsFull};
 ghost use Rattle.atom_values.specs.Counts.{CountsFault};
@@ -6,38 +6,38 @@ ghost use Rattle.atom_writer.specs.Pieced.{text_of};
 ghost use Rattle.feed_disk.specs.Moments.{LeavesAlone};
 ghost use Rattle.feed_disk.specs.declared.area.Area.{Area as AreaValue};
 ghost use Rattle.feed_disk.specs.declared.area.Area.TheVariants.{Journal, Sealed, Mirror};
-ghost use Rattle.feed_journal.specs.Ahead.{IsAhead};
-ghost use Rattle.feed_journal.specs.Log.{IsLog, MakesCalls, MakesSome, payload_lengths};
-ghost use Rattle.feed_journal.specs.Records.{records};
+ghost use Rattle.feed_journal.specs.Log.{IsLog, MakesCalls, MakesSome};
+ghost use Rattle.feed_journal.specs.Reading.{HasRead};
+ghost use Rattle.feed_journal.specs.Records.{records, Begins, IsClosed};
+ghost use Rattle.feed_journal.specs.declared.extent.Extent.{Extent as ExtentValue};
 ghost use Rattle.feed_recovery.specs.Faults.{IsBadOperation, IsLoadFault};
-ghost use Rattle.feed_recovery.specs.Loading.{AreCompared, FailsBy, HasReplayed, IsNoCause, IsReadable, IsSameSeal};
-ghost use Rattle.feed_recovery.specs.Loading.{IsSealFault, IsSealOf, IsTaken, OnlyReads, Worked, WorkedBoth, calls_of};
-ghost use Rattle.feed_recovery.specs.Loading.{fault_of};
-ghost use Rattle.feed_recovery.specs.Opening.{IsJournal, IsSealCount, Opens, journal_of};
-ghost use Rattle.feed_recovery.specs.Refused.{IsNoHead, IsRefusal, IsShort, IsShortOrBad, Refuses, RefusesHistory};
-ghost use Rattle.feed_recovery.specs.Refused.{RefusesRecord};
+ghost use Rattle.feed_recovery.specs.Loading.{AreCompared, FailsBy, HasGrown, HasReadAll, HasReplayed, IsAtFirst};
+ghost use Rattle.feed_recovery.specs.Loading.{IsNoCause, IsReadable, IsReader, IsSameSeal, IsSealFault, IsSealOf, IsTaken};
+ghost use Rattle.feed_recovery.specs.Loading.{ListsAll, LogsHistory, OnlyReads, ReadsOn, Worked, WorkedBoth, calls_of, fault_of};
+ghost use Rattle.feed_recovery.specs.Opening.{IsSealCount, Opens, journal_of};
+ghost use Rattle.feed_recovery.specs.Places.{ArePlaces};
+ghost use Rattle.feed_recovery.specs.Refused.{IsRefusal, RefusesNext, RefusesRecord};
 ghost use Rattle.feed_recovery.specs.Settled.{AlwaysLeavesBoth, AreWhole, IsSettled, KeepsPayloads, OpensPast};
 ghost use Rattle.feed_recovery.specs.Settled.{Settled};
-ghost use Rattle.feed_recovery.specs.Store.{StandsFor, call_count, is_spent, least_frame};
+ghost use Rattle.feed_recovery.specs.Store.{StandsFor, call_count, is_spent};
 ghost use Rattle.member_rules.specs.Coding.{heads, operations};
+ghost use Rattle.member_rules.specs.Fold.{made};
 ghost use Rattle.member_rules.specs.Head.{HeadValue, IsHead};
-ghost use Rattle.member_rules.specs.History.{IsSmall, MayFollow};
+ghost use Rattle.member_rules.specs.History.{IsSmall, MayFollow, history_limit};
 ghost use Rattle.member_rules.specs.Operation.{IsOperation};
 ghost use Rattle.member_rules.specs.Table.{IsTableOf};
 ghost use Rattle.member_rules.specs.Windows.{windows_of};
 ghost use Rattle.member_rules.specs.declared.operation.Op.{Op as Operation};
 
 use crate::fault::LoadFault;
+use crate::places::Places;
 use crate::store::Store;
 use archive_sealer::Window;
 use atom_writer::{entry_len, write_doc};
 use feed_disk::{Area, Disk};
-use feed_journal::{Ahead, Log, LogFault, begun_images_are_whole};
+use feed_journal::{Frame, FrameReader, Log, LogFault, begun_images_are_whole};
 use member_rules::{CodecFault, ENTRY_LIMIT, Head, Members, Op, read_head, read_op};
 use std::alloc::Global;
-
-/// The number of the journal's bytes that are read at a time.
-const JOURNAL_AHEAD: usize = 65_536;
 
 impl Store {
     /// Reopens the store of a disk in one pass over the journal. When a window is full, its seal is compared with its
@@ -47,9 +47,9 @@ impl Store {
     /// Errors: the first of [`LoadFault`] that fits. `DiskFault` if the disk's count of faults rose. `NoMemory`,
     /// which hides no failed device call.
     ///
-    /// Cost: the journal is read in buffers of 65,536 bytes, and its headers in buffers of 4,096. Each seal is one more
-    /// read. Each operation is looked at once, and each archive is made once. Beside the store it takes the memory of one
-    /// archive.
+    /// Cost: the journal is read once, in buffers of 65,536 bytes. The headers of the seals are read in buffers of 4,096,
+    /// and each seal is one more read. Each operation is looked at once, and each archive is made once. Beside the store
+    /// it takes the memory of one archive.
     pub fn load<D: Disk>(alloc: Global, disk: &mut D) -> Result<Store, LoadFault>
         ensures opens { IfOk result (λ store. D.observable → StandsFor (D.state disk.new) store) }
         ensures fresh { IfOk result (λ store. is_spent store ≡ false) }
@@ -85,38 +85,36 @@ impl Store {
             (result ≡ Err LoadFault.DiskFault) }
     {
         begun_images_are_whole();
-        let journal = Log::load(alloc, disk, Area::Journal)?;
+        let journal = FrameReader::open(alloc, disk, Area::Journal)?;
         let seals = Log::load(alloc, disk, Area::Sealed)?;
         let store = reopen(alloc, disk, journal, seals)?;
         Ok(store)
     }
 }
 
-/// Reads the payloads of the two logs, and returns their store.
+/// Reads the frames of the journal and the seals, and returns their store.
 fn reopen<D: Disk>(
     alloc: Global,
     disk: &mut D,
-    mut journal: Log,
+    mut reader: FrameReader,
     mut seals: Log,
 ) -> Result<Store, LoadFault>
-    requires journal { IsReadable D.observable (D.state disk.old) Journal journal }
+    requires journal { IsAtFirst D.observable (D.state disk.old) reader }
     requires seals { IsReadable D.observable (D.state disk.old) Sealed seals }
     ensures stands { IfOk result (λ store. D.observable → StandsFor (D.state disk.new) store) }
+    ensures begins { OnOk result (D.observable → IsClosed ((D.state disk.new).content Journal)
+        → Begins (records ((D.state disk.new).content Journal)) ((D.state disk.new).content Journal)) }
     ensures fresh { IfOk result (λ store. is_spent store ≡ false) }
     ensures logs { IfOk result (λ store. IsLog store.journal × IsLog store.seals) }
     ensures calls { IfOk result (λ store. MakesSome (D.state disk.old) (D.state disk.new)
-        (calls_of journal seals) (call_count store)) }
+        (calls_of reader.log seals) (call_count store)) }
     ensures worked { OnOk result ((D.state disk.new).faults ≡ (D.state disk.old).faults) }
     ensures reads { OnlyReads (D.state disk.old) (D.state disk.new) }
     ensures fault { IfErr result (FailsBy D.observable (D.state disk.old) (D.state disk.new)) }
-    ensures refused { IfErr result (Refuses journal.extents seals.extents) }
+    ensures refused { IfErr result IsRefusal }
 {
-    if journal.len() == 0 {
-        return Err(LoadFault::NotInit);
-    }
-    let mut ahead = Ahead::new(alloc, JOURNAL_AHEAD)?;
-    let head = head_of(alloc, disk, &mut journal, &mut ahead)?;
-    let replayed = match replay(alloc, disk, &mut journal, &mut ahead, &mut seals, &head) {
+    let head = head_of(alloc, disk, &mut reader)?;
+    let replayed = match replay(alloc, disk, &mut reader, &mut seals, &head) {
         Ok(replayed) => replayed,
         Err(fault) => {
             drop(head);
@@ -133,7 +131,8 @@ fn reopen<D: Disk>(
         head,
         members: replayed.members,
         window: replayed.window,
-        journal,
+        places: replayed.places,
+        journal: reader.finish(),
         seals,
         spent: false,
         newest: None,
@@ -145,41 +144,71 @@ fn reopen<D: Disk>(
 struct Replayed {
     members: Members,
     window: Window,
+    places: Places,
     /// The first seal, counted from 1, that isn't the text of its archive.
     wrong: Option<u32>,
 }
 
 impl Replayed {
-    /// Reads the operation of an index, which has to be able to follow those before it.
+    /// Reads the next operation, which has to be able to follow those before it. Returns whether there was one.
     fn read_next<D: Disk>(
         &mut self,
         alloc: Global,
         disk: &mut D,
-        journal: &mut Log,
-        ahead: &mut Ahead,
+        reader: &mut FrameReader,
         head: &Head,
-        index: u32,
-    ) -> Result<(), LoadFault>
-        requires journal { IsReadable D.observable (D.state disk.old) Journal journal.old }
-        requires ahead { D.observable → IsAhead ahead.old ((D.state disk.old).content Journal) }
+    ) -> Result<bool, LoadFault>
+        requires reader { IsReader D.observable (D.state disk.old) reader.old }
         requires replayed { HasReplayed head.now self.old.members self.old.window }
-        requires follows { index ≡ length self.old.window.history + 1 }
-        requires within { index < length journal.old.extents }
-        requires payloads { D.observable
-            → take index (records ((D.state disk.old).content Journal)) ≡ journal_of head.now self.old.window.history }
+        requires logs { LogsHistory reader.old.log self.old.window.history self.old.places.extents }
+        requires payloads { D.observable → take (length reader.old.log.extents)
+            (records ((D.state disk.old).content Journal)) ≡ journal_of head.now self.old.window.history }
+        ensures reader { OnOk result (IsReader D.observable (D.state disk.new) reader.new) }
         ensures replayed { OnOk result (HasReplayed head.now self.new.members self.new.window) }
-        ensures taken { OnOk result (IsTaken D.observable (records ((D.state disk.old).content Journal))
-            journal.old.extents index self.old.window.history self.new.window.history) }
+        ensures logs { OnOk result (LogsHistory reader.new.log self.new.window.history self.new.places.extents) }
+        ensures payloads { OnOk result (D.observable → take (length reader.new.log.extents)
+            (records ((D.state disk.old).content Journal)) ≡ journal_of head.now self.new.window.history) }
+        ensures more { result ≡ Ok true
+            → HasGrown self.old.window.history self.new.window.history reader.old.log reader.new.log }
+        ensures last { result ≡ Ok false
+            → HasReadAll D.observable ((D.state disk.old).content Journal) reader.old.log reader.new.log }
+        ensures same { result ≡ Ok false → self.new ≡ self.old }
         ensures wrong { self.new.wrong ≡ self.old.wrong }
-        ensures ahead { OnOk result (D.observable → IsAhead ahead.new ((D.state disk.new).content Journal)) }
-        ensures worked { OnOk result (Worked (D.state disk.old) (D.state disk.new) journal.old journal.new) }
+        ensures worked { OnOk result (ReadsOn (D.state disk.old) (D.state disk.new) reader.old reader.new) }
         ensures reads { OnlyReads (D.state disk.old) (D.state disk.new) }
         ensures fault { IfErr result (FailsBy D.observable (D.state disk.old) (D.state disk.new)) }
-        ensures refused { IfErr result (RefusesHistory head.now journal.old.extents) }
+        ensures refused { IfErr result IsRefusal }
+    {
+        let Some(frame) = next_frame(disk, reader)? else {
+            return Ok(false);
+        };
+        self.take(alloc, head, &frame)?;
+        Ok(true)
+    }
+
+    /// Takes over the operation of a frame, which has to be able to follow those before it.
+    fn take(&mut self, alloc: Global, head: &Head, frame: &Frame) -> Result<(), LoadFault>
+        requires replayed { HasReplayed head.now self.old.members self.old.window }
+        requires few { length self.old.window.history < history_limit }
+        requires placed { length self.old.places.extents ≡ made self.old.window.history }
+        ensures replayed { OnOk result (HasReplayed head.now self.new.members self.new.window) }
+        ensures taken { OnOk result
+            (IsTaken frame.now.payload.items self.old.window.history self.new.window.history) }
+        ensures places { OnOk result ((journal : List ExtentValue)
+            → ArePlaces self.old.places.extents self.old.window.history journal
+            → length journal ≡ length self.old.window.history + 1
+            → ArePlaces self.new.places.extents self.new.window.history (journal ++ frame.now.extent ∷ [])) }
+        ensures wrong { self.new.wrong ≡ self.old.wrong }
+        ensures refused { IfErr result
+            (RefusesRecord (IsBadOperation head.now self.old.window.history frame.now.payload.items)
+            (length self.old.window.history + 1)) }
     {
         self.members.prepare()?;
         self.window.prepare()?;
-        let operation = operation_of(alloc, disk, journal, ahead, head, &self.members, index)?;
+        self.places.prepare()?;
+        let index = self.window.operations() + 1;
+        let operation = operation_of(alloc, head, &self.members, frame.payload.as_slice(), index)?;
+        self.places.commit(&operation, frame.extent);
         self.members.commit(&operation);
         self.window.commit(operation);
         Ok(())
@@ -242,30 +271,26 @@ impl Replayed {
     }
 }
 
-/// Reads the journal's payload of an index. A payload that is read short is a bad record of this index at 0.
-fn payload_of<D: Disk>(
-    disk: &mut D,
-    journal: &mut Log,
-    ahead: &mut Ahead,
-    index: u32,
-) -> Result<Vec<u8>, LoadFault>
-    requires journal { IsReadable D.observable (D.state disk.old) Journal journal.old }
-    requires ahead { D.observable → IsAhead ahead.old ((D.state disk.old).content Journal) }
-    requires within { index < length journal.old.extents }
-    ensures payload { IfOk result (λ payload. D.observable
-        → slice_get (records ((D.state disk.old).content Journal)) index ≡ Some payload.items) }
-    ensures length { IfOk result (λ payload.
-        slice_get (payload_lengths journal.old.extents) index ≡ Some (length payload.items)) }
-    ensures ahead { OnOk result (D.observable → IsAhead ahead.new ((D.state disk.new).content Journal)) }
-    ensures worked { OnOk result (Worked (D.state disk.old) (D.state disk.new) journal.old journal.new) }
+/// Reads the journal's next frame. A payload that is read short is a bad record at 0.
+fn next_frame<D: Disk>(disk: &mut D, reader: &mut FrameReader) -> Result<Option<Frame>, LoadFault>
+    requires { IsReader D.observable (D.state disk.old) reader.old }
+    ensures frame { IfOk result (λ found. IfSome found (λ frame.
+        HasRead frame.extent frame.payload.items reader.old.log reader.new.log)) }
+    ensures payload { IfOk result (λ found. IfSome found (λ frame. D.observable
+        → slice_get (records ((D.state disk.old).content Journal)) (length reader.old.log.extents)
+        ≡ Some frame.payload.items)) }
+    ensures last { result ≡ Ok None
+        → HasReadAll D.observable ((D.state disk.old).content Journal) reader.old.log reader.new.log }
+    ensures reader { OnOk result (IsReader D.observable (D.state disk.new) reader.new) }
+    ensures worked { OnOk result (ReadsOn (D.state disk.old) (D.state disk.new) reader.old reader.new) }
     ensures reads { OnlyReads (D.state disk.old) (D.state disk.new) }
     ensures fault { IfErr result (FailsBy D.observable (D.state disk.old) (D.state disk.new)) }
-    ensures refused { IfErr result (RefusesRecord IsShort index) }
+    ensures refused { IfErr result (RefusesNext reader.old.log) }
 {
-    match journal.read_ahead(disk, index, ahead) {
-        Ok(payload) => Ok(payload),
+    match reader.next(disk) {
+        Ok(frame) => Ok(frame),
         Err(LogFault::DiskFault) => Err(LoadFault::DiskFault),
-        Err(LogFault::Changed { .. }) => Err(LoadFault::BadRecord {
+        Err(LogFault::Changed { index }) => Err(LoadFault::BadRecord {
             area: Area::Journal,
             index,
             at: 0,
@@ -278,24 +303,23 @@ fn payload_of<D: Disk>(
 fn head_of<D: Disk>(
     alloc: Global,
     disk: &mut D,
-    journal: &mut Log,
-    ahead: &mut Ahead,
+    reader: &mut FrameReader,
 ) -> Result<Head, LoadFault>
-    requires journal { IsReadable D.observable (D.state disk.old) Journal journal.old }
-    requires ahead { D.observable → IsAhead ahead.old ((D.state disk.old).content Journal) }
-    requires some { 0 < length journal.old.extents }
+    requires { IsAtFirst D.observable (D.state disk.old) reader.old }
     ensures rules { IfOk result IsHead }
     ensures payload { IfOk result (λ head. D.observable
         → slice_get (records ((D.state disk.old).content Journal)) 0 ≡ Some (text_of heads head)) }
-    ensures ahead { OnOk result (D.observable → IsAhead ahead.new ((D.state disk.new).content Journal)) }
-    ensures worked { OnOk result (Worked (D.state disk.old) (D.state disk.new) journal.old journal.new) }
+    ensures one { OnOk result (length reader.new.log.extents ≡ 1) }
+    ensures reader { OnOk result (IsReader D.observable (D.state disk.new) reader.new) }
+    ensures worked { OnOk result (ReadsOn (D.state disk.old) (D.state disk.new) reader.old reader.new) }
     ensures reads { OnlyReads (D.state disk.old) (D.state disk.new) }
     ensures fault { IfErr result (FailsBy D.observable (D.state disk.old) (D.state disk.new)) }
-    ensures refused { IfErr result
-        (RefusesRecord (IsShortOrBad IsNoHead journal.old.extents 0) 0) }
+    ensures refused { IfErr result IsRefusal }
 {
-    let payload = payload_of(disk, journal, ahead, 0)?;
-    match read_head(alloc, payload.as_slice()) {
+    let Some(frame) = next_frame(disk, reader)? else {
+        return Err(LoadFault::NotInit);
+    };
+    match read_head(alloc, frame.payload.as_slice()) {
         Ok(head) => Ok(head),
         Err(fault) => Err(bad_record(0, fault)),
     }
@@ -305,84 +329,72 @@ fn head_of<D: Disk>(
 fn replay<D: Disk>(
     alloc: Global,
     disk: &mut D,
-    journal: &mut Log,
-    ahead: &mut Ahead,
+    reader: &mut FrameReader,
     seals: &mut Log,
     head: &Head,
 ) -> Result<Replayed, LoadFault>
-    requires journal { IsReadable D.observable (D.state disk.old) Journal journal.old }
-    requires ahead { D.observable → IsAhead ahead.old ((D.state disk.old).content Journal) }
+    requires reader { IsReader D.observable (D.state disk.old) reader.old }
     requires seals { IsReadable D.observable (D.state disk.old) Sealed seals.old }
-    requires some { 0 < length journal.old.extents }
+    requires rules { IsLog reader.old.log }
+    requires one { length reader.old.log.extents ≡ 1 }
     requires head { IsHead head.now }
     requires payload { D.observable
         → slice_get (records ((D.state disk.old).content Journal)) 0 ≡ Some (text_of heads head.now) }
     ensures replayed { IfOk result (λ replayed. HasReplayed head.now replayed.members replayed.window) }
-    ensures count { IfOk result (λ replayed. length journal.old.extents ≡ length replayed.window.history + 1) }
-    ensures long { IfOk result (λ replayed. least_frame * length replayed.window.history < journal.old.size) }
+    ensures logs { IfOk result (λ replayed.
+        LogsHistory reader.new.log replayed.window.history replayed.places.extents) }
     ensures payloads { IfOk result (λ replayed. D.observable
         → records ((D.state disk.old).content Journal) ≡ journal_of head.now replayed.window.history) }
+    ensures lists { OnOk result (D.observable → ListsAll reader.new.log ((D.state disk.new).content Journal)) }
     ensures compared { IfOk result (λ replayed. D.observable → AreCompared head.now replayed.window.history
         (records ((D.state disk.old).content Sealed)) replayed.wrong) }
     ensures wrong { IfOk result (λ replayed. IfSome replayed.wrong (IsSealOf seals.old.extents)) }
+    ensures reader { OnOk result (IsReader D.observable (D.state disk.new) reader.new) }
     ensures worked { OnOk result (WorkedBoth (D.state disk.old) (D.state disk.new)
-        journal.old journal.new seals.old seals.new) }
+        reader.old reader.new seals.old seals.new) }
     ensures reads { OnlyReads (D.state disk.old) (D.state disk.new) }
     ensures fault { IfErr result (FailsBy D.observable (D.state disk.old) (D.state disk.new)) }
-    ensures refused { IfErr result (RefusesHistory head.now journal.old.extents) }
+    ensures refused { IfErr result IsRefusal }
 {
     let window = Window::new(alloc, head.window)?;
     let mut replayed = Replayed {
         members: Members::new(alloc, head.created),
         window,
+        places: Places::new(alloc),
         wrong: None,
     };
-    for index in 1..journal.len() {
-        if let Err(fault) = replayed.read_next(alloc, disk, journal, ahead, head, index) {
-            drop(replayed);
-            return Err(fault);
+    'frames: loop {
+        match replayed.read_next(alloc, disk, reader, head) {
+            Ok(true) => {}
+            Ok(false) => return Ok(replayed),
+            Err(fault) => {
+                drop(replayed);
+                return Err(fault);
+            }
         }
         if let Err(fault) = replayed.compare_seal(alloc, disk, seals, head) {
             drop(replayed);
             return Err(fault);
         }
     }
-    Ok(replayed)
 }
 
-/// Reads an operation, which has to be able to follow those before it.
-fn operation_of<D: Disk>(
+/// Reads an operation from its bytes. It has to be able to follow those of the table.
+fn operation_of(
     alloc: Global,
-    disk: &mut D,
-    journal: &mut Log,
-    ahead: &mut Ahead,
     head: &Head,
     members: &Members,
+    payload: &[u8],
     index: u32,
 ) -> Result<Op, LoadFault>
-    requires journal { IsReadable D.observable (D.state disk.old) Journal journal.old }
-    requires ahead { D.observable → IsAhead ahead.old ((D.state disk.old).content Journal) }
-    requires within { (1 ≤ index) × (index < length journal.old.extents) }
     ensures rules { IfOk result (λ operation. IsOperation operation × IsSmall head.now.name operation) }
     ensures follows { IfOk result (λ operation. (created : ℤ) (history : List Operation)
         → IsTableOf members.now created history → MayFollow created history operation) }
-    ensures payload { IfOk result (λ operation. D.observable
-        → slice_get (records ((D.state disk.old).content Journal)) index
-        ≡ Some (text_of operations operation)) }
-    ensures length { IfOk result (λ operation. slice_get (payload_lengths journal.old.extents) index
-        ≡ Some (length (text_of operations operation))) }
-    ensures ahead { OnOk result (D.observable → IsAhead ahead.new ((D.state disk.new).content Journal)) }
-    ensures worked { OnOk result (Worked (D.state disk.old) (D.state disk.new) journal.old journal.new) }
-    ensures reads { OnlyReads (D.state disk.old) (D.state disk.new) }
-    ensures fault { (history : List Operation) → IsTableOf members.now head.now.created history
-        → (D.observable → IsJournal (take index (records ((D.state disk.old).content Journal))) head.now history)
-        → IfErr result (FailsBy D.observable (D.state disk.old) (D.state disk.new)) }
+    ensures bytes { IfOk result (λ operation. payload.now ≡ text_of operations operation) }
     ensures refused { (history : List Operation) → IsTableOf members.now head.now.created history
-        → IfErr result (RefusesRecord
-        (IsShortOrBad (IsBadOperation head.now history) journal.old.extents index) index) }
+        → IfErr result (RefusesRecord (IsBadOperation head.now history payload.now) index) }
 {
-    let payload = payload_of(disk, journal, ahead, index)?;
-    match read_op(alloc, payload.as_slice()) {
+    match read_op(alloc, payload) {
         Ok(operation) => {
             if members.may_follow(&operation) && is_small(head, &operation) {
                 Ok(operation)

@@ -3,7 +3,7 @@ ghost use Rattle.std.specs.Prelude.{◌<◌, OnErr};
 ghost use Rattle.atom_writer.specs.Pieced.{text_of};
 ghost use Rattle.feed_journal.specs.Limits.{header_length};
 ghost use Rattle.feed_journal.specs.Log.{IsLog};
-ghost use Rattle.feed_recovery.specs.Prepare.{Fits, HasRoom, IsDueSeal, IsFull, IsPrepareFault, MayCommit};
+ghost use Rattle.feed_recovery.specs.Prepare.{Fits, HasRoom, IsDueSeal, IsPrepareFault, MayCommit};
 ghost use Rattle.feed_recovery.specs.Prepare.{IsFullFault, SealFits, decision_of};
 ghost use Rattle.feed_recovery.specs.Store.{is_spent};
 ghost use Rattle.member_rules.specs.Coding.{operations};
@@ -16,7 +16,7 @@ use crate::store::Store;
 use atom_values::NoMemory;
 use atom_writer::write_doc;
 use feed_disk::Area;
-use feed_journal::{Framed, Log};
+use feed_journal::Framed;
 use member_rules::{Ask, Op, decide, op_bytes};
 use std::marker::Model;
 
@@ -143,7 +143,10 @@ impl Store {
         let Some(seal) = self.due_seal()? else {
             return Ok(None);
         };
-        refuse_full(&self.seals, Area::Sealed, &seal, self.head.capacity)?;
+        let capacity = self.head.capacity;
+        if !self.seals.fits(&seal, capacity) {
+            return Err(full(Area::Sealed, self.seals.size(), &seal, capacity));
+        }
         Ok(Some(seal))
     }
 
@@ -157,7 +160,10 @@ impl Store {
     {
         let bytes = op_bytes(self.alloc, operation)?;
         let payload = Framed::of(self.alloc, bytes.as_slice())?;
-        refuse_full(&self.journal, Area::Journal, &payload, self.head.capacity)?;
+        let capacity = self.head.capacity;
+        if !self.journal.fits(&payload, capacity) {
+            return Err(full(Area::Journal, self.journal.size(), &payload, capacity));
+        }
         Ok(payload)
     }
 
@@ -193,27 +199,19 @@ impl Store {
         let _ = (self.journal.size(), self.seals.size());
         self.window.prepare()?;
         self.members.prepare()?;
-        self.journal.reserve()?;
+        self.places.prepare()?;
         self.seals.reserve()
     }
 }
 
-/// Refuses by `Full` a payload for which the area of the log has no room.
-fn refuse_full(log: &Log, area: Area, framed: &Framed, capacity: u64) -> Result<(), PrepareFault>
-    requires { log.now.spent ≡ false }
-    ensures fits { OnOk result (Fits log.now framed.now capacity) }
-    ensures full { OnErr result
-        (IsFull log.now framed.now log.now.size (length framed.now + header_length) capacity) }
-    ensures numbers { OnErr result (result
-        ≡ Err (PrepareFault.Full area log.now.size (length framed.now + header_length) capacity)) }
+/// The refusal of a payload for which an area of this size has no room.
+fn full(area: Area, size: u64, framed: &Framed, capacity: u64) -> PrepareFault
+    ensures { result ≡ PrepareFault.Full area size (length framed.now + header_length) capacity }
 {
-    if log.fits(framed, capacity) {
-        return Ok(());
-    }
-    Err(PrepareFault::Full {
+    PrepareFault::Full {
         area,
-        size: log.size(),
+        size,
         needed: framed.needed(),
         capacity,
-    })
+    }
 }

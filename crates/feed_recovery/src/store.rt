@@ -5,23 +5,25 @@ ghost use Rattle.feed_recovery.specs.Prepare.{IsMissing};
 ghost use Rattle.feed_recovery.specs.Store.{call_count, is_spent};
 ghost use Rattle.member_rules.specs.Fold.{state_of};
 
+use crate::places::Places;
 use archive_sealer::Window;
 use atom_values::Bytes;
-use feed_journal::Log;
+use feed_journal::{Frames, Log};
 use member_rules::{Head, Members, State};
 use std::alloc::Global;
 use std::marker::Model;
 
 /// A feed's store: the head, the table of its members, the open window, and the logs of the journal and of the seals.
 /// It holds neither its disk, which is lent to each call that reaches it, nor the operations, which are in the journal.
-/// So it takes about 52 bytes for each member that was ever made, and 16 for each payload of its logs.
+/// So it takes about 56 bytes for each member that was ever made, and 16 for each seal.
 #[derive(Debug, Drop)]
 pub struct Store {
     pub(crate) alloc: Global,
     pub(crate) head: Head,
     pub(crate) members: Members,
     pub(crate) window: Window,
-    pub(crate) journal: Log,
+    pub(crate) places: Places,
+    pub(crate) journal: Frames,
     pub(crate) seals: Log,
     /// Whether a device call failed.
     pub(crate) spent: bool,
@@ -31,7 +33,8 @@ pub struct Store {
 }
 
 impl Model for Store {
-    ghost use Rattle.std.specs.Prelude.{◌≡◌};
+    ghost use Rattle.std.specs.Prelude.{◌≡◌, min};
+    ghost use Rattle.feed_recovery.specs.Places.{ArePlaces};
     ghost use Rattle.feed_recovery.specs.Store.{StoreValue, KeepsStore, KeepsNewest, is_spent};
 
     ghost Value = { StoreValue };
@@ -42,7 +45,7 @@ impl Model for Store {
       members = s.members;
       journal = s.journal;
       seals = s.seals;
-      spare = s.window.spare;
+      spare = min s.window.spare s.places.spare;
     } };
 
     ghost invariant = { λ s.
@@ -52,10 +55,10 @@ impl Model for Store {
           members = s.members;
           journal = s.journal;
           seals = s.seals;
-          spare = s.window.spare;
+          spare = min s.window.spare s.places.spare;
         } in
         KeepsStore store × (s.window.size ≡ s.head.window) × (s.spent ≡ is_spent store)
-        × KeepsNewest store s.newest };
+        × KeepsNewest store s.newest × ArePlaces s.places.extents s.window.history s.journal.extents };
 }
 
 impl Store {

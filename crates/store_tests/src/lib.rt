@@ -6,8 +6,6 @@
 #![tactic(auto)]
 
 #[cfg(test)]
-mod ahead;
-#[cfg(test)]
 mod commits;
 #[cfg(test)]
 mod disks;
@@ -21,5 +19,7 @@ mod grown;
 mod images;
 #[cfg(test)]
 mod logs;
+#[cfg(test)]
+mod reader;
 #[cfg(test)]
 mod stores;

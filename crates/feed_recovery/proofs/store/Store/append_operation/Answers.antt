@@ -1,4 +1,4 @@
-use Rattle.std.proofs.Common.{◌≡◌, ◌≢◌, ◌+◌, ◌||◌, ℕ, List, [], ◌∷◌, ◌++◌, length, sym, ◌∙◌, ap, subst}
+use Rattle.std.proofs.Common.{◌≡◌, ◌≢◌, ◌+◌, ◌||◌, ℕ, min, List, [], ◌∷◌, ◌++◌, length, sym, ◌∙◌, ap, subst}
 use Rattle.std.proofs.Common.{length-append}
 use Rattle.atom_writer.specs.Pieced.{text_of}
 use Rattle.member_rules.specs.Coding.{operations}
@@ -11,13 +11,15 @@ use Rattle.feed_disk.specs.declared.area.Area.TheVariants.{Journal, Sealed}
 use Rattle.feed_journal.specs.Limits.{header_length}
 use Rattle.feed_journal.specs.Log.{LogValue, IsListed}
 use Rattle.feed_journal.specs.Records.{records, Begins, IsStep}
+use Rattle.feed_journal.specs.declared.extent.Extent.{Extent}
+use Rattle.feed_recovery.specs.Places.{ArePlaces}
 use Rattle.feed_recovery.specs.Prepare.{ReadyValue}
 use Rattle.feed_recovery.specs.Store.{KeepsStore, StandsFor, StoreValue, seal_count}
 use Rattle.feed_recovery.proofs.LoadedLemmas.{begins_still}
 use Rattle.feed_recovery.proofs.StoreLemmas.{next_follows, keeps_added, stands_added}
 use Rattle.feed_recovery.proofs.store.Store.append_operation.Given.{Over}
 use Rattle.feed_recovery.proofs.store.Store.append_operation.Goals as goal
-use Rattle.feed_recovery.proofs.store.Store.append_operation.Goals.{After-append, In_default}
+use Rattle.feed_recovery.proofs.store.Store.append_operation.Goals.{After-append, In-Ok}
 
 others : (g : Over) (c : After-append g) (a : Area) → a ≢ Journal
     → LeavesAlone (g.D.Disk.state c.args.disk.now) (g.D.Disk.state c.append.new.disk) a
@@ -37,7 +39,7 @@ store g c = record {
   members = c.self.inside.members;
   journal = c.self.inside.journal;
   seals = c.self.inside.seals;
-  spare = c.self.inside.window.spare;
+  spare = min c.self.inside.window.spare c.self.inside.places.spare;
 }
 
 lawful : (g : Over) (c : After-append g)
@@ -53,7 +55,7 @@ full g c =
     subst (λ (v : StoreValue). seal_count v ≡ (windows_of v.head v.history).full) (sym c.self.view_is) c.requires.full
 
 -- the log after the append
-appended : (g : Over) (c : In_default g) → let log = c.append.new.self in
+appended : (g : Over) (c : In-Ok g) → let log = c.append.new.self in
     log ≡ record c.self.inside.journal {
       extents = c.self.inside.journal.extents ++ record {
         offset = c.self.inside.journal.size + 4;
@@ -63,9 +65,9 @@ appended : (g : Over) (c : In_default g) → let log = c.append.new.self in
       calls = log.calls;
       spare = log.spare;
     }
-appended g c = c.in_default.ensures.ok.log
+appended g c = c.in-Ok.ensures.ok.log
 
-counted : (g : Over) (c : In_default g)
+counted : (g : Over) (c : In-Ok g)
     → length c.append.new.self.extents ≡ length c.self.inside.journal.extents + 1
 counted g c =
     ap (λ (v : LogValue). length v.extents) (appended g c)
@@ -77,6 +79,17 @@ commit-requires-clause-follows g c =
     record {
       created = c.self.inside.head.created;
       history = c.self.inside.window.history;
+      count = c.self.invariant.4.count;
+      following = c.self.invariant.0.members.following;
+      follows = next_follows c.self.inside.head c.self.inside.window.history c.ready.inside.operation (lawful g before);
+    }
+
+pub commit-requires-2-clause-follows : goal.commit-requires-2-clause-follows
+commit-requires-2-clause-follows g c =
+    let before = (goal.at.commit-requires-2-clause-follows g c).After-append in
+    record {
+      created = c.self.inside.head.created;
+      history = c.self.inside.window.history;
       table_of = c.self.invariant.0.members;
       follows = next_follows c.self.inside.head c.self.inside.window.history c.ready.inside.operation (lawful g before);
     }
@@ -85,27 +98,34 @@ pub invariant_of-self-2 : goal.invariant_of-self-2
 invariant_of-self-2 g c =
     let before = (goal.at.invariant_of-self-2 g c).After-append in
     let log = c.append.new.self in
-    let spare = c.commit-2.new.self.spare in
+    let spare = min c.commit-3.new.self.spare c.commit.new.self.spare in
     let keeps = c.self.invariant.0 in
     let operation = c.ready.inside.operation in
-    let ok = appended g (goal.at.invariant_of-self-2 g c).In_default in
+    let ok = appended g (goal.at.invariant_of-self-2 g c).In-Ok in
     let size : log.size ≡ c.self.inside.journal.size + length (text_of operations operation) + header_length =
     ap (λ (v : LogValue). v.size) ok
     ∙ ap (λ (l : List ℕ). c.self.inside.journal.size + length l + header_length) c.ready.invariant in
-    let pushed = sym c.commit-2.ensures.history in (
+    let pushed = sym c.commit-3.ensures.history in (
       subst (λ (l : List Op). KeepsStore (record (store g before) {
         history = l;
-        members = c.commit.new.self;
+        members = c.commit-2.new.self;
         journal = log;
         spare = spare;
       })) pushed (keeps_added (store g before) operation (lawful g before) (full g before)
-          c.windows_seal_in_turn.ensures c.commit.new.self log
-          (counted g (goal.at.invariant_of-self-2 g c).In_default) spare c.operations_are_long.ensures keeps
-          (c.commit.ensures.table c.self.inside.head.created c.self.inside.window.history keeps.members)
+          c.windows_seal_in_turn.ensures c.commit-2.new.self log
+          (counted g (goal.at.invariant_of-self-2 g c).In-Ok) spare c.operations_are_long.ensures keeps
+          (c.commit-2.ensures.table c.self.inside.head.created c.self.inside.window.history keeps.members)
           (ap (λ (v : LogValue). v.area) ok) size),
-      c.commit-2.ensures.size ∙ c.self.invariant.1,
+      c.commit-3.ensures.size ∙ c.self.invariant.1,
       c.self.invariant.2 ∙ ap (λ (v : LogValue). v.spent || c.self.inside.seals.spent) (sym ok),
       tt,
+      subst (λ (l : List Extent). ArePlaces c.commit.new.self.extents c.commit-3.new.self.history l)
+          (sym c.in-Ok.ensures.place)
+          (subst (λ (l : List Op). ArePlaces c.commit.new.self.extents l
+          (c.self.inside.journal.extents ++ c.in-Ok.place ∷ [])) pushed
+          (c.commit.ensures.places c.self.inside.head.created c.self.inside.window.history c.self.inside.journal.extents
+          c.self.invariant.4 keeps.members.following
+          (next_follows c.self.inside.head c.self.inside.window.history operation (lawful g before)) keeps.records)),
     )
 
 pub returns-clause-stands : goal.returns-clause-stands
@@ -114,24 +134,24 @@ returns-clause-stands g c = λ tells.
     let s = g.D.Disk.state c.args.disk.now in
     let t = g.D.Disk.state c.append.new.disk in
     let log = c.append.new.self in
-    let spare = c.commit-2.new.self.spare in
+    let spare = min c.commit-3.new.self.spare c.commit.new.self.spare in
     let area = c.self.invariant.0.journal_area in
     let operation = c.ready.inside.operation in
     let stands : StandsFor s (store g before) = subst (StandsFor s) (sym c.self.view_is) (c.requires.stands tells) in
-    let list = c.in_default.ensures.listed tells in
+    let list = c.in-Ok.ensures.listed tells in
     let listed = subst (λ (a : Area). IsListed log (t.content a)) area list.listed in
     let added = subst (λ (l : List ℕ). records (t.content Journal) ≡ records (s.content Journal) ++ l ∷ [])
     c.ready.invariant (subst (λ (a : Area). records (t.content a)
     ≡ records (s.content a) ++ c.ready.inside.payload ∷ []) area list.list) in
     let alone = c.append.ensures.others Sealed (λ same. let clash : Sealed ≡ Journal = same ∙ area in cc) in
-    let pushed = sym c.commit-2.ensures.history in
+    let pushed = sym c.commit-3.ensures.history in
     subst (λ (l : List Op). StandsFor t (record (store g before) {
       history = l;
-      members = c.commit.new.self;
+      members = c.commit-2.new.self;
       journal = log;
       spare = spare;
     })) pushed (stands_added (store g before) operation (lawful g before) (full g before)
-    c.windows_seal_in_turn.ensures c.commit.new.self log (counted g (goal.at.returns-clause-stands g c).In_default)
+    c.windows_seal_in_turn.ensures c.commit-2.new.self log (counted g (goal.at.returns-clause-stands g c).In-Ok)
     spare c.archives_stay.ensures s t stands alone added listed)
 
 pub returns-clause-moments : goal.returns-clause-moments
@@ -143,7 +163,7 @@ returns-clause-moments g c = λ tells rests.
     subst (λ (l : List ℕ). AlwaysLeaves s t Journal (IsStep (records (s.content Journal)) l)) bytes
     (subst (λ (a : Area). NowOnly s a (Begins (records (s.content a)))
     → AlwaysLeaves s t a (IsStep (records (s.content a)) c.ready.inside.payload)) c.self.invariant.0.journal_area
-    (c.in_default.ensures.moments tells) rests.journal)
+    (c.in-Ok.ensures.moments tells) rests.journal)
 
 pub returns-clause-rests : goal.returns-clause-rests
 returns-clause-rests g c = λ tells rests.
@@ -152,7 +172,7 @@ returns-clause-rests g c = λ tells rests.
     let area = c.self.invariant.0.journal_area in
     record {
       journal = subst (λ (a : Area). NowOnly s a (Begins (records (s.content a)))
-          → NowOnly t a (Begins (records (t.content a)))) area (c.in_default.ensures.rests tells) rests.journal;
+          → NowOnly t a (Begins (records (t.content a)))) area (c.in-Ok.ensures.rests tells) rests.journal;
       sealed = begins_still s t Sealed
           (c.append.ensures.others Sealed (λ same. let clash : Sealed ≡ Journal = same ∙ area in cc))
           rests.sealed;

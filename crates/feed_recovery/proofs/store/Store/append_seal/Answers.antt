@@ -1,4 +1,4 @@
-use Rattle.std.proofs.Common.{◌≡◌, ◌≢◌, ◌+◌, ◌||◌, ℕ, List, [], ◌∷◌, ◌++◌, length, Option, Some, refl, sym, ◌∙◌, ap}
+use Rattle.std.proofs.Common.{◌≡◌, ◌≢◌, ◌+◌, ◌||◌, ℕ, min, List, [], ◌∷◌, ◌++◌, length, Option, Some, refl, sym, ◌∙◌, ap}
 use Rattle.std.proofs.Common.{subst, length-append}
 use Rattle.feed_disk.specs.Moments.{AlwaysLeaves, LeavesAlone, NowOnly}
 use Rattle.feed_disk.specs.declared.area.Area.{Area}
@@ -81,7 +81,7 @@ invariant_of-self-in_default-append g c =
       members = c.self.inside.members;
       journal = c.self.inside.journal;
       seals = c.self.inside.seals;
-      spare = c.self.inside.window.spare;
+      spare = min c.self.inside.window.spare c.self.inside.places.spare;
     } in
     let log = c.append.new.self in
     let ok = c.in_default-append.ensures.ok.log in
@@ -95,6 +95,7 @@ invariant_of-self-in_default-append g c =
       c.self.invariant.1,
       c.self.invariant.2 ∙ ap (λ (v : LogValue). store.journal.spent || v.spent) (sym ok),
       c.self.invariant.3,
+      c.self.invariant.4,
     )
 
 pub returns-clause-stands : goal.returns-clause-stands

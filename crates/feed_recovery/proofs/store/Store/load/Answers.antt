@@ -17,49 +17,49 @@ use Rattle.feed_recovery.proofs.store.Store.load.Goals as goal
 pub returns-in_err-journal-clause-payloads : goal.returns-in_err-journal-clause-payloads
 returns-in_err-journal-clause-payloads g c = λ tells.
     let s = g.D.Disk.state c.args.disk.now in
-    let m = g.D.Disk.state c.load.new.disk in
+    let m = g.D.Disk.state c.open.new.disk in
     record {
-      journal = c.load.ensures.moments tells;
-      sealed = alone_stands s m Sealed (c.load.ensures.others Sealed sealed_journal);
+      journal = c.open.ensures.moments tells;
+      sealed = alone_stands s m Sealed (c.open.ensures.others Sealed sealed_journal);
     }
 
 pub returns-in_err-journal-clause-moments : goal.returns-in_err-journal-clause-moments
 returns-in_err-journal-clause-moments g c = λ tells.
-    payloads-leave (g.D.Disk.state c.args.disk.now) (g.D.Disk.state c.load.new.disk)
+    payloads-leave (g.D.Disk.state c.args.disk.now) (g.D.Disk.state c.open.new.disk)
     (g.met.D.Disk.is_disk c.args.disk.now) (returns-in_err-journal-clause-payloads g c tells)
 
 pub returns-in_err-journal-clause-mirror : goal.returns-in_err-journal-clause-mirror
-returns-in_err-journal-clause-mirror g c = c.load.ensures.others Mirror mirror_journal
+returns-in_err-journal-clause-mirror g c = c.open.ensures.others Mirror mirror_journal
 
 pub returns-in_err-seals-clause-payloads : goal.returns-in_err-seals-clause-payloads
 returns-in_err-seals-clause-payloads g c = λ tells.
     let s = g.D.Disk.state c.args.disk.now in
-    let m = g.D.Disk.state c.load.new.disk in
-    let t = g.D.Disk.state c.load-2.new.disk in
-    both-payloads s m t t c.load.ensures.others c.load-2.ensures.others (reads_begin t) (c.load.ensures.moments tells)
-    (c.load-2.ensures.moments tells)
+    let m = g.D.Disk.state c.open.new.disk in
+    let t = g.D.Disk.state c.load.new.disk in
+    both-payloads s m t t c.open.ensures.others c.load.ensures.others (reads_begin t) (c.open.ensures.moments tells)
+    (c.load.ensures.moments tells)
 
 pub returns-in_err-seals-clause-moments : goal.returns-in_err-seals-clause-moments
 returns-in_err-seals-clause-moments g c = λ tells.
-    payloads-leave (g.D.Disk.state c.args.disk.now) (g.D.Disk.state c.load-2.new.disk)
+    payloads-leave (g.D.Disk.state c.args.disk.now) (g.D.Disk.state c.load.new.disk)
     (g.met.D.Disk.is_disk c.args.disk.now) (returns-in_err-seals-clause-payloads g c tells)
 
 pub returns-in_err-seals-clause-mirror : goal.returns-in_err-seals-clause-mirror
 returns-in_err-seals-clause-mirror g c =
-    let t = g.D.Disk.state c.load-2.new.disk in
-    mirror_alone (g.D.Disk.state c.args.disk.now) (g.D.Disk.state c.load.new.disk) t t c.load.ensures.others
-    c.load-2.ensures.others (reads_begin t)
+    let t = g.D.Disk.state c.load.new.disk in
+    mirror_alone (g.D.Disk.state c.args.disk.now) (g.D.Disk.state c.open.new.disk) t t c.open.ensures.others
+    c.load.ensures.others (reads_begin t)
 
 pub returns-in_err-store-clause-only : goal.returns-in_err-store-clause-only
 returns-in_err-store-clause-only g c = λ tells head history seals opens.
     let s = g.D.Disk.state c.args.disk.now in
-    let m = g.D.Disk.state c.load.new.disk in
-    let t = g.D.Disk.state c.load-2.new.disk in
+    let m = g.D.Disk.state c.open.new.disk in
+    let t = g.D.Disk.state c.load.new.disk in
     let fault = c.in_err-store.field-0.0 in
     let same = c.in_ok-journal.ensures.same tells in
     let same' = c.in_ok-seals.ensures.same tells in
-    let first = journal_same s m t t c.load.ensures.others c.load-2.ensures.others same same' in
-    let second = sealed_same s m t t c.load.ensures.others c.load-2.ensures.others same same' in
+    let first = journal_same s m t t c.open.ensures.others c.load.ensures.others same same' in
+    let second = sealed_same s m t t c.open.ensures.others c.load.ensures.others same same' in
     let cause = subst (λ (l : List (List ℕ)). IsLoadFault l (records (s.content Sealed)) fault) first
     (subst (λ (l : List (List ℕ)). IsLoadFault (records (t.content Journal)) l fault) second
     (c.in_err-store.ensures.fault.cause tells)) in
@@ -70,9 +70,9 @@ returns-in_err-store-clause-only g c = λ tells head history seals opens.
 
 pub returns-in_err-store-clause-payloads : goal.returns-in_err-store-clause-payloads
 returns-in_err-store-clause-payloads g c = λ tells.
-    both-payloads (g.D.Disk.state c.args.disk.now) (g.D.Disk.state c.load.new.disk) (g.D.Disk.state c.load-2.new.disk)
-    (g.D.Disk.state c.reopen.new.disk) c.load.ensures.others c.load-2.ensures.others c.reopen.ensures.reads
-    (c.load.ensures.moments tells) (c.load-2.ensures.moments tells)
+    both-payloads (g.D.Disk.state c.args.disk.now) (g.D.Disk.state c.open.new.disk) (g.D.Disk.state c.load.new.disk)
+    (g.D.Disk.state c.reopen.new.disk) c.open.ensures.others c.load.ensures.others c.reopen.ensures.reads
+    (c.open.ensures.moments tells) (c.load.ensures.moments tells)
 
 pub returns-in_err-store-clause-moments : goal.returns-in_err-store-clause-moments
 returns-in_err-store-clause-moments g c = λ tells.
@@ -81,20 +81,20 @@ returns-in_err-store-clause-moments g c = λ tells.
 
 pub returns-in_err-store-clause-mirror : goal.returns-in_err-store-clause-mirror
 returns-in_err-store-clause-mirror g c =
-    mirror_alone (g.D.Disk.state c.args.disk.now) (g.D.Disk.state c.load.new.disk) (g.D.Disk.state c.load-2.new.disk)
-    (g.D.Disk.state c.reopen.new.disk) c.load.ensures.others c.load-2.ensures.others c.reopen.ensures.reads
+    mirror_alone (g.D.Disk.state c.args.disk.now) (g.D.Disk.state c.open.new.disk) (g.D.Disk.state c.load.new.disk)
+    (g.D.Disk.state c.reopen.new.disk) c.open.ensures.others c.load.ensures.others c.reopen.ensures.reads
 
 pub returns-clause-same : goal.returns-clause-same
-returns-clause-same g c = λ tells. all_same (g.D.Disk.state c.args.disk.now) (g.D.Disk.state c.load.new.disk)
-    (g.D.Disk.state c.load-2.new.disk) (g.D.Disk.state c.reopen.new.disk) c.load.ensures.others
-    c.load-2.ensures.others (c.in_ok-journal.ensures.same tells) (c.in_ok-seals.ensures.same tells)
+returns-clause-same g c = λ tells. all_same (g.D.Disk.state c.args.disk.now) (g.D.Disk.state c.open.new.disk)
+    (g.D.Disk.state c.load.new.disk) (g.D.Disk.state c.reopen.new.disk) c.open.ensures.others
+    c.load.ensures.others (c.in_ok-journal.ensures.same tells) (c.in_ok-seals.ensures.same tells)
     c.reopen.ensures.reads
 
 pub returns-clause-payloads : goal.returns-clause-payloads
 returns-clause-payloads g c = λ tells.
-    both-payloads (g.D.Disk.state c.args.disk.now) (g.D.Disk.state c.load.new.disk) (g.D.Disk.state c.load-2.new.disk)
-    (g.D.Disk.state c.reopen.new.disk) c.load.ensures.others c.load-2.ensures.others c.reopen.ensures.reads
-    (c.load.ensures.moments tells) (c.load-2.ensures.moments tells)
+    both-payloads (g.D.Disk.state c.args.disk.now) (g.D.Disk.state c.open.new.disk) (g.D.Disk.state c.load.new.disk)
+    (g.D.Disk.state c.reopen.new.disk) c.open.ensures.others c.load.ensures.others c.reopen.ensures.reads
+    (c.open.ensures.moments tells) (c.load.ensures.moments tells)
 
 pub returns-clause-moments : goal.returns-clause-moments
 returns-clause-moments g c = λ tells.
@@ -105,9 +105,10 @@ pub returns-clause-settled : goal.returns-clause-settled
 returns-clause-settled g c = λ tells whole.
     let u = g.D.Disk.state c.reopen.new.disk in
     let store = c.in_ok-store.store in
-    let rests = loaded_rests (g.D.Disk.state c.args.disk.now) (g.D.Disk.state c.load.new.disk)
-    (g.D.Disk.state c.load-2.new.disk) u c.load.ensures.others c.load-2.ensures.others c.reopen.ensures.reads
-    (c.in_ok-journal.ensures.rests tells) (c.in_ok-seals.ensures.rests tells) whole in
+    let rests = loaded_rests (g.D.Disk.state c.args.disk.now) (g.D.Disk.state c.open.new.disk)
+    (g.D.Disk.state c.load.new.disk) u c.open.ensures.others c.load.ensures.others c.reopen.ensures.reads
+    (c.in_ok-journal.ensures.certain tells) (c.in_ok-journal.ensures.closed tells) (c.in_ok-store.ensures.begins tells)
+    (c.in_ok-seals.ensures.rests tells) whole in
     record {
       settled = rest_settles c.begun_images_are_whole.ensures u store.head store.history (seal_count store)
           (c.in_ok-store.ensures.stands tells).opens rests;
@@ -116,13 +117,13 @@ returns-clause-settled g c = λ tells whole.
 
 pub returns-clause-mirror : goal.returns-clause-mirror
 returns-clause-mirror g c =
-    mirror_alone (g.D.Disk.state c.args.disk.now) (g.D.Disk.state c.load.new.disk) (g.D.Disk.state c.load-2.new.disk)
-    (g.D.Disk.state c.reopen.new.disk) c.load.ensures.others c.load-2.ensures.others c.reopen.ensures.reads
+    mirror_alone (g.D.Disk.state c.args.disk.now) (g.D.Disk.state c.open.new.disk) (g.D.Disk.state c.load.new.disk)
+    (g.D.Disk.state c.reopen.new.disk) c.open.ensures.others c.load.ensures.others c.reopen.ensures.reads
 
 pub returns-clause-calls : goal.returns-clause-calls
 returns-clause-calls g c =
-    loaded_calls (g.D.Disk.state c.args.disk.now) (g.D.Disk.state c.load.new.disk) (g.D.Disk.state c.load-2.new.disk)
-    (g.D.Disk.state c.reopen.new.disk) c.in_ok-journal.journal.calls c.in_ok-seals.seals.calls _
+    loaded_calls (g.D.Disk.state c.args.disk.now) (g.D.Disk.state c.open.new.disk) (g.D.Disk.state c.load.new.disk)
+    (g.D.Disk.state c.reopen.new.disk) c.in_ok-journal.journal.log.calls c.in_ok-seals.seals.calls _
     c.in_ok-journal.ensures.calls.0 c.in_ok-seals.ensures.calls.0 c.in_ok-journal.ensures.calls.1
     c.in_ok-seals.ensures.calls.1 c.in_ok-store.ensures.calls
 
@@ -141,19 +142,13 @@ returns-in_err-seals-clause-refusal g c =
 pub returns-in_err-store-clause-refusal : goal.returns-in_err-store-clause-refusal
 returns-in_err-store-clause-refusal g c =
     let returned = err_from_is_err_and c.from_residual-in_err-store.result c.from_residual-in_err-store.ensures.1 in
-    rw (returned.1, returned.2) (record {
-      journal = c.in_ok-journal.journal;
-      seals = c.in_ok-seals.seals;
-      journal_rules = c.in_ok-journal.ensures.log.0;
-      seals_rules = c.in_ok-seals.ensures.log.0;
-      refuses = c.in_err-store.ensures.refused;
-    })
+    rw (returned.1, returned.2) c.in_err-store.ensures.refused
 
 pub returns-clause-faults : goal.returns-clause-faults
 returns-clause-faults g c = record {
-  later = omega (arith, c.load.ensures.faults.later, c.load-2.ensures.faults.later, c.reopen.ensures.reads.later);
+  later = omega (arith, c.open.ensures.faults.later, c.load.ensures.faults.later, c.reopen.ensures.reads.later);
   failed = λ is. absurd (cc);
   unfailed = λ not. c.in_ok-store.ensures.worked
-      ∙ c.load-2.ensures.faults.unfailed (λ is. let found = c.in_ok-seals.was in absurd (cc))
-      ∙ c.load.ensures.faults.unfailed (λ is. let found = c.in_ok-journal.was in absurd (cc));
+      ∙ c.load.ensures.faults.unfailed (λ is. let found = c.in_ok-seals.was in absurd (cc))
+      ∙ c.open.ensures.faults.unfailed (λ is. let found = c.in_ok-journal.was in absurd (cc));
 }

@@ -1,23 +1,51 @@
-use Rattle.std.proofs.Common.{◌≡◌, ℕ, List, Some, length, sym, ap, subst, ◌∙◌}
-use Rattle.std.specs.Prelude.{IfOk, option_map}
+use Rattle.std.proofs.Common.{◌≡◌, ◌-◌, ℕ, List, Some, length, sym, ap, subst, ◌∙◌, arith}
+use Rattle.std.specs.Prelude.{IfOk, option_map, slice_get}
 use Rattle.atom_values.specs.Entry.{EntryValue}
 use Rattle.atom_writer.specs.declared.doc.FeedName.{FeedName}
 use Rattle.feed_recovery.specs.Documents.{IsDocumentOf, IsLiveDocument, Sets}
 use Rattle.feed_recovery.specs.Store.{StoreValue}
 use Rattle.feed_recovery.specs.declared.store.Store.TheInside.{Inside}
 use Rattle.member_rules.proofs.VersionLemmas.{version-is}
-use Rattle.member_rules.specs.Fold.{fold_of}
+use Rattle.member_rules.specs.Fold.{fold_of, state_of}
 use Rattle.member_rules.specs.Head.{HeadValue, IsHead}
 use Rattle.member_rules.specs.Table.{IsTableOf}
-use Rattle.feed_recovery.proofs.EntryLemmas.{document_live, document_version, edited_is, inward, live_named, live_rules}
-use Rattle.feed_recovery.proofs.EntryLemmas.{live_sets, on-ok, some_edited, state_within}
+use Rattle.member_rules.specs.declared.state.State.TheVariants.{Live}
+use Rattle.feed_recovery.proofs.EntryLemmas.{document_live, document_version, edited_is, inward, item_there}
+use Rattle.feed_recovery.proofs.EntryLemmas.{live_from_one, live_named, live_rules, live_sets, on-ok, some_edited}
+use Rattle.feed_recovery.proofs.EntryLemmas.{state_within}
 use Rattle.feed_recovery.proofs.store.Store.member.Given.{Over}
 use Rattle.feed_recovery.proofs.store.Store.member.Goals as goal
 use Rattle.feed_recovery.proofs.store.Store.member.Goals.{In-Some}
 
-pub read_operation-requires-clause-within : goal.read_operation-requires-clause-within
-read_operation-requires-clause-within g c =
-    state_within c.args.self.now.history c.args.number c.in-Live.version c.in-Live.updated (sym c.in-Live.ensures)
+-- the state of the member in the history that the window has
+stated : (g : Over) (c : In-Some g) → state_of c.self.inside.window.history c.args.number
+    ≡ Live c.in-Live.updated c.in-Live.version
+stated g c = ap (λ (v : StoreValue). state_of v.history c.args.number) c.self.view_is ∙ sym c.in-Live.ensures
+
+pub get-requires : goal.get-requires
+get-requires g c =
+    let keeps = c.self.invariant.0 in
+    live_from_one c.self.inside.head.created c.self.inside.window.history c.args.number c.in-Live.version
+    c.in-Live.updated keeps.members.following (stated g (goal.at.get-requires g c).In-Some)
+
+-- its place is that of the operation that set its entry
+placed : (g : Over) (c : In-Some g) → slice_get c.self.inside.places.extents (c.args.number - 1)
+    ≡ slice_get c.self.inside.journal.extents c.in-Live.version
+placed g c = c.self.invariant.4.live c.args.number c.in-Live.version
+    (record { updated = c.in-Live.updated; state = stated g c })
+
+pub unreachable-requires-in_default-get : goal.unreachable-requires-in_default-get
+unreachable-requires-in_default-get g c =
+    let after = (goal.at.unreachable-requires-in_default-get g c).In-Some in
+    let within = state_within c.self.inside.window.history c.args.number c.in-Live.version c.in-Live.updated
+    (stated g after) in
+    item_there c.self.inside.journal.extents c.in-Live.version (omega (arith, within, c.self.invariant.0.records))
+    (sym c.in_default-get.is ∙ c.get.ensures ∙ placed g after)
+
+pub read_operation-requires-clause-place : goal.read_operation-requires-clause-place
+read_operation-requires-clause-place g c =
+    ap (λ (v : StoreValue). slice_get v.journal.extents c.in-Live.version) (sym c.self.view_is)
+    ∙ sym (placed g (goal.at.read_operation-requires-clause-place g c).In-Some) ∙ sym c.get.ensures ∙ c.in-Some-get.is
 
 pub unreachable-requires : goal.unreachable-requires
 unreachable-requires g c =
