@@ -38,11 +38,6 @@ pub record EndsAs (IsAnswer : Answer → Type 0) (observable : Type 0) (before a
   pub prints : observable → Prints before after answer.printed
   pub whole : observable → IsDone ended → after.taken ≡ before.taken ++ answer.printed
 
--- the count of faults rose if this fault was returned, and is as it was if not
-pub record RisesByFault (before after : ℕ) (is_returned : Type 0) : Type 0 where
-  pub failed : is_returned → HasRisen before after
-  pub unfailed : ¬ is_returned → after ≡ before
-
 -- The output's count of faults rose if the status is that of a failed output, and is as it was at a defined end. After
 -- a fault of another object it may have risen too, since the fault's line may not be printed.
 pub record CountsOutput (before after : ℕ) (ended : ℕ) : Type 0 where

@@ -1,8 +1,8 @@
 //! The offer that is being read.
 
-ghost use Rattle.std.specs.Prelude.{◌≡◌, ◌≢◌, ℕ, ◌+◌, ◌-◌, ◌<◌, ◌≤◌, ◌++◌, [], length, take, drop, Ok, Err, None, Some, IfOk, IfErr, IfSome, OnOk, MatchOption};
+ghost use Rattle.std.specs.Prelude.{◌≡◌, ℕ, ◌+◌, ◌-◌, ◌<◌, ◌≤◌, ◌++◌, [], length, take, drop, Ok, Err, None, Some, IfOk, IfErr, IfSome, OnOk, MatchOption};
 ghost use Rattle.std.specs.Option.{ForSome};
-ghost use Rattle.atom_values.specs.Counts.{HasRisen};
+ghost use Rattle.atom_values.specs.Counts.{CountsFault};
 ghost use Rattle.feed_disk.specs.Raised.{RisesAtMost};
 ghost use Rattle.doc_source.specs.Intake.{TakesMore};
 ghost use Rattle.atom_values.specs.Ascii.{lf};
@@ -53,10 +53,8 @@ pub(crate) fn next_part<S: Source>(
     ensures refused { IfErr result (λ fault. S.observable → IsAnswer used intake.old.limit
         ((with_part used kept intake.old).ahead ++ (S.state source.old).left) (Err fault)) }
     ensures open { result ≡ Err PileFault.SourceFault → IsOpen used intake.new.ahead }
-    ensures failed { result ≡ Err PileFault.SourceFault
-        → HasRisen (S.state source.old).faults (S.state source.new).faults }
-    ensures unfailed { result ≢ Err PileFault.SourceFault
-        → (S.state source.new).faults ≡ (S.state source.old).faults }
+    ensures faults { CountsFault (S.state source.old).faults (S.state source.new).faults
+        (result ≡ Err PileFault.SourceFault) }
 {
     match kept {
         Some(part) => Ok(Some(part)),
@@ -85,10 +83,8 @@ fn begin<S: Source>(
     ensures refused { IfErr result (λ fault. S.observable → IsAnswer used intake.old.limit
         (intake.old.ahead ++ (S.state source.old).left) (Err fault)) }
     ensures open { result ≡ Err PileFault.SourceFault → IsOpen used intake.new.ahead }
-    ensures failed { result ≡ Err PileFault.SourceFault
-        → HasRisen (S.state source.old).faults (S.state source.new).faults }
-    ensures unfailed { result ≢ Err PileFault.SourceFault
-        → (S.state source.new).faults ≡ (S.state source.old).faults }
+    ensures faults { CountsFault (S.state source.old).faults (S.state source.new).faults
+        (result ≡ Err PileFault.SourceFault) }
 {
     let head = read_head(intake, source, used)?;
     let Some(end) = find_line(intake, source, used, head)? else {
@@ -122,10 +118,8 @@ fn read_head<S: Source>(intake: &mut Intake, source: &mut S, used: u64) -> Resul
     ensures refused { IfErr result (λ fault. S.observable → IsAnswer used intake.old.limit
         (intake.old.ahead ++ (S.state source.old).left) (Err fault)) }
     ensures open { result ≡ Err PileFault.SourceFault → IsOpen used intake.new.ahead }
-    ensures failed { result ≡ Err PileFault.SourceFault
-        → HasRisen (S.state source.old).faults (S.state source.new).faults }
-    ensures unfailed { result ≢ Err PileFault.SourceFault
-        → (S.state source.new).faults ≡ (S.state source.old).faults }
+    ensures faults { CountsFault (S.state source.old).faults (S.state source.new).faults
+        (result ≡ Err PileFault.SourceFault) }
 {
     if used > 0 {
         return Ok(0);
@@ -174,10 +168,8 @@ fn find_line<S: Source>(
     ensures refused { IfErr result (λ fault. S.observable → IsAnswer used intake.old.limit
         (intake.old.ahead ++ (S.state source.old).left) (Err fault)) }
     ensures open { result ≡ Err PileFault.SourceFault → IsOpen used intake.new.ahead }
-    ensures failed { result ≡ Err PileFault.SourceFault
-        → HasRisen (S.state source.old).faults (S.state source.new).faults }
-    ensures unfailed { result ≢ Err PileFault.SourceFault
-        → (S.state source.new).faults ≡ (S.state source.old).faults }
+    ensures faults { CountsFault (S.state source.old).faults (S.state source.new).faults
+        (result ≡ Err PileFault.SourceFault) }
 {
     let mut searched = head;
     loop {
@@ -245,10 +237,8 @@ impl Part {
             ((part_text used self.old ++ intake.old.ahead) ++ (S.state source.old).left) (Err fault)) }
         ensures open { result ≡ Err PileFault.SourceFault
             → IsOpen used (part_text used self.new ++ intake.new.ahead) }
-        ensures failed { result ≡ Err PileFault.SourceFault
-            → HasRisen (S.state source.old).faults (S.state source.new).faults }
-        ensures unfailed { result ≢ Err PileFault.SourceFault
-            → (S.state source.new).faults ≡ (S.state source.old).faults }
+        ensures faults { CountsFault (S.state source.old).faults (S.state source.new).faults
+            (result ≡ Err PileFault.SourceFault) }
     {
         while self.behind.len() <= self.count {
             match intake.fill_if_empty(source)? {

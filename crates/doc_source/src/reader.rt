@@ -1,7 +1,7 @@
 //! The reader of a pile.
 
-ghost use Rattle.std.specs.Prelude.{◌≡◌, ◌≢◌, ℕ, ◌+◌, ◌-◌, ◌≤◌, ◌++◌, [], length, Ok, Err, None, Some, Option, Result, IfOk, IfSome, OnOk};
-ghost use Rattle.atom_values.specs.Counts.{HasRisen};
+ghost use Rattle.std.specs.Prelude.{◌≡◌, ℕ, ◌+◌, ◌-◌, ◌≤◌, ◌++◌, [], length, Ok, Err, None, Some, Option, Result, IfOk, IfSome, OnOk};
+ghost use Rattle.atom_values.specs.Counts.{CountsFault};
 ghost use Rattle.feed_disk.specs.Raised.{RisesAtMost};
 ghost use Rattle.doc_source.specs.declared.fault.PileFault.{PileFault as PileFaultValue};
 ghost use Rattle.doc_source.specs.declared.offer.Offer.{Offer as OfferValue};
@@ -107,10 +107,8 @@ impl PileReader {
 
         // Bytes from which no pile goes on are refused before more are asked for.
         ensures open { result ≡ Err PileFault.SourceFault → IsOpen self.old.used self.new.ahead }
-        ensures failed { result ≡ Err PileFault.SourceFault
-            → HasRisen (S.state source.old).faults (S.state source.new).faults }
-        ensures unfailed { result ≢ Err PileFault.SourceFault
-            → (S.state source.new).faults ≡ (S.state source.old).faults }
+        ensures faults { CountsFault (S.state source.old).faults (S.state source.new).faults
+            (result ≡ Err PileFault.SourceFault) }
     {
         if let Some(fault) = self.refusal {
             return Err(fault);
@@ -140,10 +138,8 @@ impl PileReader {
             (S.state source.old).bytes_read (S.state source.new).bytes_read }
         ensures rules { IfOk result (λ found. IfSome found IsOffer) }
         ensures open { result ≡ Err PileFault.SourceFault → IsOpen self.old.used self.new.ahead }
-        ensures failed { result ≡ Err PileFault.SourceFault
-            → HasRisen (S.state source.old).faults (S.state source.new).faults }
-        ensures unfailed { result ≢ Err PileFault.SourceFault
-            → (S.state source.new).faults ≡ (S.state source.old).faults }
+        ensures faults { CountsFault (S.state source.old).faults (S.state source.new).faults
+            (result ≡ Err PileFault.SourceFault) }
     {
         let kept = self.part.take();
         let Some(mut part) = next_part(self.alloc, kept, &mut self.intake, source, self.used)?

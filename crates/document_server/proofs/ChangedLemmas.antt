@@ -127,17 +127,17 @@ module _ (store : StoreValue) where
 
   module _ (observable : Type 0) where
     -- a document that a read gave isn't `changed`, so the content isn't seen
-    shown-untold : (kind : Media) (IsGiven : List ℕ → Type 0) (given : Outcome)
+    shown-unobservable : (kind : Media) (IsGiven : List ℕ → Type 0) (given : Outcome)
         → given.reply.body ≡ Fixed line.Changed → IsShownFrom observable kind IsGiven given → ¬ observable
-    shown-untold kind IsGiven given changed (inl (written, read, is)) =
+    shown-unobservable kind IsGiven given changed (inl (written, read, is)) =
         absurd (of-other given _ (made-other _) is changed)
-    shown-untold kind IsGiven given changed (inr (untold, is)) = untold
+    shown-unobservable kind IsGiven given changed (inr (unobservable, is)) = unobservable
 
-    state-untold : (state : State) (number : ℕ) (given : Outcome) → given.reply.body ≡ Fixed line.Changed
+    state-unobservable : (state : State) (number : ℕ) (given : Outcome) → given.reply.body ≡ Fixed line.Changed
         → IsOfState state (IsMemberShownOver observable store number) given → ¬ observable
-    state-untold member.Never number given changed is = absurd (of-other given _ not-found-other is changed)
-    state-untold (member.Gone when) number given changed is = absurd (of-other given _ gone-other is changed)
-    state-untold (member.Live updated version) number given changed is = shown-untold _ _ given changed is
+    state-unobservable member.Never number given changed is = absurd (of-other given _ not-found-other is changed)
+    state-unobservable (member.Gone when) number given changed is = absurd (of-other given _ gone-other is changed)
+    state-unobservable (member.Live updated version) number given changed is = shown-unobservable _ _ given changed is
 
     feed-other : (request : RequestValue) (now : ℕ) (method : Verb) (given : Outcome)
         → IsOfFeed store request now method given → IsOther given.reply
@@ -152,7 +152,7 @@ module _ (store : StoreValue) where
 
     archive-get : (number : ℕ) (method : Verb) (given : Outcome) → given.reply.body ≡ Fixed line.Changed
         → IsOfArchiveOver observable store number method given → (method ≡ verb.Get) × (¬ observable)
-    archive-get number verb.Get given changed (inl (sealed, is)) = (refl, shown-untold _ _ given changed is)
+    archive-get number verb.Get given changed (inl (sealed, is)) = (refl, shown-unobservable _ _ given changed is)
     archive-get number verb.Get given changed (inr (unsealed, is)) =
         absurd (of-other given _ not-found-other is changed)
     archive-get number verb.Head given changed is = absurd (of-other given _ not-allowed-other is changed)
@@ -167,7 +167,7 @@ module _ (store : StoreValue) where
         → given.reply.body ≡ Fixed line.Changed → IsOfMemberOver observable store request now number method given
         → (method ≡ verb.Get) × (¬ observable)
     member-get request now number verb.Get given changed is =
-        (refl, state-untold (state_of store.history number) number given changed is)
+        (refl, state-unobservable (state_of store.history number) number given changed is)
     member-get request now number verb.Put given changed is =
         absurd (state-other (state_of store.history number) (IsSent store request (λ draft. Replace number draft) now)
         given (sent-other request (λ draft. Replace number draft) now given) is changed)

@@ -125,14 +125,14 @@ fault-turn s t store now given read line reason failed refused = inr (inl (recor
   is = refl;
 }))
 
-module _ (s t : DiskState) (moments coming : ℕ → ℕ) (given read : ConnState) (clock_told conn_told : Type 0)
+module _ (s t : DiskState) (moments coming : ℕ → ℕ) (given read : ConnState) (clock_observable conn_observable : Type 0)
     (old new : StoreValue) where
   -- the reply of an answered request
   answered-on : (request : RequestValue) (now : ℕ) (reply : Reply) (rose : Type 0) → IsRequest request
-      → IsHeard given.left request → (clock_told → now ≡ moments 0)
-      → (clock_told → (k : ℕ) → coming k ≡ moments (k + 1)) → is_spent new ≡ false
+      → IsHeard given.left request → (clock_observable → now ≡ moments 0)
+      → (clock_observable → (k : ℕ) → coming k ≡ moments (k + 1)) → is_spent new ≡ false
       → IsAnswer (IsOutcome old request now) old new reply rose
-      → IsReplyOn s t moments coming clock_told old given read (Some reply) new
+      → IsReplyOn s t moments coming clock_observable old given read (Some reply) new
   answered-on request now reply rose rules heard moment later unspent (inl replied) = record {
     now = now;
     is_now = moment;
@@ -163,12 +163,12 @@ module _ (s t : DiskState) (moments coming : ℕ → ℕ) (given read : ConnStat
   answered-on request now reply rose rules heard moment later unspent (inr (inr failed)) = absurd cc
 
   pub replies-answered : (request : RequestValue) (now : ℕ) (reply : Reply) (rose : Type 0) → IsSized old
-      → IsRequest request → (conn_told → IsHeard given.left request) → (clock_told → now ≡ moments 0)
-      → (clock_told → (k : ℕ) → coming k ≡ moments (k + 1))
+      → IsRequest request → (conn_observable → IsHeard given.left request) → (clock_observable → now ≡ moments 0)
+      → (clock_observable → (k : ℕ) → coming k ≡ moments (k + 1))
       → IsAnswer (IsOutcome old request now) old new reply rose
       → LeavesAnswered (IsOutcome old request now) s t old new (reply ≡ disk_fault)
       → (reply ≡ disk_fault → is_spent new ≡ true) → (is_spent new ≡ true → reply ≡ disk_fault)
-      → RepliesOne s t moments coming given read clock_told conn_told old new (Some reply)
+      → RepliesOne s t moments coming given read clock_observable conn_observable old new (Some reply)
   replies-answered request now reply rose sized rules heard moment later answer left spent only = record {
     sized = sized;
     operations = left.operations;
@@ -188,14 +188,15 @@ module _ (s t : DiskState) (moments coming : ℕ → ℕ) (given read : ConnStat
   }
 
 -- the reply to bytes that are no request
-pub replies-refused : (s : DiskState) (moments : ℕ → ℕ) (given read : ConnState) (clock_told conn_told failed : Type 0)
-    (store : StoreValue) (reason : RequestFault) → IsSized store → is_spent store ≡ false → ¬ failed
+pub replies-refused : (s : DiskState) (moments : ℕ → ℕ) (given read : ConnState)
+    (clock_observable conn_observable failed : Type 0) (store : StoreValue) (reason : RequestFault)
+    → IsSized store → is_spent store ≡ false → ¬ failed
     → (reason ≡ fault.ConnFault → HasRisen given.faults read.faults)
-    → (reason ≢ fault.ConnFault → reason ≢ fault.NoMemory → conn_told → IsMisheard given.left reason)
+    → (reason ≢ fault.ConnFault → reason ≢ fault.NoMemory → conn_observable → IsMisheard given.left reason)
     → LeavesAnswered (λ _. ⊥) s s store store failed
-    → RepliesOne s s moments moments given read clock_told conn_told store store (fault_reply reason)
-replies-refused s moments given read clock_told conn_told failed store reason sized unspent worked lost refused left =
-    record {
+    → RepliesOne s s moments moments given read clock_observable conn_observable store store (fault_reply reason)
+replies-refused s moments given read clock_observable conn_observable failed store reason sized unspent worked lost
+    refused left = record {
       sized = sized;
       operations = left.operations;
       at_most_one = may-add-one _ left.operations left.may;
@@ -286,18 +287,19 @@ module _ (s t : DiskState) (given back : ConnState) (line : Line) where
 -- The connection was served
 
 pub serves-one : (s t : DiskState) (moments coming : ℕ → ℕ) (given read back : ConnState)
-    (disk_told clock_told conn_told : Type 0) (old new : StoreValue) (reply : Option Reply) (line : Line)
+    (disk_observable clock_observable conn_observable : Type 0) (old new : StoreValue) (reply : Option Reply)
+    (line : Line)
     → ((now : ℕ) (turn : _) → IsTurn old now (exchange_of s t given read reply line) turn
     → IsTurn old now (exchange_of s t given back reply line) turn)
-    → (disk_told → RepliesOne s t moments coming given read clock_told conn_told old new reply)
-    → Steps disk_told s t old new (is_spent new ≡ true) → (is_spent new ≡ true → reply ≡ Some disk_fault)
+    → (disk_observable → RepliesOne s t moments coming given read clock_observable conn_observable old new reply)
+    → Steps disk_observable s t old new (is_spent new ≡ true) → (is_spent new ≡ true → reply ≡ Some disk_fault)
     → IsReported (exchange_of s t given back reply line)
-    → (conn_told → IsSent (exchange_of s t given back reply line)) → line.version ≡ length new.history
+    → (conn_observable → IsSent (exchange_of s t given back reply line)) → line.version ≡ length new.history
     → line.calls ≡ call_count new → (new.history ≡ old.history) ⊎ Grows s t old new
     → (line.status ≢ 0 → back.begun ≡ Some t.clock)
-    → ServesOne s t moments coming given back disk_told clock_told conn_told old new line
-serves-one s t moments coming given read back disk_told clock_told conn_told old new reply line turns replies steps
-    fault reported sent version calls grows begun = record {
+    → ServesOne s t moments coming given back disk_observable clock_observable conn_observable old new line
+serves-one s t moments coming given read back disk_observable clock_observable conn_observable old new reply line turns
+    replies steps fault reported sent version calls grows begun = record {
       reply = reply;
       reported = reported;
       failed = fault;

@@ -58,13 +58,13 @@ order-fewer version calls fewer (line ∷ lines) below (follows, order) = (
 )
 
 -- the exchanges, from the moment and the door before the load
-exchanges-loaded : (start faults before : ℕ) (after : DiskState) (door listened rest : DoorState) (door_told : Type 0)
-    (lines : List Line) (served last : List Exchange) (failed : Type 0) → faults ≡ before
-    → (door_told → SameLinks door listened)
-    → HasExchanges start faults after listened rest door_told lines served last failed
-    → HasExchanges start before after door rest door_told lines served last failed
-exchanges-loaded start faults before after door listened rest door_told lines served last failed unfailed same all =
-    record {
+exchanges-loaded : (start faults before : ℕ) (after : DiskState) (door listened rest : DoorState)
+    (door_observable : Type 0) (lines : List Line) (served last : List Exchange) (failed : Type 0) → faults ≡ before
+    → (door_observable → SameLinks door listened)
+    → HasExchanges start faults after listened rest door_observable lines served last failed
+    → HasExchanges start before after door rest door_observable lines served last failed
+exchanges-loaded start faults before after door listened rest door_observable lines served last failed unfailed same
+    all = record {
       lines_are = all.lines_are;
       unfailed = subst (λ (n : ℕ). All (IsUnfailed n) served) unfailed all.unfailed;
       all_served = all.all_served;
@@ -138,11 +138,12 @@ loaded-by observable s m store disk one same stands moments settled calls unfail
 
 -- and then connections were served
 module _ {observable : Type 0} (s m t : DiskState) (moments : ℕ → ℕ) (door listened rest : DoorState)
-    (clock_told door_told : Type 0) (store : StoreValue) (lines : List Line) (failed : Type 0)
-    (loaded : IsLoaded observable s m store) (same : door_told → SameLinks door listened) (later : m.clock ≤ t.clock)
+    (clock_observable door_observable : Type 0) (store : StoreValue) (lines : List Line) (failed : Type 0)
+    (loaded : IsLoaded observable s m store) (same : door_observable → SameLinks door listened)
+    (later : m.clock ≤ t.clock)
     (serves : CountsFrom s.clock m t store
-    → ServesFrom s.clock m t moments listened rest observable clock_told door_told store lines failed) where
-  pub serves-loaded : Serves s t moments door rest observable clock_told door_told lines failed
+    → ServesFrom s.clock m t moments listened rest observable clock_observable door_observable store lines failed) where
+  pub serves-loaded : Serves s t moments door rest observable clock_observable door_observable lines failed
   serves-loaded =
       let opens = λ (tells : observable).
       opens-same s.content m.content (stored_of store) (loaded.same tells) (loaded.stands tells).opens in
@@ -154,7 +155,7 @@ module _ {observable : Type 0} (s m t : DiskState) (moments : ℕ → ℕ) (door
         opens = opens;
         served = all.served;
         last = all.last;
-        exchanges = exchanges-loaded s.clock m.faults s.faults t door listened rest door_told lines all.served
+        exchanges = exchanges-loaded s.clock m.faults s.faults t door listened rest door_observable lines all.served
             all.last failed loaded.unfailed same all.exchanges;
         ordered = λ below.
             order-fewer (length store.history) (call_count store) 0 lines (omega arith) (all.ordered below);
@@ -178,17 +179,19 @@ module _ {observable : Type 0} (s m t : DiskState) (moments : ℕ → ℕ) (door
 
 -- no connection was served
 pub serves-none : {observable : Type 0} (s m : DiskState) (moments : ℕ → ℕ) (door listened : DoorState)
-    (clock_told door_told : Type 0) (store : StoreValue) (lines : List Line) (failed : Type 0)
-    → IsLoaded observable s m store → IsDisk observable m → (door_told → SameLinks door listened) → BegunAreWhole
+    (clock_observable door_observable : Type 0) (store : StoreValue) (lines : List Line) (failed : Type 0)
+    → IsLoaded observable s m store → IsDisk observable m → (door_observable → SameLinks door listened) → BegunAreWhole
     → lines ≡ [] → (failed → ⊥)
-    → Serves s m moments door listened observable clock_told door_told lines failed
-serves-none {observable} s m moments door listened clock_told door_told store lines failed loaded disk same whole none
-    works =
-    subst (λ (ls : List Line). Serves s m moments door listened observable clock_told door_told ls failed) (sym none)
-    (serves-loaded s m m moments door listened listened clock_told door_told store [] failed loaded same (omega arith)
-    (λ counts.
-    going-ends s.clock m m moments moments listened listened observable clock_told door_told store store [] failed
-    (going-begins s.clock m moments listened observable clock_told door_told store disk) loaded.stands counts
+    → Serves s m moments door listened observable clock_observable door_observable lines failed
+serves-none {observable} s m moments door listened clock_observable door_observable store lines failed loaded disk same
+    whole none works =
+    subst (λ (ls : List Line). Serves s m moments door listened observable clock_observable door_observable ls failed)
+    (sym none)
+    (serves-loaded s m m moments door listened listened clock_observable door_observable store [] failed loaded same
+    (omega arith) (λ counts.
+    going-ends s.clock m m moments moments listened listened observable clock_observable door_observable store store []
+    failed (going-begins s.clock m moments listened observable clock_observable door_observable store disk)
+    loaded.stands counts
     (going-settles whole m m store loaded.stands (λ tells rests. rests)) works))
 
 -- How it ended
@@ -217,10 +220,10 @@ unopened-memory observable s t door lines none leaves = record {
 }
 
 -- no connection was served
-pub ends-unserved : (requests : ℕ) (door_told : Type 0) (door rest : DoorState) (lines : List Line) (end : End)
-    → lines ≡ [] → 1 ≤ requests → end ≢ Done → (door_told → SameLinks door rest)
-    → EndsWithin requests door_told door rest lines end
-ends-unserved requests door_told door rest lines end none some undone same =
+pub ends-unserved : (requests : ℕ) (door_observable : Type 0) (door rest : DoorState) (lines : List Line) (end : End)
+    → lines ≡ [] → 1 ≤ requests → end ≢ Done → (door_observable → SameLinks door rest)
+    → EndsWithin requests door_observable door rest lines end
+ends-unserved requests door_observable door rest lines end none some undone same =
     let count = ap length none in
     record {
       most = omega (arith, count);
@@ -228,8 +231,8 @@ ends-unserved requests door_told door rest lines end none some undone same =
       returned = λ tells. (same tells).out;
     }
 
-pub same-links : (door_told : Type 0) (door : DoorState) → door_told → SameLinks door door
-same-links door_told door tells = record { left = refl; back = refl; out = refl }
+pub same-links : (door_observable : Type 0) (door : DoorState) → door_observable → SameLinks door door
+same-links door_observable door tells = record { left = refl; back = refl; out = refl }
 
 -- the store wasn't loaded
 module _ (end : End) (fault : LoadFault) (is : end ≡ Load fault) where

@@ -25,14 +25,14 @@ module _ (observable : Type 0) (tells : observable) (store : StoreValue) where
       → IsArchiveShown store number given
   archive-observable number given (inl (written, read, is)) =
       is ∙ ap (λ (bytes : List ℕ). unchanged (document_reply media.Feed bytes)) (read.seen tells)
-  archive-observable number given (inr (untold, is)) = absurd (untold tells)
+  archive-observable number given (inr (unobservable, is)) = absurd (unobservable tells)
 
   member-observable : (number : ℕ) (given : Outcome) → IsMemberShownOver observable store number given
       → IsMemberShown store number given
   member-observable number given (inl (written, read, is)) =
       let live = read.seen tells in
       (live.entry, live.live, is ∙ ap (λ (bytes : List ℕ). unchanged (document_reply media.Entry bytes)) live.text)
-  member-observable number given (inr (untold, is)) = absurd (untold tells)
+  member-observable number given (inr (unobservable, is)) = absurd (unobservable tells)
 
   state-observable : (state : State) (number : ℕ) (given : Outcome)
       → IsOfState state (IsMemberShownOver observable store number) given

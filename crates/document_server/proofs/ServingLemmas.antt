@@ -49,7 +49,8 @@ CrashOpens start before opened history lines unbroken c i j =
 
 -- connections were served, none of which was broken off
 pub record Going (start : ℕ) (before after : DiskState) (moments coming : ℕ → ℕ) (door rest : DoorState)
-    (disk_told clock_told door_told : Type 0) (opened store : StoreValue) (lines : List Line) : Type 0 where
+    (disk_observable clock_observable door_observable : Type 0) (opened store : StoreValue) (lines : List Line)
+    : Type 0 where
   pub head : store.head ≡ opened.head
   pub more : List Op
   pub extends : store.history ≡ opened.history ++ more
@@ -61,16 +62,17 @@ pub record Going (start : ℕ) (before after : DiskState) (moments coming : ℕ 
   pub served : List Exchange
   pub lines_are : lines ≡ map (λ e. e.line) served
   pub unfailed : All (IsUnfailed before.faults) served
-  pub exchanges : Exchanges start before after door rest door_told opened served
-  pub crash : disk_told → IsAtRest before
+  pub exchanges : Exchanges start before after door rest door_observable opened served
+  pub crash : disk_observable → IsAtRest before
       → LeavesOnlyBoth before after Journal Sealed (CrashOpens start before opened store.history lines lines)
-  pub over : disk_told → door_told → All (IsOver opened.head store.history) served
-  pub session : disk_told → clock_told → door_told → IsSession (IsAt store coming) opened moments served
+  pub over : disk_observable → door_observable → All (IsOver opened.head store.history) served
+  pub session : disk_observable → clock_observable → door_observable
+      → IsSession (IsAt store coming) opened moments served
 
 pub going-begins : (start : ℕ) (disk : DiskState) (moments : ℕ → ℕ) (door : DoorState)
-    (disk_told clock_told door_told : Type 0) (store : StoreValue) → IsDisk disk_told disk
-    → Going start disk disk moments moments door door disk_told clock_told door_told store store []
-going-begins start disk moments door disk_told clock_told door_told store is_disk = record {
+    (disk_observable clock_observable door_observable : Type 0) (store : StoreValue) → IsDisk disk_observable disk
+    → Going start disk disk moments moments door door disk_observable clock_observable door_observable store store []
+going-begins start disk moments door disk_observable clock_observable door_observable store is_disk = record {
   head = refl;
   more = [];
   extends = sym (append-nil store.history);
@@ -81,7 +83,7 @@ going-begins start disk moments door disk_told clock_told door_told store is_dis
   served = [];
   lines_are = refl;
   unfailed = All-nil (IsUnfailed disk.faults);
-  exchanges = exchanges-none start disk door door_told store;
+  exchanges = exchanges-none start disk door door_observable store;
   crash = λ observable rests. record {
     first = leaves_begin disk Journal (λ _ _. Unit {0});
     second = leaves_begin disk Sealed (λ _ _. Unit {0});
@@ -93,12 +95,14 @@ going-begins start disk moments door disk_told clock_told door_told store is_dis
 
 -- a call of the door that gives no connection
 pub going-still : (start : ℕ) (before after : DiskState) (moments coming : ℕ → ℕ) (door rest later : DoorState)
-    (disk_told clock_told door_told : Type 0) (opened store : StoreValue) (lines : List Line)
-    → Going start before after moments coming door rest disk_told clock_told door_told opened store lines
-    → (door_told → SameLinks rest later)
-    → Going start before after moments coming door later disk_told clock_told door_told opened store lines
-going-still start before after moments coming door rest later disk_told clock_told door_told opened store lines going
-    same = record {
+    (disk_observable clock_observable door_observable : Type 0) (opened store : StoreValue) (lines : List Line)
+    → Going start before after moments coming door rest disk_observable clock_observable door_observable
+    opened store lines
+    → (door_observable → SameLinks rest later)
+    → Going start before after moments coming door later disk_observable clock_observable door_observable
+    opened store lines
+going-still start before after moments coming door rest later disk_observable clock_observable door_observable opened
+    store lines going same = record {
       head = going.head;
       more = going.more;
       extends = going.extends;
@@ -109,7 +113,7 @@ going-still start before after moments coming door rest later disk_told clock_to
       served = going.served;
       lines_are = going.lines_are;
       unfailed = going.unfailed;
-      exchanges = exchanges-still start before after door rest later door_told opened going.served going.exchanges
+      exchanges = exchanges-still start before after door rest later door_observable opened going.served going.exchanges
           same;
       crash = going.crash;
       over = going.over;
@@ -169,11 +173,14 @@ sends-over head history e over = over.sends
 
 -- all connections were served
 module _ (start : ℕ) (before after : DiskState) (moments coming : ℕ → ℕ) (door rest : DoorState)
-    (disk_told clock_told door_told : Type 0) (opened store : StoreValue) (lines : List Line) (failed : Type 0)
-    (going : Going start before after moments coming door rest disk_told clock_told door_told opened store lines)
-    (stands : disk_told → StandsFor after store) where
-  history-ends : disk_told
-      → HasHistory after moments clock_told door_told (stored_of opened) lines going.served [] store.history failed
+    (disk_observable clock_observable door_observable : Type 0) (opened store : StoreValue) (lines : List Line)
+    (failed : Type 0)
+    (going : Going start before after moments coming door rest disk_observable clock_observable door_observable
+    opened store lines)
+    (stands : disk_observable → StandsFor after store) where
+  history-ends : disk_observable
+      → HasHistory after moments clock_observable door_observable (stored_of opened) lines going.served []
+      store.history failed
   history-ends observable = record {
     more = going.more;
     extends = going.extends;
@@ -195,13 +202,14 @@ module _ (start : ℕ) (before after : DiskState) (moments coming : ℕ → ℕ)
   }
 
   pub going-ends : CountsFrom start before after opened
-      → (disk_told → IsAtRest before → Settled after store.head store.history (length store.history))
+      → (disk_observable → IsAtRest before → Settled after store.head store.history (length store.history))
       → (failed → ⊥)
-      → ServesFrom start before after moments door rest disk_told clock_told door_told opened lines failed
+      → ServesFrom start before after moments door rest disk_observable clock_observable door_observable
+      opened lines failed
   going-ends counts settled works = record {
     served = going.served;
     last = [];
-    exchanges = exchanges-end start before after door rest door_told opened lines going.served failed counts
+    exchanges = exchanges-end start before after door rest door_observable opened lines going.served failed counts
         going.unfailed going.exchanges going.lines_are works;
     ordered = λ below.
         lead-in-order (length opened.history) (call_count opened) lines (length store.history) (call_count store)
@@ -235,11 +243,13 @@ pub is-unspent : (store : StoreValue) → is_spent store ≡ false → ¬ (is_sp
 is-unspent store unspent spent = cc
 
 module _ (start : ℕ) (before amid after : DiskState) (moments coming later : ℕ → ℕ) (given back : ConnState)
-    (door rest : DoorState) (disk_told clock_told door_told conn_told : Type 0) (opened store new : StoreValue)
-    (lines : List Line) (line : Line)
-    (going : Going start before amid moments coming door rest disk_told clock_told door_told opened store lines)
-    (linked : ServesOne amid after coming later given back disk_told clock_told conn_told store new line)
-    (steps : Steps disk_told amid after store new (is_spent new ≡ true)) where
+    (door rest : DoorState) (disk_observable clock_observable door_observable conn_observable : Type 0)
+    (opened store new : StoreValue) (lines : List Line) (line : Line)
+    (going : Going start before amid moments coming door rest disk_observable clock_observable door_observable
+    opened store lines)
+    (linked : ServesOne amid after coming later given back disk_observable clock_observable conn_observable
+    store new line)
+    (steps : Steps disk_observable amid after store new (is_spent new ≡ true)) where
   abbrev exchange : Exchange
   exchange = exchange_of amid after given back linked.reply line
 
@@ -285,7 +295,8 @@ module _ (start : ℕ) (before amid after : DiskState) (moments coming later : �
     | inr grows ↦ (grows.operation ∷ [], grows.history)
   ]
 
-  module _ (observable : disk_told) (disk : IsDisk disk_told after) (rests : IsAtRest before → IsAtRest amid) where
+  module _ (observable : disk_observable) (disk : IsDisk disk_observable after)
+      (rests : IsAtRest before → IsAtRest amid) where
     -- the images that the connection leaves open to the head that was opened
     past-opened : (i j : List ℕ)
         → OpensPast store.head (store.history ++ (linked.stored observable).operations) (length store.history) i j
@@ -341,18 +352,20 @@ module _ (start : ℕ) (before amid after : DiskState) (moments coming later : �
       (All-weaker (λ (l : Line). l.version ≤ length store.history) (λ (l : Line). l.version ≤ length history)
       (λ l before. omega (arith, before, longer)) lines going.versions) within
 
-  module _ (stays : ServedStays) (prefixes : PrefixesAreLawful) (last : DoorState) (sees : door_told → conn_told)
-      (passes : door_told → Passes rest last given back) (faults : amid.faults ≡ before.faults) where
+  module _ (stays : ServedStays) (prefixes : PrefixesAreLawful) (last : DoorState)
+      (sees : door_observable → conn_observable)
+      (passes : door_observable → Passes rest last given back) (faults : amid.faults ≡ before.faults) where
     -- the exchanges with that of the connection
-    exchanges-on : Exchanges start before after door last door_told opened (going.served ++ exchange ∷ [])
+    exchanges-on : Exchanges start before after door last door_observable opened (going.served ++ exchange ∷ [])
     exchanges-on =
-        exchanges-more start before amid after door rest last door_told opened going.served exchange going.exchanges
-        steps.mirror.leaves.later passes linked.reported marked-on (λ observable. linked.sent (sees observable))
+        exchanges-more start before amid after door rest last door_observable opened going.served exchange
+        going.exchanges steps.mirror.leaves.later passes linked.reported marked-on
+        (λ observable. linked.sent (sees observable))
 
     lines-on : lines ++ line ∷ [] ≡ map (λ e. e.line) (going.served ++ exchange ∷ [])
     lines-on = lines-more lines going.served exchange going.lines_are
 
-    over-on : (observable : disk_told) → door_told
+    over-on : (observable : disk_observable) → door_observable
         → IsLawful opened.head (store.history ++ (linked.stored observable).operations)
         → IsOver opened.head (store.history ++ (linked.stored observable).operations) exchange
         → All (IsOver opened.head (store.history ++ (linked.stored observable).operations))
@@ -365,25 +378,26 @@ module _ (start : ℕ) (before amid after : DiskState) (moments coming later : �
         over
 
     -- the connection was served
-    module _ (shown : ShownAreServed) (unspent : is_spent new ≡ false) (stands : disk_told → StandsFor amid store) where
+    module _ (shown : ShownAreServed) (unspent : is_spent new ≡ false)
+        (stands : disk_observable → StandsFor amid store) where
       works : ¬ (is_spent new ≡ true)
       works = is-unspent new unspent
 
-      gained : (observable : disk_told) → new.history ≡ store.history ++ (linked.stored observable).operations
+      gained : (observable : disk_observable) → new.history ≡ store.history ++ (linked.stored observable).operations
       gained observable = (linked.stored observable).gained unspent
 
-      longer-lawful : (observable : disk_told)
+      longer-lawful : (observable : disk_observable)
           → IsLawful opened.head (store.history ++ (linked.stored observable).operations)
       longer-lawful observable =
           subst (λ (h : List Op). IsLawful opened.head h) (gained observable)
           (subst (λ (h : HeadValue). IsLawful h new.history) (steps.head ∙ going.head)
           (steps.stands works observable).opens.is_journal.lawful)
 
-      version-is : (observable : disk_told)
+      version-is : (observable : disk_observable)
           → length (store.history ++ (linked.stored observable).operations) ≡ line.version
       version-is observable = ap length (sym (gained observable)) ∙ sym linked.version
 
-      over-more : (observable : disk_told) → door_told
+      over-more : (observable : disk_observable) → door_observable
           → All (IsOver opened.head new.history) (going.served ++ exchange ∷ [])
       over-more observable see =
           let operations = (linked.stored observable).operations in
@@ -398,7 +412,7 @@ module _ (start : ℕ) (before amid after : DiskState) (moments coming later : �
                 on.served.is_turn;
           }))
 
-      session-on : disk_told → clock_told → door_told
+      session-on : disk_observable → clock_observable → door_observable
           → IsSession (IsAt new later) opened moments (going.served ++ exchange ∷ [])
       session-on observable clock see =
           let on = (linked.stored observable).served (sees see) unspent in
@@ -406,8 +420,8 @@ module _ (start : ℕ) (before amid after : DiskState) (moments coming later : �
           (going.session observable clock see)
           (subst (λ (now : ℕ). IsServed store now exchange on.turn new) (on.is_now clock) on.served) (on.clock clock)
 
-      pub going-more : IsDisk disk_told after → (disk_told → IsAtRest before → IsAtRest amid)
-          → Going start before after moments later door last disk_told clock_told door_told opened new
+      pub going-more : IsDisk disk_observable after → (disk_observable → IsAtRest before → IsAtRest amid)
+          → Going start before after moments later door last disk_observable clock_observable door_observable opened new
           (lines ++ line ∷ [])
       going-more disk rests =
           let longer : length store.history ≤ length new.history =
@@ -442,7 +456,7 @@ module _ (start : ℕ) (before amid after : DiskState) (moments coming later : �
 
     -- the disk failed after its request
     module _ (failed : Type 0) (fails : failed) (spent : is_spent new ≡ true)
-        (pending_lawful : (observable : disk_told) → door_told
+        (pending_lawful : (observable : disk_observable) → door_observable
         → IsLawful opened.head (store.history ++ (linked.stored observable).operations))
         (counts : CountsFrom start before after opened) where
       version-was : line.version ≡ length store.history
@@ -456,9 +470,9 @@ module _ (start : ℕ) (before amid after : DiskState) (moments coming later : �
         reply = linked.failed spent;
       }
 
-      history-breaks : (observable : disk_told)
-          → HasHistory after moments clock_told door_told (stored_of opened) (lines ++ line ∷ []) going.served
-          (exchange ∷ []) (store.history ++ (linked.stored observable).operations) failed
+      history-breaks : (observable : disk_observable)
+          → HasHistory after moments clock_observable door_observable (stored_of opened) (lines ++ line ∷ [])
+          going.served (exchange ∷ []) (store.history ++ (linked.stored observable).operations) failed
       history-breaks observable =
           let on = linked.stored observable in
           let history = store.history ++ on.operations in
@@ -492,14 +506,14 @@ module _ (start : ℕ) (before amid after : DiskState) (moments coming later : �
                 );
           }
 
-      pub going-breaks : IsDisk disk_told after → (disk_told → IsAtRest before → IsAtRest amid)
-          → ServesFrom start before after moments door last disk_told clock_told door_told opened
+      pub going-breaks : IsDisk disk_observable after → (disk_observable → IsAtRest before → IsAtRest amid)
+          → ServesFrom start before after moments door last disk_observable clock_observable door_observable opened
           (lines ++ line ∷ []) failed
       going-breaks disk rests = record {
         served = going.served;
         last = exchange ∷ [];
-        exchanges = exchanges-break start before after door last door_told opened (lines ++ line ∷ []) going.served
-            failed counts going.unfailed exchange exchanges-on lines-on fails exchange-failed;
+        exchanges = exchanges-break start before after door last door_observable opened (lines ++ line ∷ [])
+            going.served failed counts going.unfailed exchange exchanges-on lines-on fails exchange-failed;
         ordered = λ below.
             lead-in-order (length opened.history) (call_count opened) (lines ++ line ∷ []) line.version line.calls
             (lead-on below (counts below));

@@ -123,32 +123,32 @@ links-listened door listened rest served same links = record {
 }
 
 -- the facts about each exchange that need no disk whose content is seen
-pub record Exchanges (start : ℕ) (before after : DiskState) (door rest : DoorState) (door_told : Type 0)
+pub record Exchanges (start : ℕ) (before after : DiskState) (door rest : DoorState) (door_observable : Type 0)
     (opened : StoreValue) (exchanges : List Exchange) : Type 0 where
   pub reported : All IsReported exchanges
   pub marked : after.clock < counter_limit → start + call_count opened ≡ before.clock
       → All (IsMarked start) exchanges
-  pub linked : door_told → HasLinks door rest exchanges
-  pub sent : door_told → All IsSent exchanges
+  pub linked : door_observable → HasLinks door rest exchanges
+  pub sent : door_observable → All IsSent exchanges
 
-pub exchanges-none : (start : ℕ) (disk : DiskState) (door : DoorState) (door_told : Type 0) (opened : StoreValue)
-    → Exchanges start disk disk door door door_told opened []
-exchanges-none start disk door door_told opened = record {
+pub exchanges-none : (start : ℕ) (disk : DiskState) (door : DoorState) (door_observable : Type 0) (opened : StoreValue)
+    → Exchanges start disk disk door door door_observable opened []
+exchanges-none start disk door door_observable opened = record {
   reported = All-nil IsReported;
   marked = λ below counted. All-nil (IsMarked start);
   linked = λ observable. links-none door;
   sent = λ observable. All-nil IsSent;
 }
 
-pub exchanges-more : (start : ℕ) (before after behind : DiskState) (door rest later : DoorState) (door_told : Type 0)
-    (opened : StoreValue) (served : List Exchange) (exchange : Exchange)
-    → Exchanges start before after door rest door_told opened served → after.clock ≤ behind.clock
-    → (door_told → Passes rest later exchange.given exchange.back) → IsReported exchange
+pub exchanges-more : (start : ℕ) (before after behind : DiskState) (door rest later : DoorState)
+    (door_observable : Type 0) (opened : StoreValue) (served : List Exchange) (exchange : Exchange)
+    → Exchanges start before after door rest door_observable opened served → after.clock ≤ behind.clock
+    → (door_observable → Passes rest later exchange.given exchange.back) → IsReported exchange
     → (behind.clock < counter_limit → start + call_count opened ≡ before.clock → IsMarked start exchange)
-    → (door_told → IsSent exchange)
-    → Exchanges start before behind door later door_told opened (served ++ exchange ∷ [])
-exchanges-more start before after behind door rest later door_told opened served exchange so_far on passes reported
-    marked sent = record {
+    → (door_observable → IsSent exchange)
+    → Exchanges start before behind door later door_observable opened (served ++ exchange ∷ [])
+exchanges-more start before after behind door rest later door_observable opened served exchange so_far on passes
+    reported marked sent = record {
       reported = All-push IsReported served exchange so_far.reported reported;
       marked = λ below counted.
           All-push (IsMarked start) served exchange (so_far.marked (omega (arith, below, on)) counted)
@@ -157,10 +157,11 @@ exchanges-more start before after behind door rest later door_told opened served
       sent = λ observable. All-push IsSent served exchange (so_far.sent observable) (sent observable);
     }
 
-pub exchanges-still : (start : ℕ) (before after : DiskState) (door rest later : DoorState) (door_told : Type 0)
-    (opened : StoreValue) (served : List Exchange) → Exchanges start before after door rest door_told opened served
-    → (door_told → SameLinks rest later) → Exchanges start before after door later door_told opened served
-exchanges-still start before after door rest later door_told opened served all same = record {
+pub exchanges-still : (start : ℕ) (before after : DiskState) (door rest later : DoorState) (door_observable : Type 0)
+    (opened : StoreValue) (served : List Exchange)
+    → Exchanges start before after door rest door_observable opened served
+    → (door_observable → SameLinks rest later) → Exchanges start before after door later door_observable opened served
+exchanges-still start before after door rest later door_observable opened served all same = record {
   reported = all.reported;
   marked = all.marked;
   linked = λ observable. links-still door rest later served (all.linked observable) (same observable);
@@ -169,13 +170,13 @@ exchanges-still start before after door rest later door_told opened served all s
 
 -- The end of a session
 
-module _ (start : ℕ) (before after : DiskState) (door rest : DoorState) (door_told : Type 0) (opened : StoreValue)
+module _ (start : ℕ) (before after : DiskState) (door rest : DoorState) (door_observable : Type 0) (opened : StoreValue)
     (lines : List Line) (served : List Exchange) (failed : Type 0) (counted : CountsFrom start before after opened)
     (unfailed : All (IsUnfailed before.faults) served) where
   -- all connections were served
-  pub exchanges-end : Exchanges start before after door rest door_told opened served
+  pub exchanges-end : Exchanges start before after door rest door_observable opened served
       → lines ≡ map (λ e. e.line) served → (failed → ⊥)
-      → HasExchanges start before.faults after door rest door_told lines served [] failed
+      → HasExchanges start before.faults after door rest door_observable lines served [] failed
   exchanges-end all lines_are works =
       let none : served ++ [] ≡ served = append-nil served in
       record {
@@ -191,10 +192,10 @@ module _ (start : ℕ) (before after : DiskState) (door rest : DoorState) (door_
 
   -- the last connection was broken off
   pub exchanges-break : (exchange : Exchange)
-      → Exchanges start before after door rest door_told opened (served ++ exchange ∷ [])
+      → Exchanges start before after door rest door_observable opened (served ++ exchange ∷ [])
       → lines ≡ map (λ e. e.line) (served ++ exchange ∷ []) → failed
       → IsOneFailed before.faults after.faults (exchange ∷ [])
-      → HasExchanges start before.faults after door rest door_told lines served (exchange ∷ []) failed
+      → HasExchanges start before.faults after door rest door_observable lines served (exchange ∷ []) failed
   exchanges-break exchange all lines_are fails broken = record {
     lines_are = lines_are;
     unfailed = unfailed;
@@ -208,9 +209,9 @@ module _ (start : ℕ) (before after : DiskState) (door rest : DoorState) (door_
 
 -- How it ends, with this many lines at most
 
-module _ (requests : ℕ) (door_told : Type 0) (door rest : DoorState) (lines : List Line)
-    (returned : door_told → rest.out ≡ door.out) where
-  pub ends-all : length lines ≡ requests → EndsWithin requests door_told door rest lines Done
+module _ (requests : ℕ) (door_observable : Type 0) (door rest : DoorState) (lines : List Line)
+    (returned : door_observable → rest.out ≡ door.out) where
+  pub ends-all : length lines ≡ requests → EndsWithin requests door_observable door rest lines Done
   ends-all all = record {
     most = omega (arith, all);
     cause = record { done = λ _. inl all; early = λ is. absurd cc };
@@ -218,14 +219,14 @@ module _ (requests : ℕ) (door_told : Type 0) (door rest : DoorState) (lines : 
   }
 
   -- the door has no connection left
-  pub ends-left : length lines ≤ requests → (door_told → rest.left ≡ [])
-      → EndsWithin requests door_told door rest lines Done
+  pub ends-left : length lines ≤ requests → (door_observable → rest.left ≡ [])
+      → EndsWithin requests door_observable door rest lines Done
   ends-left most none =
       record { most = most; cause = record { done = λ _. inr none; early = λ is. absurd cc }; returned = returned }
 
   -- a call of the door failed
   pub ends-door : (end : End) → end ≡ DoorFault → length lines < requests
-      → EndsWithin requests door_told door rest lines end
+      → EndsWithin requests door_observable door rest lines end
   ends-door end is few = record {
     most = omega (arith, few);
     cause = record { done = λ done. absurd cc; early = λ _. few };
@@ -233,7 +234,7 @@ module _ (requests : ℕ) (door_told : Type 0) (door rest : DoorState) (lines : 
   }
 
   -- a device call failed
-  pub ends-disk : length lines ≤ requests → EndsWithin requests door_told door rest lines DiskFault
+  pub ends-disk : length lines ≤ requests → EndsWithin requests door_observable door rest lines DiskFault
   ends-disk most = record {
     most = most;
     cause = record { done = λ done. absurd cc; early = λ is. absurd cc };

@@ -102,7 +102,7 @@ pub record HasLinks (door rest : DoorState) (exchanges : List Exchange) : Type 0
 -- Connections were served one after the other, with these lines. `last` has the one that a failed device call broke
 -- off, if one did, and `served` those before it. The disk's count of faults was `faults` before them. The lines count
 -- device calls from the moment `start`.
-pub record HasExchanges (start faults : ℕ) (after : DiskState) (door rest : DoorState) (door_told : Type 0)
+pub record HasExchanges (start faults : ℕ) (after : DiskState) (door rest : DoorState) (door_observable : Type 0)
     (lines : List Line) (served last : List Exchange) (failed : Type 0) : Type 0 where
   pub lines_are : lines ≡ map (λ e. e.line) (served ++ last)
   pub unfailed : All (IsUnfailed faults) served
@@ -110,8 +110,8 @@ pub record HasExchanges (start faults : ℕ) (after : DiskState) (door rest : Do
   pub broken_off : failed → IsOneFailed faults after.faults last
   pub reported : All IsReported (served ++ last)
   pub marked : after.clock < counter_limit → All (IsMarked start) (served ++ last)
-  pub linked : door_told → HasLinks door rest (served ++ last)
-  pub sent : door_told → All IsSent (served ++ last)
+  pub linked : door_observable → HasLinks door rest (served ++ last)
+  pub sent : door_observable → All IsSent (served ++ last)
 
 -- the exchanges are those of a session from a store of this value
 abbrev pub IsSessionFrom : DiskState → (ℕ → ℕ) → Stored → List Exchange → List Exchange → List Op → Type 0 → Type 0
@@ -121,64 +121,66 @@ IsSessionFrom after moments opened served last history failed =
 
 -- The history is the one that was opened and the operations that were added. Its length is the version of the last
 -- line, or at most one more if that connection was broken off.
-pub record HasHistory (after : DiskState) (moments : ℕ → ℕ) (clock_told door_told : Type 0) (opened : Stored)
-    (lines : List Line) (served last : List Exchange) (history : List Op) (failed : Type 0) : Type 0 where
+pub record HasHistory (after : DiskState) (moments : ℕ → ℕ) (clock_observable door_observable : Type 0)
+    (opened : Stored) (lines : List Line) (served last : List Exchange) (history : List Op) (failed : Type 0)
+    : Type 0 where
   pub more : List Op
   pub extends : history ≡ opened.history ++ more
   pub no_fewer : version_after (length opened.history) lines ≤ length history
   pub no_more : length history ≤ version_after (length opened.history) lines + length last
-  pub documents : door_told → All (SendsServed opened.head history) (served ++ last)
-  pub session : clock_told → door_told → IsSessionFrom after moments opened served last history failed
+  pub documents : door_observable → All (SendsServed opened.head history) (served ++ last)
+  pub session : clock_observable → door_observable → IsSessionFrom after moments opened served last history failed
 
 -- A store was loaded, and connections were served on it. The history, and all that follows from it, is stated if
 -- contracts see the disk.
 pub record Serves (before after : DiskState) (moments : ℕ → ℕ) (door rest : DoorState)
-    (disk_told clock_told door_told : Type 0) (lines : List Line) (failed : Type 0) : Type 0 where
+    (disk_observable clock_observable door_observable : Type 0) (lines : List Line) (failed : Type 0) : Type 0 where
   pub opened : Stored
-  pub opens : disk_told → OpensTo before.content opened
+  pub opens : disk_observable → OpensTo before.content opened
   pub served : List Exchange
   pub last : List Exchange
-  pub exchanges : HasExchanges before.clock before.faults after door rest door_told lines served last failed
+  pub exchanges : HasExchanges before.clock before.faults after door rest door_observable lines served last failed
   pub ordered : after.clock < counter_limit → AreInOrder (length opened.history) 0 lines
   pub within : after.clock < counter_limit → All (λ (line : Line). before.clock + line.calls ≤ after.clock) lines
-  pub history : disk_told → List Op
-  pub stored : (observable : disk_told)
-      → HasHistory after moments clock_told door_told opened lines served last (history observable) failed
-  pub crash : (observable : disk_told) (head : HeadValue) (operations : List Op) (least : ℕ)
+  pub history : disk_observable → List Op
+  pub stored : (observable : disk_observable)
+      → HasHistory after moments clock_observable door_observable opened lines served last (history observable) failed
+  pub crash : (observable : disk_observable) (head : HeadValue) (operations : List Op) (least : ℕ)
       → Settled before head operations least
       → LeavesServed before after head operations least opened (history observable) lines (map (λ e. e.line) served) failed
 
 -- Connections were served on a store that was loaded before, which has made its device calls since the moment `start`.
 pub record ServesFrom (start : ℕ) (before after : DiskState) (moments : ℕ → ℕ) (door rest : DoorState)
-    (disk_told clock_told door_told : Type 0) (store : StoreValue) (lines : List Line) (failed : Type 0)
-    : Type 0 where
+    (disk_observable clock_observable door_observable : Type 0) (store : StoreValue) (lines : List Line)
+    (failed : Type 0) : Type 0 where
   pub served : List Exchange
   pub last : List Exchange
-  pub exchanges : HasExchanges start before.faults after door rest door_told lines served last failed
+  pub exchanges : HasExchanges start before.faults after door rest door_observable lines served last failed
   pub ordered : after.clock < counter_limit → AreInOrder (length store.history) (call_count store) lines
   pub within : after.clock < counter_limit
       → All (λ (line : Line). (before.clock ≤ start + line.calls) × (start + line.calls ≤ after.clock)) lines
-  pub history : disk_told → List Op
-  pub stored : (observable : disk_told)
-      → HasHistory after moments clock_told door_told (stored_of store) lines served last (history observable) failed
-  pub crash : (observable : disk_told) → IsAtRest before
+  pub history : disk_observable → List Op
+  pub stored : (observable : disk_observable)
+      → HasHistory after moments clock_observable door_observable (stored_of store) lines served last
+      (history observable) failed
+  pub crash : (observable : disk_observable) → IsAtRest before
       → LeavesServing start before after store.head (length store.history) (history observable) lines
       (map (λ e. e.line) served) failed
 
 -- How a session of at most this many connections ends: as done if it served them all or the door has no more, and by a
 -- failed call of the door only before it served them all.
-pub record IsEndOf (requests : ℕ) (door_told : Type 0) (rest : DoorState) (lines : List Line) (end : End)
+pub record IsEndOf (requests : ℕ) (door_observable : Type 0) (rest : DoorState) (lines : List Line) (end : End)
     : Type 0 where
-  pub done : end ≡ Done → (length lines ≡ requests) ⊎ (door_told → rest.left ≡ [])
+  pub done : end ≡ Done → (length lines ≡ requests) ⊎ (door_observable → rest.left ≡ [])
   pub early : end ≡ DoorFault → length lines < requests
 
 -- the lines and the end of a session of at most this many connections, and the door after it
-pub record EndsWithin (requests : ℕ) (door_told : Type 0) (door rest : DoorState) (lines : List Line) (end : End)
+pub record EndsWithin (requests : ℕ) (door_observable : Type 0) (door rest : DoorState) (lines : List Line) (end : End)
     : Type 0 where
   pub most : length lines ≤ requests
-  pub cause : IsEndOf requests door_told rest lines end
+  pub cause : IsEndOf requests door_observable rest lines end
   -- the door has each connection back that it gave
-  pub returned : door_told → rest.out ≡ door.out
+  pub returned : door_observable → rest.out ≡ door.out
 
 -- the session ended before the door was opened
 abbrev pub IsUnopened : End → Type 0
@@ -220,20 +222,20 @@ abbrev pub GoesOn : (ℕ → ℕ) → (ℕ → ℕ) → ℕ → Type 0
 GoesOn moments coming taken = (k : ℕ) → coming k ≡ moments (taken + k)
 
 -- A connection has this reply at a moment, which isn't sent yet. `read` is the connection after its request.
-pub record IsReplyOn (before after : DiskState) (moments coming : ℕ → ℕ) (clock_told : Type 0) (store : StoreValue)
-    (given read : ConnState) (reply : Option Reply) (next : StoreValue) : Type 0 where
+pub record IsReplyOn (before after : DiskState) (moments coming : ℕ → ℕ) (clock_observable : Type 0)
+    (store : StoreValue) (given read : ConnState) (reply : Option Reply) (next : StoreValue) : Type 0 where
   pub now : ℕ
-  pub is_now : clock_told → now ≡ moments 0
+  pub is_now : clock_observable → now ≡ moments 0
   pub turn : Turn
   pub is_turn : (line : Line) → IsTurn store now (exchange_of before after given read reply line) turn
   pub gains : Gains store next turn.adds
-  pub clock : clock_told → GoesOn moments coming turn.moments
+  pub clock : clock_observable → GoesOn moments coming turn.moments
 
 -- the disk failed after the request of a connection, which may have added these operations
-pub record IsFaultOn (moments : ℕ → ℕ) (clock_told : Type 0) (store : StoreValue) (given : ConnState)
+pub record IsFaultOn (moments : ℕ → ℕ) (clock_observable : Type 0) (store : StoreValue) (given : ConnState)
     (operations : List Op) (reply : Option Reply) : Type 0 where
   pub now : ℕ
-  pub is_now : clock_told → now ≡ moments 0
+  pub is_now : clock_observable → now ≡ moments 0
   pub request : RequestValue
   pub rules : IsRequest request
   pub heard : IsHeard given.left request
@@ -243,56 +245,56 @@ pub record IsFaultOn (moments : ℕ → ℕ) (clock_told : Type 0) (store : Stor
 -- The request of a connection was read and answered, or the disk failed after it. `operations` are those that the
 -- request may have added.
 pub record RepliesOne (before after : DiskState) (moments coming : ℕ → ℕ) (given read : ConnState)
-    (clock_told conn_told : Type 0) (old new : StoreValue) (reply : Option Reply) : Type 0 where
+    (clock_observable conn_observable : Type 0) (old new : StoreValue) (reply : Option Reply) : Type 0 where
   pub sized : IsSized old
   pub operations : List Op
   pub at_most_one : length operations ≤ 1
   pub leaves : IsAtRest before
       → AlwaysLeavesBoth before after (OpensPast old.head (old.history ++ operations) (length old.history))
   pub gained : is_spent new ≡ false → new.history ≡ old.history ++ operations
-  pub replied : conn_told → is_spent new ≡ false
-      → IsReplyOn before after moments coming clock_told old given read reply new
-  pub failed : conn_told → is_spent new ≡ true → IsFaultOn moments clock_told old given operations reply
+  pub replied : conn_observable → is_spent new ≡ false
+      → IsReplyOn before after moments coming clock_observable old given read reply new
+  pub failed : conn_observable → is_spent new ≡ true → IsFaultOn moments clock_observable old given operations reply
 
 -- the connection was served at a moment
-pub record IsServedOn (moments coming : ℕ → ℕ) (clock_told : Type 0) (store : StoreValue) (exchange : Exchange)
+pub record IsServedOn (moments coming : ℕ → ℕ) (clock_observable : Type 0) (store : StoreValue) (exchange : Exchange)
     (next : StoreValue) : Type 0 where
   pub now : ℕ
-  pub is_now : clock_told → now ≡ moments 0
+  pub is_now : clock_observable → now ≡ moments 0
   pub turn : Turn
   pub served : IsServed store now exchange turn next
-  pub clock : clock_told → GoesOn moments coming turn.moments
+  pub clock : clock_observable → GoesOn moments coming turn.moments
 
 -- the connection was broken off at a moment
-pub record IsBrokenOffOn (moments : ℕ → ℕ) (clock_told : Type 0) (store : StoreValue) (exchange : Exchange)
+pub record IsBrokenOffOn (moments : ℕ → ℕ) (clock_observable : Type 0) (store : StoreValue) (exchange : Exchange)
     (history : List Op) : Type 0 where
   pub now : ℕ
-  pub is_now : clock_told → now ≡ moments 0
+  pub is_now : clock_observable → now ≡ moments 0
   pub broken_off : IsBrokenOff store now exchange history
 
 -- The store and the disk after a connection was served, or after the disk failed. `operations` are those that its
 -- request may have added.
-pub record StoresOne (before after : DiskState) (moments coming : ℕ → ℕ) (clock_told conn_told : Type 0)
+pub record StoresOne (before after : DiskState) (moments coming : ℕ → ℕ) (clock_observable conn_observable : Type 0)
     (old new : StoreValue) (exchange : Exchange) : Type 0 where
   pub operations : List Op
   pub at_most_one : length operations ≤ 1
   pub leaves : IsAtRest before
       → AlwaysLeavesBoth before after (OpensPast old.head (old.history ++ operations) (length old.history))
   pub gained : is_spent new ≡ false → new.history ≡ old.history ++ operations
-  pub served : conn_told → is_spent new ≡ false → IsServedOn moments coming clock_told old exchange new
-  pub broken_off : conn_told → is_spent new ≡ true
-      → IsBrokenOffOn moments clock_told old exchange (old.history ++ operations)
+  pub served : conn_observable → is_spent new ≡ false → IsServedOn moments coming clock_observable old exchange new
+  pub broken_off : conn_observable → is_spent new ≡ true
+      → IsBrokenOffOn moments clock_observable old exchange (old.history ++ operations)
 
 -- A connection was served on a store, or the disk failed after its request. The line has the version and the device
 -- calls of the store afterwards. The connection keeps the disk's clock as the mark of the reply, if one was begun.
 pub record ServesOne (before after : DiskState) (moments coming : ℕ → ℕ) (given back : ConnState)
-    (disk_told clock_told conn_told : Type 0) (old new : StoreValue) (line : Line) : Type 0 where
+    (disk_observable clock_observable conn_observable : Type 0) (old new : StoreValue) (line : Line) : Type 0 where
   pub reply : Option Reply
   pub reported : IsReported (exchange_of before after given back reply line)
   pub failed : is_spent new ≡ true → reply ≡ Some disk_fault
-  pub sent : conn_told → IsSent (exchange_of before after given back reply line)
-  pub stored : disk_told
-      → StoresOne before after moments coming clock_told conn_told old new
+  pub sent : conn_observable → IsSent (exchange_of before after given back reply line)
+  pub stored : disk_observable
+      → StoresOne before after moments coming clock_observable conn_observable old new
       (exchange_of before after given back reply line)
   pub version : line.version ≡ length new.history
   pub calls : line.calls ≡ call_count new

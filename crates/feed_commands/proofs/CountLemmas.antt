@@ -1,7 +1,7 @@
 -- Counts of faults, by how a function ended.
 use Rattle.std.proofs.Common.{◌≡◌, ◌≤◌, ℕ, Result, Ok, Err, refl, sym, ◌∙◌, ap, subst, arith}
 use Rattle.atom_values.specs.Counts.{CountsFault, HasRisen}
-use Rattle.command_ends.specs.Ends.{CountsOutput, IsDone, RisesByFault}
+use Rattle.command_ends.specs.Ends.{CountsOutput, IsDone}
 use Rattle.command_ends.specs.Fault.{fault_answer}
 use Rattle.command_ends.specs.Status.{code_of}
 use Rattle.command_ends.specs.declared.fault.Fault.{Fault}
@@ -81,11 +81,6 @@ module _ {T : Type 0} {before after ended : ℕ} (fault : Fault) (is : ended ≡
   input-of_fault = counts-as
       (λ e. let same : fault ≡ Input = cc in is ∙ ap (λ (f : Fault). code_of (fault_answer f).status) same)
       (λ e. ap (λ (f : Fault). Err f) (input_end fault (sym is ∙ e)))
-
--- without the order of the counts
-pub rises-of : {before after : ℕ} {Returned : Type 0} → CountsFault before after Returned
-    → RisesByFault before after Returned
-rises-of counts = record { failed = counts.failed; unfailed = counts.unfailed }
 
 -- the only object at its status
 pub shared-counts : {before after : ℕ} {Returned Alone : Type 0} → CountsFault before after Returned

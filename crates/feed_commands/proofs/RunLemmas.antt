@@ -28,15 +28,15 @@ use Rattle.feed_commands.specs.Run.{LeavesUnused, NameNone, ReadsInput, ServesNo
 use Rattle.command_ends.specs.Ends.{CountsOutput, IsDone, IsStatus}
 use Rattle.command_ends.specs.Status.{code_of}
 use Rattle.command_ends.proofs.EndLemmas.{no_done}
-use Rattle.feed_commands.proofs.CountLemmas.{counts-none, rises-of, shared-counts}
+use Rattle.feed_commands.proofs.CountLemmas.{counts-none, shared-counts}
 use Rattle.feed_commands.proofs.PileEndLemmas.{IsPileCode}
 use Rattle.feed_commands.proofs.ServeLemmas.{IsServeCode}
 
 -- a command that is seen with its source is seen without one, if it asks none
-pub seen-unfetched : (command : Command) (disk_told clock_told input_told fetch_told : Type 0)
-    → IsSeen command disk_told clock_told input_told fetch_told
-    → IsSeenUnfetched command disk_told clock_told input_told
-seen-unfetched command disk_told clock_told input_told fetch_told seen = record {
+pub seen-unfetched : (command : Command) (disk_observable clock_observable input_observable fetch_observable : Type 0)
+    → IsSeen command disk_observable clock_observable input_observable fetch_observable
+    → IsSeenUnfetched command disk_observable clock_observable input_observable
+seen-unfetched command disk_observable clock_observable input_observable fetch_observable seen = record {
   answering = seen.answering;
   disk = seen.disk;
   clock = seen.clock;
@@ -186,7 +186,7 @@ pub faults-none : {words : List (List ℕ)} {disk : DiskState} {door : DoorState
     → CountsFaults words disk disk door door fetch fetch input input output taken ended
 faults-none no_disk no_shared no_input counts = record {
   disk_faults = counts-none no_disk;
-  input_faults = rises-of (counts-none no_input);
+  input_faults = counts-none no_input;
   output_faults = counts;
   door_faults = shared-counts (counts-none no_shared);
   fetch_faults = shared-counts (counts-none no_shared);

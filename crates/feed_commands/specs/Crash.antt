@@ -137,6 +137,6 @@ OpensToApplied before after moments input =
 
 -- `apply` on a store: what a crash leaves, and the history after an answer
 pub record EndsApplying (before after : DiskState) (moments : ℕ → ℕ) (input rest : SourceState)
-    (clock_told input_told failed stopped later answered : Type 0) : Type 0 where
-  pub safe : AppliesSafely before after moments input rest (clock_told × input_told) failed stopped later
-  pub opens : clock_told → input_told → answered → OpensToApplied before after moments input.left
+    (clock_observable input_observable failed stopped later answered : Type 0) : Type 0 where
+  pub safe : AppliesSafely before after moments input rest (clock_observable × input_observable) failed stopped later
+  pub opens : clock_observable → input_observable → answered → OpensToApplied before after moments input.left

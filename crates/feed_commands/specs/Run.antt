@@ -11,7 +11,7 @@ use Rattle.command_ends.specs.declared.status.Status.TheVariants as ends
 use Rattle.doc_source.specs.Fetch.{FetchState}
 use Rattle.doc_source.specs.Outside.{SourceState, SinkState}
 use Rattle.command_ends.specs.Answer.{Answer}
-use Rattle.command_ends.specs.Ends.{CountsOutput, EndsAs, RisesByFault}
+use Rattle.command_ends.specs.Ends.{CountsOutput, EndsAs}
 use Rattle.feed_commands.specs.Applied.{IsUnrefused}
 use Rattle.feed_commands.specs.Apply.{answer, history_step, test_head}
 use Rattle.mirror_commands.specs.Audit.{IsAuditUnrefused, IsAudited}
@@ -163,22 +163,24 @@ pub record CountsShared (before after : ℕ) (is_returned is_alone : Type 0) : T
 pub record CountsFaults (words : List (List ℕ)) (disk left : DiskState) (door shut : DoorState)
     (fetch fetched : FetchState) (input rest : SourceState) (output taken : SinkState) (ended : ℕ) : Type 0 where
   pub disk_faults : CountsFault disk.faults left.faults (ended ≡ code_of ends.DiskFault)
-  pub input_faults : RisesByFault input.faults rest.faults (ended ≡ code_of ends.InputFault)
+  pub input_faults : CountsFault input.faults rest.faults (ended ≡ code_of ends.InputFault)
   pub output_faults : CountsOutput output.faults taken.faults ended
   pub door_faults : CountsShared door.faults shut.faults (ended ≡ code_of ends.DoorFault) (FetchesNot words)
   pub fetch_faults : CountsShared fetch.faults fetched.faults (ended ≡ code_of ends.FetchFault) (ServesNot words)
 
 -- contracts can see all that the command's answer depends on
-pub record IsSeen (command : Command) (disk_told clock_told input_told fetch_told : Type 0) : Type 0 where
+pub record IsSeen (command : Command) (disk_observable clock_observable input_observable fetch_observable : Type 0)
+    : Type 0 where
   pub answering : IsAnswering command
-  pub disk : UsesDisk command → disk_told
-  pub clock : AsksClock command → clock_told
-  pub input : ReadsInput command → input_told
-  pub fetch : Fetches command → fetch_told
+  pub disk : UsesDisk command → disk_observable
+  pub clock : AsksClock command → clock_observable
+  pub input : ReadsInput command → input_observable
+  pub fetch : Fetches command → fetch_observable
 
 -- the same of a command that doesn't ask the source of documents
 abbrev pub IsSeenUnfetched : Command → Type 0 → Type 0 → Type 0 → Type 0
-IsSeenUnfetched command disk_told clock_told input_told = IsSeen command disk_told clock_told input_told (Unit {0})
+IsSeenUnfetched command disk_observable clock_observable input_observable =
+    IsSeen command disk_observable clock_observable input_observable (Unit {0})
 
 -- Each command: its answer, by what is outside
 

@@ -84,21 +84,22 @@ pub record IsServedWhole (before after : DiskState) (door rest : DoorState) (out
 -- How the program ends after a session of at most `requests` connections: by the end of the session, or by a failure
 -- of the output after a session that came to its defined end.
 pub record EndsServing (requests : ℕ) (before after : DiskState) (moments : ℕ → ℕ) (door rest : DoorState)
-    (disk_told clock_told door_told output_told : Type 0) (output taken : SinkState) (lines : List Line) (ended : ℕ)
-    : Type 0 where
+    (disk_observable clock_observable door_observable output_observable : Type 0) (output taken : SinkState)
+    (lines : List Line) (ended : ℕ) : Type 0 where
   pub end : End
   pub status :
       (ended ≡ code_of (fault_status (end_fault end)))
       ⊎ ((end ≡ session.Done) × (ended ≡ code_of ends.OutputFault))
-  pub prints : output_told → Prints output taken (session_text lines (end_fault end))
+  pub prints : output_observable → Prints output taken (session_text lines (end_fault end))
   pub most : length lines ≤ requests
   pub serves : IsOpened end
-      → Serves before after moments door rest disk_told clock_told door_told lines (end ≡ session.DiskFault)
-  pub ends : IsEndOf requests door_told rest lines end
-  pub unopened : ¬ IsOpened end → ServesNothing before after door rest disk_told lines
-  pub refused : (fault : LoadFault) → end ≡ session.Load fault → disk_told
+      → Serves before after moments door rest disk_observable clock_observable door_observable lines
+      (end ≡ session.DiskFault)
+  pub ends : IsEndOf requests door_observable rest lines end
+  pub unopened : ¬ IsOpened end → ServesNothing before after door rest disk_observable lines
+  pub refused : (fault : LoadFault) → end ≡ session.Load fault → disk_observable
       → IsLoadFault (records (before.content Journal)) (records (before.content Sealed)) fault
-  pub only : disk_told → (stored : Stored) → OpensTo before.content stored → (fault : LoadFault)
+  pub only : disk_observable → (stored : Stored) → OpensTo before.content stored → (fault : LoadFault)
       → end ≡ session.Load fault → (fault ≡ load.DiskFault) ⊎ (fault ≡ load.NoMemory)
-  pub whole : disk_told → (stored : Stored) → OpensTo before.content stored
+  pub whole : disk_observable → (stored : Stored) → OpensTo before.content stored
       → IsServedWhole before after door rest output taken ended

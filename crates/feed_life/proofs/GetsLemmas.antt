@@ -94,14 +94,14 @@ pub gets-changed : {D T : Type 0} (observable : Type 0) (state : D → DiskState
     Reads s (state read.disk) before read → ¬ observable
     → after ≡ record read { failures = counted read.failures } → result ≡ Err Failed
     → Gets observable s (state after.disk) before after result
-gets-changed {D = D} {T = T} observable state s before read after result reads untold is fails =
+gets-changed {D = D} {T = T} observable state s before read after result reads unobservable is fails =
     subst (λ (f : StoreFetchValue D). Gets {T = T} observable s (state f.disk) before f result) (sym is) record {
       head = reads.head;
       history = reads.history;
       areas = reads.areas;
       worked = λ works. absurd (works fails);
       failed = λ _. inr record {
-        cause = inr untold;
+        cause = inr unobservable;
         spent = reads.worked.spent;
         failures = ap counted reads.worked.failures;
         faults = reads.worked.faults;
@@ -180,7 +180,7 @@ gets-asked observable s t before after other left result store failures store_le
       rose = disk.rose;
     }
     | inr other ↦ inr record {
-      cause = elim other.cause [ inl was ↦ inl (ap is_spent store ∙ was) | inr untold ↦ inr untold ];
+      cause = elim other.cause [ inl was ↦ inl (ap is_spent store ∙ was) | inr unobservable ↦ inr unobservable ];
       spent = ap is_spent store_left ∙ other.spent ∙ sym (ap is_spent store);
       failures = failures_left ∙ other.failures ∙ sym (ap counted failures);
       faults = other.faults;

@@ -37,13 +37,14 @@ use Rattle.mirror_commands.proofs.TakingLemmas.{IsTaking, gives-failed, gives-of
 
 -- the offers that were given so far, from a mirror that held `first.kept` and a disk in the state s; the two marks are
 -- whether contracts can see the input and the disk
-pub record IsGiving (input_told disk_told : Type 0) (detailed : Bool) (first : MirrorValue) (s now : DiskState)
-    (input source : SourceState) (reader : PileState) (mirror : MirrorValue) (report : Report) : Type 0 where
+pub record IsGiving (input_observable disk_observable : Type 0) (detailed : Bool) (first : MirrorValue)
+    (s now : DiskState) (input source : SourceState) (reader : PileState) (mirror : MirrorValue) (report : Report)
+    : Type 0 where
   pub offers : List Offer
-  pub amid : IsAmid input_told detailed first.capacity first.base first.kept input.left offers reader source
+  pub amid : IsAmid input_observable detailed first.capacity first.base first.kept input.left offers reader source
       mirror.kept report
-  pub taking : IsTaking disk_told first.capacity first.base first.kept offers s now mirror.kept
-  pub usable : IsUsable disk_told now mirror
+  pub taking : IsTaking disk_observable first.capacity first.base first.kept offers s now mirror.kept
+  pub usable : IsUsable disk_observable now mirror
   pub same : SameMirror first mirror
   pub others : (a : Area) → a ≢ MirrorArea → LeavesAlone s now a
   pub disk_faults : now.faults ≡ s.faults
@@ -66,19 +67,19 @@ pile-no_disk (piles.TooLong limit) e = cc
 pile-no_disk piles.SourceFault e = cc
 pile-no_disk piles.NoMemory e = cc
 
-module _ (input_told disk_told : Type 0) (detailed : Bool) (first : MirrorValue) (s : DiskState)
+module _ (input_observable disk_observable : Type 0) (detailed : Bool) (first : MirrorValue) (s : DiskState)
     (input : SourceState) where
   pub giving-start : (reader : PileState) (report : Report) → BegunAreWhole
       → reader ≡ record { ahead = []; used = 0; limit = pile_limit; refusal = None } → report.detailed ≡ detailed
       → report.text.items ≡ []
-      → report.counts ≡ no_counts → IsUsable disk_told s first
+      → report.counts ≡ no_counts → IsUsable disk_observable s first
       → IsLoadedOf first.base (payloads_of first.kept) first.kept
-      → IsGiving input_told disk_told detailed first s s input input reader first report
+      → IsGiving input_observable disk_observable detailed first s s input input reader first report
   giving-start reader report law start form text counts usable loaded = record {
     offers = [];
-    amid = amid-start input_told detailed first.capacity first.base reader input first.kept report start form text
+    amid = amid-start input_observable detailed first.capacity first.base reader input first.kept report start form text
         counts;
-    taking = taking-start disk_told first.capacity first.base first.kept s law loaded
+    taking = taking-start disk_observable first.capacity first.base first.kept s law loaded
         (λ observable. (usable.stands observable).payloads);
     usable = usable;
     same = record { base = refl; capacity = refl };
@@ -90,35 +91,35 @@ module _ (input_told disk_told : Type 0) (detailed : Bool) (first : MirrorValue)
   -- the offers that were given, if no device call failed
   pub giving-ends : (now : DiskState) (source : SourceState) (reader : PileState) (mirror : MirrorValue)
       (report : Report) (failed whole : Type 0) → BegunAreWhole
-      → (h : IsGiving input_told disk_told detailed first s now input source reader mirror report)
-      → (whole ⊎ failed → input_told → ReadsTo input.left h.offers (Ok None))
-      → GivesOffers first.capacity first.base first.kept input.left input_told disk_told s now failed whole
+      → (h : IsGiving input_observable disk_observable detailed first s now input source reader mirror report)
+      → (whole ⊎ failed → input_observable → ReadsTo input.left h.offers (Ok None))
+      → GivesOffers first.capacity first.base first.kept input.left input_observable disk_observable s now failed whole
   giving-ends now source reader mirror report failed whole law h all =
-      gives-of disk_told first.capacity first.base first.kept s input.left input_told h.offers now
+      gives-of disk_observable first.capacity first.base first.kept s input.left input_observable h.offers now
       mirror.kept failed whole
       law
-      (reads-offers input_told detailed first.capacity first.base first.kept input.left h.offers reader source
+      (reads-offers input_observable detailed first.capacity first.base first.kept input.left h.offers reader source
       mirror.kept report
       h.amid)
       all
-      (has-answered input_told detailed first.capacity first.base first.kept input.left h.offers reader source
+      (has-answered input_observable detailed first.capacity first.base first.kept input.left h.offers reader source
       mirror.kept report
       h.amid)
       h.taking (λ observable. (h.usable.stands observable).payloads)
 
   -- the next offer was read
   module _ (now : DiskState) (source rest : SourceState) (reader after : PileState) (mirror : MirrorValue)
-      (report : Report) (h : IsGiving input_told disk_told detailed first s now input source reader mirror report)
+      (report : Report)
+      (h : IsGiving input_observable disk_observable detailed first s now input source reader mirror report)
       (offer : Offer) (used : after.used ≡ reader.used + length (used_text reader.used (Ok (Some offer))))
-      (begins : input_told → IsPileAnswer reader.used reader.limit (unused reader source) (Ok (Some offer)))
-      (stays : input_told → unused reader source ≡ used_text reader.used (Ok (Some offer)) ++ unused after rest)
+      (begins : input_observable → IsPileAnswer reader.used reader.limit (unused reader source) (Ok (Some offer)))
+      (stays : input_observable → unused reader source ≡ used_text reader.used (Ok (Some offer)) ++ unused after rest)
       (limit : after.limit ≡ reader.limit) (bound : after.used ≤ after.limit) where
-    read : input_told → HasRead input.left (h.offers ++ offer ∷ []) after.used (unused after rest)
-    read = next-read input_told detailed first.capacity first.base first.kept input.left h.offers reader after source
-        rest
-        mirror.kept report offer h.amid used begins stays
+    read : input_observable → HasRead input.left (h.offers ++ offer ∷ []) after.used (unused after rest)
+    read = next-read input_observable detailed first.capacity first.base first.kept input.left h.offers reader after
+        source rest mirror.kept report offer h.amid used begins stays
 
-    pub reads-next : input_told → ReadsOffers input.left (h.offers ++ offer ∷ [])
+    pub reads-next : input_observable → ReadsOffers input.left (h.offers ++ offer ∷ [])
     reads-next observable = record {
       used = after.used;
       bytes = unused after rest;
@@ -130,13 +131,13 @@ module _ (input_told disk_told : Type 0) (detailed : Bool) (first : MirrorValue)
     pub giving-next : (later : DiskState) (left : MirrorValue) (added : Report) (answer : MirrorAnswer)
         → after.refusal ≡ None → IsOffer offer → IsReportable answer
         → IsAnswerWithin mirror.capacity mirror.base mirror.kept offer.address offer.bytes answer left.kept
-        → HasAdded report added offer.address answer → SameMirror mirror left → IsUsable disk_told later left
-        → (disk_told → IsAtRest now mirror.kept
+        → HasAdded report added offer.address answer → SameMirror mirror left → IsUsable disk_observable later left
+        → (disk_observable → IsAtRest now mirror.kept
         → AlwaysLeaves now later MirrorArea (IsOfferStep mirror offer.address offer.bytes))
-        → (disk_told → IsAtRest now mirror.kept → IsAtRest later left.kept)
+        → (disk_observable → IsAtRest now mirror.kept → IsAtRest later left.kept)
         → ((a : Area) → a ≢ MirrorArea → LeavesAlone now later a) → later.faults ≡ now.faults
         → rest.faults ≡ source.faults
-        → IsGiving input_told disk_told detailed first s later input rest after left added
+        → IsGiving input_observable disk_observable detailed first s later input rest after left added
     giving-next later left added answer fresh is fits answered has same usable moments rests others faults
         input_faults =
         let within : IsAnswerWithin first.capacity first.base mirror.kept offer.address offer.bytes answer left.kept =
@@ -146,13 +147,13 @@ module _ (input_told disk_told : Type 0) (detailed : Bool) (first : MirrorValue)
         h.same.capacity answered) in
         record {
           offers = h.offers ++ offer ∷ [];
-          amid = amid-next input_told detailed first.capacity first.base first.kept input.left h.offers reader after
-              source rest
-              mirror.kept left.kept report added offer answer h.amid fresh limit bound used is read fits within has;
-          taking = taking-next disk_told first.capacity first.base first.kept s h.offers offer mirror now
+          amid = amid-next input_observable detailed first.capacity first.base first.kept input.left h.offers reader
+              after source rest mirror.kept left.kept report added offer answer h.amid fresh limit bound used is read
+              fits within has;
+          taking = taking-next disk_observable first.capacity first.base first.kept s h.offers offer mirror now
               later h.same.base
               h.same.capacity
-              (has-answered input_told detailed first.capacity first.base first.kept input.left h.offers reader
+              (has-answered input_observable detailed first.capacity first.base first.kept input.left h.offers reader
               source mirror.kept
               report h.amid)
               h.taking moments answer left.kept within rests;
@@ -165,18 +166,19 @@ module _ (input_told disk_told : Type 0) (detailed : Bool) (first : MirrorValue)
 
     -- and a device call failed
     pub giving-failed : (later : DiskState) (failed whole : Type 0) → failed → ¬ whole
-        → (disk_told → IsAtRest now mirror.kept
+        → (disk_observable → IsAtRest now mirror.kept
         → AlwaysLeaves now later MirrorArea (IsOfferStep mirror offer.address offer.bytes))
-        → GivesOffers first.capacity first.base first.kept input.left input_told disk_told s later failed whole
+        → GivesOffers first.capacity first.base first.kept input.left input_observable disk_observable s later failed
+        whole
     giving-failed later failed whole is part moments =
-        gives-failed disk_told first.capacity first.base first.kept s input.left input_told h.offers offer later
-        mirror.kept failed whole is part reads-next
-        (has-answered input_told detailed first.capacity first.base first.kept input.left h.offers reader source
+        gives-failed disk_observable first.capacity first.base first.kept s input.left input_observable h.offers offer
+        later mirror.kept failed whole is part reads-next
+        (has-answered input_observable detailed first.capacity first.base first.kept input.left h.offers reader source
         mirror.kept report
         h.amid)
-        (taking-images disk_told first.capacity first.base first.kept s h.offers offer mirror now later h.same.base
-        h.same.capacity
-        (has-answered input_told detailed first.capacity first.base first.kept input.left h.offers reader source
+        (taking-images disk_observable first.capacity first.base first.kept s h.offers offer mirror now later
+        h.same.base h.same.capacity
+        (has-answered input_observable detailed first.capacity first.base first.kept input.left h.offers reader source
         mirror.kept report
         h.amid)
         h.taking moments)
@@ -185,7 +187,7 @@ module _ (input_told disk_told : Type 0) (detailed : Bool) (first : MirrorValue)
     pub giving-full : (address bytes : List ℕ) (size needed most : ℕ) → address ≡ offer.address → bytes ≡ offer.bytes
         → IsAnswerWithin mirror.capacity mirror.base mirror.kept address bytes
         (Err (NoRoom size needed most)) mirror.kept
-        → input_told
+        → input_observable
         → IsMirrored detailed first.capacity first.base first.kept input.left
         (fault_answer (full_fault size needed most))
     giving-full address bytes size needed most same_address same_bytes full observable =
@@ -205,7 +207,7 @@ module _ (input_told disk_told : Type 0) (detailed : Bool) (first : MirrorValue)
         subst (λ (n : ℕ).
         IsMirrored detailed first.capacity first.base first.kept input.left (fault_answer (full_fault size needed n)))
         (sym most_is)
-        (mirrored-full input_told detailed first.capacity first.base first.kept input.left h.offers reader source
+        (mirrored-full input_observable detailed first.capacity first.base first.kept input.left h.offers reader source
         mirror.kept report
         h.amid offer size needed (reads-next observable)
         (subst (λ (n : ℕ). IsAnswerWithin first.capacity first.base mirror.kept offer.address offer.bytes
@@ -214,12 +216,15 @@ module _ (input_told disk_told : Type 0) (detailed : Bool) (first : MirrorValue)
     -- and a fault ended the offers
     pub giving-fault : (later : DiskState) (fault : Fault) (failed whole : Type 0) → MayEndOffer fault
         → (fault ≡ Disk → failed) → (failed → fault ≡ Disk) → ¬ whole → BegunAreWhole
-        → (disk_told → IsAtRest now mirror.kept
+        → (disk_observable → IsAtRest now mirror.kept
         → AlwaysLeaves now later MirrorArea (IsOfferStep mirror offer.address offer.bytes))
         → (fault ≢ Disk
-        → GivesOffers first.capacity first.base first.kept input.left input_told disk_told s now failed whole
-        → GivesOffers first.capacity first.base first.kept input.left input_told disk_told s later failed whole)
-        → GivesOffers first.capacity first.base first.kept input.left input_told disk_told s later failed whole
+        → GivesOffers first.capacity first.base first.kept input.left input_observable disk_observable s now failed
+        whole
+        → GivesOffers first.capacity first.base first.kept input.left input_observable disk_observable s later failed
+        whole)
+        → GivesOffers first.capacity first.base first.kept input.left input_observable disk_observable s later failed
+        whole
     giving-fault later Disk failed whole may is back part law moments same =
         giving-failed later failed whole (is refl) part moments
     giving-fault later NoMemory failed whole may is back part law moments same =
@@ -233,18 +238,18 @@ module _ (input_told disk_told : Type 0) (detailed : Bool) (first : MirrorValue)
     giving-fault later (Refused refusal) failed whole may is back part law moments same = absurd may
 
 -- no offer was given
-pub gives-none : (input_told disk_told : Type 0) (first : MirrorValue) (s : DiskState) (input : List ℕ)
-    (failed whole : Type 0) → BegunAreWhole → IsUsable disk_told s first
+pub gives-none : (input_observable disk_observable : Type 0) (first : MirrorValue) (s : DiskState) (input : List ℕ)
+    (failed whole : Type 0) → BegunAreWhole → IsUsable disk_observable s first
     → IsLoadedOf first.base (payloads_of first.kept) first.kept → ¬ whole → ¬ failed
-    → GivesOffers first.capacity first.base first.kept input input_told disk_told s s failed whole
-gives-none input_told disk_told first s input failed whole law usable loaded part well =
-    let payloads = λ (observable : disk_told). (usable.stands observable).payloads in
-    gives-of disk_told first.capacity first.base first.kept s input input_told [] s first.kept failed whole law
-    (λ _. record {
+    → GivesOffers first.capacity first.base first.kept input input_observable disk_observable s s failed whole
+gives-none input_observable disk_observable first s input failed whole law usable loaded part well =
+    let payloads = λ (observable : disk_observable). (usable.stands observable).payloads in
+    gives-of disk_observable first.capacity first.base first.kept s input input_observable [] s first.kept failed whole
+    law (λ _. record {
       used = 0;
       bytes = input;
       read = record { are = All-nil IsOffer; whole = refl; counted = refl };
       within = omega (arith);
     })
     (unended part well) (record { answers = []; answered = refl })
-    (taking-start disk_told first.capacity first.base first.kept s law loaded payloads) payloads
+    (taking-start disk_observable first.capacity first.base first.kept s law loaded payloads) payloads

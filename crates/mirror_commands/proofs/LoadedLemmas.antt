@@ -1,5 +1,5 @@
 -- `mirror`: the disk after a mirror was loaded and took documents, and after one that wasn't loaded.
-use Rattle.std.proofs.Common.{◌≢◌, ◌⊎◌, inl, inr, ℕ, List, Option, refl, sym, subst, arith}
+use Rattle.std.proofs.Common.{◌≢◌, inl, inr, ℕ, List, Option, refl, sym, subst, arith}
 use Rattle.doc_source.specs.Fetch.{FetchState}
 use Rattle.doc_source.specs.declared.offer.Offer.{Offer}
 use Rattle.feed_disk.specs.Disk.{DiskState, IsDisk}
@@ -80,10 +80,10 @@ module _ {observable : Type 0} (before mid after : DiskState) (disk : IsDisk obs
   at-rest = rests (whole (before.content MirrorArea) (disk.content seen MirrorArea))
 
   -- after the load the offers of a pile were given
-  pub leaves-offers : (input : List ℕ) (input_told : Type 0) (failed all : Type 0) → input_told
-      → GivesOffers capacity base kept input input_told observable mid after failed all
+  pub leaves-offers : (input : List ℕ) (input_observable : Type 0) (failed all : Type 0) → input_observable
+      → GivesOffers capacity base kept input input_observable observable mid after failed all
       → LeavesMirrored capacity base input before after failed all
-  leaves-offers input input_told failed all reads gives = record {
+  leaves-offers input input_observable failed all reads gives = record {
     kept = kept;
     loaded = loaded;
     offers = gives.offers;

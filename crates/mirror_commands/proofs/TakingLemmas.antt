@@ -81,12 +81,12 @@ given-weaker input observable failed more whole less answered offers to back fro
 
 -- the offers that were given to the mirror that the area loads to
 pub gives-held : (capacity : ℕ) (base : List ℕ) (kept : List KeptValue) (content : Area → List ℕ) (input : List ℕ)
-    (input_told disk_told : Type 0) (before after : DiskState) (failed more whole less : Type 0)
-    → IsHeldIn base content kept → input_told → (failed → more) → (less ⊎ more → whole ⊎ failed) → (less → whole)
-    → GivesOffers capacity base kept input input_told disk_told before after failed whole
+    (input_observable disk_observable : Type 0) (before after : DiskState) (failed more whole less : Type 0)
+    → IsHeldIn base content kept → input_observable → (failed → more) → (less ⊎ more → whole ⊎ failed) → (less → whole)
+    → GivesOffers capacity base kept input input_observable disk_observable before after failed whole
     → HasGiven capacity base content input more less
-gives-held capacity base kept content input input_told disk_told before after failed more whole less loaded reads to
-    back from h = record {
+gives-held capacity base kept content input input_observable disk_observable before after failed more whole less loaded
+    reads to back from h = record {
       kept = kept;
       loaded = loaded;
       offers = h.offers;
@@ -94,10 +94,11 @@ gives-held capacity base kept content input input_told disk_told before after fa
       answered = h.answered;
       left = h.left;
       has = h.has;
-      given = elim (given-weaker input input_told failed more whole less h.answered h.offers to back from h.given) [
-        | inl all ↦ inl record { same = all.same; all = λ e seen. all.all e reads }
-        | inr last ↦ inr last
-      ];
+      given = elim
+          (given-weaker input input_observable failed more whole less h.answered h.offers to back from h.given) [
+            | inl all ↦ inl record { same = all.same; all = λ e seen. all.all e reads }
+            | inr last ↦ inr last
+          ];
     }
 
 pub held-weaker : (capacity : ℕ) (base : List ℕ) (content : Area → List ℕ) (input : List ℕ)
@@ -208,13 +209,13 @@ module _ (observable : Type 0) (capacity : ℕ) (base : List ℕ) (start : List 
     }
 
   -- the offers that were given, as far as they were answered
-  pub gives-of : (input : List ℕ) (input_told : Type 0) (offers : List Offer) (t : DiskState) (kept : List KeptValue)
-      (failed whole : Type 0) → BegunAreWhole → (input_told → ReadsOffers input offers)
-      → (whole ⊎ failed → input_told → ReadsTo input offers (Ok None)) → HasAnswered capacity base start offers kept →
-      IsTaking observable capacity base start offers s t kept
+  pub gives-of : (input : List ℕ) (input_observable : Type 0) (offers : List Offer) (t : DiskState)
+      (kept : List KeptValue) (failed whole : Type 0) → BegunAreWhole → (input_observable → ReadsOffers input offers)
+      → (whole ⊎ failed → input_observable → ReadsTo input offers (Ok None))
+      → HasAnswered capacity base start offers kept → IsTaking observable capacity base start offers s t kept
       → (observable → records (t.content MirrorArea) ≡ payloads_of kept)
-      → GivesOffers capacity base start input input_told observable s t failed whole
-  gives-of input input_told offers t kept failed whole law read all has h payloads = record {
+      → GivesOffers capacity base start input input_observable observable s t failed whole
+  gives-of input input_observable offers t kept failed whole law read all has h payloads = record {
     offers = offers;
     read = read;
     images = h.images;
@@ -226,13 +227,13 @@ module _ (observable : Type 0) (capacity : ℕ) (base : List ℕ) (start : List 
   }
 
   -- the last offer failed on the disk
-  pub gives-failed : (input : List ℕ) (input_told : Type 0) (answered : List Offer) (last : Offer) (t : DiskState)
+  pub gives-failed : (input : List ℕ) (input_observable : Type 0) (answered : List Offer) (last : Offer) (t : DiskState)
       (kept : List KeptValue) (failed whole : Type 0) → failed → ¬ whole
-      → (input_told → ReadsOffers input (answered ++ last ∷ [])) → HasAnswered capacity base start answered kept
+      → (input_observable → ReadsOffers input (answered ++ last ∷ [])) → HasAnswered capacity base start answered kept
       → (observable → IsAtRest s start
       → AlwaysLeaves s t MirrorArea (IsPileStep capacity base start (answered ++ last ∷ [])))
-      → GivesOffers capacity base start input input_told observable s t failed whole
-  gives-failed input input_told answered last t kept failed whole is part read has images = record {
+      → GivesOffers capacity base start input input_observable observable s t failed whole
+  gives-failed input input_observable answered last t kept failed whole is part read has images = record {
     offers = answered ++ last ∷ [];
     read = read;
     images = images;
@@ -244,16 +245,16 @@ module _ (observable : Type 0) (capacity : ℕ) (base : List ℕ) (start : List 
   }
 
   -- and then the area was left alone
-  pub gives-later : (input : List ℕ) (input_told : Type 0) (m t : DiskState) (failed more whole less : Type 0)
+  pub gives-later : (input : List ℕ) (input_observable : Type 0) (m t : DiskState) (failed more whole less : Type 0)
       → (failed → more) → (less ⊎ more → whole ⊎ failed) → (less → whole) → LeavesAlone m t MirrorArea
-      → GivesOffers capacity base start input input_told observable s m failed whole
-      → GivesOffers capacity base start input input_told observable s t more less
-  gives-later input input_told m t failed more whole less to back from run h = record {
+      → GivesOffers capacity base start input input_observable observable s m failed whole
+      → GivesOffers capacity base start input input_observable observable s t more less
+  gives-later input input_observable m t failed more whole less to back from run h = record {
     offers = h.offers;
     read = h.read;
     answered = h.answered;
     has = h.has;
-    given = given-weaker input input_told failed more whole less h.answered h.offers to back from h.given;
+    given = given-weaker input input_observable failed more whole less h.answered h.offers to back from h.given;
     images = λ seen rest.
         let images = h.images seen rest in
         always_joins s m t MirrorArea (IsPileStep capacity base start h.offers) images

@@ -83,17 +83,17 @@ pub record FailsAtLast (failed whole : Type 0) (answered offers : List Offer) : 
 -- leaves of a disk at rest the documents held after the first few of them. It answered all of them but the last, if a
 -- device call failed as that was taken, and had room for each that it answered.
 pub record GivesOffers (capacity : ℕ) (base : List ℕ) (kept : List KeptValue) (input : List ℕ)
-    (input_told disk_told : Type 0) (before after : DiskState) (failed whole : Type 0) : Type 0 where
+    (input_observable disk_observable : Type 0) (before after : DiskState) (failed whole : Type 0) : Type 0 where
   pub offers : List Offer
-  pub read : input_told → ReadsOffers input offers
-  pub images : disk_told → IsAtRest before kept
+  pub read : input_observable → ReadsOffers input offers
+  pub images : disk_observable → IsAtRest before kept
       → AlwaysLeaves before after MirrorArea (IsPileStep capacity base kept offers)
   pub answered : List Offer
   pub left : List KeptValue
   pub has : HasAnswered capacity base kept answered left
-  pub given : AreAllAnswered input input_told failed whole answered offers
+  pub given : AreAllAnswered input input_observable failed whole answered offers
       ⊎ FailsAtLast failed whole answered offers
-  pub now : ¬ failed → disk_told → IsAtRest before kept → NowOnly after MirrorArea (LoadsTo base left)
+  pub now : ¬ failed → disk_observable → IsAtRest before kept → NowOnly after MirrorArea (LoadsTo base left)
 
 -- the area loads to the documents of a mirror, and these offers of the pile were given to it
 pub record HasGiven (capacity : ℕ) (base : List ℕ) (content : Area → List ℕ) (input : List ℕ) (failed whole : Type 0)

@@ -1,11 +1,11 @@
 //! The pile of an audit.
 
 ghost use Rattle.std.specs.Prelude.{◌≡◌, ◌≤◌, All, Err, IfErr, IfOk, None, Ok, length};
+ghost use Rattle.atom_values.specs.Counts.{CountsFault};
 ghost use Rattle.doc_source.specs.Pile.{IsOffer};
 ghost use Rattle.mirror_commands.specs.Audit.{audited_limit};
 ghost use Rattle.mirror_commands.specs.AuditEnds.{MayStopAudit};
 ghost use Rattle.mirror_commands.specs.AuditedPile.{RefusesPile, StopsAmidPile};
-ghost use Rattle.command_ends.specs.Ends.{RisesByFault};
 ghost use Rattle.command_ends.specs.Fault.{IsRefusal};
 ghost use Rattle.mirror_commands.specs.Mirror.{ReadsToWithin};
 
@@ -29,7 +29,7 @@ pub(crate) fn read_pile<I: Source>(
     ensures refused { IfErr result (λ fault. IsRefusal fault → I.observable
         → RefusesPile limit (I.state input.old).left fault) }
     ensures only_errors { IfErr result MayStopAudit }
-    ensures input { RisesByFault (I.state input.old).faults (I.state input.new).faults
+    ensures input { CountsFault (I.state input.old).faults (I.state input.new).faults
         (result ≡ Err Fault.Input) }
     ensures within { result ≡ Err Fault.Input → I.observable
         → StopsAmidPile limit (I.state input.old) (I.state input.new) }

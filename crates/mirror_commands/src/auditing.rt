@@ -1,5 +1,5 @@
 ghost use Rattle.std.specs.Prelude.{◌≡◌, ◌⊎◌, Err, IfErr, IfOk};
-ghost use Rattle.atom_values.specs.Counts.{HasRisen};
+ghost use Rattle.atom_values.specs.Counts.{CountsFault, HasRisen};
 ghost use Rattle.coverage_certificate.specs.Certificate.{IsCertificate};
 ghost use Rattle.command_ends.specs.declared.status.Status.TheVariants as status;
 ghost use Rattle.command_ends.specs.Answer.{Answer, Prints};
@@ -10,7 +10,7 @@ ghost use Rattle.mirror_commands.specs.AuditEnds.{JudgesPile, MayStopAudit, cert
 ghost use Rattle.mirror_commands.specs.AuditedPile.{RefusesPile, StopsAmidPile};
 ghost use Rattle.command_ends.specs.Fault.{IsRefusal, fault_answer};
 ghost use Rattle.mirror_commands.specs.Printed.{printed_answer};
-ghost use Rattle.command_ends.specs.Ends.{CountsOutput, EndsAs, IsAlone, IsAnswered, IsDone, RisesByFault, alone_line};
+ghost use Rattle.command_ends.specs.Ends.{CountsOutput, EndsAs, IsAlone, IsAnswered, IsDone, alone_line};
 ghost use Rattle.command_ends.specs.Status.{code_of};
 
 use crate::audited_pile::read_pile;
@@ -31,7 +31,7 @@ pub fn audit<I: Source, O: Sink>(alloc: Global, input: &mut I, output: &mut O) -
         (code_of result) }
     ensures alone { O.observable → IsAlone (code_of result)
         → Prints (O.state output.old) (O.state output.new) (alone_line (code_of result)) }
-    ensures input_faults { RisesByFault (I.state input.old).faults (I.state input.new).faults
+    ensures input_faults { CountsFault (I.state input.old).faults (I.state input.new).faults
         (code_of result ≡ code_of status.InputFault) }
     ensures output_faults { CountsOutput (O.state output.old).faults (O.state output.new).faults (code_of result) }
     ensures first_fault { I.observable → code_of result ≡ code_of status.InputFault
@@ -56,7 +56,7 @@ fn verdict<I: Source>(alloc: Global, input: &mut I) -> Result<Printed, Fault>
     ensures refused { IfErr result (λ fault. IsRefusal fault → I.observable
         → IsAudited (I.state input.old).left (fault_answer fault)) }
     ensures only_errors { IfErr result MayStopAudit }
-    ensures input { RisesByFault (I.state input.old).faults (I.state input.new).faults
+    ensures input { CountsFault (I.state input.old).faults (I.state input.new).faults
         (result ≡ Err Fault.Input) }
     ensures within { result ≡ Err Fault.Input → I.observable
         → IsAuditUnrefused (I.state input.old) (I.state input.new) }
@@ -76,7 +76,7 @@ fn read_certificate<I: Source>(alloc: Global, input: &mut I) -> Result<(Certific
     ensures refused { IfErr result (λ fault. IsRefusal fault → I.observable
         → IsAudited (I.state input.old).left (fault_answer fault)) }
     ensures only_errors { IfErr result MayStopAudit }
-    ensures input { RisesByFault (I.state input.old).faults (I.state input.new).faults
+    ensures input { CountsFault (I.state input.old).faults (I.state input.new).faults
         (result ≡ Err Fault.Input) }
     ensures within { result ≡ Err Fault.Input → I.observable
         → StopsInCertificate (I.state input.old) (I.state input.new) }
@@ -117,7 +117,7 @@ fn judge<I: Source>(
     ensures refused { IfErr result (λ fault. IsRefusal fault → I.observable
         → RefusesPile room (I.state input.old).left fault) }
     ensures only_errors { IfErr result MayStopAudit }
-    ensures input { RisesByFault (I.state input.old).faults (I.state input.new).faults
+    ensures input { CountsFault (I.state input.old).faults (I.state input.new).faults
         (result ≡ Err Fault.Input) }
     ensures within { result ≡ Err Fault.Input → I.observable
         → StopsAmidPile room (I.state input.old) (I.state input.new) }

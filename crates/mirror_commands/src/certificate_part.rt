@@ -2,10 +2,9 @@
 
 ghost use Rattle.std.specs.Prelude.{◌≡◌, ◌⊎◌, ◌<◌, ◌≤◌, ◌∷◌, ◌++◌, [], length, Err, IfErr, IfNone, IfOk};
 ghost use Rattle.std.specs.Prelude.{IfSome, Ok, OnErr, OnOk, true, false};
-ghost use Rattle.atom_values.specs.Counts.{HasCause};
+ghost use Rattle.atom_values.specs.Counts.{CountsFault, HasCause};
 ghost use Rattle.command_ends.specs.declared.fault.Fault.TheVariants.{Refused};
 ghost use Rattle.command_ends.specs.declared.fault.Refusal.TheVariants.{TooLong};
-ghost use Rattle.command_ends.specs.Ends.{RisesByFault};
 ghost use Rattle.mirror_commands.specs.Audit.{EndsOnce, StopsInCertificate, audit_limit};
 ghost use Rattle.mirror_commands.specs.CertificatePart.{IsAmid, IsLongPart, ReadsPart};
 
@@ -32,7 +31,7 @@ pub(crate) fn read_part<I: Source>(alloc: Global, input: &mut I) -> Result<Vec<u
     ensures only_errors { IfErr result (λ fault.
         (fault ≡ Fault.NoMemory) ⊎ (fault ≡ Fault.Input) ⊎ (fault ≡ Refused TooLong)) }
     ensures past { result ≡ Err (Refused TooLong) → I.observable → IsLongPart (I.state input.old).left }
-    ensures input { RisesByFault (I.state input.old).faults (I.state input.new).faults
+    ensures input { CountsFault (I.state input.old).faults (I.state input.new).faults
         (result ≡ Err Fault.Input) }
     ensures within { result ≡ Err Fault.Input → I.observable
         → StopsInCertificate (I.state input.old) (I.state input.new) }

@@ -4,7 +4,7 @@ ghost use Rattle.doc_source.specs.declared.offer.Offer.{Offer as OfferValue};
 ghost use Rattle.command_ends.specs.declared.status.Status.TheVariants as status;
 ghost use Rattle.command_ends.specs.Answer.{Answer, Prints};
 ghost use Rattle.command_ends.specs.Fault.{fault_answer, IsRefusal};
-ghost use Rattle.mirror_commands.specs.Mirror.{HasAnswered, IsMirrored, IsReport, ReadsTo, ReadsWithinPile};
+ghost use Rattle.mirror_commands.specs.Mirror.{IsMirrored, IsReport, ReadsTo, ReadsWithinPile};
 ghost use Rattle.mirror_commands.specs.Mirror.{offering, pile_limit};
 ghost use Rattle.mirror_commands.specs.MirrorCrash.{LeavesMirror, LeavesMirrored};
 ghost use Rattle.mirror_commands.specs.MirrorEnds.{GivesOf, GivesOffers, IsLater, IsPileReport, IsPileAnswer, MayEndMirror};
@@ -14,7 +14,7 @@ ghost use Rattle.mirror_commands.specs.MirrorFaults.{IsHeldIn, IsReportRefusal, 
 ghost use Rattle.mirror_commands.specs.Printed.{printed_answer};
 ghost use Rattle.mirror_commands.specs.Report.{Reports, no_counts};
 ghost use Rattle.mirror_commands.specs.Reporting.{IsUsable, SameMirror};
-ghost use Rattle.command_ends.specs.Ends.{CountsOutput, EndsAs, IsAlone, IsAnswered, IsDone, RisesByFault, alone_line};
+ghost use Rattle.command_ends.specs.Ends.{CountsOutput, EndsAs, IsAlone, IsAnswered, IsDone, alone_line};
 ghost use Rattle.command_ends.specs.Status.{code_of};
 ghost use Rattle.feed_disk.specs.Moments.{LeavesAlone, NowOnly};
 ghost use Rattle.feed_disk.specs.declared.area.Area.{Area as AreaValue};
@@ -61,7 +61,7 @@ pub fn mirror<D: Disk, I: Source, O: Sink>(
         → Prints (O.state output.old) (O.state output.new) (alone_line (code_of result)) }
     ensures disk_faults { CountsFault (D.state disk.old).faults (D.state disk.new).faults
         (code_of result ≡ code_of status.DiskFault) }
-    ensures input_faults { RisesByFault (I.state input.old).faults (I.state input.new).faults
+    ensures input_faults { CountsFault (I.state input.old).faults (I.state input.new).faults
         (code_of result ≡ code_of status.InputFault) }
     ensures output_faults { CountsOutput (O.state output.old).faults (O.state output.new).faults (code_of result) }
     ensures first_fault { D.observable → I.observable → code_of result ≡ code_of status.InputFault
@@ -105,7 +105,7 @@ fn load_and_offer<D: Disk, I: Source>(
     ensures only_errors { IfErr result MayEndPileReport }
     ensures disk { CountsFault (D.state disk.old).faults (D.state disk.new).faults
         (result ≡ Err (ReportFault.Other Fault.Disk)) }
-    ensures input { RisesByFault (I.state input.old).faults (I.state input.new).faults
+    ensures input { CountsFault (I.state input.old).faults (I.state input.new).faults
         (result ≡ Err (ReportFault.Other Fault.Input)) }
     ensures within { result ≡ Err (ReportFault.Other Fault.Input) → D.observable → I.observable
         → IsMirrorUnrefused base.now capacity (D.state disk.old).content
@@ -151,7 +151,7 @@ fn report_offers<D: Disk, I: Source>(
         → LeavesAlone (D.state disk.old) (D.state disk.new) a }
     ensures disk { CountsFault (D.state disk.old).faults (D.state disk.new).faults
         (result ≡ Err Fault.Disk) }
-    ensures input { RisesByFault (I.state input.old).faults (I.state input.new).faults
+    ensures input { CountsFault (I.state input.old).faults (I.state input.new).faults
         (result ≡ Err Fault.Input) }
     ensures within { result ≡ Err Fault.Input → I.observable
         → ReadsWithinPile mirror.old.capacity mirror.old.base mirror.old.kept
@@ -194,7 +194,7 @@ fn offer_all<D: Disk, I: Source>(
         → LeavesAlone (D.state disk.old) (D.state disk.new) a }
     ensures disk { CountsFault (D.state disk.old).faults (D.state disk.new).faults
         (result ≡ Err Fault.Disk) }
-    ensures input { RisesByFault (I.state input.old).faults (I.state input.new).faults
+    ensures input { CountsFault (I.state input.old).faults (I.state input.new).faults
         (result ≡ Err Fault.Input) }
     ensures within { result ≡ Err Fault.Input → I.observable
         → ReadsWithinPile mirror.old.capacity mirror.old.base mirror.old.kept

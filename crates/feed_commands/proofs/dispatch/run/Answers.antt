@@ -14,7 +14,7 @@ use Rattle.command_ends.specs.Ends.{IsAnswered}
 use Rattle.command_ends.specs.Status.{code_of}
 use Rattle.command_ends.proofs.AnsweredLemmas.{done-sent}
 use Rattle.feed_commands.proofs.CountLemmas.{counts-none, counts-of_ok, disk-of_fault, input-of_fault, no_usage}
-use Rattle.feed_commands.proofs.CountLemmas.{output-later, output-of_fault, rises-of, shared-counts, shared-other}
+use Rattle.feed_commands.proofs.CountLemmas.{output-later, output-of_fault, shared-counts, shared-other}
 use Rattle.feed_commands.proofs.DiskLemmas.{applies-none, applies-weaker, keeps-none, makes-none, makes-weaker}
 use Rattle.command_ends.proofs.EndLemmas.{answered-refusal, input_end, no_door, no_end, no_output}
 use Rattle.feed_commands.proofs.LoadedFaultLemmas.{loaded_fault}
@@ -144,7 +144,7 @@ returns-in-Serve-clause-alone g c = λ sink once.
 pub returns-in-Serve-clause-faults : goal.returns-in-Serve-clause-faults
 returns-in-Serve-clause-faults g c = record {
   disk_faults = c.serve.ensures.disk_faults;
-  input_faults = rises-of (counts-none (serve-other _ c.serve.ensures.statuses).1);
+  input_faults = counts-none (serve-other _ c.serve.ensures.statuses).1;
   output_faults = c.serve.ensures.output_faults;
   door_faults = shared-counts c.serve.ensures.door_faults;
   fetch_faults = shared-other (λ others. others _ _ (read_as _ c.in-Ok.is c.in-Serve.is c.read_words.ensures.found));
@@ -205,7 +205,7 @@ returns-in-Show-Pile-clause-faults g c =
     let other = pile-other _ c.show_pile.ensures.statuses in
     rw c.with_status-in-Show-Pile.ensures.status (record {
       disk_faults = c.show_pile.ensures.disk_faults;
-      input_faults = rises-of (counts-none other.2);
+      input_faults = counts-none other.2;
       output_faults = c.show_pile.ensures.output_faults;
       door_faults = shared-counts (counts-none other.1);
       fetch_faults = shared-counts (counts-none other.1);
@@ -269,7 +269,7 @@ returns-in-Mirror-default-true-default-default-clause-faults g c =
     let of_words = read_as _ c.in-Ok.is is c.read_words.ensures.found in
     rw c.with_status-in-Mirror-default-true-default-default.ensures.status (record {
       disk_faults = c.mirror_fetched-status.ensures.disk_faults;
-      input_faults = rises-of (counts-none (fetched-other _ c.mirror_fetched-status.ensures.statuses).1);
+      input_faults = counts-none (fetched-other _ c.mirror_fetched-status.ensures.statuses).1;
       output_faults = c.mirror_fetched-status.ensures.output_faults;
       door_faults = shared-other (λ others. others (Mirror arm.base true arm.report arm.capacity) of_words tt);
       fetch_faults = shared-counts c.mirror_fetched-status.ensures.fetch_faults;
@@ -559,7 +559,7 @@ returns-in-Ok-write_all-clause-faults g c =
     let is : c.with_status-in-Ok-write_all.result.status ≡ 0 = c.with_status-in-Ok-write_all.ensures.status in
     record {
       disk_faults = counts-of_ok (λ e. omega (arith, e, is)) c.in-Ok-answer.ensures.disk_faults;
-      input_faults = rises-of (counts-of_ok (λ e. omega (arith, e, is)) c.in-Ok-answer.ensures.input_faults);
+      input_faults = counts-of_ok (λ e. omega (arith, e, is)) c.in-Ok-answer.ensures.input_faults;
       output_faults = record {
         later = c.in-Ok-write_all.ensures.counts.later;
         failed = λ e. absurd (omega (arith, e, is));
@@ -636,7 +636,7 @@ returns-in-Ok-answer-clause-faults g c =
     let is : c.with_status-in-Err-write_all.result.status ≡ 8 = c.with_status-in-Err-write_all.ensures.status in
     record {
       disk_faults = counts-of_ok (λ e. omega (arith, e, is)) c.in-Ok-answer.ensures.disk_faults;
-      input_faults = rises-of (counts-of_ok (λ e. omega (arith, e, is)) c.in-Ok-answer.ensures.input_faults);
+      input_faults = counts-of_ok (λ e. omega (arith, e, is)) c.in-Ok-answer.ensures.input_faults;
       output_faults = record {
         later = c.in-Err-write_all.ensures.counts.later;
         failed = λ _. c.in-Err-write_all.ensures.counts.failed;
@@ -704,7 +704,7 @@ returns-clause-faults g c =
     let is = c.with_status-in-Err.ensures.status ∙ ap code_of c.print_fault-in-Err.ensures.status in
     record {
       disk_faults = disk-of_fault c.in-Err.fault is c.in-Err.ensures.disk_faults;
-      input_faults = rises-of (input-of_fault c.in-Err.fault is c.in-Err.ensures.input_faults);
+      input_faults = input-of_fault c.in-Err.fault is c.in-Err.ensures.input_faults;
       output_faults = output-of_fault c.in-Err.fault is c.print_fault-in-Err.ensures.faults;
       door_faults = shared-counts (counts-none (λ e. no_door c.in-Err.fault (sym is ∙ e)));
       fetch_faults = shared-counts (counts-none (λ e. no_door c.in-Err.fault (sym is ∙ e)));

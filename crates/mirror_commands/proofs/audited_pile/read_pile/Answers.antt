@@ -87,7 +87,7 @@ loop-offers-preserved g c =
           c.in_ok-offer.ensures.limit (omega (arith, c.in_ok-offer.ensures.bound))
           (c.in_ok-offer.ensures.refusal h.fresh)
           (subst (λ (o : Option Offer). IfSome o IsOffer) c.in-Some.is c.in_ok-offer.ensures.rules) room);
-      faults = c.in_ok-offer.ensures.unfailed (λ e. cc) ∙ c.loop-offers.invariant.faults;
+      faults = c.in_ok-offer.ensures.faults.unfailed (λ e. cc) ∙ c.loop-offers.invariant.faults;
     }
 
 pub returns-clause-offers : goal.returns-clause-offers

@@ -180,7 +180,7 @@ loop-offer-preserved g c =
     (IsOfferStep c.loop-offer.mirror c.slice.result.now x)) c.slice-in-Some.ensures
     (c.offer-added.ensures.moments observable rest)))
     (λ observable rest. c.in_ok-added.ensures.rests (λ e. cc) observable rest) c.in_ok-added.ensures.others
-    (c.in_ok-added.ensures.disk.unfailed (λ e. cc)) (c.in_ok-offer.ensures.unfailed (λ e. cc))
+    (c.in_ok-added.ensures.disk.unfailed (λ e. cc)) (c.in_ok-offer.ensures.faults.unfailed (λ e. cc))
 
 pub returns-clause-gives : goal.returns-clause-gives
 returns-clause-gives g c =
