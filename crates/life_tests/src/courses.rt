@@ -46,10 +46,10 @@ pub fn advance(
 ) {
     let line = step(rt, alloc, life, does, crash);
     let status = fold.take(rt, does, crash);
-    let observable = line.map(|line| (line.status, line.version, line.whole));
+    let reply = line.map(|line| (line.status, line.version, line.whole));
     let version = fold.version();
     assert!(rt;
-        observable == status.map(|status| (status, version, true)),
+        reply == status.map(|status| (status, version, true)),
         "{does:?} {crash:?}"
     );
     compare_counts(rt, life, fold);

@@ -155,7 +155,7 @@ fn digest(rt: &impl Abort, alloc: Global, mirror: &Mirror, address: Address) -> 
 
 /// The first missing document; the first and the last operation and the `prev` of the best subscription
 /// document; the feed's title; and the digests of that document, of archives 1 and 2, and of a member.
-fn observable(rt: &impl Abort, alloc: Global, mirror: &Mirror) -> String
+fn summary(rt: &impl Abort, alloc: Global, mirror: &Mirror) -> String
     requires { is_spent mirror.now ≡ false }
 {
     let wanted = mirror.wanted();
@@ -193,8 +193,8 @@ fn expect_told<D: Disk>(rt: &impl Abort, alloc: Global, disk: &mut D, feed: &Fee
     let mut mirror = load(rt, alloc, disk, CAPACITY);
     for (given, expected) in &TOLD {
         offer_given(rt, alloc, &mut mirror, disk, feed, *given);
-        let observable = observable(rt, alloc, &mirror);
-        assert!(rt; observable.as_str() == *expected, "{observable}");
+        let summary = summary(rt, alloc, &mirror);
+        assert!(rt; summary.as_str() == *expected, "{summary}");
     }
     drop(mirror);
 }

@@ -11,9 +11,9 @@ use std::fmt::Display;
 use std::process::Abort;
 
 /// Compares the sentence of a refusal or a fault.
-fn expect(rt: &impl Abort, alloc: Global, observable: impl Display + Drop, sentence: &str) {
-    let text = format!(in alloc; "{observable}").expect(rt, "memory");
-    drop(observable);
+fn expect(rt: &impl Abort, alloc: Global, answer: impl Display + Drop, sentence: &str) {
+    let text = format!(in alloc; "{answer}").expect(rt, "memory");
+    drop(answer);
     assert!(rt; text.as_str() == sentence);
 }
 

@@ -169,9 +169,9 @@ fn offered_to_empty(
     case: &Case,
 ) -> (String, Vec<u8>, String) {
     let mut disk = disk_of(rt, alloc, b"", 0);
-    let observable = offered(rt, alloc, &mut disk, feed, case);
+    let answer = offered(rt, alloc, &mut disk, feed, case);
     drop(disk);
-    observable
+    answer
 }
 
 #[test]

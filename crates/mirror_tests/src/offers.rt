@@ -48,7 +48,7 @@ fn source_of(rt: &impl Abort, alloc: Global, bytes: &[u8], failing: u64, most: u
 }
 
 /// An answer in short. A failed call has none.
-fn observable(alloc: Global, answer: &Result<Option<Offer>, PileFault>) -> Option<String> {
+fn text_of(alloc: Global, answer: &Result<Option<Offer>, PileFault>) -> Option<String> {
     match answer {
         Ok(Some(offer)) => {
             let address = str::from_utf8(offer.address.slice()).ok()?;
@@ -70,7 +70,7 @@ fn append_answer(
     text: &mut String,
 ) -> bool {
     let answer = reader.next(source);
-    let line = observable(alloc, &answer).expect(rt, "a text");
+    let line = text_of(alloc, &answer).expect(rt, "a text");
     let ended = !matches!(answer, Ok(Some(_)) | Err(PileFault::SourceFault));
     drop(answer);
     text.push_str(line.as_str()).expect(rt, "memory");

@@ -77,13 +77,13 @@ static WRITTEN: [(Told, &[u8]); 6] = [
 ];
 
 /// Returns the status that the reply has from the server.
-fn status_of(observable: &Told) -> u16
+fn status_of(told: &Told) -> u16
     ensures { HasPhrase result }
 {
-    if observable.location.is_some() {
+    if told.location.is_some() {
         return 201;
     }
-    match observable.line {
+    match told.line {
         Line7::NotFound => 404,
         Line7::NotAllowed => 405,
         Line7::NoMemory => 503,
@@ -91,19 +91,19 @@ fn status_of(observable: &Told) -> u16
     }
 }
 
-fn reply_of(rt: &impl Abort, alloc: Global, observable: &Told) -> Reply
+fn reply_of(rt: &impl Abort, alloc: Global, told: &Told) -> Reply
     ensures { HasPhrase result.status }
 {
-    let location = match observable.location {
+    let location = match told.location {
         Some(address) => Some(Bytes::of(alloc, address).expect(rt, "memory")),
         None => None,
     };
     Reply {
-        status: status_of(observable),
-        media: observable.media,
+        status: status_of(told),
+        media: told.media,
         location,
-        allow: observable.allow,
-        body: Body::Fixed(observable.line),
+        allow: told.allow,
+        body: Body::Fixed(told.line),
     }
 }
 
@@ -121,9 +121,9 @@ fn begun(rt: &impl Abort, alloc: Global, failing: u64) -> ScriptConn
 #[test]
 fn writes_a_short_reply_in_one_call(rt: HostRuntime) {
     let alloc = rt.alloc();
-    for (observable, bytes) in WRITTEN {
+    for (told, bytes) in WRITTEN {
         let mut conn = begun(&rt, alloc, 2);
-        let reply = reply_of(&rt, alloc, &observable);
+        let reply = reply_of(&rt, alloc, &told);
         let copy = reply.copy(alloc).expect(&rt, "memory");
         let end = write_reply(&mut conn, &copy);
         assert!(rt; (end, conn.sent(), conn.begun()) == (Ok(()), bytes, Some(0)));

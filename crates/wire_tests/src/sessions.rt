@@ -70,7 +70,7 @@ pub fn served<D: Disk, L: Door>(
     session
 }
 
-fn observable(line: &Line) -> Told {
+fn told(line: &Line) -> Told {
     (line.status, line.version, line.whole)
 }
 
@@ -80,7 +80,7 @@ fn is_served(row: &Row, line: Option<&Line>, conn: Option<&ScriptConn>) -> bool 
     match (line, conn) {
         (Some(line), Some(conn)) => {
             let sent = conn.sent();
-            observable(line) == *wanted && sent.starts_with(first) && sent.ends_with(last)
+            told(line) == *wanted && sent.starts_with(first) && sent.ends_with(last)
         }
         _ => false,
     }
@@ -402,7 +402,7 @@ fn post_failing(rt: &impl Abort, alloc: Global, failing: u64) -> Session {
         made,
         calls: disk.calls(),
         end: session.end,
-        line: session.lines.get(0).map(observable),
+        line: session.lines.get(0).map(told),
         sent: sent_of(rt, alloc, &door),
         found: found_on(rt, alloc, &mut disk),
     };
@@ -435,9 +435,9 @@ fn ends_where_a_device_call_fails(rt: HostRuntime) {
     }
     for (index, &found) in FOUND.iter().enumerate() {
         let failed = post_failing(&rt, alloc, loaded.saturating_add(1 + index as u64));
-        let observable = (failed.end, failed.line, failed.found);
+        let end = (failed.end, failed.line, failed.found);
         assert!(rt;
-            observable == (End::DiskFault, Some((500, 0, true)), found),
+            end == (End::DiskFault, Some((500, 0, true)), found),
             "call {index}"
         );
         assert!(rt; failed.sent.as_slice() == DISK, "call {index}");
