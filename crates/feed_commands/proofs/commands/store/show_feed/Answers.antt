@@ -14,6 +14,11 @@ returns-in_err-store-clause-refused g c =
     answer-bad (g.D.Disk.state c.args.disk.now).content feed_answer c.in_err-store.field-0.0
     (c.in_err-store.ensures.refused observable) (c.in_err-store.ensures.only observable) refusal)
 
+pub returns-in_err-text-clause-refused : goal.returns-in_err-text-clause-refused
+returns-in_err-text-clause-refused g c =
+    let p = err_from_is_err_and c.from_residual-in_err-text.result c.from_residual-in_err-text.ensures.1 in
+    rw (p.1, p.2) (λ refusal. absurd refusal)
+
 pub returns-clause-answer : goal.returns-clause-answer
 returns-clause-answer g c = λ observable.
     let store = c.in_ok-store.store in
