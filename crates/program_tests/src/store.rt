@@ -416,9 +416,10 @@ fn letter_of(rt: &impl Abort, alloc: Global, failing: u64) -> u8 {
 }
 
 /// How the commands end if a call of the disk fails, for each call from the first on. `init` makes 12 calls: it opens
-/// two empty areas, with 4 calls each, and appends the head with 4. `apply` makes 8 to load the store, and 4 to append
-/// the operation. Only the last of these leaves the operation.
-const LETTERS: &[u8] = b"iiiiiiiiiiiiuuuuuuuuuuuc.";
+/// two empty areas, with 4 calls each, and appends the head with 4. `apply` makes 7 to load the store: 3 for the journal,
+/// of which one reads the head, and 4 for the sealed area, which is empty. It makes 4 more to append the operation. Only
+/// the last of these leaves the operation.
+const LETTERS: &[u8] = b"iiiiiiiiiiiiuuuuuuuuuuc.";
 
 #[test]
 fn each_device_call_may_fail(rt: HostRuntime) {
