@@ -214,10 +214,8 @@ def record_store():
         raise Lost("the server didn't end with 0")
     subprocess.run(traced(folder, ["apply"], f"{work}/apply.trace"), cwd=folder, input=b"add last", stdout=subprocess.DEVNULL,
                    check=True)
-    feeds.append(run(folder, ["show", "feed"])[1])
-    # `show feed` prints a summary, so the text is taken from the pile
     documents = dict(read_pile(run(folder, ["show", "pile"])[1]))
-    feeds[-1] = documents[f"{BASE}feed"]
+    feeds.append(documents[f"{BASE}feed"])
     if len(archives) < OPERATIONS // WINDOW:
         archives.append(documents[f"{BASE}archive/{OPERATIONS // WINDOW}"])
     piles = []
