@@ -1,4 +1,4 @@
-ghost use Rattle.std.specs.Prelude.{◌≡◌, ℕ, ◌<◌, ◌≤◌, ◌*◌, ◌++◌, [], ◌∷◌, length, OnOk, OnErr, IfOk, IfErr, MatchOption, slice_index, nat_eq};
+ghost use Rattle.std.specs.Prelude.{◌≡◌, ℕ, Bool, false, ◌<◌, ◌≤◌, ◌*◌, ◌++◌, [], ◌∷◌, length, OnOk, OnErr, IfOk, IfErr, MatchOption, slice_index, nat_eq};
 ghost use Rattle.std.specs.Cmp.{partial_equiv_from_equiv};
 ghost use Rattle.std.specs.Cmp.Lexicographic.{nat_list_eq_equiv, pointwise};
 ghost use Rattle.atom_values.specs.Ascii.{ampersand};
@@ -210,6 +210,14 @@ impl Copies for Text {
     }
 }
 
+/// Whether the byte is written as a reference in an attribute, and so perhaps in content too. Most bytes of a text
+/// aren't, and this test takes a fraction of the time of `escape_of`.
+fn may_escape(byte: u8) -> bool
+    ensures { result ≡ false → (quoted : Bool) → escaped_byte quoted byte ≡ byte ∷ [] }
+{
+    matches!(byte, b'&' | b'<' | b'>' | b'\r' | b'"' | b'\t' | b'\n')
+}
+
 /// The XML reference that a byte of a text is written as. `None` if the byte is written as itself.
 fn escape_of(byte: u8, quoted: bool) -> Option<&'static str>
     ensures { MatchOption result (escaped_byte quoted byte ≡ byte ∷ [])
@@ -240,6 +248,9 @@ pub fn escape_into(out: &mut Vec<u8>, text: &AtomText, quoted: bool) -> Result<(
     let bytes = text.bytes();
     let mut copied = 0;
     for (at, byte) in bytes.iter().enumerate() {
+        if !may_escape(*byte) {
+            continue;
+        }
         if let Some(escape) = escape_of(*byte, quoted) {
             out.extend_from_slice(&bytes[copied..at])?;
             out.extend_from_slice(escape.as_bytes())?;
@@ -258,9 +269,20 @@ pub fn escaped_len(text: &AtomText, quoted: bool) -> usize
 {
     let mut total = 0;
     for byte in text.bytes() {
-        total += escape_of(*byte, quoted).map_or(1, str::len);
+        total += written_len(*byte, quoted);
     }
     total
+}
+
+/// The number of bytes that the byte is written in.
+fn written_len(byte: u8, quoted: bool) -> usize
+    ensures { result ≡ length (escaped_byte quoted byte) }
+{
+    if may_escape(byte) {
+        escape_of(byte, quoted).map_or(1, str::len)
+    } else {
+        1
+    }
 }
 
 /// The greatest number of bytes of an escaped text, since each byte is written in at most six.

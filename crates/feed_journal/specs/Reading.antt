@@ -19,7 +19,7 @@ pub record AreFirst (extents : List Extent) (end : ℕ) (content : List ℕ) : T
       ++ records_up_to (min (length content) payload_count_limit - length extents) (drop end content)
   pub begins : content ≡ frames (payloads_at extents content) ++ drop end content
 
--- the frames that were read are the first ones of the content, and so are the bytes that were read ahead its own
+-- the frames that were read are the first ones of the content, and the bytes that were read ahead are its own
 pub record IsReading (reading : ReadingValue) (content : List ℕ) : Type 0 where
   pub size : reading.limit ≡ length content
   pub first : AreFirst reading.log.extents (reading.log.size - 1) content

@@ -1,4 +1,4 @@
-use Rattle.std.proofs.Common.{◌≡◌, ◌-◌, ◌++◌, length, take, drop, List, ℕ, [], ap, sym, ◌∙◌, arith}
+use Rattle.std.proofs.Common.{◌≡◌, ◌-◌, ◌++◌, length, take, drop, List, ℕ, [], refl, ap, sym, ◌∙◌, arith}
 use Rattle.atom_values.specs.Escape.{escaped}
 use Rattle.atom_values.proofs.EscapeLemmas.{escaped-nil, length-run, length-run_more, IsWritten-escape, IsWritten-plain}
 use Rattle.atom_values.proofs.EscapeLemmas.{IsWritten-all}
@@ -35,6 +35,13 @@ returns-in_err-extend_from_slice-2-clause-err c =
       c.in_ok-extend_from_slice.ensures.capacity,
       c.loop-at.out.ok,
     ))
+
+pub loop-at-preserved-then-not-may_escape : goal.loop-at-preserved-then-not-may_escape
+loop-at-preserved-then-not-may_escape c =
+    let next = IsWritten-plain c.args.quoted c.args.out.now.items c.loop-at.out.items c.bytes-bytes.result.now
+    c.loop-at.copied c.loop-at.at c.loop-at.invariant.within c.loop-at-test.true c.loop-at.invariant.written
+    (c.if-not-may_escape.ensures refl c.args.quoted) in
+    record { within = omega arith; written = next; room = c.loop-at.invariant.room }
 
 pub loop-at-preserved : goal.loop-at-preserved
 loop-at-preserved c = elim c.match-escape_of.branch [
