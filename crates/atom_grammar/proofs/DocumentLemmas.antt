@@ -12,13 +12,13 @@ use Rattle.atom_grammar.specs.declared.part_fault.PartFault.{PartFault}
 use Rattle.atom_grammar.specs.declared.part_fault.PartFault.TheVariants.{Mismatch, NoMemory}
 use Rattle.atom_grammar.specs.FeedParts.{ReadsPiece, span_of}
 use Rattle.atom_grammar.specs.Parts.{IsFound, literal, starts}
-use Rattle.atom_grammar.specs.Stages.{IsRefused, IsOpening, ReadsOpening, ReadsLinks, ReadsPrev, ReadsItems, ReadsSome, ReadsDocument, opening_pieces, links_pieces}
+use Rattle.atom_grammar.specs.Stages.{IsRefused, IsOpening, ReadsOpening, ReadsLinks, ReadsPrev, ReadsItems, ReadsSome, ReadsDocument, opening_pieces, links_pieces, head_pieces}
 use Rattle.atom_grammar.proofs.PairLemmas.{end_pieces}
 use Rattle.atom_grammar.proofs.EndLemmas.{refused_items, refused_behind_end}
 use Rattle.atom_grammar.proofs.RefusalLemmas.{refused_behind}
 use Rattle.atom_grammar.proofs.RefusedLemmas.{refused_span}
 use Rattle.atom_grammar.proofs.TextLemmas.{starts_split}
-use Rattle.atom_grammar.proofs.StartLemmas.{document_of, is_document, head_pieces, whole-is}
+use Rattle.atom_grammar.proofs.StartLemmas.{document_of, is_document, whole-is}
 
 pub document_stopped : (input after : List ℕ) (e : PartFault) (r : Result DocValue PartFault)
     → IsErrAnd r (λ s. s ≡ e) → (e ≡ Mismatch → IsRefused [] input after) → ReadsDocument input r after

@@ -13,12 +13,12 @@ use Rattle.atom_writer.specs.Doc.{DocValue, IsDoc, IsFeedName}
 use Rattle.atom_writer.specs.Pieces.{pieces, joined, span_piece, item_piece}
 use Rattle.atom_grammar.specs.FeedParts.{prev_piece, IsSpanOf, IsSpan}
 use Rattle.atom_grammar.specs.Parts.{literal}
-use Rattle.atom_grammar.specs.Stages.{IsRefused, IsOpening, AreItems, EndsAt, opening_pieces, links_pieces}
+use Rattle.atom_grammar.specs.Stages.{IsRefused, IsOpening, AreItems, EndsAt, opening_pieces, links_pieces, head_pieces}
 use Rattle.atom_grammar.proofs.PairLemmas.{chain, tail_pieces, end_pieces, tail-first, tail-later, is_span, placed_prev, span_prev-apart, item-second}
 use Rattle.atom_grammar.proofs.FeedPieceLemmas.{span-one}
 use Rattle.atom_grammar.proofs.ItemLemmas.{item-one}
 use Rattle.atom_grammar.proofs.RefusedLemmas.{other_prev, links-first, links-later}
-use Rattle.atom_grammar.proofs.StartLemmas.{document_of, is_document, head_pieces, tail-is, whole-is}
+use Rattle.atom_grammar.proofs.StartLemmas.{document_of, is_document, tail-is, whole-is}
 use Rattle.atom_grammar.proofs.StuckLemmas.{refused, behind_name, injective}
 
 record IsBehindSpan (name : FeedName) (span : Span) (more : List (List ℕ)) (other : DocValue) : Type 0 where

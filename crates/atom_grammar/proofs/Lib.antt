@@ -2,6 +2,8 @@
 pub mod ArchiveLinkLemmas
 -- read_doc: the own address of a document has one base
 pub mod BaseLemmas
+-- DocReader: where a text is cut into pieces
+pub mod CuttingLemmas
 -- both laws: the pieces of two documents, compared from the first
 pub mod PairLemmas
 -- read_doc: decimal numbers

@@ -12,7 +12,7 @@ use Rattle.atom_writer.specs.declared.doc.Kind.TheVariants.{Subscription, Archiv
 use Rattle.atom_writer.specs.Doc.{DocValue, IsDoc, archive_limit}
 use Rattle.atom_writer.specs.Pieces.{pieces, span_piece, item_piece, current_pieces, prev_pieces, next_pieces}
 use Rattle.atom_grammar.specs.FeedParts.{IsKind, IsSpanOf}
-use Rattle.atom_grammar.specs.Stages.{IsOpening, opening_pieces, links_pieces, AreItems}
+use Rattle.atom_grammar.specs.Stages.{IsOpening, opening_pieces, links_pieces, AreItems, head_pieces}
 use Rattle.atom_grammar.proofs.PairLemmas.{pieces-is, tail_pieces, end_pieces}
 use Rattle.atom_grammar.proofs.StuckLemmas.{opening-is}
 
@@ -84,11 +84,6 @@ tail-is name kind span prev items =
     let links = current_pieces name kind ++ prev_pieces name prev ++ next_pieces name kind in
     append_assoc (links ++ span_piece span ∷ []) (map (item_piece name) items) (codes "</feed>\n" ∷ [])
     ∙ append_assoc links (span_piece span ∷ []) (map (item_piece name) items ++ codes "</feed>\n" ∷ [])
-
--- the pieces up to the span
-unfoldable pub head_pieces : FeedName → Kind → ℤ → ℕ → Span → List (List ℕ)
-head_pieces name kind updated prev span =
-    opening_pieces name kind updated ++ links_pieces name kind prev ++ span_piece span ∷ []
 
 pub whole-is : (d : DocValue)
     → pieces d ≡ head_pieces d.name d.kind d.updated d.prev d.span ++ end_pieces d.name d.items

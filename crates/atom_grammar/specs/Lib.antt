@@ -5,3 +5,5 @@ pub mod Parts
 pub mod Refusal
 pub mod Stages
 pub mod EntryParts
+pub mod Cutting
+pub mod Progress

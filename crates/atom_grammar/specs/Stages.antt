@@ -10,7 +10,7 @@ use Rattle.atom_writer.specs.declared.doc.FeedName.{FeedName}
 use Rattle.atom_writer.specs.declared.doc.Kind.{Kind}
 use Rattle.atom_writer.specs.declared.doc.Kind.TheVariants.{Subscription, Archive as Sealed}
 use Rattle.atom_writer.specs.Doc.{DocValue, IsDoc, IsFeedName, span_len}
-use Rattle.atom_writer.specs.Pieces.{name_pieces, current_pieces, prev_pieces, next_pieces, item_piece, joined, text}
+use Rattle.atom_writer.specs.Pieces.{name_pieces, current_pieces, prev_pieces, next_pieces, span_piece, item_piece, joined, text}
 use Rattle.atom_grammar.specs.declared.opening.Opening.{Opening}
 use Rattle.atom_grammar.specs.declared.part_fault.PartFault.{PartFault}
 use Rattle.atom_grammar.specs.declared.part_fault.PartFault.TheVariants.{Mismatch, NoMemory}
@@ -32,6 +32,11 @@ opening_pieces name kind updated =
 -- the pieces between the own address and the span
 unfoldable pub links_pieces : FeedName → Kind → ℕ → List (List ℕ)
 links_pieces name kind prev = current_pieces name kind ++ prev_pieces name prev ++ next_pieces name kind
+
+-- the pieces up to the span
+unfoldable pub head_pieces : FeedName → Kind → ℤ → ℕ → Span → List (List ℕ)
+head_pieces name kind updated prev span =
+    opening_pieces name kind updated ++ links_pieces name kind prev ++ span_piece span ∷ []
 
 pub record IsOpening (name : FeedName) (kind : Kind) (updated : ℤ) : Type 0 where
   pub is_name : IsFeedName name

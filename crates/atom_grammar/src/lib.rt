@@ -15,10 +15,15 @@
 //! `atom_writer` doesn't write are refused. Two laws say that no two documents have the same text, and that no piece is
 //! a proper prefix of another that could stand in its place.
 //!
-//! Stands on `atom_writer`, whose definition of the text it cites, and on `uuid`.
+//! [`DocReader`] reads a text that comes in parts, and keeps no more of it than one piece.
+//!
+//! Stands on `atom_writer`, whose definition of the text it cites, on `uuid` and on `memchr`.
 #![tactic(auto)]
 
+mod body;
 mod category;
+mod cutting;
+mod doc_reader;
 mod element;
 mod entry;
 mod entry_parts;
@@ -30,8 +35,10 @@ mod opening;
 mod part_fault;
 mod person;
 mod pieces;
+mod progress;
 mod read;
 mod reader;
 
+pub use doc_reader::DocReader;
 pub use laws::{pieces_are_prefix_free, texts_have_one_reading};
 pub use read::{MAX_DOCUMENT, ReadFault, read_doc};

@@ -1,19 +1,21 @@
-ghost use Rattle.std.specs.Prelude.{◌≡◌, ◌⊎◌, ℕ, ◌≤◌, length, Ok, Err, IfOk};
-ghost use Rattle.atom_writer.specs.Doc.{DocValue, IsDoc, span_len};
+ghost use Rattle.std.specs.Prelude.{◌≡◌, ◌⊎◌, ℕ, ◌≤◌, length, Ok, Err, IfOk, IfSome};
+ghost use Rattle.atom_writer.specs.Doc.{DocValue, IsDoc};
 ghost use Rattle.atom_writer.specs.declared.doc.Kind.TheVariants.{Archive};
 ghost use Rattle.atom_writer.specs.Pieces.{text};
 ghost use Rattle.atom_grammar.specs.FeedParts.{IsKind};
+ghost use Rattle.atom_grammar.specs.Progress.{KeepsBody, ReadsHead, ReadsRest};
 ghost use Rattle.atom_grammar.specs.Refusal.{IsPlaceOfRefusal, IsNoDocument};
-ghost use Rattle.atom_grammar.specs.Stages.{ReadsOpening, ReadsLinks, ReadsPrevLink, ReadsItems, ReadsDocument};
+ghost use Rattle.atom_grammar.specs.Stages.{ReadsOpening, ReadsLinks, ReadsPrevLink};
 
+use crate::body::Body;
+use crate::doc_reader::DocReader;
 use crate::opening::{Opening, Own};
 use crate::part_fault::PartFault;
-use crate::pieces::{END, Pieces, operations};
+use crate::pieces::Pieces;
 use atom_values::Many;
-use atom_writer::{Doc, FeedName, Kind, MAX_ITEMS};
-use chain_links::{Address, Span};
-use deleted_entries::Item;
-use std::alloc::Global;
+use atom_writer::{Doc, FeedName, Kind};
+use chain_links::Address;
+use std::alloc::{AllocError, Global};
 use std::error::Error;
 use std::fmt;
 
@@ -51,13 +53,24 @@ impl fmt::Display for ReadFault {
 
 impl Error for ReadFault {}
 
+impl From<AllocError> for ReadFault {
+    ghost use Rattle.std.specs.Prelude.{◌≡◌};
+    ghost use Rattle.atom_grammar.specs.declared.read.ReadFault.TheVariants.{NoMemory};
+
+    ghost from_gives = { λ _ fault. fault ≡ NoMemory };
+
+    fn from(_error: AllocError) -> ReadFault {
+        ReadFault::NoMemory
+    }
+}
+
 /// Reads the canonical text of a document.
 ///
 /// `NotADocument` exactly if the bytes are the text of no document. Its `at` is the total length of the longest list of
 /// whole pieces that the bytes begin with and that begins the list of pieces of some document. `NoMemory` if there is
 /// no memory for the document.
 ///
-/// The bytes are read once.
+/// The bytes are read once. A text that comes in parts is read by [`DocReader`].
 pub fn read_doc(alloc: Global, bytes: &[u8]) -> Result<Doc, ReadFault>
     requires { length bytes.now ≤ MAX_DOCUMENT }
     // The bytes are the text of the document that is returned.
@@ -69,21 +82,36 @@ pub fn read_doc(alloc: Global, bytes: &[u8]) -> Result<Doc, ReadFault>
     ensures refused { (at : ℕ) → result ≡ Err (ReadFault.NotADocument at)
         → IsNoDocument bytes.now × IsPlaceOfRefusal bytes.now at }
 {
-    let mut pieces = Pieces { rest: bytes };
-    match document(alloc, &mut pieces) {
-        Ok(doc) => Ok(doc),
-        Err(PartFault::Mismatch) => Err(ReadFault::NotADocument {
-            at: bytes.len() - pieces.rest.len(),
-        }),
-        Err(PartFault::NoMemory) => Err(ReadFault::NoMemory),
-    }
+    let mut reader = DocReader::new(alloc);
+    reader.feed(bytes)?;
+    reader.finish()
 }
 
-/// Reads a document, up to the end of the input.
-// Each goal has an answer in proofs/, so no search is made.
-#[tactic(none)]
-fn document(alloc: Global, pieces: &mut Pieces) -> Result<Doc, PartFault>
-    ensures { ReadsDocument pieces.old.rest.now result pieces.new.rest.now }
+/// Reads what is left of a document, up to the end of the input.
+pub(crate) fn document(
+    alloc: Global,
+    begun: Option<Body>,
+    pieces: &mut Pieces,
+) -> Result<Doc, PartFault>
+    requires { IfSome begun KeepsBody }
+    ensures { ReadsRest begun pieces.old.rest.now result pieces.new.rest.now }
+{
+    let mut body = match begun {
+        Some(body) => body,
+        None => head(alloc, pieces)?,
+    };
+    while !body.ended {
+        body.read_next(alloc, pieces)?;
+    }
+    if !pieces.rest.is_empty() {
+        return Err(PartFault::Mismatch);
+    }
+    body.finish().ok_or(PartFault::Mismatch)
+}
+
+/// Reads the pieces up to the span.
+pub(crate) fn head(alloc: Global, pieces: &mut Pieces) -> Result<Body, PartFault>
+    ensures { ReadsHead pieces.old.rest.now result pieces.new.rest.now }
 {
     let Opening {
         name,
@@ -92,12 +120,15 @@ fn document(alloc: Global, pieces: &mut Pieces) -> Result<Doc, PartFault>
     } = opening(alloc, pieces)?;
     let prev = links(pieces, &name, kind)?;
     let span = pieces.span(kind, prev)?;
-    let items = items(alloc, pieces, &name, span)?;
-    pieces.fixed(END)?;
-    if !pieces.rest.is_empty() {
-        return Err(PartFault::Mismatch);
-    }
-    Doc::new(name, kind, span, prev, updated, items).ok_or(PartFault::Mismatch)
+    Ok(Body {
+        name,
+        kind,
+        updated,
+        prev,
+        span,
+        items: Many::new(alloc),
+        ended: false,
+    })
 }
 
 /// Reads the pieces that name the feed, and the link to the document itself.
@@ -169,30 +200,4 @@ fn archive_prev(pieces: &mut Pieces, name: &FeedName, prev: u32) -> Result<(), P
         return Ok(());
     }
     pieces.link_to(b"prev-archive", &name.base, Address::Archive(prev))
-}
-
-/// Reads the items of a document with this span, up to its end.
-// Each goal has an answer in proofs/, so no search is made.
-#[tactic(none)]
-fn items(
-    alloc: Global,
-    pieces: &mut Pieces,
-    name: &FeedName,
-    span: Span,
-) -> Result<Many<Item, MAX_ITEMS>, PartFault>
-    requires { span_len span ≤ MAX_ITEMS }
-    ensures { ReadsItems name.now span pieces.old.rest.now result pieces.new.rest.now }
-{
-    let mut items = Many::new(alloc);
-    while !pieces.at_end() {
-        if items.len() as u64 == operations(span) {
-            return Err(PartFault::Mismatch);
-        }
-        let item = pieces.item(alloc, name, items.as_slice())?;
-        // The list has room for each operation of the span, so only memory can be missing.
-        if items.push(item).is_err() {
-            return Err(PartFault::NoMemory);
-        }
-    }
-    Ok(items)
 }
