@@ -1,8 +1,8 @@
 -- The texts that are read byte by byte: where they end, and that each is read in one way.
 use Rattle.std.proofs.Common.{◌≡◌, ◌≢◌, ℕ, zero, suc, ◌+◌, ◌/◌, ◌%◌, ◌<◌, ◌≤◌, ◌⊎◌, inl, inr, Bool, true, false, not, cond, ◌&&◌, eqb, List, [], ◌∷◌, ◌++◌, length, take, drop, get_or, Option, Some, None, MatchOption, refl, sym, ap, subst, ◌∙◌, append_assoc, length-append, arith}
 use Rattle.std.specs.Prelude.{codes, ℤ}
-use Rattle.std.proofs.lemmas.Bool.{and_from, and_parts, cases_Bool, eqb-true, eqb-false, not_from_false, false≢true, not-true}
-use Rattle.std.proofs.lemmas.List.Sums.{fails_before_first, passes_at_first}
+use Rattle.std.proofs.lemmas.Bool.{and_from, and_parts, cases_Bool, eqb-true, eqb-false, not_from_false, false_from_ne_true, false≢true, not-true, lt-ltb, le-ltb}
+use Rattle.std.proofs.lemmas.List.Sums.{fails_before_first, passes_at_first, position_or_len_is}
 use Rattle.std.proofs.lemmas.Option.{same_Some}
 use Rattle.std.proofs.Common.{nat_lt, ltb-true, ltb-false}
 use Rattle.std.specs.Prelude.{position}
@@ -13,6 +13,7 @@ use Rattle.atom_values.specs.Stamp.{IsStamp, since_year_zero, date_text, clock_t
 use Rattle.atom_values.specs.XmlText.{IsAtomText}
 use Rattle.atom_values.proofs.EscapeLemmas.{escaped-nil, escaped-cons}
 use Rattle.atom_values.proofs.UnescapeLemmas.{IsReadBack-all}
+use Rattle.memchr.specs.Find.{IsFirstByte}
 use Rattle.atom_grammar.proofs.MomentLemmas.{printed_injective}
 use Rattle.atom_grammar.specs.Parts.{IsFound, IsAbsent, IsReadAlone, BeginsWithByte, starts, lacks, IsCutAt, content, quoted, moment}
 use Rattle.atom_grammar.proofs.ReadingLemmas.{found, starts_append}
@@ -278,6 +279,23 @@ position_cases byte xs true e (Some i) h =
     (g, omega (arith, ltb-true (position_or_len (λ x. eqb x byte) xs) (length xs) e))
 position_cases byte xs false e None h = ltb-false (position_or_len (λ x. eqb x byte) xs) (length xs) e
 position_cases byte xs false e (Some i) h = absurd (let g : Some i ≡ None = h in cc)
+
+-- the first place where a test passes, as a search finds it
+pub first_place : (p : ℕ → Bool) (xs : List ℕ) (r : Option ℕ) → IsFirstByte p xs r → r ≡ position p xs
+first_place p xs None none =
+    let is : position_or_len p xs ≡ length xs =
+    position_or_len_is p xs (length xs) 0 (omega arith)
+    (λ k low. false_from_ne_true (p (get_or xs k 0)) (none k (omega arith) low)) (λ past. absurd (omega arith)) in
+    let past : nat_lt (position_or_len p xs) (length xs) ≡ false =
+    le-ltb (position_or_len p xs) (length xs) (omega (arith, is)) in
+    ap (λ b. cond b (Some (position_or_len p xs)) None) (sym past)
+first_place p xs (Some k) found =
+    let is : position_or_len p xs ≡ k =
+    position_or_len_is p xs k 0 (omega (arith, found.0.high))
+    (λ i low. false_from_ne_true (p (get_or xs i 0)) (found.0.before i (omega arith) low)) (λ within. found.1) in
+    let within : nat_lt (position_or_len p xs) (length xs) ≡ true =
+    lt-ltb (position_or_len p xs) (length xs) (omega (arith, is, found.0.high)) in
+    ap (λ n. Some n) (sym is) ∙ ap (λ b. cond b (Some (position_or_len p xs)) None) (sym within)
 
 pub never : (byte : ℕ) (xs : List ℕ) → None ≡ position (λ x. eqb x byte) xs → lacks byte xs ≡ true
 never byte xs e =

@@ -7,6 +7,7 @@ use crate::part_fault::PartFault;
 use atom_values::{AtomText, Stamp, unescape};
 use chain_links::{Address, Base};
 use deleted_entries::{FeedId, ID_LEN, number_of};
+use memchr::memchr;
 use std::alloc::Global;
 
 /// The unread input. It is read forward, once. After an `Err` the position is unspecified.
@@ -133,7 +134,7 @@ impl<'a> Reader<'a> {
 fn first(text: &[u8], byte: u8) -> Option<usize>
     ensures { result ≡ position (λ x. x == byte) text.now }
 {
-    text.iter().position(|next| *next == byte)
+    memchr(byte, text)
 }
 
 /// The length of the printed timestamp that the text begins with: its fraction has three digits or none.

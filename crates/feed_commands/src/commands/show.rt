@@ -1,12 +1,13 @@
 ghost use Rattle.std.specs.Prelude.{◌≡◌, ◌≢◌, ◌⊎◌, ◌≤◌, ◌<◌, length, Err, IfOk, IfErr};
 ghost use Rattle.atom_values.specs.Counts.{CountsFault};
+ghost use Rattle.atom_grammar.specs.Progress.{HasRead};
 ghost use Rattle.command_ends.specs.declared.fault.Fault.TheVariants.{Refused};
 ghost use Rattle.command_ends.specs.declared.fault.Refusal.TheVariants.{TooLong};
 ghost use Rattle.command_ends.specs.declared.status.Status.TheVariants as status;
 ghost use Rattle.command_ends.specs.Fault.{fault_answer, IsRefusal};
 ghost use Rattle.feed_commands.specs.Show.{IsShown, ReadsWithinLimit};
 
-use atom_grammar::{MAX_DOCUMENT, ReadFault, read_doc};
+use atom_grammar::{DocReader, MAX_DOCUMENT, ReadFault};
 use command_ends::{Fault, Refusal, summary};
 use doc_source::Source;
 use std::alloc::Global;
@@ -14,7 +15,7 @@ use std::alloc::Global;
 /// How many bytes are asked of the input at a time.
 const BUFFER: usize = 65_536;
 
-/// Returns the summary of the document that the input is. The input is read to its end first.
+/// Returns the summary of the document that the input is. The input is read to its end, and no copy of it is kept.
 pub fn show<I: Source>(alloc: Global, input: &mut I) -> Result<Vec<u8>, Fault>
     ensures shown { IfOk result (λ written. I.observable
         → IsShown (I.state input.old).left record { status = status.Done; printed = written.items }) }
@@ -26,10 +27,8 @@ pub fn show<I: Source>(alloc: Global, input: &mut I) -> Result<Vec<u8>, Fault>
         → ReadsWithinLimit (I.state input.old) (I.state input.new) }
     ensures no_disk { result ≢ Err Fault.Disk }
 {
-    let bytes = read_to_end(alloc, input)?;
-    let read = read_doc(alloc, bytes.as_slice());
-    drop(bytes);
-    match read {
+    let reader = read_to_end(alloc, input)?;
+    match reader.finish() {
         Ok(doc) => {
             let lines = summary(alloc, &doc);
             drop(doc);
@@ -42,11 +41,10 @@ pub fn show<I: Source>(alloc: Global, input: &mut I) -> Result<Vec<u8>, Fault>
     }
 }
 
-/// Returns all bytes of the input, if they are no more than a document may have. Reads at most one buffer more of a
-/// longer input.
-fn read_to_end<I: Source>(alloc: Global, input: &mut I) -> Result<Vec<u8>, Fault>
-    ensures bytes { IfOk result (λ bytes. I.observable → bytes.items ≡ (I.state input.old).left) }
-    ensures room { IfOk result (λ bytes. length bytes.items ≤ MAX_DOCUMENT) }
+/// Returns a reader that was given all bytes of the input, if they are no more than a document may have. Reads at most
+/// one buffer more of a longer input.
+fn read_to_end<I: Source>(alloc: Global, input: &mut I) -> Result<DocReader, Fault>
+    ensures read { IfOk result (λ reader. I.observable → HasRead reader (I.state input.old).left) }
     ensures only_errors { IfErr result (λ fault.
         (fault ≡ Fault.NoMemory) ⊎ (fault ≡ Fault.Input) ⊎ (fault ≡ Refused TooLong)) }
     ensures past { result ≡ Err (Refused TooLong) → I.observable → MAX_DOCUMENT < length (I.state input.old).left }
@@ -56,15 +54,23 @@ fn read_to_end<I: Source>(alloc: Global, input: &mut I) -> Result<Vec<u8>, Fault
         → ReadsWithinLimit (I.state input.old) (I.state input.new) }
 {
     let mut buffer = vec![in alloc; 0; BUFFER]?;
-    let mut bytes = Vec::new(alloc);
+    let mut reader = DocReader::new(alloc);
     loop {
-        let count = input.read(&mut buffer)?;
+        let count = match input.read(&mut buffer) {
+            Ok(count) => count,
+            Err(error) => {
+                drop(reader);
+                return Err(Fault::from(error));
+            }
+        };
         if count == 0 {
-            return Ok(bytes);
+            return Ok(reader);
         }
-        if count > MAX_DOCUMENT - bytes.len() {
+        if count > MAX_DOCUMENT - reader.len() {
+            drop(reader);
             return Err(Fault::Refused(Refusal::TooLong));
         }
-        bytes.extend_from_slice(&buffer[..count])?;
+        // A refusal stays in the reader. The rest is read too, since an input that is too long is refused as that.
+        let _ = reader.feed(&buffer[..count]);
     }
 }
