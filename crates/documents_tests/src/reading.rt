@@ -1,5 +1,5 @@
 use crate::rules::expect_sentence;
-use atom_grammar::{MAX_DOCUMENT, ReadFault, read_doc};
+use atom_grammar::{DocReader, MAX_DOCUMENT, ReadFault, read_doc};
 use atom_values::{AtomText, Entry, Stamp, TextKind};
 use atom_writer::write_doc;
 use deleted_entries::Item;
@@ -61,14 +61,43 @@ title=\"a&amp;b&lt;c&gt;d&quot;e&#13;\u{10FFFF}\" length=\"12\"/><link rel=\"via
 <rights>r</rights><summary type=\"html\">s</summary><content>\"</content></entry>\n\
 </feed>\n";
 
-/// The offset at which the text is refused, or `None` if it is read.
+/// How many bytes a text's parts have in which it is read too.
+static PARTS: [usize; 3] = [1, 7, 65_536];
+
+/// The offset at which the text is refused, or `None` if it is read. It is the same however the text is cut.
 fn refusal(rt: &impl Abort, alloc: Global, text: &[u8]) -> Option<usize> {
     assert!(rt; text.len() <= MAX_DOCUMENT);
-    match read_doc(alloc, text).err() {
+    let whole = offset(rt, read_doc(alloc, text));
+    for size in PARTS {
+        let mut reader = DocReader::new(alloc);
+        let fed = feed(rt, &mut reader, text, size);
+        let in_parts = offset(rt, reader.finish());
+        assert!(rt; in_parts == whole, "{size}");
+        // A refusal while the text comes is that of the whole text.
+        assert!(rt; fed.is_none() || fed == whole, "{size}");
+    }
+    whole
+}
+
+/// The offset of a refusal.
+fn offset<T: Drop>(rt: &impl Abort, read: Result<T, ReadFault>) -> Option<usize> {
+    match read.err() {
         None => None,
         Some(ReadFault::NotADocument { at }) => Some(at),
         Some(ReadFault::NoMemory) => panic!(rt; "out of memory"),
     }
+}
+
+/// Feeds the text in parts of this size. The offset at which it is refused meanwhile: that refusal stays.
+fn feed(rt: &impl Abort, reader: &mut DocReader, text: &[u8], size: usize) -> Option<usize> {
+    let mut refused = None;
+    for part in text.chunks(size) {
+        assert!(rt; part.len() <= MAX_DOCUMENT - reader.len());
+        let now = offset(rt, reader.feed(part));
+        assert!(rt; refused.is_none() || now == refused);
+        refused = now;
+    }
+    refused
 }
 
 #[test]
@@ -97,7 +126,7 @@ fn expect_changes(rt: &impl Abort, alloc: Global, text: &str, changes: &[Change]
 }
 
 /// Spellings that XML or the standards read alike, and values that break a rule, outside the items.
-static HEAD_CHANGES: [Change; 20] = [
+static HEAD_CHANGES: [Change; 24] = [
     ("version=\"1.0\"", "version='1.0'", Some("<?xml")),
     (
         "urn:uuid:6d1f0c5a-93be-4c27",
@@ -107,6 +136,10 @@ static HEAD_CHANGES: [Change; 20] = [
     ("<title>Feed", "<title>&apos;", Some("<title>&apos;")),
     ("<title>Feed", "<title>&#x26;", Some("<title>&#x26;")),
     ("<title>Feed", "<title>a&amp;b'\"", None),
+    ("<title>Feed", "<title>\n&lt;/title&gt;\n\n\u{E9}\u{1F600}", None),
+    ("Editor", "\n&lt;/author&gt;\nE\n", None),
+    ("Editor", "</name>\n", Some("<author>")),
+    ("Editor</name></author>\n", "Editor</name></author>\n\n", Some("\n<link")),
     (
         "13:20Z</updated>",
         "13:20.000Z</updated>",
@@ -169,7 +202,7 @@ static HEAD_CHANGES: [Change; 20] = [
 ];
 
 /// The same in the piece of an entry.
-static ENTRY_CHANGES: [Change; 20] = [
+static ENTRY_CHANGES: [Change; 22] = [
     ("<entry>", "<entry >", Some("<entry")),
     ("000000000001</id>", "000000000002</id>", Some("<entry")),
     ("6d1f0c5a-93be-8c27", "6d1f0c5b-93be-8c27", Some("<entry")),
@@ -199,6 +232,12 @@ static ENTRY_CHANGES: [Change; 20] = [
         Some("<entry"),
     ),
     ("<content></content>", "", Some("<entry")),
+    (
+        "<content>",
+        "<content>\n&lt;/entry&gt;\n/entry&gt;\n\u{E9}\u{1F600}\n",
+        None,
+    ),
+    ("<content>", "<content></entry>\n", Some("<entry")),
     ("<content></content>", "<link href=\"u\"/>", None),
     ("</entry>\n", "</entry>", Some("<entry")),
     (
