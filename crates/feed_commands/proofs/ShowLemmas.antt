@@ -2,6 +2,7 @@
 use Rattle.std.proofs.Common.{◌≡◌, ℕ, ◌-◌, ◌<◌, ◌≤◌, List, ◌++◌, length, take, drop, ap, sym, ◌∙◌, append_assoc, arith}
 use Rattle.std.proofs.Common.{length-append, length-take}
 use Rattle.std.proofs.lemmas.List.{take_at}
+use Rattle.atom_grammar.specs.Progress.{HasRead, ReaderValue}
 
 -- one more buffer goes past a limit
 pub bytes_past : (limit count : ℕ) (bytes into left0 left1 left2 : List ℕ) → left0 ≡ bytes ++ left1 →
@@ -20,3 +21,9 @@ bytes_more count bytes into left0 left1 left2 before read =
 pub written_whole : (len : ℕ) (into piece : List ℕ) → length into ≡ len →
     take len (into ++ drop (length into) piece) ≡ into
 written_whole len into piece whole = take_at into (drop (length into) piece) len whole
+
+-- these bytes of an input were read and given to a reader
+pub record HasGiven (observable : Type 0) (reader : ReaderValue) (before after : List ℕ) : Type 0 where
+  pub bytes : List ℕ
+  pub read : HasRead reader bytes
+  pub left : observable → before ≡ bytes ++ after
