@@ -24,6 +24,8 @@ pub mod ItemListLemmas
 pub mod ItemLemmas
 -- read_doc: lists of persons, links and categories
 pub mod ManyLemmas
+-- DocReader: the marks that end pieces
+pub mod MarkLemmas
 -- read_doc: printed timestamps
 pub mod MomentLemmas
 -- read_doc: identifiers, addresses and numbers
