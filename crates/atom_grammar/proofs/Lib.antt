@@ -22,6 +22,8 @@ pub mod FeedPieceLemmas
 pub mod ItemListLemmas
 -- both laws, read_doc: the piece of an item has one reading
 pub mod ItemLemmas
+-- DocReader: the pieces that are one line
+pub mod LineLemmas
 -- read_doc: lists of persons, links and categories
 pub mod ManyLemmas
 -- DocReader: the marks that end pieces
@@ -36,6 +38,8 @@ pub mod OpeningLemmas
 pub mod OwnAddressLemmas
 -- read_doc: a piece is consumed whole or not at all
 pub mod PieceLemmas
+-- DocReader: texts of identifiers, timestamps, numbers and addresses
+pub mod PlainLemmas
 -- read_doc: readings of parts, put together
 pub mod ReadingLemmas
 -- both laws, and the clauses `only` and `refused` of read_doc
