@@ -12,6 +12,8 @@ pub mod DecimalLemmas
 pub mod DocumentLemmas
 -- read_doc: the items and the end of a document
 pub mod EndLemmas
+-- DocReader: the text of an entry has no end tag of an entry
+pub mod EndTagLemmas
 -- read_doc: the piece of an entry, and of a tombstone
 pub mod EntryLemmas
 -- read_doc: the pieces outside the items, part by part
