@@ -34,12 +34,12 @@ use Rattle.atom_grammar.proofs.TextLemmas.{no_cut, escaped_lacks_tag}
 pub cut_alike : (p q x y : List ℕ) → IsCut p → IsCut q → p ++ x ≡ q ++ y → (p ≡ q) × (x ≡ y)
 cut_alike p q x y cut_p cut_q e =
     elim (split_cases p x q y e) [
-      inl m ↦
-      let none = cut_p.first q m.0 m.1 cut_q.whole in
-      (m.1 ∙ ap (λ z. q ++ z) none ∙ append-nil q, sym (m.2 ∙ ap (λ z. z ++ x) none))
-    | inr m ↦
-      let none = cut_q.first p m.0 m.1 cut_p.whole in
-      (sym (m.1 ∙ ap (λ z. p ++ z) none ∙ append-nil p), m.2 ∙ ap (λ z. z ++ y) none)
+      | inl m ↦
+          let none = cut_p.first q m.0 m.1 cut_q.whole in
+          (m.1 ∙ ap (λ z. q ++ z) none ∙ append-nil q, sym (m.2 ∙ ap (λ z. z ++ x) none))
+      | inr m ↦
+          let none = cut_q.first p m.0 m.1 cut_p.whole in
+          (sym (m.1 ∙ ap (λ z. p ++ z) none ∙ append-nil p), m.2 ∙ ap (λ z. z ++ y) none)
     ]
 
 pub cut_unfinished : (p x text : List ℕ) → IsCut p → IsUnfinished text → text ≢ p ++ x
@@ -74,6 +74,7 @@ unfinished_rest text rest unfinished none front back e whole =
     let end = ends_in text rest front back unfinished whole e in
     no_cut lf rest end.middle (lf ∷ back) none (back, refl) end.rest
 
+-- a piece of one line
 line_cut : (line : List ℕ) → IsLine line → mark_of line ≡ lf ∷ [] → IsCut line
 line_cut line is mark =
     cut_line [] line unfinished_nothing is
@@ -82,6 +83,7 @@ line_cut line is mark =
 pub end-cut : IsCut (codes "</feed>\n")
 end-cut = line_cut (codes "</feed>\n") (record { front = codes "</feed>"; split = refl; none = refl }) refl
 
+-- the pieces that may have line ends in their texts
 title-cut : (name : FeedName) → IsCut (title_piece name)
 title-cut name =
     let title = escaped false name.title in
@@ -115,6 +117,7 @@ pub item-cut : (name : FeedName) → IsFeedName name → (item : Item) → IsIte
 item-cut name is_name (Kept e) is = entry-cut name e is_name.base is
 item-cut name is_name (Gone t) is = tombstone-cut name t
 
+-- the pieces outside the items
 link-cut : (rel : List ℕ) (name : FeedName) (to : Address) → lacks lf rel ≡ true → IsBase name.base → IsAddress to
     → IsCut (link_piece rel name to)
 unfolding link_piece
@@ -147,9 +150,10 @@ updated-cut updated = line_cut (updated_piece updated) (updated-line updated) re
 name_pieces-cut : (name : FeedName) (updated : ℤ) → All IsCut (name_pieces name updated)
 unfolding name_pieces
 name_pieces-cut name updated =
-    All-from_recursion IsCut (name_pieces name updated)
-    (declaration-cut,
-    (open-cut, (id-cut name.id, (title-cut name, (updated-cut updated, (author-cut name, tt))))))
+    All-from_recursion IsCut (name_pieces name updated) (
+      declaration-cut,
+      (open-cut, (id-cut name.id, (title-cut name, (updated-cut updated, (author-cut name, tt))))),
+    )
 
 is_address : (kind : Kind) → IsKind kind → IsAddress (own_address kind)
 is_address Subscription is = tt
@@ -190,7 +194,7 @@ span-cut span is = line_cut (span_piece span) (span-line span is) refl
 place_pieces-cut : (name : FeedName) (kind : Kind) (span : Span) (prev : ℕ) → IsBase name.base → IsKind kind
     → IsSpan span → prev < 2 ^ 32 → All IsCut (place_pieces name kind span prev)
 unfolding place_pieces
-place_pieces-cut name kind span prev is_base is_kind is_span small =
+place_pieces-cut name kind span prev is_base is_placed is_span small =
     let own = link_piece (codes "self") name (own_address kind) in
     let current = current_pieces name kind in
     let before = prev_pieces name prev in
@@ -199,8 +203,8 @@ place_pieces-cut name kind span prev is_base is_kind is_span small =
     (All-append IsCut (own ∷ current ++ before) next
     (All-append IsCut (own ∷ current) before
     (All-cons IsCut own current
-    (link-cut (codes "self") name (own_address kind) refl is_base (is_address kind is_kind))
-    (current-cut name kind is_base)) (prev-cut name prev is_base small)) (next-cut name kind is_base is_kind))
+    (link-cut (codes "self") name (own_address kind) refl is_base (is_address kind is_placed))
+    (current-cut name kind is_base)) (prev-cut name prev is_base small)) (next-cut name kind is_base is_placed))
     (All-cons IsCut (span_piece span) [] (span-cut span is_span) (All-nil IsCut))
 
 pub pieces-cut : (d : DocValue) → IsDoc d → All IsCut (pieces d)

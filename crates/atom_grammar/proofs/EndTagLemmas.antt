@@ -1,5 +1,5 @@
 -- The text of an entry has no end tag of an entry.
-use Rattle.std.proofs.Common.{◌≡◌, ℕ, ◌<◌, ◌≤◌, ◌^◌, Bool, true, false, List, [], ◌∷◌, ◌++◌, ℤ, Option, Some, None, refl, append_assoc, flat_map, cond, codes}
+use Rattle.std.proofs.Common.{◌≡◌, ℕ, ◌<◌, ◌≤◌, ◌^◌, Bool, true, false, List, [], ◌∷◌, ◌++◌, ℤ, Option, Some, None, refl, append_assoc, flat_map, codes}
 use Rattle.std.proofs.lemmas.Bool.{cond_both}
 use Rattle.atom_values.specs.declared.category.Category.{Category}
 use Rattle.atom_values.specs.declared.link.Link.{Link}

@@ -1,5 +1,5 @@
 -- The pieces that are one line.
-use Rattle.std.proofs.Common.{◌≡◌, ℕ, ◌<◌, ◌^◌, List, [], ◌∷◌, ◌++◌, ℤ, true, refl, sym, append_assoc, codes, decimal}
+use Rattle.std.proofs.Common.{◌≡◌, ℕ, List, [], ◌∷◌, ◌++◌, ℤ, true, refl, sym, append_assoc, codes, decimal}
 use Rattle.atom_values.specs.Ascii.{lf}
 use Rattle.atom_values.specs.Stamp as stamp
 use Rattle.chain_links.specs.Address as address

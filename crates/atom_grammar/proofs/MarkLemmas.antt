@@ -1,5 +1,5 @@
 -- The marks that end pieces, and texts in which a mark begins nowhere.
-use Rattle.std.proofs.Common.{◌≡◌, ℕ, ◌+◌, ◌⊎◌, inl, inr, Bool, true, false, not, ◌&&◌, ◌||◌, ◌==◌, List, [], ◌∷◌, ◌++◌, length, refl, sym, ap, ◌∙◌, append_assoc, append-nil, length-append, codes, arith}
+use Rattle.std.proofs.Common.{◌≡◌, ℕ, ◌⊎◌, inl, inr, Bool, true, false, not, ◌&&◌, ◌||◌, ◌==◌, List, [], ◌∷◌, ◌++◌, length, refl, sym, ap, ◌∙◌, append_assoc, append-nil, length-append, codes, arith}
 use Rattle.std.proofs.lemmas.Bool.{and_from, and_parts, or_cases, or_left, or_right, cond_both, eqb-false, not-true, not_from_false, ne_eqb, false≢true}
 use Rattle.std.proofs.lemmas.List.{append_cancel_left}
 use Rattle.atom_values.specs.Ascii.{lf}
@@ -44,8 +44,8 @@ split_cases (x ∷ a) b (y ∷ c) d e =
     let heads : x ≡ y = cc in
     let tails : a ++ b ≡ c ++ d = cc in
     elim (split_cases a b c d tails) [
-      inl p ↦ inl (p.0, let f : x ∷ a ≡ y ∷ (c ++ p.0) = cc in f, p.2)
-    | inr p ↦ inr (p.0, let f : y ∷ c ≡ x ∷ (a ++ p.0) = cc in f, p.2)
+      | inl p ↦ inl (p.0, let f : x ∷ a ≡ y ∷ (c ++ p.0) = cc in f, p.2)
+      | inr p ↦ inr (p.0, let f : y ∷ c ≡ x ∷ (a ++ p.0) = cc in f, p.2)
     ]
 
 ends_behind : (text middle front : List ℕ) → text ++ middle ≡ front ++ lf ∷ [] → (middle ≡ []) ⊎ EndsLine middle
@@ -66,21 +66,20 @@ pub ends_in : (text more front back : List ℕ) → IsUnfinished text → IsWhol
     → EndsIn text more front back
 ends_in text more front back unfinished whole e =
     elim (split_cases text more front back e) [
-      inl p ↦ absurd (unfinished front p.0 p.1 whole)
-    | inr p ↦
-      let end = whole_ends front whole in
-      elim (ends_behind text p.0 end.front (sym p.1 ∙ end.split)) [
-        inl none ↦
-        absurd
-        (unfinished front [] (sym (append-nil text) ∙ ap (λ x. text ++ x) (sym none) ∙ sym p.1 ∙ sym (append-nil front))
-        whole)
-      | inr last ↦
-        record {
-          middle = last.front;
-          is = p.1 ∙ ap (λ x. text ++ x) last.split;
-          rest = p.2 ∙ ap (λ x. x ++ back) last.split ∙ append_assoc last.front (lf ∷ []) back;
-        }
-      ]
+      | inl p ↦ absurd (unfinished front p.0 p.1 whole)
+      | inr p ↦
+          let end = whole_ends front whole in
+          elim (ends_behind text p.0 end.front (sym p.1 ∙ end.split)) [
+            | inl none ↦
+                let same : text ≡ front ++ [] = cc (p.1, append-nil text, append-nil front) in
+                absurd (unfinished front [] same whole)
+            | inr last ↦
+                record {
+                  middle = last.front;
+                  is = p.1 ∙ ap (λ x. text ++ x) last.split;
+                  rest = p.2 ∙ ap (λ x. x ++ back) last.split ∙ append_assoc last.front (lf ∷ []) back;
+                }
+          ]
     ]
 
 -- a line has one line end
@@ -110,8 +109,8 @@ differs_append [] text more e = absurd (false≢true e)
 differs_append (m ∷ mark) [] more e = absurd (false≢true e)
 differs_append (m ∷ mark) (x ∷ text) more e =
     elim (or_cases (not (m == x)) (differs mark text) e) [
-      inl here ↦ or_left (not (m == x)) (differs mark (text ++ more)) here
-    | inr later ↦ or_right (not (m == x)) (differs mark (text ++ more)) (differs_append mark text more later)
+      | inl here ↦ or_left (not (m == x)) (differs mark (text ++ more)) here
+      | inr later ↦ or_right (not (m == x)) (differs mark (text ++ more)) (differs_append mark text more later)
     ]
 
 pub clear_append : (mark xs ys : List ℕ) → clear mark xs ≡ true → clear mark ys ≡ true → clear mark (xs ++ ys) ≡ true
@@ -138,8 +137,8 @@ differs_not (m ∷ mark) (x ∷ text) back rest d e =
     let heads : m ≡ x = cc in
     let tails : mark ++ back ≡ text ++ rest = cc in
     elim (or_cases (not (m == x)) (differs mark text) d) [
-      inl here ↦ eqb-false m x (not-true (m == x) here) heads
-    | inr later ↦ differs_not mark text back rest later tails
+      | inl here ↦ eqb-false m x (not-true (m == x) here) heads
+      | inr later ↦ differs_not mark text back rest later tails
     ]
 
 -- behind a text that is clear of it, a mark is found first
@@ -167,11 +166,11 @@ tagged_cut tag body mark one_line is is_clear = record {
   };
   first = λ front back e whole.
       elim (split_cases tag (body ++ mark) front back (sym (append_assoc tag body mark) ∙ e)) [
-        inl p ↦ absurd (lacking_unfinished tag one_line front p.0 p.1 whole)
-      | inr p ↦
-        let same : mark_of front ≡ mark = ap mark_of p.1 ∙ is p.0 in
-        let split : front ≡ whole.front ++ mark = whole.split ∙ ap (λ x. whole.front ++ x) same in
-        clear_end mark (tag ++ body) whole.front back is_clear
-        (e ∙ ap (λ x. x ++ back) split ∙ append_assoc whole.front mark back)
+        | inl p ↦ absurd (lacking_unfinished tag one_line front p.0 p.1 whole)
+        | inr p ↦
+            let same : mark_of front ≡ mark = ap mark_of p.1 ∙ is p.0 in
+            let split : front ≡ whole.front ++ mark = whole.split ∙ ap (λ x. whole.front ++ x) same in
+            clear_end mark (tag ++ body) whole.front back is_clear
+            (e ∙ ap (λ x. x ++ back) split ∙ append_assoc whole.front mark back)
       ];
 }

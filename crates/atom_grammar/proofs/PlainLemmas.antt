@@ -1,5 +1,5 @@
 -- Texts of digits, letters and the signs of addresses: identifiers, timestamps, numbers and addresses.
-use Rattle.std.proofs.Common.{◌≡◌, ◌≢◌, ℕ, zero, suc, ◌+◌, ◌-◌, ◌/◌, ◌%◌, ◌<◌, ◌≤◌, ◌^◌, Bool, true, false, not, cond, ◌&&◌, ◌==◌, nat_le, List, [], ◌∷◌, ◌++◌, ℤ, Option, Some, None, All, IsTrue, refl, sym, ap, ◌∙◌, arith, codes, decimal}
+use Rattle.std.proofs.Common.{◌≡◌, ◌≢◌, ℕ, zero, suc, ◌+◌, ◌/◌, ◌%◌, ◌<◌, ◌^◌, Bool, true, false, not, ◌&&◌, ◌==◌, nat_le, List, [], ◌∷◌, ◌++◌, ℤ, Option, Some, None, All, IsTrue, refl, sym, ap, ◌∙◌, arith, codes, decimal}
 use Rattle.std.specs.List.{list_all}
 use Rattle.std.proofs.lemmas.Bool.{and_from, and_parts, cond_both, false≢true, not_from_false, ne_eqb}
 use Rattle.std.proofs.lemmas.Bool.Decides.{nat_tests}
@@ -9,7 +9,7 @@ use Rattle.std.proofs.lemmas.List.Folds.{list_all-append}
 use Rattle.uuid.specs.Text.{by_index, hex_digit, hyphenated_text, nibble, digit_place, is_hyphen_place, lower}
 use Rattle.atom_values.specs.Calendar.{year_of, month_of, day_of}
 use Rattle.atom_values.specs.Stamp as stamp
-use Rattle.atom_values.specs.Stamp.{date_text, clock_text, time_text, fixed_digits, fraction_text, since_year_zero}
+use Rattle.atom_values.specs.Stamp.{date_text, clock_text, fixed_digits, fraction_text, since_year_zero}
 use Rattle.chain_links.specs.Address as address
 use Rattle.chain_links.specs.Address.{IsAddress, suffix_text}
 use Rattle.chain_links.specs.Base.{is_label_char, is_segment_char, IsWord, IsPort, AreSegments, IsBase, host_text, port_text, path_text}
@@ -20,7 +20,7 @@ use Rattle.chain_links.proofs.PathLemmas.{segments_text}
 use Rattle.atom_grammar.specs.Parts.{lacks}
 use Rattle.deleted_entries.specs.FeedId.{member_bytes, member_id}
 
--- no control character, no space, no quote and no `<`
+-- a byte from `-` on that is not `<`: so no line end and no quote
 abbrev pub is_plain : ℕ → Bool
 is_plain byte = nat_le 45 byte && not (byte == 60)
 
