@@ -12,6 +12,8 @@ pub mod DecimalLemmas
 pub mod DocumentLemmas
 -- read_doc: the items and the end of a document
 pub mod EndLemmas
+-- DocReader: the text of an entry has no end tag of an entry
+pub mod EndTagLemmas
 -- read_doc: the piece of an entry, and of a tombstone
 pub mod EntryLemmas
 -- read_doc: the pieces outside the items, part by part
@@ -22,8 +24,12 @@ pub mod FeedPieceLemmas
 pub mod ItemListLemmas
 -- both laws, read_doc: the piece of an item has one reading
 pub mod ItemLemmas
+-- DocReader: the pieces that are one line
+pub mod LineLemmas
 -- read_doc: lists of persons, links and categories
 pub mod ManyLemmas
+-- DocReader: the marks that end pieces
+pub mod MarkLemmas
 -- read_doc: printed timestamps
 pub mod MomentLemmas
 -- read_doc: identifiers, addresses and numbers
@@ -34,6 +40,8 @@ pub mod OpeningLemmas
 pub mod OwnAddressLemmas
 -- read_doc: a piece is consumed whole or not at all
 pub mod PieceLemmas
+-- DocReader: texts of identifiers, timestamps, numbers and addresses
+pub mod PlainLemmas
 -- read_doc: readings of parts, put together
 pub mod ReadingLemmas
 -- both laws, and the clauses `only` and `refused` of read_doc
