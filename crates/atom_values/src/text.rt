@@ -1,10 +1,10 @@
 ghost use Rattle.std.specs.Prelude.{◌≡◌, ℕ, ◌<◌, ◌≤◌, ◌*◌, ◌++◌, [], ◌∷◌, length, OnOk, OnErr, IfOk, IfErr, MatchOption, position, slice_index, nat_eq};
-ghost use Rattle.std.specs.List.{position_or_len};
+ghost use Rattle.std.specs.List.{list_all, position_or_len};
 ghost use Rattle.std.specs.Cmp.{partial_equiv_from_equiv};
 ghost use Rattle.std.specs.Cmp.Lexicographic.{nat_list_eq_equiv, pointwise};
 ghost use Rattle.atom_values.specs.Ascii.{ampersand};
 ghost use Rattle.atom_values.specs.Escape.{escaped, escaped_byte, escaped_limit, may_escape, IsNotWritten, IsReadBack};
-ghost use Rattle.atom_values.specs.XmlText.{IsAtomText, IsXmlText, IsLongestXmlPrefix, is_xml_char};
+ghost use Rattle.atom_values.specs.XmlText.{IsAtomText, IsXmlText, IsLongestXmlPrefix, is_plain, is_xml_char};
 
 use crate::copies::Copies;
 use crate::memory::NoMemory;
@@ -84,10 +84,28 @@ pub fn is_xml_char(c: char) -> bool
     )
 }
 
+/// Whether the byte is ASCII and an XML character.
+fn is_plain(byte: u8) -> bool
+    ensures { result ≡ is_plain byte }
+{
+    matches!(byte, b'\t' | b'\n' | b'\r' | 0x20..=0x7F)
+}
+
+/// Whether all bytes are ASCII and XML characters.
+fn are_plain(bytes: &[u8]) -> bool
+    ensures { result ≡ list_all is_plain bytes.now }
+{
+    bytes.iter().all(|byte| is_plain(*byte))
+}
+
 /// The offset of the first sequence that is no XML character in UTF-8. `None` if there is none.
 fn first_fault(bytes: &[u8]) -> Option<usize>
     ensures { MatchOption result (IsXmlText bytes.now) (IsLongestXmlPrefix bytes.now) }
 {
+    // Most texts are plain, and need no look at their characters.
+    if are_plain(bytes) {
+        return None;
+    }
     let chunk = bytes.utf8_chunks().next()?;
     let text = chunk.valid();
     match text.find(|c: char| !is_xml_char(c)) {
