@@ -1,11 +1,17 @@
 -- The escaped text, byte by byte.
-use Rattle.std.proofs.Common.{◌≡◌, ℕ, ◌+◌, ◌-◌, ◌<◌, ◌≤◌, Bool, true, false, cond, ◌&&◌, eqb, List, [], ◌∷◌, ◌++◌}
+use Rattle.std.proofs.Common.{◌≡◌, ℕ, zero, suc, ◌+◌, ◌-◌, ◌<◌, ◌≤◌, Bool, true, false, cond, ◌&&◌, ◌||◌, eqb, List, [], ◌∷◌, ◌++◌}
 use Rattle.std.proofs.Common.{length, take, drop, get_or, refl, sym, ap, ◌∙◌, arith}
 use Rattle.std.specs.Prelude.{codes}
 use Rattle.std.proofs.lemmas.List.{append_assoc, append-nil, take_more, take_all, take-append-drop, get_or-drop}
 use Rattle.std.proofs.lemmas.List.{length-append, length-drop}
 use Rattle.std.proofs.lemmas.List.Concat.{flat_map-append}
-use Rattle.atom_values.specs.Escape.{escaped_byte, escaped}
+use Rattle.std.proofs.lemmas.Bool.{true≢false, ltb-false}
+use Rattle.std.proofs.lemmas.Option.{same_Some}
+use Rattle.std.specs.Prelude.{position, not, MatchOption, Option, Some, None}
+use Rattle.std.proofs.Common.{ltb}
+use Rattle.std.proofs.lemmas.List.Sums.{fails_before_first, prefix_len-le-length}
+use Rattle.std.specs.List.{position_or_len}
+use Rattle.atom_values.specs.Escape.{escaped_byte, escaped, may_escape}
 
 at_most_six : (a b c d e f g : Bool) (x : ℕ) →
     length (cond a (codes "&amp;")
@@ -144,3 +150,65 @@ pub escaped-cons : (quoted : Bool) (x : ℕ) (xs : List ℕ) →
     escaped quoted (x ∷ xs) ≡ escaped_byte quoted x ++ escaped quoted xs
 unfolding escaped
 escaped-cons quoted x xs = refl
+
+plain_by : (quoted a b c d e f g : Bool) (x : ℕ) → a || b || c || d || e || f || g ≡ false →
+    cond a (codes "&amp;")
+    (cond b (codes "&lt;")
+    (cond c (codes "&gt;")
+    (cond d (codes "&#13;")
+    (cond (quoted && e) (codes "&quot;") (cond (quoted && f) (codes "&#9;") (cond (quoted && g) (codes "&#10;") (x ∷ []))))))) ≡ x ∷ []
+plain_by true false false false false false false false x none = refl
+plain_by false false false false false false false false x none = refl
+plain_by quoted true b c d e f g x none = absurd (true≢false none)
+plain_by quoted false true c d e f g x none = absurd (true≢false none)
+plain_by quoted false false true d e f g x none = absurd (true≢false none)
+plain_by quoted false false false true e f g x none = absurd (true≢false none)
+plain_by quoted false false false false true f g x none = absurd (true≢false none)
+plain_by quoted false false false false false true g x none = absurd (true≢false none)
+plain_by quoted false false false false false false true x none = absurd (true≢false none)
+
+-- a byte that is escaped nowhere
+pub escaped_byte-plain : (quoted : Bool) (b : ℕ) → may_escape b ≡ false → escaped_byte quoted b ≡ b ∷ []
+escaped_byte-plain quoted b none =
+    plain_by quoted (eqb b 38) (eqb b 60) (eqb b 62) (eqb b 13) (eqb b 34) (eqb b 9) (eqb b 10) b none
+
+-- a front without a byte that may be escaped is written as itself
+pub escaped-plain : (quoted : Bool) (bytes : List ℕ) (n : ℕ) → n ≤ position_or_len may_escape bytes → n ≤ length bytes →
+    escaped quoted (take n bytes) ≡ take n bytes
+escaped-plain quoted bytes zero before within = escaped-nil quoted
+escaped-plain quoted bytes (suc n) before within =
+    let next : n + 1 ≡ suc n = omega arith in
+    let front = escaped-plain quoted bytes n (omega arith) (omega arith) in
+    let here = escaped_byte-plain quoted (get_or bytes n 0) (fails_before_first may_escape bytes n 0 (omega arith)) in
+    ap (λ m. escaped quoted (take m bytes)) (sym next)
+    ∙ escaped_more quoted bytes n (omega arith)
+    ∙ ap (λ xs. xs ++ escaped_byte quoted (get_or bytes n 0)) front
+    ∙ ap (λ xs. take n bytes ++ xs) here
+    ∙ sym (take_more bytes n 0 (omega arith))
+    ∙ ap (λ m. take m bytes) next
+
+position_by : (p : ℕ → Bool) (xs : List ℕ) (b : Bool) → ltb (position_or_len p xs) (length xs) ≡ b → (r : Option ℕ) →
+    r ≡ cond b (Some (position_or_len p xs)) None → MatchOption r (length xs ≡ position_or_len p xs) (λ at. at ≡ position_or_len p xs)
+position_by p xs true e None is = absurd (let wrong : None ≡ Some (position_or_len p xs) = is in cc)
+position_by p xs true e (Some at) is = same_Some at (position_or_len p xs) is
+position_by p xs false e None is = omega (arith, ltb-false (position_or_len p xs) (length xs) e, prefix_len-le-length (λ x. not (p x)) xs)
+position_by p xs false e (Some at) is = absurd (let wrong : Some at ≡ None = is in cc)
+
+-- where a test passes first, or the length
+pub position_is : (p : ℕ → Bool) (xs : List ℕ) (r : Option ℕ) → r ≡ position p xs →
+    MatchOption r (length xs ≡ position_or_len p xs) (λ at. at ≡ position_or_len p xs)
+position_is p xs r is = position_by p xs (ltb (position_or_len p xs) (length xs)) refl r is
+
+-- a run of such bytes is read
+pub escaped-run : (quoted : Bool) (written front rest plain behind : List ℕ) (n : ℕ) →
+    escaped quoted front ++ rest ≡ written → n ≡ position_or_len may_escape rest → plain ≡ take n rest →
+    behind ≡ drop n rest → escaped quoted (front ++ plain) ++ behind ≡ written
+escaped-run quoted written front rest plain behind n parts is run left =
+    let within = prefix_len-le-length (λ x. not (may_escape x)) rest in
+    let same : escaped quoted plain ≡ plain =
+    ap (escaped quoted) run ∙ escaped-plain quoted rest n (omega (arith, is)) (omega (arith, is)) ∙ sym run in
+    ap (λ xs. xs ++ behind) (escaped-append quoted front plain ∙ ap (λ xs. escaped quoted front ++ xs) same)
+    ∙ append_assoc (escaped quoted front) plain behind
+    ∙ ap (λ xs. escaped quoted front ++ xs) (ap (λ xs. xs ++ behind) run ∙ ap (λ xs. take n rest ++ xs) left
+    ∙ take-append-drop n rest)
+    ∙ parts

@@ -2,7 +2,7 @@
 use Rattle.std.proofs.Common.{◌≡◌, ℕ, zero, suc, ◌+◌, ◌<◌, ◌≤◌, true, false, not, List, [], ◌∷◌, ◌++◌, length, take}
 use Rattle.std.proofs.Common.{drop, Some, refl, sym, ap, subst, ◌∙◌, ⊎_elim, arith}
 use Rattle.std.specs.Char.{encode_utf8}
-use Rattle.std.specs.List.{list_all}
+use Rattle.std.specs.List.{AllPass, list_all}
 use Rattle.std.specs.Str.{IsUtf8, is_utf8, chars, encode_utf8_all, IsCharBoundary, NoCharPasses, NonePass}
 use Rattle.std.specs.Str.Lossy.{utf8_valid_len, valid_len_up_to}
 use Rattle.std.specs.Str.Pattern.{FindsBy}
@@ -14,7 +14,13 @@ use Rattle.std.proofs.lemmas.List.Folds.{list_all-append}
 use Rattle.std.proofs.lemmas.Str.{IsUtf8-nil, IsUtf8-from_is_utf8, is_utf8-from_IsUtf8, IsUtf8-take, IsUtf8-drop}
 use Rattle.std.proofs.lemmas.Str.{IsCharBoundary-from_take, chars-append, chars_from_encodes, encode_same}
 use Rattle.std.proofs.lemmas.Str.{len_utf8_bounds}
-use Rattle.atom_values.specs.XmlText.{is_xml_char, is_xml_text, IsXmlText, IsLongestXmlPrefix}
+use Rattle.std.specs.Str.{IsAscii}
+use Rattle.std.proofs.lemmas.Str.{IsUtf8-from_ascii, chars-IsAscii}
+use Rattle.std.proofs.lemmas.Str.Ascii.{IsAscii-nil, IsAscii-cons}
+use Rattle.std.proofs.lemmas.List.Elements.{All-head, All-tail, All-weaker}
+use Rattle.std.proofs.lemmas.List.Sums.{AllPass-from_list_all, list_all-from_AllPass}
+use Rattle.std.proofs.lemmas.Bool.Decides.{nat_tests}
+use Rattle.atom_values.specs.XmlText.{is_plain, is_xml_char, is_xml_text, IsXmlText, IsLongestXmlPrefix}
 
 -- the two parts of the test
 is_xml_text-parts : (bs : List ℕ) → is_xml_text bs ≡ true → IsUtf8 bs × (list_all is_xml_char (chars bs) ≡ true)
@@ -149,3 +155,23 @@ IsXmlText-refused bytes at prefix text =
     let F : List ℕ → Type 0 = λ xs. is_xml_text xs ≡ true in
     let whole = subst F (sym (take_all (length bytes) bytes (omega arith))) text in
     prefix.longest (length bytes) prefix.before_end (omega arith) whole
+
+plain-char : (b : ℕ) → is_plain b ≡ true → (b < 128) × (is_xml_char b ≡ true)
+plain-char b is = (grind (arith, nat_tests), grind (arith, nat_tests))
+
+plain-ascii : (bytes : List ℕ) → AllPass is_plain bytes → IsAscii bytes
+plain-ascii [] are = IsAscii-nil
+plain-ascii (b ∷ bytes) are =
+    IsAscii-cons b bytes (plain-char b (All-head (λ x. is_plain x ≡ true) b bytes are)).0
+    (plain-ascii bytes (All-tail (λ x. is_plain x ≡ true) b bytes are))
+
+-- bytes of ASCII that are XML characters
+pub IsXmlText-plain : (bytes : List ℕ) → list_all is_plain bytes ≡ true → IsXmlText bytes
+IsXmlText-plain bytes is =
+    let are = AllPass-from_list_all is_plain bytes is in
+    let ascii = plain-ascii bytes are in
+    let each : AllPass is_xml_char bytes =
+    All-weaker (λ x. is_plain x ≡ true) (λ x. is_xml_char x ≡ true) (λ x plain. (plain-char x plain).1) bytes are in
+    let P : List ℕ → Type 0 = λ cs. list_all is_xml_char cs ≡ true in
+    is_xml_text-from bytes (IsUtf8-from_ascii bytes ascii)
+    (subst P (sym (chars-IsAscii bytes ascii)) (list_all-from_AllPass is_xml_char bytes each))

@@ -1,6 +1,6 @@
 -- How the characters of a text are written in an XML document. Each character that is escaped is one byte
 -- of UTF-8, and no byte of a longer sequence has its value, so a text is escaped byte by byte.
-use Rattle.std.specs.Prelude.{◌≡◌, ◌≢◌, ◌↔◌, ℕ, ◌*◌, List, [], ◌∷◌, ◌++◌, Bool, ◌&&◌, ◌==◌, if◌then◌else◌, Option, Some}
+use Rattle.std.specs.Prelude.{◌≡◌, ◌≢◌, ◌↔◌, ℕ, ◌*◌, List, [], ◌∷◌, ◌++◌, Bool, ◌&&◌, ◌||◌, ◌==◌, if◌then◌else◌, Option, Some}
 use Rattle.std.specs.Prelude.{IfSome, flat_map, codes}
 use Rattle.atom_values.specs.Ascii.{tab, lf, cr, quote, ampersand, less_than, greater_than}
 use Rattle.atom_values.specs.XmlText.{IsAtomText, text_limit}
@@ -15,6 +15,11 @@ escaped_byte quoted b =
     else (if quoted && (b == quote) then codes "&quot;"
     else (if quoted && (b == tab) then codes "&#9;"
     else (if quoted && (b == lf) then codes "&#10;" else b ∷ []))))))
+
+-- a byte that is escaped, at least in an attribute
+abbrev pub may_escape : ℕ → Bool
+may_escape b =
+    b == ampersand || b == less_than || b == greater_than || b == cr || b == quote || b == tab || b == lf
 
 -- the escaped text
 unfoldable pub escaped : Bool → List ℕ → List ℕ

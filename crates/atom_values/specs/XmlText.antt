@@ -17,6 +17,10 @@ is_xml_char c =
     (c == tab) || (c == lf) || (c == cr) || is_in_range 0x20 0xD7FF c || is_in_range 0xE000 0xFFFD c
     || is_in_range 0x1_0000 0x10_FFFF c
 
+-- a byte of ASCII that is an XML character
+abbrev pub is_plain : ℕ → Bool
+is_plain b = (b == tab) || (b == lf) || (b == cr) || is_in_range 0x20 0x7F b
+
 -- the bytes are UTF-8 of XML characters
 unfoldable pub is_xml_text : List ℕ → Bool
 is_xml_text bytes = is_utf8 bytes && list_all is_xml_char (chars bytes)

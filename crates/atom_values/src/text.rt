@@ -1,9 +1,10 @@
-ghost use Rattle.std.specs.Prelude.{◌≡◌, ℕ, Bool, false, ◌<◌, ◌≤◌, ◌*◌, ◌++◌, [], ◌∷◌, length, OnOk, OnErr, IfOk, IfErr, MatchOption, slice_index, nat_eq};
+ghost use Rattle.std.specs.Prelude.{◌≡◌, ℕ, ◌<◌, ◌≤◌, ◌*◌, ◌++◌, [], ◌∷◌, length, OnOk, OnErr, IfOk, IfErr, MatchOption, position, slice_index, nat_eq};
+ghost use Rattle.std.specs.List.{list_all, position_or_len};
 ghost use Rattle.std.specs.Cmp.{partial_equiv_from_equiv};
 ghost use Rattle.std.specs.Cmp.Lexicographic.{nat_list_eq_equiv, pointwise};
 ghost use Rattle.atom_values.specs.Ascii.{ampersand};
-ghost use Rattle.atom_values.specs.Escape.{escaped, escaped_byte, escaped_limit, IsNotWritten, IsReadBack};
-ghost use Rattle.atom_values.specs.XmlText.{IsAtomText, IsXmlText, IsLongestXmlPrefix, is_xml_char};
+ghost use Rattle.atom_values.specs.Escape.{escaped, escaped_byte, escaped_limit, may_escape, IsNotWritten, IsReadBack};
+ghost use Rattle.atom_values.specs.XmlText.{IsAtomText, IsXmlText, IsLongestXmlPrefix, is_plain, is_xml_char};
 
 use crate::copies::Copies;
 use crate::memory::NoMemory;
@@ -83,10 +84,28 @@ pub fn is_xml_char(c: char) -> bool
     )
 }
 
+/// Whether the byte is ASCII and an XML character.
+fn is_plain(byte: u8) -> bool
+    ensures { result ≡ is_plain byte }
+{
+    matches!(byte, b'\t' | b'\n' | b'\r' | 0x20..=0x7F)
+}
+
+/// Whether all bytes are ASCII and XML characters.
+fn are_plain(bytes: &[u8]) -> bool
+    ensures { result ≡ list_all is_plain bytes.now }
+{
+    bytes.iter().all(|byte| is_plain(*byte))
+}
+
 /// The offset of the first sequence that is no XML character in UTF-8. `None` if there is none.
 fn first_fault(bytes: &[u8]) -> Option<usize>
     ensures { MatchOption result (IsXmlText bytes.now) (IsLongestXmlPrefix bytes.now) }
 {
+    // Most texts are plain, and need no look at their characters.
+    if are_plain(bytes) {
+        return None;
+    }
     let chunk = bytes.utf8_chunks().next()?;
     let text = chunk.valid();
     match text.find(|c: char| !is_xml_char(c)) {
@@ -213,7 +232,7 @@ impl Copies for Text {
 /// Whether the byte is written as a reference in an attribute, and so perhaps in content too. Most bytes of a text
 /// aren't, and this test takes a fraction of the time of `escape_of`.
 fn may_escape(byte: u8) -> bool
-    ensures { result ≡ false → (quoted : Bool) → escaped_byte quoted byte ≡ byte ∷ [] }
+    ensures { result ≡ may_escape byte }
 {
     matches!(byte, b'&' | b'<' | b'>' | b'\r' | b'"' | b'\t' | b'\n')
 }
@@ -333,12 +352,33 @@ pub fn unescape(alloc: Global, written: &[u8], quoted: bool) -> Result<Option<At
     }
     let mut bytes = Vec::with_capacity(alloc, written.len())?;
     let mut rest = written;
-    while !rest.is_empty() {
-        let Some((byte, tail)) = read_byte(rest, quoted) else {
+    loop {
+        let (plain, behind) = rest.split_at(plain_len(rest));
+        bytes.extend_from_slice(plain)?;
+        if behind.is_empty() {
+            return Ok(AtomText::from_vec(bytes));
+        }
+        let Some((byte, tail)) = read_byte(behind, quoted) else {
             return Ok(None);
         };
         bytes.push(byte)?;
         rest = tail;
     }
-    Ok(AtomText::from_vec(bytes))
+}
+
+/// The number of bytes before the first one that may be escaped.
+fn plain_len(text: &[u8]) -> usize
+    ensures { result ≡ position_or_len may_escape text.now }
+{
+    match first_escape(text) {
+        Some(at) => at,
+        None => text.len(),
+    }
+}
+
+/// The index of the first byte that may be escaped.
+fn first_escape(text: &[u8]) -> Option<usize>
+    ensures { result ≡ position may_escape text.now }
+{
+    text.iter().position(|byte| may_escape(*byte))
 }

@@ -1,7 +1,7 @@
-use Rattle.std.proofs.Common.{◌≡◌, ◌-◌, ◌++◌, length, take, drop, List, ℕ, [], refl, ap, sym, ◌∙◌, arith}
+use Rattle.std.proofs.Common.{◌≡◌, ◌-◌, ◌++◌, length, take, drop, List, ℕ, [], get_or, ap, sym, ◌∙◌, arith}
 use Rattle.atom_values.specs.Escape.{escaped}
 use Rattle.atom_values.proofs.EscapeLemmas.{escaped-nil, length-run, length-run_more, IsWritten-escape, IsWritten-plain}
-use Rattle.atom_values.proofs.EscapeLemmas.{IsWritten-all}
+use Rattle.atom_values.proofs.EscapeLemmas.{IsWritten-all, escaped_byte-plain}
 use Rattle.atom_values.proofs.text.escape_into.Goals as goal
 use Rattle.atom_values.proofs.text.escape_into.Goals.{in-Some+in_ok-extend_from_slice+in_ok-extend_from_slice-2}
 use Rattle.atom_values.proofs.text.escape_into.Goals.{in_default}
@@ -40,7 +40,8 @@ pub loop-at-preserved-then-not-may_escape : goal.loop-at-preserved-then-not-may_
 loop-at-preserved-then-not-may_escape c =
     let next = IsWritten-plain c.args.quoted c.args.out.now.items c.loop-at.out.items c.bytes-bytes.result.now
     c.loop-at.copied c.loop-at.at c.loop-at.invariant.within c.loop-at-test.true c.loop-at.invariant.written
-    (c.if-not-may_escape.ensures refl c.args.quoted) in
+    (escaped_byte-plain c.args.quoted (get_or c.bytes-bytes.result.now c.loop-at.at 0)
+    (sym c.may_escape.ensures ∙ c.if-not-may_escape.true)) in
     record { within = omega arith; written = next; room = c.loop-at.invariant.room }
 
 pub loop-at-preserved : goal.loop-at-preserved

@@ -6,8 +6,12 @@ use Rattle.std.proofs.lemmas.Fn.{always_returns_same}
 use Rattle.std.proofs.lemmas.List.{length-append}
 use Rattle.atom_values.specs.XmlText.{is_xml_char}
 use Rattle.atom_values.proofs.XmlTextLemmas.{IsLongestXmlPrefix-refused, IsXmlText-clean, IsLongestXmlPrefix-broken}
-use Rattle.atom_values.proofs.XmlTextLemmas.{IsXmlText-nil}
+use Rattle.atom_values.proofs.XmlTextLemmas.{IsXmlText-nil, IsXmlText-plain}
 use Rattle.atom_values.proofs.text.first_fault.Goals as goal
+
+pub returns-then-are_plain : goal.returns-then-are_plain
+returns-then-are_plain c =
+    IsXmlText-plain c.args.bytes.now (sym c.are_plain.ensures ∙ c.if-are_plain.true)
 
 pub returns-in_err-chunk : goal.returns-in_err-chunk
 returns-in_err-chunk c =
