@@ -2,14 +2,16 @@
 pub mod ArchiveLinkLemmas
 -- read_doc: the own address of a document has one base
 pub mod BaseLemmas
+-- read_doc: what was read of a document, as pieces
+pub mod BodyLemmas
 -- DocReader: where a text is cut into pieces
 pub mod CuttingLemmas
 -- both laws: the pieces of two documents, compared from the first
 pub mod PairLemmas
 -- read_doc: decimal numbers
 pub mod DecimalLemmas
--- read_doc: the parts of a document, one after another
-pub mod DocumentLemmas
+-- read_doc: the pieces up to the span, one after another
+pub mod HeadLemmas
 -- read_doc: the items and the end of a document
 pub mod EndLemmas
 -- read_doc: the piece of an entry, and of a tombstone
