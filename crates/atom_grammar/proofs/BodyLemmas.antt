@@ -47,6 +47,12 @@ body_text-open body going =
     ap (λ (b : Bool). joined (head_of body) ++ joined (items_of body) ++ (if b then codes "</feed>\n" else [])) going
     ∙ append-nil (joined (head_of body) ++ joined (items_of body))
 
+pub body_text-ended : (body : Body) → body.ended ≡ true
+    → body_text body ≡ joined (head_of body) ++ joined (items_of body) ++ codes "</feed>\n"
+unfolding body_text
+body_text-ended body ended =
+    ap (λ (b : Bool). joined (head_of body) ++ joined (items_of body) ++ (if b then codes "</feed>\n" else [])) ended
+
 -- the text before the items
 pub body_text-begun : (body : Body) → body.items.items ≡ [] → body.ended ≡ false
     → body_text body ≡ joined (head_of body)
@@ -61,7 +67,7 @@ is_body body keeps =
     is_document body.name body.kind body.span body.prev body.updated body.items.items keeps.opening keeps.small
     keeps.span keeps.items
 
-all_pieces : (body : Body)
+pub all_pieces : (body : Body)
     → pieces (document_of body) ≡ (head_of body ++ items_of body) ++ codes "</feed>\n" ∷ []
 unfolding end_pieces
 all_pieces body =
