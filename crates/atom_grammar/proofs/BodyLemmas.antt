@@ -80,7 +80,7 @@ body_text-whole body ended =
     body_text-is body ∙ ap (λ b. joined (head_of body ++ items_of body ++ end_of b)) ended
     ∙ ap joined (sym (all_pieces body))
 
-cut-front : (xs ys : List (List ℕ)) → All IsCut (xs ++ ys) → All IsCut xs
+pub cut-front : (xs ys : List (List ℕ)) → All IsCut (xs ++ ys) → All IsCut xs
 cut-front xs ys all =
     subst (λ z. All IsCut z) (take_at xs ys (length xs) refl) (All-take IsCut (length xs) (xs ++ ys) all)
 

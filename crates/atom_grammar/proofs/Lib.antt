@@ -56,3 +56,5 @@ pub mod TextLemmas
 pub mod UntilLemmas
 -- both laws, read_doc: the pieces with a text
 pub mod ValueLemmas
+-- DocReader: refusals of whole pieces stay, whatever follows
+pub mod WholeLemmas
