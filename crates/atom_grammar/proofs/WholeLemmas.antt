@@ -1,5 +1,5 @@
 -- Texts that were cut into whole pieces: what is left behind some of them, and the refusals that stay whatever follows.
-use Rattle.std.proofs.Common.{◌≡◌, ◌≢◌, ℕ, List, [], ◌∷◌, ◌++◌, length, Bool, false, nat_eq, Result, Ok, Err, IsErrAnd, refl, sym, ap, ◌∙◌, subst, arith, append_assoc, length-append, All}
+use Rattle.std.proofs.Common.{◌≡◌, ◌≢◌, ℕ, List, [], ◌∷◌, ◌++◌, length, false, nat_eq, Result, Ok, Err, IsErrAnd, refl, sym, ap, ◌∙◌, subst, arith, append_assoc, length-append, All}
 use Rattle.std.proofs.lemmas.Bool.{false≢true}
 use Rattle.std.proofs.lemmas.List.Elements.{All-head, All-tail, All-append}
 use Rattle.atom_writer.specs.Doc.{DocValue, IsDoc}
@@ -142,5 +142,5 @@ pub same_fault : {A : Type 0} (e : PartFault) (r : Result A PartFault) → IsErr
 same_fault e (Ok x) same is = absurd same
 same_fault e (Err x) same is = let stop : x ≡ Mismatch = cc in sym same ∙ stop
 
-pub some_left : (rest : List ℕ) (b : Bool) → b ≡ nat_eq (length rest) 0 → b ≡ false → rest ≢ []
-some_left rest b is not none = false≢true (sym not ∙ is ∙ ap (λ (z : List ℕ). nat_eq (length z) 0) none)
+pub some_left : (rest : List ℕ) → false ≡ nat_eq (length rest) 0 → rest ≢ []
+some_left rest not none = false≢true (not ∙ ap (λ (z : List ℕ). nat_eq (length z) 0) none)

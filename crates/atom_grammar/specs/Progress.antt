@@ -119,10 +119,6 @@ IsRefusalOf bytes (NotADocument at) =
     (more : List ℕ) → IsNoDocument (bytes ++ more) × IsPlaceOfRefusal (bytes ++ more) at
 IsRefusalOf bytes Memory = Unit {0}
 
-abbrev pub refusal_at : PartFault → ℕ → ReadFault
-refusal_at Mismatch at = NotADocument at
-refusal_at NoMemory at = Memory
-
 -- A reader as contracts see it. After a refusal `fed` says nothing.
 pub record ReaderValue : Type 0 where
   pub length : ℕ
