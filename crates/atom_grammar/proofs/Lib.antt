@@ -36,6 +36,8 @@ pub mod OpeningLemmas
 pub mod OwnAddressLemmas
 -- read_doc: a piece is consumed whole or not at all
 pub mod PieceLemmas
+-- DocReader: the bytes that came, and the refusals of them
+pub mod ProgressLemmas
 -- read_doc: readings of parts, put together
 pub mod ReadingLemmas
 -- both laws, and the clauses `only` and `refused` of read_doc
