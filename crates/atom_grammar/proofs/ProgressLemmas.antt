@@ -1,15 +1,18 @@
 -- A document that is read while its bytes come: the bytes that came, and its refusals.
-use Rattle.std.proofs.Common.{◌≡◌, ℕ, ◌+◌, ◌-◌, ◌≤◌, List, [], ◌∷◌, ◌++◌, length, Option, None, Some, IfSome, refl, sym, ap, ◌∙◌, subst, arith, append-nil, append_assoc, length-append}
-use Rattle.std.proofs.lemmas.List.Elements.{All-nil}
+use Rattle.std.proofs.Common.{◌≡◌, ℕ, ◌+◌, ◌-◌, ◌≤◌, List, [], ◌∷◌, ◌++◌, length, drop, take, true, Option, None, Some, IfSome, refl, sym, ap, ◌∙◌, subst, arith, append-nil, append_assoc, length-append}
+use Rattle.std.proofs.lemmas.List.Elements.{All-nil, All-push}
+use Rattle.std.proofs.lemmas.List.{drop_at, take_all}
+use Rattle.atom_values.specs.Ascii.{lf}
 use Rattle.atom_writer.specs.Pieces.{joined}
-use Rattle.atom_writer.proofs.PieceLemmas.{joined-none}
+use Rattle.atom_writer.proofs.PieceLemmas.{joined-append, joined-none, joined-one}
 use Rattle.atom_grammar.specs.declared.body.Body.{Body}
 use Rattle.atom_grammar.specs.declared.read.ReadFault.{ReadFault}
 use Rattle.atom_grammar.specs.declared.read.ReadFault.TheVariants.{NotADocument, NoMemory}
-use Rattle.atom_grammar.specs.Cutting.{IsCut, AreWhole}
+use Rattle.atom_grammar.specs.Cutting.{IsCut, IsWhole, IsLine, AreWhole}
+use Rattle.atom_grammar.specs.Parts.{lacks}
 use Rattle.atom_grammar.specs.Progress.{KeepsBody, IsCutText, IsRefusalOf, IsRefusedBehind, ReadsWhole, read_text}
 use Rattle.atom_grammar.specs.Refusal.{IsNoDocument, IsPlaceOfRefusal}
-use Rattle.atom_grammar.proofs.CuttingLemmas.{unfinished_nothing}
+use Rattle.atom_grammar.proofs.CuttingLemmas.{cut_line, unfinished_line, unfinished_nothing, unfinished_rest}
 use Rattle.atom_grammar.proofs.RefusalLemmas.{refused_there}
 
 -- no bytes wait to be read
@@ -70,3 +73,72 @@ pub refusal_on : (bytes more : List ℕ) (fault : ReadFault) → IsRefusalOf byt
 refusal_on bytes more (NotADocument at) r = λ later.
     subst (λ z. IsNoDocument z × IsPlaceOfRefusal z at) (sym (append_assoc bytes more later)) (r (more ++ later))
 refusal_on bytes more NoMemory r = tt
+
+-- the bytes that came, with those that come next
+pub fed_on : (read text line longer : List ℕ) → longer ≡ text ++ line → read ++ longer ≡ (read ++ text) ++ line
+fed_on read text line longer is_longer = ap (λ z. read ++ z) is_longer ∙ sym (append_assoc read text line)
+
+module _ (text line longer : List ℕ) (start : ℕ) (cut : IsCutText text start) (is_longer : longer ≡ text ++ line) where
+  -- the whole pieces, and the bytes behind them
+  longer_split : longer ≡ joined cut.pieces ++ (cut.pending ++ line)
+  longer_split =
+      is_longer ∙ ap (λ z. z ++ line) cut.split ∙ append_assoc (joined cut.pieces) cut.pending line
+
+  pub start_within : start ≤ length longer
+  start_within =
+      omega (arith, cut.place, ap length longer_split, length-append (joined cut.pieces) (cut.pending ++ line))
+
+  module _ (seen : List ℕ) (same : seen ≡ longer) where
+    -- the bytes behind the whole pieces
+    abbrev piece : List ℕ
+    piece = take (length seen - start) (drop start seen)
+
+    piece_is : piece ≡ cut.pending ++ line
+    piece_is =
+        let last = cut.pending ++ line in
+        let split : seen ≡ joined cut.pieces ++ last = same ∙ longer_split in
+        let behind : drop start seen ≡ last =
+        ap (λ z. drop start z) split ∙ drop_at (joined cut.pieces) last start (sym cut.place) in
+        ap (λ z. take (length seen - start) z) behind
+        ∙ take_all (length seen - start) last
+        (omega (arith, ap length split, length-append (joined cut.pieces) last, cut.place))
+
+    -- the line doesn't make a piece whole
+    pub line_waits : IsLine line → (IsWhole piece → ⊥) → IsCutText longer start
+    line_waits is_line unfinished = record {
+      pieces = cut.pieces;
+      pending = cut.pending ++ line;
+      cut = cut.cut;
+      unfinished = unfinished_line cut.pending line cut.unfinished is_line (subst (λ z. IsWhole z → ⊥) piece_is unfinished);
+      split = longer_split;
+      place = cut.place;
+    }
+
+    -- or it does
+    pub line_ends : IsLine line → IsWhole piece → IsCutText longer (length longer)
+    line_ends is_line whole =
+        let ps = cut.pieces ++ (cut.pending ++ line) ∷ [] in
+        let all : longer ≡ joined ps =
+        longer_split ∙ ap (λ z. joined cut.pieces ++ z) (sym (joined-one (cut.pending ++ line)))
+        ∙ sym (joined-append cut.pieces ((cut.pending ++ line) ∷ [])) in
+        record {
+          pieces = ps;
+          pending = [];
+          cut =
+              All-push IsCut cut.pieces (cut.pending ++ line) cut.cut
+              (cut_line cut.pending line cut.unfinished is_line (subst IsWhole piece_is whole));
+          unfinished = unfinished_nothing;
+          split = all ∙ sym (append-nil (joined ps));
+          place = ap length all;
+        }
+
+  -- bytes without a line end
+  pub rest_waits : lacks lf line ≡ true → IsCutText longer start
+  rest_waits none = record {
+    pieces = cut.pieces;
+    pending = cut.pending ++ line;
+    cut = cut.cut;
+    unfinished = unfinished_rest cut.pending line cut.unfinished none;
+    split = longer_split;
+    place = cut.place;
+  }
