@@ -24,6 +24,8 @@ pub mod FeedPieceLemmas
 pub mod ItemListLemmas
 -- both laws, read_doc: the piece of an item has one reading
 pub mod ItemLemmas
+-- DocReader: the lines of the bytes that come
+pub mod LineLemmas
 -- read_doc: lists of persons, links and categories
 pub mod ManyLemmas
 -- read_doc: printed timestamps

@@ -1,19 +1,25 @@
 -- A document that is read while its bytes come: the bytes that came, and its refusals.
-use Rattle.std.proofs.Common.{◌≡◌, ℕ, ◌+◌, ◌-◌, ◌≤◌, List, [], ◌∷◌, ◌++◌, length, drop, take, true, Option, None, Some, IfSome, refl, sym, ap, ◌∙◌, subst, arith, append-nil, append_assoc, length-append}
+use Rattle.std.proofs.Common.{◌≡◌, ◌≢◌, ℕ, ◌+◌, ◌-◌, ◌≤◌, List, [], ◌∷◌, ◌++◌, length, drop, take, true, Option, None, Some, IfSome, Result, Ok, Err, IfErr, IsErrAnd, refl, sym, ap, ◌∙◌, subst, arith, append-nil, append_assoc, length-append}
+use Rattle.std.proofs.lemmas.Bool.{false≢true}
 use Rattle.std.proofs.lemmas.List.Elements.{All-nil, All-push}
 use Rattle.std.proofs.lemmas.List.{drop_at, take_all}
 use Rattle.atom_values.specs.Ascii.{lf}
 use Rattle.atom_writer.specs.Pieces.{joined}
 use Rattle.atom_writer.proofs.PieceLemmas.{joined-append, joined-none, joined-one}
 use Rattle.atom_grammar.specs.declared.body.Body.{Body}
+use Rattle.atom_grammar.specs.declared.progress.Progress.{Progress}
 use Rattle.atom_grammar.specs.declared.read.ReadFault.{ReadFault}
 use Rattle.atom_grammar.specs.declared.read.ReadFault.TheVariants.{NotADocument, NoMemory}
 use Rattle.atom_grammar.specs.Cutting.{IsCut, IsWhole, IsLine, AreWhole}
 use Rattle.atom_grammar.specs.Parts.{lacks}
-use Rattle.atom_grammar.specs.Progress.{KeepsBody, IsCutText, IsRefusalOf, IsRefusedBehind, ReadsWhole, read_text}
+use Rattle.atom_grammar.specs.Progress.{KeepsBody, IsCutText, IsRefusalOf, IsRefusedBehind, IsGoing, body_text, fed_text, has_ended, read_text}
 use Rattle.atom_grammar.specs.Refusal.{IsNoDocument, IsPlaceOfRefusal}
 use Rattle.atom_grammar.proofs.CuttingLemmas.{cut_line, unfinished_line, unfinished_nothing, unfinished_rest}
+use Rattle.atom_grammar.specs.Stages.{IsRefused}
+use Rattle.atom_grammar.proofs.EndLemmas.{refused_body}
+use Rattle.atom_grammar.proofs.ItemListLemmas.{ended_stuck}
 use Rattle.atom_grammar.proofs.RefusalLemmas.{refused_there}
+use Rattle.atom_grammar.proofs.WholeLemmas.{nothing_before}
 
 -- no bytes wait to be read
 pub nothing_left : (text : List ℕ) → text ≡ [] → IsCutText text 0
@@ -77,6 +83,32 @@ refusal_on bytes more NoMemory r = tt
 -- the bytes that came, with those that come next
 pub fed_on : (read text line longer : List ℕ) → longer ≡ text ++ line → read ++ longer ≡ (read ++ text) ++ line
 fed_on read text line longer is_longer = ap (λ z. read ++ z) is_longer ∙ sym (append_assoc read text line)
+
+-- no text goes on behind the end of a document
+pub refused_end : (begun : Option Body) (text : List ℕ) (used : ℕ) → IfSome begun KeepsBody → has_ended begun ≡ true
+    → text ≢ [] → used ≡ length (read_text begun) → IsRefusalOf (read_text begun ++ text) (NotADocument used)
+refused_end None text used keeps ended some is_used = absurd (false≢true ended)
+refused_end (Some body) text used keeps ended some is_used = λ more.
+    let left = text ++ more in
+    let stuck = ended_stuck body left ended (λ none. some (nothing_before text more none)) in
+    refused_there ((body_text body ++ text) ++ more) left used
+    (subst (λ z. IsRefused [] z left) (sym (append_assoc (body_text body) text more))
+    (refused_body body keeps left stuck))
+    (omega (
+      arith,
+      is_used,
+      length-append (body_text body ++ text) more,
+      length-append (body_text body) text,
+      length-append text more,
+    ))
+
+-- the refusal of the bytes that were taken
+pub stopped_on : (bytes more all : List ℕ) (fault : ReadFault) (r : Result (Unit {0}) ReadFault)
+    → IsErrAnd r (λ s. s ≡ fault) → all ≡ bytes ++ more → IsRefusalOf bytes fault → IfErr r (IsRefusalOf all)
+stopped_on bytes more all fault (Ok x) same e refusal = tt
+stopped_on bytes more all fault (Err x) same e refusal =
+    subst (λ z. IsRefusalOf all z) (sym same)
+    (subst (λ z. IsRefusalOf z fault) (sym e) (refusal_on bytes more fault refusal))
 
 module _ (text line longer : List ℕ) (start : ℕ) (cut : IsCutText text start) (is_longer : longer ≡ text ++ line) where
   -- the whole pieces, and the bytes behind them
@@ -142,3 +174,8 @@ module _ (text line longer : List ℕ) (start : ℕ) (cut : IsCutText text start
     split = longer_split;
     place = cut.place;
   }
+
+-- some of the next bytes were taken
+pub record IsTaking (start : Progress) (bytes : List ℕ) (progress : Progress) (rest : List ℕ) : Type 0 where
+  pub going : IsGoing progress
+  pub split : fed_text start ++ bytes ≡ fed_text progress ++ rest

@@ -15,7 +15,7 @@ use Rattle.atom_grammar.proofs.BodyLemmas.{pieces_of, body_text-is, body_cut, cu
 use Rattle.atom_grammar.proofs.CuttingLemmas.{cut_alike, pieces-cut}
 use Rattle.atom_grammar.proofs.EndLemmas.{refused_body}
 
-nothing_before : (xs ys : List ℕ) → xs ++ ys ≡ [] → xs ≡ []
+pub nothing_before : (xs ys : List ℕ) → xs ++ ys ≡ [] → xs ≡ []
 nothing_before [] ys e = refl
 nothing_before (x ∷ xs) ys e = let none : x ∷ (xs ++ ys) ≡ [] = e in cc
 
