@@ -1,5 +1,6 @@
 -- What was read of a document: its text, and its pieces.
-use Rattle.std.proofs.Common.{◌≡◌, ◌<◌, ℕ, List, [], ◌∷◌, ◌++◌, Bool, true, false, if◌then◌else◌, map, length, refl, sym, ap, ◌∙◌, subst, arith, codes, append-nil, append_assoc, length-append, All}
+use Rattle.std.proofs.Common.{◌≡◌, ◌≢◌, ℕ, List, [], ◌∷◌, ◌++◌, Bool, true, false, if◌then◌else◌, map, length, nat_eq, Result, Ok, Err, IsErrAnd, refl, sym, ap, ◌∙◌, subst, arith, codes, append-nil, append_assoc, length-append, All}
+use Rattle.std.proofs.lemmas.Bool.{eqb-true, false≢true}
 use Rattle.std.proofs.lemmas.List.{take_at}
 use Rattle.std.proofs.lemmas.List.Elements.{All-take}
 use Rattle.deleted_entries.specs.declared.item.Item.{Item}
@@ -8,8 +9,10 @@ use Rattle.atom_writer.specs.Doc.{IsDoc}
 use Rattle.atom_writer.specs.Pieces.{pieces, joined, text, item_piece}
 use Rattle.atom_writer.proofs.PieceLemmas.{joined-append, joined-none, joined-one, joined-map-push}
 use Rattle.atom_grammar.specs.declared.body.Body.{Body}
+use Rattle.atom_grammar.specs.declared.part_fault.PartFault.{PartFault}
+use Rattle.atom_grammar.specs.declared.part_fault.PartFault.TheVariants.{Mismatch}
 use Rattle.atom_grammar.specs.Cutting.{IsCut}
-use Rattle.atom_grammar.specs.Progress.{KeepsBody, body_text, document_of}
+use Rattle.atom_grammar.specs.Progress.{KeepsBody, HasTaken, IsReadWhole, body_text, document_of}
 use Rattle.atom_grammar.specs.Stages.{head_pieces}
 use Rattle.atom_grammar.proofs.CuttingLemmas.{pieces-cut}
 use Rattle.atom_grammar.proofs.PairLemmas.{end_pieces}
@@ -96,3 +99,41 @@ unfolding pieces_of
 body_cut body keeps =
     cut-end (head_of body ++ items_of body) body.ended
     (subst (λ z. All IsCut z) (all_pieces body) (pieces-cut (document_of body) (is_body body keeps)))
+
+-- the body was read from what `start` had read and some of the input, and `rest` is left
+pub record IsReading (start : Body) (input : List ℕ) (body : Body) (rest : List ℕ) : Type 0 where
+  pub keeps : KeepsBody body
+  pub split : body_text start ++ input ≡ body_text body ++ rest
+
+-- one more piece was read
+pub read_on : (start body : Body) (input rest : List ℕ) (after : Body) (left : List ℕ)
+    → IsReading start input body rest → HasTaken body after rest left → IsReading start input after left
+read_on start body input rest after left reading taken =
+    record { keeps = taken.keeps; split = reading.split ∙ taken.split }
+
+nothing_left : (rest : List ℕ) → true ≡ nat_eq (length rest) 0 → rest ≡ []
+nothing_left [] none = refl
+nothing_left (x ∷ rest) none = let zero = eqb-true (length (x ∷ rest)) 0 (sym none) in absurd (omega arith)
+
+-- nothing is left
+pub read_whole : (start body : Body) (input rest : List ℕ) → IsReading start input body rest → body.ended ≡ true
+    → true ≡ nat_eq (length rest) 0 → IsReadWhole start body input
+read_whole start body input rest reading ended none = record {
+  keeps = reading.keeps;
+  ended = ended;
+  split = reading.split ∙ ap (λ z. body_text body ++ z) (nothing_left rest none) ∙ append-nil (body_text body);
+}
+
+pub some_left : (rest : List ℕ) → false ≡ nat_eq (length rest) 0 → rest ≢ []
+some_left rest not none = false≢true (not ∙ ap (λ (z : List ℕ). nat_eq (length z) 0) none)
+
+pub same_fault : {A : Type 0} (e : PartFault) (r : Result A PartFault) → IsErrAnd r (λ s. s ≡ e) → r ≡ Err Mismatch
+    → e ≡ Mismatch
+same_fault e (Ok x) same is = absurd same
+same_fault e (Err x) same is = let stop : x ≡ Mismatch = cc in sym same ∙ stop
+
+-- the document that was read
+pub document_read : (start body : Body) (input : List ℕ) → IsReadWhole start body input
+    → IsDoc (document_of body) × (body_text start ++ input ≡ text (document_of body))
+document_read start body input read =
+    (is_body body read.keeps, read.split ∙ body_text-whole body read.ended)

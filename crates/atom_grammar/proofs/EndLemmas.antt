@@ -17,7 +17,7 @@ use Rattle.atom_grammar.specs.declared.body.Body.{Body}
 use Rattle.atom_grammar.specs.FeedParts.{prev_piece, IsSpanOf, IsSpan}
 use Rattle.atom_grammar.specs.Progress.{KeepsBody, IsStuck, body_text, document_of}
 use Rattle.atom_grammar.specs.Stages.{IsRefused, IsOpening, AreItems, opening_pieces, links_pieces, head_pieces}
-use Rattle.atom_grammar.proofs.BodyLemmas.{head_of, items_of, body_text-open, body_text-whole, all_pieces, is_body}
+use Rattle.atom_grammar.proofs.BodyLemmas.{IsReading, head_of, items_of, body_text-open, body_text-whole, all_pieces, is_body}
 use Rattle.atom_grammar.proofs.PairLemmas.{chain, tail_pieces, end_pieces, tail-first, tail-later, is_span, placed_prev, span_prev-apart, item-second}
 use Rattle.atom_grammar.proofs.FeedPieceLemmas.{span-one}
 use Rattle.atom_grammar.proofs.ItemLemmas.{item-one}
@@ -203,3 +203,10 @@ refused_body body keeps rest stuck =
     (λ ended. refused_ended body keeps ended rest (stuck.unended ended))
     (λ going. refused_open body keeps going rest stuck)
     (cases_Bool body.ended)
+
+-- no piece is allowed behind those that were read
+pub refused_from : (start body : Body) (input rest left : List ℕ) → IsReading start input body rest → IsStuck body rest
+    → left ≡ rest → IsRefused [] (body_text start ++ input) left
+refused_from start body input rest left reading stuck same =
+    subst (λ z. IsRefused [] z left) (sym reading.split)
+    (subst (λ z. IsRefused [] (body_text body ++ rest) z) (sym same) (refused_body body reading.keeps rest stuck))

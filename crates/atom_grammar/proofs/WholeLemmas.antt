@@ -1,17 +1,14 @@
 -- Texts that were cut into whole pieces: what is left behind some of them, and the refusals that stay whatever follows.
-use Rattle.std.proofs.Common.{◌≡◌, ◌≢◌, ℕ, List, [], ◌∷◌, ◌++◌, length, false, nat_eq, Result, Ok, Err, IsErrAnd, refl, sym, ap, ◌∙◌, subst, arith, append_assoc, length-append, All}
-use Rattle.std.proofs.lemmas.Bool.{false≢true}
+use Rattle.std.proofs.Common.{◌≡◌, ◌≢◌, ℕ, List, [], ◌∷◌, ◌++◌, length, refl, sym, ap, ◌∙◌, subst, arith, append_assoc, length-append, All}
 use Rattle.std.proofs.lemmas.List.Elements.{All-head, All-tail, All-append}
 use Rattle.atom_writer.specs.Doc.{DocValue, IsDoc}
 use Rattle.atom_writer.specs.Pieces.{joined, pieces}
 use Rattle.atom_writer.proofs.PieceLemmas.{joined-append, joined-none, joined-cons}
 use Rattle.atom_grammar.specs.declared.body.Body.{Body}
-use Rattle.atom_grammar.specs.declared.part_fault.PartFault.{PartFault}
-use Rattle.atom_grammar.specs.declared.part_fault.PartFault.TheVariants.{Mismatch}
 use Rattle.atom_grammar.specs.Cutting.{IsCut, AreWhole, mark_of}
 use Rattle.atom_grammar.specs.Progress.{KeepsBody, HasTaken, IsStuck, IsRefusedBehind, body_text}
 use Rattle.atom_grammar.specs.Stages.{IsRefused}
-use Rattle.atom_grammar.proofs.BodyLemmas.{pieces_of, body_text-is, body_cut, cut-front}
+use Rattle.atom_grammar.proofs.BodyLemmas.{IsReading, pieces_of, body_text-is, body_cut, cut-front}
 use Rattle.atom_grammar.proofs.CuttingLemmas.{cut_alike, pieces-cut}
 use Rattle.atom_grammar.proofs.EndLemmas.{refused_body}
 
@@ -115,32 +112,9 @@ stuck_on body input rest keeps stuck whole some e more =
     (refused_on (body_text body ++ rest) rest (refused_body body keeps rest stuck)
     (whole_behind body keeps rest whole) some more)
 
--- some of the whole pieces behind a body were read
-pub record IsReading (start : Body) (input : List ℕ) (body : Body) (rest : List ℕ) : Type 0 where
-  pub keeps : KeepsBody body
-  pub whole : AreWhole rest
-  pub split : body_text start ++ input ≡ body_text body ++ rest
-
--- one more piece was read
-pub read_on : (start body : Body) (input rest : List ℕ) (after : Body) (left : List ℕ)
-    → IsReading start input body rest → HasTaken body after rest left → IsReading start input after left
-read_on start body input rest after left reading taken = record {
-  keeps = taken.keeps;
-  whole = whole_taken body after rest left reading.keeps reading.whole taken;
-  split = reading.split ∙ taken.split;
-}
-
--- no further piece is allowed
-pub read_stuck : (start body : Body) (input rest left : List ℕ) → IsReading start input body rest → IsStuck body rest
-    → rest ≢ [] → left ≡ rest → IsRefusedBehind (body_text start) input left
-read_stuck start body input rest left reading stuck some same = λ more.
+-- no further piece is allowed behind the whole pieces that were read
+pub read_stuck : (start body : Body) (input rest left : List ℕ) → IsReading start input body rest → AreWhole rest
+    → IsStuck body rest → rest ≢ [] → left ≡ rest → IsRefusedBehind (body_text start) input left
+read_stuck start body input rest left reading whole stuck some same = λ more.
     subst (λ z. IsRefused [] (body_text start ++ input ++ more) (z ++ more)) (sym same)
-    (stuck_on body (body_text start ++ input) rest reading.keeps stuck reading.whole some reading.split more)
-
-pub same_fault : {A : Type 0} (e : PartFault) (r : Result A PartFault) → IsErrAnd r (λ s. s ≡ e) → r ≡ Err Mismatch
-    → e ≡ Mismatch
-same_fault e (Ok x) same is = absurd same
-same_fault e (Err x) same is = let stop : x ≡ Mismatch = cc in sym same ∙ stop
-
-pub some_left : (rest : List ℕ) → false ≡ nat_eq (length rest) 0 → rest ≢ []
-some_left rest not none = false≢true (not ∙ ap (λ (z : List ℕ). nat_eq (length z) 0) none)
+    (stuck_on body (body_text start ++ input) rest reading.keeps stuck whole some reading.split more)

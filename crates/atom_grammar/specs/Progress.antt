@@ -62,6 +62,12 @@ pub record HasTaken (before after : Body) (input rest : List ℕ) : Type 0 where
   pub split : body_text before ++ input ≡ body_text after ++ rest
   pub less : length rest < length input
 
+-- all pieces that were left are read
+pub record IsReadWhole (before after : Body) (input : List ℕ) : Type 0 where
+  pub keeps : KeepsBody after
+  pub ended : after.ended ≡ true
+  pub split : body_text before ++ input ≡ body_text after
+
 -- however the text goes on behind `input`, it is refused where `rest` begins
 abbrev pub IsRefusedBehind : List ℕ → List ℕ → List ℕ → Type 0
 IsRefusedBehind before input rest = (more : List ℕ) → IsRefused [] (before ++ input ++ more) (rest ++ more)

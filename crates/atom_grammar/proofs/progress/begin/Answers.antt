@@ -1,4 +1,5 @@
-use Rattle.atom_grammar.proofs.WholeLemmas.{whole_left, refused_on, some_left}
+use Rattle.atom_grammar.proofs.BodyLemmas.{some_left}
+use Rattle.atom_grammar.proofs.WholeLemmas.{whole_left, refused_on}
 use Rattle.atom_grammar.proofs.progress.begin.Goals as goal
 
 pub read_all-requires-clause-whole : goal.read_all-requires-clause-whole
