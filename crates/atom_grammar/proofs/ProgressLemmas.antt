@@ -1,10 +1,11 @@
 -- A document that is read while its bytes come: the bytes that came, and its refusals.
-use Rattle.std.proofs.Common.{◌≡◌, ◌≢◌, ℕ, ◌+◌, ◌-◌, ◌≤◌, List, [], ◌∷◌, ◌++◌, length, drop, take, true, Option, None, Some, IfSome, Result, Ok, Err, IfErr, IsErrAnd, refl, sym, ap, ◌∙◌, subst, arith, append-nil, append_assoc, length-append}
+use Rattle.std.proofs.Common.{◌≡◌, ◌≢◌, ◌⊎◌, inr, ℕ, ◌+◌, ◌-◌, ◌≤◌, List, [], ◌∷◌, ◌++◌, length, drop, take, true, Option, None, Some, IfSome, Result, Ok, Err, IfErr, IsErrAnd, refl, sym, ap, ◌∙◌, subst, arith, append-nil, append_assoc, length-append}
 use Rattle.std.proofs.lemmas.Bool.{false≢true}
 use Rattle.std.proofs.lemmas.List.Elements.{All-nil, All-push}
 use Rattle.std.proofs.lemmas.List.{drop_at, take_all}
 use Rattle.atom_values.specs.Ascii.{lf}
-use Rattle.atom_writer.specs.Pieces.{joined}
+use Rattle.atom_writer.specs.Doc.{DocValue, IsDoc}
+use Rattle.atom_writer.specs.Pieces.{joined, text}
 use Rattle.atom_writer.proofs.PieceLemmas.{joined-append, joined-none, joined-one}
 use Rattle.atom_grammar.specs.declared.body.Body.{Body}
 use Rattle.atom_grammar.specs.declared.progress.Progress.{Progress}
@@ -12,7 +13,7 @@ use Rattle.atom_grammar.specs.declared.read.ReadFault.{ReadFault}
 use Rattle.atom_grammar.specs.declared.read.ReadFault.TheVariants.{NotADocument, NoMemory}
 use Rattle.atom_grammar.specs.Cutting.{IsCut, IsWhole, IsLine, AreWhole}
 use Rattle.atom_grammar.specs.Parts.{lacks}
-use Rattle.atom_grammar.specs.Progress.{KeepsBody, IsCutText, IsRefusalOf, IsRefusedBehind, IsGoing, body_text, fed_text, has_ended, read_text}
+use Rattle.atom_grammar.specs.Progress.{KeepsBody, IsCutText, IsRefusalOf, IsRefusedBehind, IsGoing, HasRead, ReaderValue, body_text, fed_text, has_ended, read_text}
 use Rattle.atom_grammar.specs.Refusal.{IsNoDocument, IsPlaceOfRefusal}
 use Rattle.atom_grammar.proofs.CuttingLemmas.{cut_line, unfinished_line, unfinished_nothing, unfinished_rest}
 use Rattle.atom_grammar.specs.Stages.{IsRefused}
@@ -83,6 +84,25 @@ refusal_on bytes more NoMemory r = tt
 -- the bytes that came, with those that come next
 pub fed_on : (read text line longer : List ℕ) → longer ≡ text ++ line → read ++ longer ≡ (read ++ text) ++ line
 fed_on read text line longer is_longer = ap (λ z. read ++ z) is_longer ∙ sym (append_assoc read text line)
+
+-- a reader's refusal, once all bytes came
+pub kept : (reader : ReaderValue) (bytes : List ℕ) (fault : ReadFault) → HasRead reader bytes
+    → reader.refusal ≡ Some fault → IsRefusalOf bytes fault
+kept reader bytes fault read is = subst (λ z. IfSome z (IsRefusalOf bytes)) is read.refused
+
+pub kept_only : (bytes : List ℕ) (fault : ReadFault) → IsRefusalOf bytes fault → (d : DocValue) → IsDoc d
+    → bytes ≡ text d → (r : Result DocValue ReadFault) → r ≡ Err fault → (r ≡ Ok d) ⊎ (r ≡ Err NoMemory)
+kept_only bytes (NotADocument at) refusal d is e r same = absurd ((refusal []).0 d is (append-nil bytes ∙ e))
+kept_only bytes NoMemory refusal d is e r same = inr same
+
+pub kept_refusal : (bytes : List ℕ) (fault : ReadFault) → IsRefusalOf bytes fault → (at : ℕ)
+    → (r : Result DocValue ReadFault) → r ≡ Err fault → r ≡ Err (NotADocument at)
+    → IsNoDocument bytes × IsPlaceOfRefusal bytes at
+kept_refusal bytes (NotADocument other) refusal at r same e =
+    let place : other ≡ at = cc in
+    subst (λ z. IsNoDocument bytes × IsPlaceOfRefusal bytes z) place
+    (subst (λ z. IsNoDocument z × IsPlaceOfRefusal z other) (append-nil bytes) (refusal []))
+kept_refusal bytes NoMemory refusal at r same e = absurd cc
 
 -- no text goes on behind the end of a document
 pub refused_end : (begun : Option Body) (text : List ℕ) (used : ℕ) → IfSome begun KeepsBody → has_ended begun ≡ true
