@@ -25,7 +25,7 @@ use Rattle.atom_grammar.specs.Cutting.{mark_of, IsWhole, IsCut, IsUnfinished, Is
 use Rattle.atom_grammar.specs.FeedParts.{IsKind, IsSpan}
 use Rattle.atom_grammar.specs.Parts.{lacks, open_tag}
 use Rattle.atom_grammar.proofs.EndTagLemmas.{IsClear-inner}
-use Rattle.atom_grammar.proofs.LineLemmas.{id-line, updated-line, link-line, span-line, tombstone-line}
+use Rattle.atom_grammar.proofs.LinePieceLemmas.{id-line, updated-line, link-line, span-line, tombstone-line}
 use Rattle.atom_grammar.proofs.MarkLemmas.{lacking_unfinished, split_cases, ends_in, one_line_end, clear_append, clear_lacks, tagged_cut}
 use Rattle.atom_grammar.proofs.PairLemmas.{is_kind, is_span}
 use Rattle.atom_grammar.proofs.TextLemmas.{no_cut, escaped_lacks_tag}

@@ -1,5 +1,6 @@
 -- The pieces that may follow the items of a document, and none may follow its end.
-use Rattle.std.proofs.Common.{◌≡◌, ◌≢◌, ◌⊎◌, inl, inr, ⊎_elim, ℕ, zero, suc, ◌<◌, ◌^◌, false, List, [], ◌∷◌, ◌++◌, ℤ, map, length, nat_eq, get_or, refl, sym, ap, ◌∙◌, subst, arith, codes, All, append-nil, append_assoc, length-append}
+use Rattle.std.proofs.Common.{◌≡◌, ◌≢◌, ◌⊎◌, inl, inr, ⊎_elim, ℕ, zero, suc, ◌<◌, ◌^◌, false, List, [], ◌∷◌, ◌++◌, ℤ, map, length, nat_eq, get_or, true, refl, sym, ap, ◌∙◌, subst, arith, codes, All, append-nil, append_assoc, length-append}
+use Rattle.std.proofs.lemmas.Bool.{cases_Bool}
 use Rattle.std.proofs.lemmas.List.{append_cancel_left, map-append, take_at}
 use Rattle.std.proofs.lemmas.List.Elements.{All-head, All-tail, All-take}
 use Rattle.std.specs.List.{IsDistinct, AllByRecursion}
@@ -10,15 +11,18 @@ use Rattle.atom_writer.specs.declared.doc.FeedName.{FeedName}
 use Rattle.atom_writer.specs.declared.doc.Kind.{Kind}
 use Rattle.atom_writer.specs.declared.doc.Kind.TheVariants.{Subscription, Archive as Sealed}
 use Rattle.atom_writer.specs.Doc.{DocValue, IsDoc, IsFeedName}
-use Rattle.atom_writer.specs.Pieces.{pieces, joined, span_piece, item_piece}
+use Rattle.atom_writer.specs.Pieces.{pieces, joined, text, span_piece, item_piece}
+use Rattle.atom_writer.proofs.PieceLemmas.{joined-append}
+use Rattle.atom_grammar.specs.declared.body.Body.{Body}
 use Rattle.atom_grammar.specs.FeedParts.{prev_piece, IsSpanOf, IsSpan}
-use Rattle.atom_grammar.specs.Parts.{literal}
-use Rattle.atom_grammar.specs.Stages.{IsRefused, IsOpening, AreItems, EndsAt, opening_pieces, links_pieces, head_pieces}
+use Rattle.atom_grammar.specs.Progress.{KeepsBody, IsStuck, body_text, document_of}
+use Rattle.atom_grammar.specs.Stages.{IsRefused, IsOpening, AreItems, opening_pieces, links_pieces, head_pieces}
+use Rattle.atom_grammar.proofs.BodyLemmas.{IsReading, head_of, items_of, body_text-open, body_text-whole, all_pieces, is_body}
 use Rattle.atom_grammar.proofs.PairLemmas.{chain, tail_pieces, end_pieces, tail-first, tail-later, is_span, placed_prev, span_prev-apart, item-second}
 use Rattle.atom_grammar.proofs.FeedPieceLemmas.{span-one}
 use Rattle.atom_grammar.proofs.ItemLemmas.{item-one}
 use Rattle.atom_grammar.proofs.RefusedLemmas.{other_prev, links-first, links-later}
-use Rattle.atom_grammar.proofs.StartLemmas.{document_of, is_document, tail-is, whole-is}
+use Rattle.atom_grammar.proofs.StartLemmas.{tail-is}
 use Rattle.atom_grammar.proofs.StuckLemmas.{refused, behind_name, injective}
 
 record IsBehindSpan (name : FeedName) (span : Span) (more : List (List ℕ)) (other : DocValue) : Type 0 where
@@ -144,41 +148,8 @@ are-front span xs ys are = record {
       (subst (λ z. IsDistinct nat_eq z) (map-append item_number xs ys) are.distinct);
 }
 
-all-is : (name : FeedName) (read : List (List ℕ)) (items : List Item)
-    → read ++ end_pieces name items ≡ (read ++ map (item_piece name) items) ++ codes "</feed>\n" ∷ []
-unfolding end_pieces
-all-is name read items = sym (append_assoc read (map (item_piece name) items) (codes "</feed>\n" ∷ []))
-
--- neither one more item nor the end comes next
-pub refused_items : (name : FeedName) (kind : Kind) (updated : ℤ) (prev : ℕ) (span : Span)
-    → IsOpening name kind updated → prev < 2 ^ 32 → IsSpanOf kind prev span → (input rest : List ℕ)
-    → EndsAt name span input rest → IsRefused (head_pieces name kind updated prev span) input rest
-unfolding literal
-refused_items name kind updated prev span opening small is_of input rest ends =
-    let read = head_pieces name kind updated prev span in
-    let front = map (item_piece name) ends.items in
-    let d = document_of name kind span prev updated ends.items in
-    refused d (is_document name kind span prev updated ends.items opening small is_of ends.read.lawful) read front
-    (codes "</feed>\n") []
-    (whole-is d ∙ all-is name read ends.items) input rest ends.read.split
-    (λ other is p after left e at.
-    let b =
-    behind_head name kind updated prev span opening is_of (front ++ p ∷ left) other is (e
-    ∙ append_assoc read front (p ∷ left)) in
-    ⊎_elim
-    (λ o.
-    let whole : AreItems other.span other.items =
-    record { each = is.items; room = is.rules.room; distinct = is.rules.distinct } in
-    let all : AreItems span ((ends.items ++ o.item ∷ []) ++ o.more) =
-    subst (λ z. AreItems span z) (o.all ∙ sym (append_assoc ends.items (o.item ∷ []) o.more))
-    (subst (λ s. AreItems s other.items) b.same_span whole) in
-    ends.no_more o.item after (are-front span (ends.items ++ o.item ∷ []) o.more all) (at
-    ∙ ap (λ z. z ++ after) o.piece))
-    (λ end. ends.no_end tt after tt tt (at ∙ ap (λ z. z ++ after) end))
-    (items_next name opening.is_name other.items ends.items is.items ends.read.lawful.each p left b.tail))
-
 -- nothing may follow the end
-pub refused_behind_end : (d : DocValue) → IsDoc d → (input rest : List ℕ) → input ≡ joined (pieces d) ++ rest
+refused_behind_end : (d : DocValue) → IsDoc d → (input rest : List ℕ) → input ≡ joined (pieces d) ++ rest
     → rest ≢ [] → IsRefused [] input rest
 refused_behind_end d is input rest split some = record {
   more = pieces d;
@@ -191,3 +162,51 @@ refused_behind_end d is input rest split some = record {
       ∙ append_assoc (pieces d) (p ∷ []) begins.later) in
       absurd cc;
 }
+
+refused_open : (body : Body) → KeepsBody body → body.ended ≡ false → (rest : List ℕ) → IsStuck body rest
+    → IsRefused [] (body_text body ++ rest) rest
+refused_open body keeps going rest stuck =
+    let read = head_of body in
+    let front = items_of body in
+    let items = body.items.items in
+    refused (document_of body) (is_body body keeps) [] (read ++ front) (codes "</feed>\n") [] (all_pieces body)
+    (body_text body ++ rest) rest
+    (ap (λ z. z ++ rest) (body_text-open body going ∙ sym (joined-append read front)))
+    (λ other is p after left e at.
+    let b =
+    behind_head body.name body.kind body.updated body.prev body.span keeps.opening keeps.span (front ++ p ∷ left)
+    other is (e ∙ append_assoc read front (p ∷ left)) in
+    ⊎_elim
+    (λ o.
+    let whole : AreItems other.span other.items =
+    record { each = is.items; room = is.rules.room; distinct = is.rules.distinct } in
+    let all : AreItems body.span ((items ++ o.item ∷ []) ++ o.more) =
+    subst (λ z. AreItems body.span z) (o.all ∙ sym (append_assoc items (o.item ∷ []) o.more))
+    (subst (λ s. AreItems s other.items) b.same_span whole) in
+    stuck.no_more going o.item after (are-front body.span (items ++ o.item ∷ []) o.more all) (at
+    ∙ ap (λ z. z ++ after) o.piece))
+    (λ end. stuck.no_end going after (at ∙ ap (λ z. z ++ after) end))
+    (items_next body.name keeps.opening.is_name other.items items is.items keeps.items.each p left b.tail))
+
+refused_ended : (body : Body) → KeepsBody body → body.ended ≡ true → (rest : List ℕ) → rest ≢ []
+    → IsRefused [] (body_text body ++ rest) rest
+unfolding text
+refused_ended body keeps ended rest some =
+    refused_behind_end (document_of body) (is_body body keeps) (body_text body ++ rest) rest
+    (ap (λ z. z ++ rest) (body_text-whole body ended)) some
+
+-- neither one more item nor the end is allowed next
+pub refused_body : (body : Body) → KeepsBody body → (rest : List ℕ) → IsStuck body rest
+    → IsRefused [] (body_text body ++ rest) rest
+refused_body body keeps rest stuck =
+    ⊎_elim
+    (λ ended. refused_ended body keeps ended rest (stuck.unended ended))
+    (λ going. refused_open body keeps going rest stuck)
+    (cases_Bool body.ended)
+
+-- no piece is allowed behind those that were read
+pub refused_from : (start body : Body) (input rest left : List ℕ) → IsReading start input body rest → IsStuck body rest
+    → left ≡ rest → IsRefused [] (body_text start ++ input) left
+refused_from start body input rest left reading stuck same =
+    subst (λ z. IsRefused [] z left) (sym reading.split)
+    (subst (λ z. IsRefused [] (body_text body ++ rest) z) (sym same) (refused_body body reading.keeps rest stuck))

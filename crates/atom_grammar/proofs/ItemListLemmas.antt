@@ -1,5 +1,5 @@
--- The items of a document, read one after another.
-use Rattle.std.proofs.Common.{◌≡◌, ◌≢◌, ℕ, ◌<◌, List, [], ◌∷◌, ◌++◌, Bool, false, Result, Ok, Err, IsErrAnd, map, length, nat_eq, refl, sym, ap, ◌∙◌, subst, arith, codes, All, append_assoc, length-append}
+-- The items of a document, read one after another, and its end.
+use Rattle.std.proofs.Common.{◌≡◌, ◌≢◌, ℕ, ◌<◌, List, [], ◌∷◌, ◌++◌, Bool, true, false, if◌then◌else◌, Result, Ok, Err, IsErrAnd, map, length, nat_eq, refl, sym, ap, ◌∙◌, subst, arith, codes, All, append_assoc, length-append}
 use Rattle.std.proofs.lemmas.Bool.{or_from, or_parts, eq-eqb, ne_eqb, false≢true}
 use Rattle.std.proofs.lemmas.List.{map-append}
 use Rattle.std.proofs.lemmas.List.Elements.{All-push, All-head, All-tail}
@@ -14,15 +14,17 @@ use Rattle.atom_writer.specs.declared.doc.FeedName.{FeedName}
 use Rattle.atom_writer.specs.Doc.{span_len}
 use Rattle.atom_writer.specs.Pieces.{joined, item_piece}
 use Rattle.atom_writer.proofs.PieceLemmas.{joined-map-push}
-use Rattle.atom_grammar.specs.FeedParts.{ReadsPiece, item_behind}
-use Rattle.atom_grammar.specs.Parts.{IsAbsent, IsFound, literal, starts}
-use Rattle.atom_grammar.specs.Stages.{ReadsSome, EndsAt, ReadsItems}
+use Rattle.atom_grammar.specs.declared.body.Body.{Body}
 use Rattle.atom_grammar.specs.declared.part_fault.PartFault.{PartFault}
 use Rattle.atom_grammar.specs.declared.part_fault.PartFault.TheVariants.{Mismatch, NoMemory}
+use Rattle.atom_grammar.specs.FeedParts.{ReadsPiece, IsItemBehind, item_behind}
+use Rattle.atom_grammar.specs.Parts.{IsAbsent, IsFound, literal, starts}
+use Rattle.atom_grammar.specs.Progress.{KeepsBody, HasTaken, IsStuck, body_text}
+use Rattle.atom_grammar.specs.Stages.{AreItems}
+use Rattle.atom_grammar.proofs.BodyLemmas.{head_of, items_of, body_text-open, body_text-ended}
 use Rattle.atom_grammar.proofs.PairLemmas.{item-second}
 use Rattle.atom_grammar.proofs.ReadingLemmas.{starts_append}
-use Rattle.atom_grammar.proofs.StartLemmas.{no_items}
-use Rattle.atom_grammar.proofs.StuckLemmas.{start}
+use Rattle.atom_grammar.proofs.TextLemmas.{starts_split}
 
 apart_back : (x y : ℕ) → nat_eq x y ≡ false → nat_eq y x ≡ false
 apart_back x y h = ne_eqb y x (λ e. false≢true (sym h ∙ eq-eqb x y (sym e)))
@@ -54,85 +56,126 @@ all-last : (xs : List Item) (y : Item) → All IsItem (xs ++ y ∷ []) → IsIte
 all-last [] y h = All-head IsItem y [] h
 all-last (x ∷ xs) y h = all-last xs y (All-tail IsItem x (xs ++ y ∷ []) h)
 
-not_there : (bytes input : List ℕ) → starts bytes input ≡ false → IsAbsent (literal bytes) input
-unfolding literal
-not_there bytes input none other left _ _ e = false≢true (sym none ∙ ap (starts bytes) e ∙ starts_append bytes left)
+more_items : (span : Span) (items : List Item) (item : Item) → AreItems span items
+    → length items ≢ span_len span → IsItemBehind items item → AreItems span (items ++ item ∷ [])
+more_items span items item are room behind = record {
+  each = All-push IsItem items item are.each behind.item;
+  room = omega (arith, are.room, length-append items (item ∷ []));
+  distinct =
+      subst (λ z. IsDistinct nat_eq z) (sym (map-append item_number items (item ∷ [])))
+      (distinct-push (map item_number items) (item_number item) are.distinct behind.apart);
+}
 
--- nothing is read yet
-pub none_read : (name : FeedName) (span : Span) (before : List ℕ) (items : List Item) → items ≡ []
-    → ReadsSome name span before items before
-none_read name span before items none =
-    subst (λ z. ReadsSome name span before z before) (sym none) (record {
-      lawful = no_items span;
-      split =
-          start before;
-    })
-
-module _ (name : FeedName) (span : Span) (before middle : List ℕ) (items : List Item)
-    (read : ReadsSome name span before items middle) where
-  -- one more is read
-  pub one_more : (item : Item) (after : List ℕ) (longer : List Item) → length items ≢ span_len span
-      → IsFound (item_behind name items) middle item after → longer ≡ items ++ item ∷ []
-      → ReadsSome name span before longer after
-  one_more item after longer room f pushed =
-      subst (λ z. ReadsSome name span before z after) (sym pushed)
-      (record {
-        lawful = record {
-          each = All-push IsItem items item read.lawful.each f.lawful.item;
-          room = omega (arith, read.lawful.room, length-append items (item ∷ []));
-          distinct =
-              subst (λ z. IsDistinct nat_eq z) (sym (map-append item_number items (item ∷ [])))
-              (distinct-push (map item_number items) (item_number item) read.lawful.distinct f.lawful.apart);
-        };
-        split = read.split ∙ ap (λ z. joined (map (item_piece name) items) ++ z) f.split
-            ∙ sym (append_assoc (joined (map (item_piece name) items)) (item_piece name item) after)
-            ∙ ap (λ z. z ++ after) (sym (joined-map-push (item_piece name) items item));
-      })
-
-  -- no item may follow, since the span has no more operations
-  pub no_room : length items ≡ span_len span → starts (codes "</feed>\n") middle ≡ false
-      → EndsAt name span before middle
-  no_room full goes_on = record {
-    items = items;
-    read = read;
-    no_more = λ item rest are e. omega (arith, are.room, length-append items (item ∷ []));
-    no_end = not_there (codes "</feed>\n") middle goes_on;
-  }
-
-  -- or no item that may follow comes next
-  pub no_item : IsAbsent (item_behind name items) middle → starts (codes "</feed>\n") middle ≡ false
-      → EndsAt name span before middle
-  no_item none goes_on = record {
-    items = items;
-    read = read;
-    no_more =
-        λ item rest are e. none item rest (record {
-          item = all-last items item are.each;
-          apart =
-              distinct-last (map item_number items) (item_number item)
-              (subst (λ z. IsDistinct nat_eq z) (map-append item_number items (item ∷ [])) are.distinct);
-        }) tt e;
-    no_end = not_there (codes "</feed>\n") middle goes_on;
-  }
-
-  pub item_stopped : (after : List ℕ) (e : PartFault) (r : Result (Listed Item) PartFault)
-      → starts (codes "</feed>\n") middle ≡ false → ReadsPiece (item_behind name items) middle (Err e) after
-      → IsErrAnd r (λ s. s ≡ e) → ReadsItems name span before r after
-  item_stopped after e (Ok x) goes_on s same = absurd same
-  item_stopped after Mismatch (Err x) goes_on s same =
-      let P : PartFault → Type 0 = λ stop. ReadsItems name span before (Err stop) after in
-      subst P (sym same) (subst (λ z. EndsAt name span before z) (sym s.0) (no_item s.1 goes_on))
-  item_stopped after NoMemory (Err x) goes_on s same =
-      let P : PartFault → Type 0 = λ stop. ReadsItems name span before (Err stop) after in
-      subst P (sym same) tt
-
--- each item takes some of the input
-pub item_shorter : (name : FeedName) (items : List Item) (middle after : List ℕ) (item : Item)
-    → IsFound (item_behind name items) middle item after → length after < length middle
-item_shorter name items middle after item f =
-    omega (arith, ap length f.split, length-append (item_piece name item) after, (item-second name item).0)
+-- an item that may follow these
+last_behind : (span : Span) (items : List Item) (item : Item) → AreItems span (items ++ item ∷ [])
+    → IsItemBehind items item
+last_behind span items item are = record {
+  item = all-last items item are.each;
+  apart =
+      distinct-last (map item_number items) (item_number item)
+      (subst (λ z. IsDistinct nat_eq z) (map-append item_number items (item ∷ [])) are.distinct);
+}
 
 -- a push that is no error
 pub pushed_items : (r : Result (Unit {0}) ListFault) (b : Bool) → b ≡ is_err r → b ≡ false → {P : Type 0} → OnOk r P → P
 pushed_items (Ok x) b is fine p = p
 pushed_items (Err x) b is fine p = absurd (false≢true (sym fine ∙ is))
+
+no_end_there : (input left : List ℕ) → starts (codes "</feed>\n") input ≡ false → input ≢ codes "</feed>\n" ++ left
+no_end_there input left none e =
+    false≢true (sym none ∙ ap (starts (codes "</feed>\n")) e ∙ starts_append (codes "</feed>\n") left)
+
+module _ (body : Body) (input : List ℕ) where
+  -- nothing may follow the end
+  pub ended_stuck : body.ended ≡ true → input ≢ [] → IsStuck body input
+  ended_stuck ended some = record {
+    no_more = λ going item left are e. absurd (false≢true (sym going ∙ ended));
+    no_end = λ going left e. absurd (false≢true (sym going ∙ ended));
+    unended = λ _. some;
+  }
+
+  -- no item may follow, since the span has no more operations
+  pub full_stuck : body.ended ≡ false → starts (codes "</feed>\n") input ≡ false
+      → length body.items.items ≡ span_len body.span → IsStuck body input
+  full_stuck going goes_on full = record {
+    no_more = λ _ item left are e. omega (arith, are.room, length-append body.items.items (item ∷ []));
+    no_end = λ _ left e. no_end_there input left goes_on e;
+    unended = λ ended. absurd (false≢true (sym going ∙ ended));
+  }
+
+  no_item : body.ended ≡ false → starts (codes "</feed>\n") input ≡ false
+      → IsAbsent (item_behind body.name body.items.items) input → IsStuck body input
+  no_item going goes_on none = record {
+    no_more = λ _ item left are e. none item left (last_behind body.span body.items.items item are) tt e;
+    no_end = λ _ left e. no_end_there input left goes_on e;
+    unended = λ ended. absurd (false≢true (sym going ∙ ended));
+  }
+
+  -- or no item that may follow comes next
+  pub item_stuck : (after : List ℕ) (e : PartFault) (r : Result (Unit {0}) PartFault) → body.ended ≡ false
+      → starts (codes "</feed>\n") input ≡ false → ReadsPiece (item_behind body.name body.items.items) input (Err e) after
+      → IsErrAnd r (λ s. s ≡ e) → r ≡ Err Mismatch → IsStuck body input
+  item_stuck after e (Ok x) going goes_on s same is = absurd same
+  item_stuck after Mismatch (Err x) going goes_on s same is = no_item going goes_on s.1
+  item_stuck after NoMemory (Err x) going goes_on s same is = absurd cc
+
+  -- the end is there, since that was seen
+  pub end_there : (after : List ℕ) (e : PartFault) (r : Result (Unit {0}) PartFault)
+      → starts (codes "</feed>\n") input ≡ true → ReadsPiece (literal (codes "</feed>\n")) input (Err e) after
+      → IsErrAnd r (λ s. s ≡ e) → r ≡ Err Mismatch → IsStuck body input
+  unfolding literal
+  end_there after e (Ok x) there s same is = absurd same
+  end_there after Mismatch (Err x) there s same is =
+      let split = starts_split (codes "</feed>\n") input there in
+      absurd (s.1 tt split.0 tt tt split.1)
+  end_there after NoMemory (Err x) there s same is = absurd cc
+
+  module _ (keeps : KeepsBody body) (going : body.ended ≡ false) where
+    -- one more item is read
+    pub item_taken : (item : Item) (rest : List ℕ) (longer : Listed Item) → length body.items.items ≢ span_len body.span
+        → IsFound (item_behind body.name body.items.items) input item rest
+        → longer.items ≡ body.items.items ++ item ∷ []
+        → HasTaken body (record body { items = longer }) input rest
+    item_taken item rest longer room f pushed =
+        let h = joined (head_of body) in
+        let i = joined (items_of body) in
+        let p = item_piece body.name item in
+        let after : Body = record body { items = longer } in
+        record {
+          keeps = record {
+            opening = keeps.opening;
+            small = keeps.small;
+            span = keeps.span;
+            items =
+                subst (λ z. AreItems body.span z) (sym pushed)
+                (more_items body.span body.items.items item keeps.items room f.lawful);
+          };
+          split =
+              ap (λ z. z ++ input) (body_text-open body going) ∙ ap (λ z. (h ++ i) ++ z) f.split
+              ∙ sym (append_assoc (h ++ i) p rest) ∙ ap (λ z. z ++ rest) (append_assoc h i p)
+              ∙ ap (λ z. (h ++ z) ++ rest) (sym (joined-map-push (item_piece body.name) body.items.items item)
+              ∙ ap (λ z. joined (map (item_piece body.name) z)) (sym pushed))
+              ∙ ap (λ z. z ++ rest) (sym (body_text-open after going));
+          less = omega (arith, ap length f.split, length-append p rest, (item-second body.name item).0);
+        }
+
+    -- the end is read
+    pub end_taken : (value : Unit {0}) (rest : List ℕ) → IsFound (literal (codes "</feed>\n")) input value rest
+        → HasTaken body (record body { ended = true }) input rest
+    unfolding literal
+    end_taken value rest f =
+        let after : Body = record body { ended = true } in
+        record {
+          keeps = record {
+            opening = keeps.opening;
+            small = keeps.small;
+            span = keeps.span;
+            items = keeps.items;
+          };
+          split =
+              ap (λ z. z ++ input) (body_text-open body going)
+              ∙ ap (λ z. (joined (head_of body) ++ joined (items_of body)) ++ z) f.split
+              ∙ sym (append_assoc (joined (head_of body) ++ joined (items_of body)) (codes "</feed>\n") rest)
+              ∙ ap (λ z. z ++ rest) (sym (body_text-ended after refl));
+          less = omega (arith, ap length f.split, length-append (codes "</feed>\n") rest);
+        }

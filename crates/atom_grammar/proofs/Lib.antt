@@ -2,14 +2,16 @@
 pub mod ArchiveLinkLemmas
 -- read_doc: the own address of a document has one base
 pub mod BaseLemmas
+-- read_doc: what was read of a document, as pieces
+pub mod BodyLemmas
 -- DocReader: where a text is cut into pieces
 pub mod CuttingLemmas
 -- both laws: the pieces of two documents, compared from the first
 pub mod PairLemmas
 -- read_doc: decimal numbers
 pub mod DecimalLemmas
--- read_doc: the parts of a document, one after another
-pub mod DocumentLemmas
+-- read_doc: the pieces up to the span, one after another
+pub mod HeadLemmas
 -- read_doc: the items and the end of a document
 pub mod EndLemmas
 -- DocReader: the text of an entry has no end tag of an entry
@@ -24,8 +26,10 @@ pub mod FeedPieceLemmas
 pub mod ItemListLemmas
 -- both laws, read_doc: the piece of an item has one reading
 pub mod ItemLemmas
--- DocReader: the pieces that are one line
+-- DocReader: the lines of the bytes that come
 pub mod LineLemmas
+-- DocReader: the pieces that are one line
+pub mod LinePieceLemmas
 -- read_doc: lists of persons, links and categories
 pub mod ManyLemmas
 -- DocReader: the marks that end pieces
@@ -42,6 +46,8 @@ pub mod OwnAddressLemmas
 pub mod PieceLemmas
 -- DocReader: texts of identifiers, timestamps, numbers and addresses
 pub mod PlainLemmas
+-- DocReader: the bytes that came, and the refusals of them
+pub mod ProgressLemmas
 -- read_doc: readings of parts, put together
 pub mod ReadingLemmas
 -- both laws, and the clauses `only` and `refused` of read_doc
@@ -62,3 +68,5 @@ pub mod TextLemmas
 pub mod UntilLemmas
 -- both laws, read_doc: the pieces with a text
 pub mod ValueLemmas
+-- DocReader: refusals of whole pieces stay, whatever follows
+pub mod WholeLemmas

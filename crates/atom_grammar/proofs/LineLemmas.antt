@@ -1,66 +1,33 @@
--- The pieces that are one line.
-use Rattle.std.proofs.Common.{◌≡◌, ℕ, List, [], ◌∷◌, ◌++◌, ℤ, true, refl, sym, append_assoc, codes, decimal}
+-- The lines that a search for line ends finds.
+use Rattle.std.proofs.Common.{◌≡◌, ℕ, zero, suc, ◌+◌, ◌<◌, ◌≤◌, true, not, ◌&&◌, eqb, List, [], ◌∷◌, ◌++◌, length, take, get_or, Some, None, refl, sym, ap, ◌∙◌, subst, arith}
+use Rattle.std.proofs.lemmas.Bool.{and_from, ne_eqb, not_from_false, eqb-true, eq-eqb}
+use Rattle.std.proofs.lemmas.List.{take_more, take_all}
+use Rattle.memchr.specs.Find.{IsFirstByte, Passes, is_byte}
 use Rattle.atom_values.specs.Ascii.{lf}
-use Rattle.atom_values.specs.Stamp as stamp
-use Rattle.chain_links.specs.Address as address
-use Rattle.chain_links.specs.Address.{IsAddress}
-use Rattle.chain_links.specs.Base.{IsBase}
-use Rattle.chain_links.specs.declared.address.Address.{Address}
-use Rattle.chain_links.specs.declared.place.Span.{Span}
-use Rattle.deleted_entries.specs.FeedId.{feed_text, member_id}
-use Rattle.deleted_entries.specs.Tombstone.{TombstoneValue}
-use Rattle.atom_writer.specs.declared.doc.FeedName.{FeedName}
-use Rattle.atom_writer.specs.Pieces.{id_piece, updated_piece, link_piece, span_piece, tombstone_piece}
 use Rattle.atom_grammar.specs.Cutting.{IsLine}
-use Rattle.atom_grammar.specs.FeedParts.{IsSpan}
 use Rattle.atom_grammar.specs.Parts.{lacks}
-use Rattle.atom_grammar.proofs.PlainLemmas.{IsPlain, IsPlain-lacks, IsPlain-uuid, IsPlain-stamp, IsPlain-decimal, IsPlain-member_id, IsPlain-address}
-use Rattle.atom_grammar.proofs.TextLemmas.{lacks_append}
 
-plain_line : (text : List ℕ) → IsPlain text → lacks lf text ≡ true
-plain_line text plain = IsPlain-lacks lf text refl plain
+-- the bytes before a byte that stands nowhere in them
+lacks_before : (byte : ℕ) (xs : List ℕ) (k : ℕ) → k ≤ length xs
+    → ((i : ℕ) → i < k → get_or xs i 0 ≡ byte → ⊥) → lacks byte (take k xs) ≡ true
+lacks_before byte [] k within none = ap (λ z. lacks byte z) (take_all k [] (omega arith))
+lacks_before byte (x ∷ xs) zero within none = refl
+lacks_before byte (x ∷ xs) (suc k) within none =
+    and_from (not (eqb x byte)) (lacks byte (take k xs))
+    (not_from_false (eqb x byte) (ne_eqb x byte (none 0 (omega arith))))
+    (lacks_before byte xs k (omega arith) (λ i low. none (suc i) (omega arith)))
 
--- a plain text between two others
-one_line : (start value end : List ℕ) → lacks lf start ≡ true → IsPlain value → lacks lf end ≡ true
-    → IsLine (start ++ value ++ (end ++ lf ∷ []))
-one_line start value end before plain after = record {
-  front = start ++ value ++ end;
-  split = sym (append_assoc (start ++ value) end (lf ∷ []));
-  none = lacks_append lf (start ++ value) end (lacks_append lf start value before (plain_line value plain)) after;
+pub no_line_end : (text : List ℕ) → IsFirstByte (is_byte lf) text None → lacks lf text ≡ true
+no_line_end text none =
+    ap (λ z. lacks lf z) (sym (take_all (length text) text (omega arith)))
+    ∙ lacks_before lf text (length text) (omega arith)
+    (λ i low is. none i (omega arith) low (eq-eqb (get_or text i 0) lf is))
+
+pub is_line : (text : List ℕ) (at : ℕ) → IsFirstByte (is_byte lf) text (Some at) → IsLine (take (at + 1) text)
+is_line text at first = record {
+  front = take at text;
+  split = take_more text at 0 first.0.high
+      ∙ ap (λ x. take at text ++ x ∷ []) (eqb-true (get_or text at 0) lf first.1);
+  none = lacks_before lf text at (omega (arith, first.0.high))
+      (λ i low is. first.0.before i (omega arith) low (eq-eqb (get_or text i 0) lf is));
 }
-
-pub id-line : (id : List ℕ) → IsLine (id_piece id)
-unfolding id_piece
-id-line id = one_line (codes "<id>urn:uuid:") (feed_text id) (codes "</id>") refl (IsPlain-uuid id) refl
-
-pub updated-line : (updated : ℤ) → IsLine (updated_piece updated)
-unfolding updated_piece
-updated-line updated =
-    one_line (codes "<updated>") (stamp.printed updated) (codes "</updated>") refl (IsPlain-stamp updated) refl
-
-pub link-line : (rel : List ℕ) (name : FeedName) (to : Address) → lacks lf rel ≡ true → IsBase name.base
-    → IsAddress to → IsLine (link_piece rel name to)
-unfolding link_piece
-link-line rel name to none is_base is_to =
-    one_line (codes "<link rel=\"" ++ rel ++ codes "\" href=\"") (address.printed name.base to) (codes "\"/>")
-    (lacks_append lf (codes "<link rel=\"" ++ rel) (codes "\" href=\"")
-    (lacks_append lf (codes "<link rel=\"") rel refl none) refl) (IsPlain-address name.base to is_base is_to) refl
-
-pub span-line : (span : Span) → IsSpan span → IsLine (span_piece span)
-unfolding span_piece
-span-line span is =
-    one_line (codes "<sp:span first=\"" ++ decimal span.first ++ codes "\" last=\"") (decimal span.last)
-    (codes "\"/>")
-    (lacks_append lf (codes "<sp:span first=\"" ++ decimal span.first) (codes "\" last=\"")
-    (lacks_append lf (codes "<sp:span first=\"") (decimal span.first) refl
-    (plain_line (decimal span.first) (IsPlain-decimal span.first is.first))) refl)
-    (IsPlain-decimal span.last is.last) refl
-
-pub tombstone-line : (name : FeedName) (t : TombstoneValue) → IsLine (tombstone_piece name t)
-unfolding tombstone_piece
-tombstone-line name t =
-    let id = member_id name.id t.number in
-    one_line (codes "<at:deleted-entry ref=\"" ++ id ++ codes "\" when=\"") (stamp.printed t.when) (codes "\"/>")
-    (lacks_append lf (codes "<at:deleted-entry ref=\"" ++ id) (codes "\" when=\"")
-    (lacks_append lf (codes "<at:deleted-entry ref=\"") id refl (plain_line id (IsPlain-member_id name.id t.number)))
-    refl) (IsPlain-stamp t.when) refl

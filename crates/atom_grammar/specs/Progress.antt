@@ -62,6 +62,12 @@ pub record HasTaken (before after : Body) (input rest : List ℕ) : Type 0 where
   pub split : body_text before ++ input ≡ body_text after ++ rest
   pub less : length rest < length input
 
+-- all pieces that were left are read
+pub record IsReadWhole (before after : Body) (input : List ℕ) : Type 0 where
+  pub keeps : KeepsBody after
+  pub ended : after.ended ≡ true
+  pub split : body_text before ++ input ≡ body_text after
+
 -- however the text goes on behind `input`, it is refused where `rest` begins
 abbrev pub IsRefusedBehind : List ℕ → List ℕ → List ℕ → Type 0
 IsRefusedBehind before input rest = (more : List ℕ) → IsRefused [] (before ++ input ++ more) (rest ++ more)
@@ -118,10 +124,6 @@ abbrev pub IsRefusalOf : List ℕ → ReadFault → Type 0
 IsRefusalOf bytes (NotADocument at) =
     (more : List ℕ) → IsNoDocument (bytes ++ more) × IsPlaceOfRefusal (bytes ++ more) at
 IsRefusalOf bytes Memory = Unit {0}
-
-abbrev pub refusal_at : PartFault → ℕ → ReadFault
-refusal_at Mismatch at = NotADocument at
-refusal_at NoMemory at = Memory
 
 -- A reader as contracts see it. After a refusal `fed` says nothing.
 pub record ReaderValue : Type 0 where

@@ -1,7 +1,8 @@
 ghost use Rattle.std.specs.Prelude.{◌≡◌, ◌≢◌, ℕ, List, [], ◌++◌, length, All, Err, OnOk, Some, IfOk, true, false};
 ghost use Rattle.atom_writer.specs.Pieces.{joined};
 ghost use Rattle.atom_grammar.specs.Cutting.{AreWhole};
-ghost use Rattle.atom_grammar.specs.Progress.{KeepsBody, HasTaken, IsStuck, IsRefusedBehind, body_text, document_of};
+ghost use Rattle.atom_grammar.specs.Progress.{KeepsBody, HasTaken, IsReadWhole, IsStuck, IsRefusedBehind, body_text, document_of};
+ghost use Rattle.atom_grammar.specs.Stages.{IsRefused};
 
 use crate::part_fault::PartFault;
 use crate::pieces::{END, Pieces, operations};
@@ -74,6 +75,27 @@ impl Body {
             self.read_next(alloc, pieces)?;
         }
         Ok(())
+    }
+
+    /// Reads the pieces that are left, up to the end of the input.
+    pub(crate) fn read_to_end(
+        &mut self,
+        alloc: Global,
+        pieces: &mut Pieces,
+    ) -> Result<(), PartFault>
+        requires keeps { KeepsBody self.old }
+        ensures read { OnOk result (IsReadWhole self.old self.new pieces.old.rest.now) }
+        ensures refused { result ≡ Err PartFault.Mismatch
+            → IsRefused [] (body_text self.old ++ pieces.old.rest.now) pieces.new.rest.now }
+    {
+        while !self.ended {
+            self.read_next(alloc, pieces)?;
+        }
+        if pieces.rest.is_empty() {
+            Ok(())
+        } else {
+            Err(PartFault::Mismatch)
+        }
     }
 
     /// The document, of which all pieces were read. It keeps the rules of a document, so it is always `Some`.

@@ -92,7 +92,10 @@ impl DocReader {
         ensures again { (fault : ReadFaultValue) → self.refusal ≡ Some fault → result ≡ Err fault }
     {
         match self.refusal {
-            Some(fault) => Err(fault),
+            Some(fault) => {
+                drop(self);
+                Err(fault)
+            }
             None => self.progress.finish(),
         }
     }

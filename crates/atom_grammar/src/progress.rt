@@ -2,7 +2,7 @@ ghost use Rattle.std.specs.Prelude.{◌≡◌, ◌⊎◌, ℕ, List, ◌+◌, �
 ghost use Rattle.atom_writer.specs.Doc.{DocValue, IsDoc};
 ghost use Rattle.atom_writer.specs.Pieces.{text};
 ghost use Rattle.atom_grammar.specs.Cutting.{AreWhole, IsLine};
-ghost use Rattle.atom_grammar.specs.Progress.{IsGoing, IsRefusalOf, IsRefusedBehind, KeepsBody, ReadsWhole, body_text, document_limit, fed_text, has_ended, read_text, refusal_at};
+ghost use Rattle.atom_grammar.specs.Progress.{IsGoing, IsRefusalOf, IsRefusedBehind, KeepsBody, ReadsWhole, body_text, document_limit, fed_text, has_ended, read_text};
 ghost use Rattle.atom_grammar.specs.Refusal.{IsPlaceOfRefusal, IsNoDocument};
 
 use crate::body::Body;
@@ -119,7 +119,10 @@ impl Progress {
                 Ok(())
             }
             Ok(false) => Ok(()),
-            Err(fault) => Err(refusal_at(fault, self.used + (self.text.len() - left))),
+            Err(PartFault::Mismatch) => Err(ReadFault::NotADocument {
+                at: self.used + self.text.len() - left,
+            }),
+            Err(PartFault::NoMemory) => Err(ReadFault::NoMemory),
         }
     }
 
@@ -157,7 +160,10 @@ impl Progress {
         let left = pieces.rest.len();
         match read {
             Ok(doc) => Ok(doc),
-            Err(fault) => Err(refusal_at(fault, used + (text.len() - left))),
+            Err(PartFault::Mismatch) => Err(ReadFault::NotADocument {
+                at: used + text.len() - left,
+            }),
+            Err(PartFault::NoMemory) => Err(ReadFault::NoMemory),
         }
     }
 }
@@ -199,17 +205,13 @@ fn begin(alloc: Global, pieces: &mut Pieces) -> Result<Option<Body>, PartFault>
                 Err(fault)
             }
         },
-        Err(PartFault::Mismatch) if pieces.rest.is_empty() => Ok(None),
-        Err(fault) => Err(fault),
-    }
-}
-
-/// The refusal of a text whose piece at this offset isn't read.
-fn refusal_at(fault: PartFault, at: usize) -> ReadFault
-    ensures { result ≡ refusal_at fault at }
-{
-    match fault {
-        PartFault::Mismatch => ReadFault::NotADocument { at },
-        PartFault::NoMemory => ReadFault::NoMemory,
+        Err(PartFault::Mismatch) => {
+            if pieces.rest.is_empty() {
+                Ok(None)
+            } else {
+                Err(PartFault::Mismatch)
+            }
+        }
+        Err(PartFault::NoMemory) => Err(PartFault::NoMemory),
     }
 }

@@ -83,7 +83,8 @@ pub fn read_doc(alloc: Global, bytes: &[u8]) -> Result<Doc, ReadFault>
         → IsNoDocument bytes.now × IsPlaceOfRefusal bytes.now at }
 {
     let mut reader = DocReader::new(alloc);
-    reader.feed(bytes)?;
+    // `finish` returns the same error.
+    let _ = reader.feed(bytes);
     reader.finish()
 }
 
@@ -100,13 +101,13 @@ pub(crate) fn document(
         Some(body) => body,
         None => head(alloc, pieces)?,
     };
-    while !body.ended {
-        body.read_next(alloc, pieces)?;
+    match body.read_to_end(alloc, pieces) {
+        Ok(()) => body.finish().ok_or(PartFault::Mismatch),
+        Err(fault) => {
+            drop(body);
+            Err(fault)
+        }
     }
-    if !pieces.rest.is_empty() {
-        return Err(PartFault::Mismatch);
-    }
-    body.finish().ok_or(PartFault::Mismatch)
 }
 
 /// Reads the pieces up to the span.

@@ -1,14 +1,15 @@
-use Rattle.std.proofs.Common.{◌≡◌, ◌-◌, length}
+use Rattle.std.proofs.Common.{◌≡◌, ◌≤◌, ◌-◌, length}
 use Rattle.feed_commands.specs.Show.{document_limit}
 use Rattle.feed_commands.proofs.ShowLemmas.{HasGiven}
 use Rattle.feed_commands.proofs.commands.show.read_to_end.Given as goal
 
-abbrev pub invariant-loop-reader : goal.invariant-loop-reader
-invariant-loop-reader g l = record {
+abbrev pub invariant-loop-count : goal.invariant-loop-count
+invariant-loop-count g l = record {
   buffer : length l.buffer.items ≡ 65_536;
+  within : l.reader.length ≤ document_limit;
   given : HasGiven g.I.Source.observable l.reader (g.I.Source.state l.fn.input).left (g.I.Source.state l.input).left;
   faults : (g.I.Source.state l.input).faults ≡ (g.I.Source.state l.fn.input).faults;
 }
 
-abbrev pub decreases-loop-reader : goal.decreases-loop-reader
-decreases-loop-reader g l = document_limit - l.reader.length
+abbrev pub decreases-loop-count : goal.decreases-loop-count
+decreases-loop-count g l = document_limit - l.reader.length

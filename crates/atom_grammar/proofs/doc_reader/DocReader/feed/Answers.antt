@@ -1,0 +1,1 @@
+use Rattle.atom_grammar.proofs.doc_reader.DocReader.feed.Goals as goal
