@@ -82,14 +82,14 @@ module _ (name : FeedName) (kind : Kind) (updated : ℤ) (input m1 : List ℕ) (
       -- all pieces up to the span are there
       pub head_read : (items : Listed Item) → items.items ≡ []
           → IsBegun (record {
-        name = name;
-        kind = kind;
-        updated = updated;
-        prev = prev;
-        span = span;
-        items = items;
-        ended = false;
-      }) input m3
+            name = name;
+            kind = kind;
+            updated = updated;
+            prev = prev;
+            span = span;
+            items = items;
+            ended = false;
+          }) input m3
       head_read items none =
           let body : Body =
           record {

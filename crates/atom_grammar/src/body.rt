@@ -27,11 +27,7 @@ pub(crate) struct Body {
 
 impl Body {
     /// Reads the next piece: an item, or the last piece. On `Mismatch` it reads nothing.
-    pub(crate) fn read_next(
-        &mut self,
-        alloc: Global,
-        pieces: &mut Pieces,
-    ) -> Result<(), PartFault>
+    pub(crate) fn read_next(&mut self, alloc: Global, pieces: &mut Pieces) -> Result<(), PartFault>
         requires keeps { KeepsBody self.old }
         requires more { self.old.ended ≡ true → pieces.old.rest.now ≢ [] }
         ensures read { OnOk result (HasTaken self.old self.new pieces.old.rest.now pieces.new.rest.now) }
@@ -59,11 +55,7 @@ impl Body {
     }
 
     /// Reads these pieces, which are all whole.
-    pub(crate) fn read_all(
-        &mut self,
-        alloc: Global,
-        pieces: &mut Pieces,
-    ) -> Result<(), PartFault>
+    pub(crate) fn read_all(&mut self, alloc: Global, pieces: &mut Pieces) -> Result<(), PartFault>
         requires keeps { KeepsBody self.old }
         requires whole { AreWhole pieces.old.rest.now }
         ensures keeps { OnOk result (KeepsBody self.new) }
