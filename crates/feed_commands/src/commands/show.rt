@@ -45,6 +45,7 @@ pub fn show<I: Source>(alloc: Global, input: &mut I) -> Result<Vec<u8>, Fault>
 /// one buffer more of a longer input.
 fn read_to_end<I: Source>(alloc: Global, input: &mut I) -> Result<DocReader, Fault>
     ensures read { IfOk result (λ reader. I.observable → HasRead reader (I.state input.old).left) }
+    ensures room { IfOk result (λ reader. reader.length ≤ MAX_DOCUMENT) }
     ensures only_errors { IfErr result (λ fault.
         (fault ≡ Fault.NoMemory) ⊎ (fault ≡ Fault.Input) ⊎ (fault ≡ Refused TooLong)) }
     ensures past { result ≡ Err (Refused TooLong) → I.observable → MAX_DOCUMENT < length (I.state input.old).left }
