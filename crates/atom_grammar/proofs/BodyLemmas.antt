@@ -1,13 +1,11 @@
 -- What was read of a document: its text, and its pieces.
-use Rattle.std.proofs.Common.{◌≡◌, ◌≢◌, ℕ, List, [], ◌∷◌, ◌++◌, Bool, true, false, if◌then◌else◌, map, length, nat_eq, Result, Ok, Err, IsErrAnd, refl, sym, ap, ◌∙◌, subst, arith, codes, append-nil, append_assoc, length-append, All}
+use Rattle.std.proofs.Common.{◌≡◌, ◌≢◌, ℕ, List, [], ◌∷◌, ◌++◌, Bool, true, false, if◌then◌else◌, map, length, nat_eq, Result, Ok, Err, IsErrAnd, refl, sym, ap, ◌∙◌, subst, arith, codes, append-nil, append_assoc, All}
 use Rattle.std.proofs.lemmas.Bool.{eqb-true, false≢true}
 use Rattle.std.proofs.lemmas.List.{take_at}
 use Rattle.std.proofs.lemmas.List.Elements.{All-take}
-use Rattle.deleted_entries.specs.declared.item.Item.{Item}
-use Rattle.atom_values.specs.Listed.{Listed}
 use Rattle.atom_writer.specs.Doc.{IsDoc}
 use Rattle.atom_writer.specs.Pieces.{pieces, joined, text, item_piece}
-use Rattle.atom_writer.proofs.PieceLemmas.{joined-append, joined-none, joined-one, joined-map-push}
+use Rattle.atom_writer.proofs.PieceLemmas.{joined-append, joined-none, joined-one}
 use Rattle.atom_grammar.specs.declared.body.Body.{Body}
 use Rattle.atom_grammar.specs.declared.part_fault.PartFault.{PartFault}
 use Rattle.atom_grammar.specs.declared.part_fault.PartFault.TheVariants.{Mismatch}

@@ -1,5 +1,5 @@
 -- The items of a document, read one after another, and its end.
-use Rattle.std.proofs.Common.{◌≡◌, ◌≢◌, ℕ, ◌<◌, List, [], ◌∷◌, ◌++◌, Bool, true, false, if◌then◌else◌, Result, Ok, Err, IsErrAnd, map, length, nat_eq, refl, sym, ap, ◌∙◌, subst, arith, codes, All, append_assoc, length-append}
+use Rattle.std.proofs.Common.{◌≡◌, ◌≢◌, ℕ, ◌<◌, List, [], ◌∷◌, ◌++◌, Bool, true, false, Result, Ok, Err, IsErrAnd, map, length, nat_eq, refl, sym, ap, ◌∙◌, subst, arith, codes, All, append_assoc, length-append}
 use Rattle.std.proofs.lemmas.Bool.{or_from, or_parts, eq-eqb, ne_eqb, false≢true}
 use Rattle.std.proofs.lemmas.List.{map-append}
 use Rattle.std.proofs.lemmas.List.Elements.{All-push, All-head, All-tail}
@@ -10,7 +10,6 @@ use Rattle.atom_values.specs.declared.many.ListFault.{ListFault}
 use Rattle.chain_links.specs.declared.place.Span.{Span}
 use Rattle.deleted_entries.specs.Item.{IsItem, item_number}
 use Rattle.deleted_entries.specs.declared.item.Item.{Item}
-use Rattle.atom_writer.specs.declared.doc.FeedName.{FeedName}
 use Rattle.atom_writer.specs.Doc.{span_len}
 use Rattle.atom_writer.specs.Pieces.{joined, item_piece}
 use Rattle.atom_writer.proofs.PieceLemmas.{joined-map-push}
@@ -19,7 +18,7 @@ use Rattle.atom_grammar.specs.declared.part_fault.PartFault.{PartFault}
 use Rattle.atom_grammar.specs.declared.part_fault.PartFault.TheVariants.{Mismatch, NoMemory}
 use Rattle.atom_grammar.specs.FeedParts.{ReadsPiece, IsItemBehind, item_behind}
 use Rattle.atom_grammar.specs.Parts.{IsAbsent, IsFound, literal, starts}
-use Rattle.atom_grammar.specs.Progress.{KeepsBody, HasTaken, IsStuck, body_text}
+use Rattle.atom_grammar.specs.Progress.{KeepsBody, HasTaken, IsStuck}
 use Rattle.atom_grammar.specs.Stages.{AreItems}
 use Rattle.atom_grammar.proofs.BodyLemmas.{head_of, items_of, body_text-open, body_text-ended}
 use Rattle.atom_grammar.proofs.PairLemmas.{item-second}

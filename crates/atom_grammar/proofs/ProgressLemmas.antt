@@ -76,7 +76,7 @@ refused_within before input rest r =
     )
 
 -- a refusal stays when more bytes come
-pub refusal_on : (bytes more : List ℕ) (fault : ReadFault) → IsRefusalOf bytes fault → IsRefusalOf (bytes ++ more) fault
+refusal_on : (bytes more : List ℕ) (fault : ReadFault) → IsRefusalOf bytes fault → IsRefusalOf (bytes ++ more) fault
 refusal_on bytes more (NotADocument at) r = λ later.
     subst (λ z. IsNoDocument z × IsPlaceOfRefusal z at) (sym (append_assoc bytes more later)) (r (more ++ later))
 refusal_on bytes more NoMemory r = tt
@@ -135,10 +135,6 @@ module _ (text line longer : List ℕ) (start : ℕ) (cut : IsCutText text start
   longer_split : longer ≡ joined cut.pieces ++ (cut.pending ++ line)
   longer_split =
       is_longer ∙ ap (λ z. z ++ line) cut.split ∙ append_assoc (joined cut.pieces) cut.pending line
-
-  pub start_within : start ≤ length longer
-  start_within =
-      omega (arith, cut.place, ap length longer_split, length-append (joined cut.pieces) (cut.pending ++ line))
 
   module _ (seen : List ℕ) (same : seen ≡ longer) where
     -- the bytes behind the whole pieces

@@ -105,7 +105,7 @@ refused_on input rest r whole some more =
     }
 
 -- no piece is allowed behind a body
-pub stuck_on : (body : Body) (input rest : List ℕ) → KeepsBody body → IsStuck body rest → AreWhole rest → rest ≢ []
+stuck_on : (body : Body) (input rest : List ℕ) → KeepsBody body → IsStuck body rest → AreWhole rest → rest ≢ []
     → input ≡ body_text body ++ rest → (more : List ℕ) → IsRefused [] (input ++ more) (rest ++ more)
 stuck_on body input rest keeps stuck whole some e more =
     subst (λ z. IsRefused [] (z ++ more) (rest ++ more)) (sym e)

@@ -1,7 +1,6 @@
 -- How far each step reads a document, and where it refuses.
-use Rattle.std.specs.Prelude.{◌≡◌, ℕ, ◌-◌, ◌<◌, ◌≤◌, ◌^◌, List, [], ◌∷◌, ◌++◌, map, length, Result, Ok, Err, ℤ, true, nat_eq, All, codes}
+use Rattle.std.specs.Prelude.{◌≡◌, ℕ, ◌-◌, ◌<◌, ◌≤◌, ◌^◌, List, [], ◌∷◌, ◌++◌, map, length, Result, Ok, Err, ℤ, nat_eq, All}
 use Rattle.std.specs.List.{IsDistinct}
-use Rattle.atom_values.specs.Listed.{Listed}
 use Rattle.atom_values.specs.Stamp.{IsStamp}
 use Rattle.chain_links.specs.declared.place.Span.{Span}
 use Rattle.deleted_entries.specs.Item.{item_number, IsItem}
@@ -9,13 +8,13 @@ use Rattle.deleted_entries.specs.declared.item.Item.{Item}
 use Rattle.atom_writer.specs.declared.doc.FeedName.{FeedName}
 use Rattle.atom_writer.specs.declared.doc.Kind.{Kind}
 use Rattle.atom_writer.specs.declared.doc.Kind.TheVariants.{Subscription, Archive as Sealed}
-use Rattle.atom_writer.specs.Doc.{DocValue, IsDoc, IsFeedName, span_len}
-use Rattle.atom_writer.specs.Pieces.{name_pieces, current_pieces, prev_pieces, next_pieces, span_piece, item_piece, joined, text}
+use Rattle.atom_writer.specs.Doc.{IsFeedName, span_len}
+use Rattle.atom_writer.specs.Pieces.{name_pieces, current_pieces, prev_pieces, next_pieces, span_piece, joined}
 use Rattle.atom_grammar.specs.declared.opening.Opening.{Opening}
 use Rattle.atom_grammar.specs.declared.part_fault.PartFault.{PartFault}
 use Rattle.atom_grammar.specs.declared.part_fault.PartFault.TheVariants.{Mismatch, NoMemory}
 use Rattle.atom_grammar.specs.FeedParts.{IsKind, own_piece, prev_link, prev_piece}
-use Rattle.atom_grammar.specs.Parts.{IsAbsent, literal, starts}
+use Rattle.atom_grammar.specs.Parts.{IsAbsent, literal}
 use Rattle.atom_writer.specs.Pieced as refused
 use Rattle.atom_grammar.specs.Refusal.{documents}
 
@@ -79,28 +78,3 @@ pub record AreItems (span : Span) (items : List Item) : Type 0 where
   pub each : All IsItem items
   pub room : length items ≤ span_len span
   pub distinct : IsDistinct nat_eq (map item_number items)
-
--- the items that were read
-pub record ReadsSome (name : FeedName) (span : Span) (before : List ℕ) (items : List Item) (after : List ℕ) : Type 0
-  where
-    pub lawful : AreItems span items
-    pub split : before ≡ joined (map (item_piece name) items) ++ after
-
--- neither one more item nor the end of the document is allowed after them
-pub record EndsAt (name : FeedName) (span : Span) (before after : List ℕ) : Type 0 where
-  pub items : List Item
-  pub read : ReadsSome name span before items after
-  pub no_more : (item : Item) (rest : List ℕ) → AreItems span (items ++ item ∷ [])
-      → after ≡ item_piece name item ++ rest → ⊥
-  pub no_end : IsAbsent (literal (codes "</feed>\n")) after
-
-abbrev pub ReadsItems : FeedName → Span → List ℕ → Result (Listed Item) PartFault → List ℕ → Type 0
-ReadsItems name span before (Ok items) after =
-    ReadsSome name span before items.items after × (starts (codes "</feed>\n") after ≡ true)
-ReadsItems name span before (Err Mismatch) after = EndsAt name span before after
-ReadsItems name span before (Err NoMemory) after = Unit {0}
-
-abbrev pub ReadsDocument : List ℕ → Result DocValue PartFault → List ℕ → Type 0
-ReadsDocument before (Ok d) after = IsDoc d × (before ≡ text d)
-ReadsDocument before (Err Mismatch) after = IsRefused [] before after
-ReadsDocument before (Err NoMemory) after = Unit {0}

@@ -1,4 +1,4 @@
-ghost use Rattle.std.specs.Prelude.{◌≡◌, ◌⊎◌, ℕ, List, ◌+◌, ◌≤◌, ◌++◌, [], length, Ok, Err, None, IfOk, IfErr, OnOk, IfSome, true, false};
+ghost use Rattle.std.specs.Prelude.{◌≡◌, ◌⊎◌, ℕ, ◌+◌, ◌≤◌, ◌++◌, [], length, Ok, Err, None, IfOk, IfErr, OnOk, IfSome, true, false};
 ghost use Rattle.atom_writer.specs.Doc.{DocValue, IsDoc};
 ghost use Rattle.atom_writer.specs.Pieces.{text};
 ghost use Rattle.atom_grammar.specs.Cutting.{AreWhole, IsLine};

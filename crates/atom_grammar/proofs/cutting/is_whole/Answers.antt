@@ -1,4 +1,4 @@
-use Rattle.std.proofs.Common.{sym, ◌∙◌, ap, ◌++◌, ◌-◌, List, ℕ, length, take}
+use Rattle.std.proofs.Common.{sym, ◌∙◌, ap, ◌++◌, ◌-◌, length, take}
 use Rattle.std.proofs.lemmas.Bool.Decides.{Decides-eqb}
 use Rattle.std.proofs.lemmas.Slice.Eq.{ends_is}
 use Rattle.atom_grammar.proofs.cutting.is_whole.Goals as goal

@@ -1,6 +1,5 @@
-use Rattle.std.proofs.Common.{◌≡◌, ◌++◌, Ok, sym, ap, ◌∙◌, subst}
+use Rattle.std.proofs.Common.{◌≡◌, ◌++◌, sym, ap, ◌∙◌, subst}
 use Rattle.std.specs.Option.{ok_or}
-use Rattle.atom_grammar.specs.declared.body.Body.{Body}
 use Rattle.atom_grammar.specs.declared.part_fault.PartFault.TheVariants.{Mismatch}
 use Rattle.atom_grammar.specs.declared.pieces.Pieces.{Pieces}
 use Rattle.atom_grammar.specs.Progress.{ReadsRest, body_text, read_text}

@@ -1,7 +1,7 @@
 use Rattle.std.proofs.Common.{sym, ◌∙◌, subst, Err}
 use Rattle.atom_grammar.specs.FeedParts.{ReadsPiece, item_behind}
 use Rattle.atom_grammar.specs.Parts.{IsFound}
-use Rattle.atom_grammar.proofs.ItemListLemmas.{ended_stuck, full_stuck, item_stuck, end_there, item_taken, end_taken, pushed_items}
+use Rattle.atom_grammar.proofs.ItemListLemmas.{item_stuck, end_there, item_taken, end_taken, pushed_items}
 use Rattle.atom_grammar.proofs.body.Body.read_next.Goals as goal
 
 pub returns-in_err-fixed-clause-stuck : goal.returns-in_err-fixed-clause-stuck

@@ -1,7 +1,6 @@
-use Rattle.std.proofs.Common.{◌++◌, ap, sym, ◌∙◌, subst, arith, length, length-append, Ok, Err}
-use Rattle.atom_grammar.specs.declared.part_fault.PartFault.TheVariants.{Mismatch}
+use Rattle.std.proofs.Common.{ap, ◌∙◌, subst, arith, length, length-append, Ok, Err}
 use Rattle.atom_grammar.specs.Progress.{IsRefusedBehind, read_text}
-use Rattle.atom_grammar.proofs.ProgressLemmas.{all_whole, nothing_left, refused_pieces, refused_within}
+use Rattle.atom_grammar.proofs.ProgressLemmas.{nothing_left, refused_pieces}
 use Rattle.atom_grammar.proofs.progress.Progress.read_pieces.Goals as goal
 
 pub returns-in-Ok-true-clause-going : goal.returns-in-Ok-true-clause-going

@@ -1,4 +1,4 @@
-use Rattle.std.proofs.Common.{◌++◌, ◌+◌, sym, ◌∙◌, ap, subst, arith, length, take, drop, append_assoc, length-append, ◌≡◌, nat_eq}
+use Rattle.std.proofs.Common.{◌++◌, ◌+◌, sym, ◌∙◌, ap, subst, arith, length, drop, append_assoc, length-append, ◌≡◌, nat_eq}
 use Rattle.std.proofs.lemmas.Bool.{false≢true}
 use Rattle.std.proofs.lemmas.List.{take-append-drop}
 use Rattle.atom_grammar.specs.declared.read.ReadFault.TheVariants.{NotADocument}

@@ -1,1 +1,0 @@
-use Rattle.atom_grammar.proofs.doc_reader.DocReader.feed.Goals as goal
