@@ -1,5 +1,4 @@
-ghost use Rattle.std.specs.Prelude.{◌≡◌, ◌≢◌, ℕ, List, [], ◌++◌, length, All, Err, OnOk, Some, IfOk, true, false};
-ghost use Rattle.atom_writer.specs.Pieces.{joined};
+ghost use Rattle.std.specs.Prelude.{◌≡◌, ◌≢◌, [], ◌++◌, Err, OnOk, Some, true};
 ghost use Rattle.atom_grammar.specs.Cutting.{AreWhole};
 ghost use Rattle.atom_grammar.specs.Progress.{KeepsBody, HasTaken, IsReadWhole, IsStuck, IsRefusedBehind, body_text, document_of};
 ghost use Rattle.atom_grammar.specs.Stages.{IsRefused};
