@@ -90,6 +90,7 @@ fn offset<T: Drop>(rt: &impl Abort, read: Result<T, ReadFault>) -> Option<usize>
 
 /// Feeds the text in parts of this size. The offset at which it is refused meanwhile: that refusal stays.
 fn feed(rt: &impl Abort, reader: &mut DocReader, text: &[u8], size: usize) -> Option<usize> {
+    assert!(rt; size > 0);
     let mut refused = None;
     for part in text.chunks(size) {
         assert!(rt; part.len() <= MAX_DOCUMENT - reader.len());
@@ -136,10 +137,18 @@ static HEAD_CHANGES: [Change; 24] = [
     ("<title>Feed", "<title>&apos;", Some("<title>&apos;")),
     ("<title>Feed", "<title>&#x26;", Some("<title>&#x26;")),
     ("<title>Feed", "<title>a&amp;b'\"", None),
-    ("<title>Feed", "<title>\n&lt;/title&gt;\n\n\u{E9}\u{1F600}", None),
+    (
+        "<title>Feed",
+        "<title>\n&lt;/title&gt;\n\n\u{E9}\u{1F600}",
+        None,
+    ),
     ("Editor", "\n&lt;/author&gt;\nE\n", None),
     ("Editor", "</name>\n", Some("<author>")),
-    ("Editor</name></author>\n", "Editor</name></author>\n\n", Some("\n<link")),
+    (
+        "Editor</name></author>\n",
+        "Editor</name></author>\n\n",
+        Some("\n<link"),
+    ),
     (
         "13:20Z</updated>",
         "13:20.000Z</updated>",
