@@ -1,7 +1,7 @@
 #!/bin/sh
 # Reads the largest archive that a feed with a short head can have, which has 100 entries of 394,240 bytes, and writes it
-# again. Prints whether the bytes are the same, the milliseconds of both, and the seconds and the peak memory in KiB of
-# the run.
+# again. Prints whether the bytes are the same, the milliseconds of both, those of reading it in parts of 1, 7 and 65,536
+# bytes, and the seconds and the peak memory in KiB of the run.
 # The program is proved and built in a workspace of its own over copies of the crates, without their must-fail edits.
 # usage: bench/round_trip.sh
 top=$(CDPATH='' cd -- "$(dirname -- "$0")/.." && pwd) || exit 1
