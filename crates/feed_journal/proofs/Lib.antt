@@ -10,7 +10,7 @@ pub mod ExtentLemmas
 pub mod ListLemmas
 -- `Log::load`: `size` and `rests`; `FrameReader::open`: `closed`
 pub mod LoadLemmas
--- `Frames::read`: `payload`, `length` and `never`
+-- `Frames::read_part`: that the range is in the area, and `part`; `Frames::read`: `payload` and `length`
 pub mod ReadLemmas
 -- `FrameReader::next`: `listed` and `begins`
 pub mod ReadingLemmas

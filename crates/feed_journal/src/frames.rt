@@ -1,5 +1,5 @@
-ghost use Rattle.std.specs.Prelude.{◌≡◌, ◌≢◌, ◌+◌, ◌<◌, ◌≤◌, ℕ, [], ◌∷◌, ◌++◌, length, slice_get, true, false};
-ghost use Rattle.std.specs.Prelude.{Some, OnOk, OnErr, IfOk, IsTrue, ◌↔◌};
+ghost use Rattle.std.specs.Prelude.{◌≡◌, ◌≢◌, ◌+◌, ◌<◌, ◌≤◌, ℕ, List, [], ◌∷◌, ◌++◌, length, slice_get, true, false};
+ghost use Rattle.std.specs.Prelude.{take, drop, Some, OnOk, OnErr, IfOk, IsTrue, ◌↔◌};
 ghost use Rattle.atom_values.specs.Counts.{CountsFault};
 ghost use Rattle.feed_disk.specs.Moments.{LeavesAlone};
 ghost use Rattle.feed_disk.specs.Raised.{raised};
@@ -180,9 +180,52 @@ impl Frames {
         ensures faults { CountsFault (D.state disk.old).faults (D.state disk.new).faults
             (result ≡ Err LogFault.DiskFault) }
     {
-        let mut bytes = vec![in self.alloc; 0u8; extent.length as usize]?;
+        self.read_part(disk, extent, index, 0, extent.length)
+    }
+
+    /// Reads a part of the payload at the extent of an index, counted from 0, in one device call: `count` bytes from
+    /// byte `at` of the payload on.
+    ///
+    /// Errors: `DiskFault` where the disk's count of faults rose, after which the frames are spent. `Changed` if
+    /// the area ends before the part does. `NoMemory`. No other error hides a failed device call.
+    pub fn read_part<D: Disk>(
+        &mut self,
+        disk: &mut D,
+        extent: Extent,
+        index: u32,
+        at: u32,
+        count: u32,
+    ) -> Result<Vec<u8>, LogFault>
+        requires unspent { self.old.spent ≡ false }
+        requires place { slice_get self.old.extents index ≡ Some extent }
+        requires inside { at + count ≤ extent.length }
+        requires listed { D.observable → payloads_at self.old.extents ((D.state disk.old).content self.old.area)
+            ≡ records ((D.state disk.old).content self.old.area) }
+        ensures part { IfOk result (λ part. D.observable → (payload : List ℕ)
+            → slice_get (records ((D.state disk.old).content self.old.area)) index ≡ Some payload
+            → part.items ≡ take count (drop at payload)) }
+
+        // With any disk, the part has this length, and a read gave all its bytes.
+        ensures length { IfOk result (λ part. length part.items ≡ count) }
+        ensures read { IfOk result (λ part. (D.state disk.new).bytes_read
+            ≡ raised (D.state disk.old).bytes_read (length part.items)) }
+
+        ensures never { D.observable → (n : ℕ) → result ≢ Err (LogFault.Changed n) }
+        ensures changed { (n : ℕ) → result ≡ Err (LogFault.Changed n) → n ≡ index }
+        ensures log { result ≢ Err LogFault.DiskFault
+            → self.new ≡ record self.old { calls = self.new.calls } }
+        ensures spent { result ≡ Err LogFault.DiskFault
+            → self.new ≡ record self.old { calls = self.new.calls; spent = true } }
+        ensures areas { (a : AreaValue) → LeavesAlone (D.state disk.old) (D.state disk.new) a }
+        ensures one { OnOk result
+            (MakesCalls (D.state disk.old) (D.state disk.new) self.old.calls self.new.calls 1) }
+        ensures calls { MakesSome (D.state disk.old) (D.state disk.new) self.old.calls self.new.calls }
+        ensures faults { CountsFault (D.state disk.old).faults (D.state disk.new).faults
+            (result ≡ Err LogFault.DiskFault) }
+    {
+        let mut bytes = vec![in self.alloc; 0u8; count as usize]?;
         self.calls = self.calls.saturating_add(1);
-        match read_exactly(disk, self.area, extent.offset, &mut bytes) {
+        match read_exactly(disk, self.area, extent.offset + u64::from(at), &mut bytes) {
             Ok(true) => Ok(bytes),
             Ok(false) => Err(LogFault::Changed { index }),
             Err(_) => {

@@ -15,7 +15,7 @@
 //! Each payload is in a frame that begins with a gate. An append writes the frame with a closed gate, syncs
 //! it, then opens the gate and syncs that. So at each moment within it a crash leaves the list before or the
 //! list with the new payload. `Log::load` recovers exactly the payloads of the area, and `Log::read` returns
-//! them.
+//! them. `Log::read_part` returns a part of a payload without reading the rest.
 //!
 //! A log keeps 16 bytes for each payload. A caller that needs few of the payloads again reads all of them once, by
 //! [`FrameReader`], and goes on with [`Frames`], which keep none.

@@ -1,5 +1,5 @@
-ghost use Rattle.std.specs.Prelude.{◌≡◌, ◌≢◌, ◌+◌, ◌*◌, ◌<◌, ◌≤◌, ℕ, false, length, slice_get};
-ghost use Rattle.std.specs.Prelude.{true, OnOk, OnErr, IfOk, Some, IsTrue, ◌↔◌};
+ghost use Rattle.std.specs.Prelude.{◌≡◌, ◌≢◌, ◌+◌, ◌*◌, ◌<◌, ◌≤◌, ℕ, List, false, length, take, drop, slice_get};
+ghost use Rattle.std.specs.Prelude.{true, OnOk, OnErr, IfOk, IfSome, Some, IsTrue, ◌↔◌};
 ghost use Rattle.atom_values.specs.Counts.{CountsFault};
 ghost use Rattle.feed_disk.specs.Moments.{AlwaysLeaves, LeavesAlone, NowOnly};
 ghost use Rattle.feed_disk.specs.Raised.{raised};
@@ -209,5 +209,50 @@ impl Log {
     {
         let place = self.places[index as usize];
         self.frames.read(disk, place, index)
+    }
+
+    /// Reads a part of the payload of an index, counted from 0, in one device call: `count` bytes from byte `at` of
+    /// the payload on.
+    ///
+    /// Errors: `DiskFault` where the disk's count of faults rose, after which the log is spent. `Changed` if
+    /// the area ends before the part does. `NoMemory`. No other error hides a failed device call, and after one
+    /// the log is as it was but for `calls`.
+    pub fn read_part<D: Disk>(
+        &mut self,
+        disk: &mut D,
+        index: u32,
+        at: u32,
+        count: u32,
+    ) -> Result<Vec<u8>, LogFault>
+        requires unspent { self.old.spent ≡ false }
+        requires within { index < length self.old.extents }
+        requires inside { IfSome (slice_get (payload_lengths self.old.extents) index)
+            (λ whole. at + count ≤ whole) }
+        requires listed { D.observable → payloads_at self.old.extents ((D.state disk.old).content self.old.area)
+            ≡ records ((D.state disk.old).content self.old.area) }
+        ensures part { IfOk result (λ part. D.observable → (payload : List ℕ)
+            → slice_get (records ((D.state disk.old).content self.old.area)) index ≡ Some payload
+            → part.items ≡ take count (drop at payload)) }
+
+        // With any disk, the part has this length, and a read gave all its bytes.
+        ensures length { IfOk result (λ part. length part.items ≡ count) }
+        ensures read { IfOk result (λ part. (D.state disk.new).bytes_read
+            ≡ raised (D.state disk.old).bytes_read (length part.items)) }
+
+        ensures never { D.observable → (n : ℕ) → result ≢ Err (LogFault.Changed n) }
+        ensures changed { (n : ℕ) → result ≡ Err (LogFault.Changed n) → n ≡ index }
+        ensures log { result ≢ Err LogFault.DiskFault
+            → self.new ≡ record self.old { calls = self.new.calls } }
+        ensures spent { result ≡ Err LogFault.DiskFault
+            → self.new ≡ record self.old { calls = self.new.calls; spent = true } }
+        ensures areas { (a : AreaValue) → LeavesAlone (D.state disk.old) (D.state disk.new) a }
+        ensures one { OnOk result
+            (MakesCalls (D.state disk.old) (D.state disk.new) self.old.calls self.new.calls 1) }
+        ensures calls { MakesSome (D.state disk.old) (D.state disk.new) self.old.calls self.new.calls }
+        ensures faults { CountsFault (D.state disk.old).faults (D.state disk.new).faults
+            (result ≡ Err LogFault.DiskFault) }
+    {
+        let place = self.places[index as usize];
+        self.frames.read_part(disk, place, index, at, count)
     }
 }
