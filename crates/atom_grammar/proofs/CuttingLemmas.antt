@@ -4,14 +4,14 @@ use Rattle.std.proofs.lemmas.Bool.{cond_both}
 use Rattle.std.proofs.lemmas.Bool.Decides.{nat_tests}
 use Rattle.std.proofs.lemmas.List.Elements.{All-from_recursion, All-nil, All-cons, All-append, All-map, All-weaker}
 use Rattle.atom_values.specs.Ascii.{lf}
-use Rattle.atom_values.specs.Entry.{EntryValue, IsEntry}
+use Rattle.atom_values.specs.Entry.{EntryValue}
 use Rattle.atom_values.specs.Escape.{escaped}
 use Rattle.chain_links.specs.Address.{IsAddress}
 use Rattle.chain_links.specs.Base.{IsBase}
 use Rattle.chain_links.specs.declared.address.Address.{Address}
 use Rattle.chain_links.specs.declared.address.Address.TheVariants.{Feed, Archive}
 use Rattle.chain_links.specs.declared.place.Span.{Span}
-use Rattle.deleted_entries.specs.Item.{IsItem}
+use Rattle.deleted_entries.specs.Item.{IsItem, item_number}
 use Rattle.deleted_entries.specs.Tombstone.{TombstoneValue}
 use Rattle.deleted_entries.specs.declared.item.Item.{Item}
 use Rattle.deleted_entries.specs.declared.item.Item.TheVariants.{Kept, Gone}
@@ -24,6 +24,7 @@ use Rattle.atom_writer.specs.Pieces.{pieces, name_pieces, place_pieces, item_pie
 use Rattle.atom_grammar.specs.Cutting.{mark_of, IsWhole, IsCut, IsUnfinished, IsLine}
 use Rattle.atom_grammar.specs.FeedParts.{IsKind, IsSpan}
 use Rattle.atom_grammar.specs.Parts.{lacks, open_tag}
+use Rattle.atom_grammar.specs.Places.{first_pieces}
 use Rattle.atom_grammar.proofs.EndTagLemmas.{IsClear-inner}
 use Rattle.atom_grammar.proofs.LinePieceLemmas.{id-line, updated-line, link-line, span-line, tombstone-line}
 use Rattle.atom_grammar.proofs.MarkLemmas.{lacking_unfinished, split_cases, ends_in, one_line_end, clear_append, clear_lacks, tagged_cut}
@@ -103,18 +104,25 @@ author-cut name =
     (clear_lacks open_tag (codes "/author>\n") author (escaped_lacks_tag false name.author))) refl) in
     rw (← append_assoc (codes "<author><name>" ++ author) (codes "</name>") mark) cut
 
-entry-cut : (name : FeedName) (e : EntryValue) → IsBase name.base → IsEntry e → IsCut (entry_piece name e)
+entry-cut : (name : FeedName) (e : EntryValue) → IsBase name.base → (1 ≤ e.number) × (e.number < 2 ^ 32)
+    → IsCut (entry_piece name e)
 unfolding entry_piece
-entry-cut name e is_base is =
+entry-cut name e is_base counted =
     tagged_cut (codes "<entry>") (inner_text name e) (codes "</entry>\n") refl (λ rest. refl)
-    (clear_append (codes "</entry>\n") (codes "<entry>") (inner_text name e) refl (IsClear-inner name e is_base is))
+    (clear_append (codes "</entry>\n") (codes "<entry>") (inner_text name e) refl (IsClear-inner name e is_base counted))
 
 tombstone-cut : (name : FeedName) (t : TombstoneValue) → IsCut (tombstone_piece name t)
 unfolding tombstone_piece
 tombstone-cut name t = line_cut (tombstone_piece name t) (tombstone-line name t) refl
 
+-- of the rules of an item only the range of its number is needed
+pub counted-cut : (name : FeedName) → IsBase name.base → (item : Item) → 1 ≤ item_number item
+    → item_number item < 2 ^ 32 → IsCut (item_piece name item)
+counted-cut name is_base (Kept e) from_one small = entry-cut name e is_base (from_one, small)
+counted-cut name is_base (Gone t) from_one small = tombstone-cut name t
+
 pub item-cut : (name : FeedName) → IsFeedName name → (item : Item) → IsItem item → IsCut (item_piece name item)
-item-cut name is_name (Kept e) is = entry-cut name e is_name.base is
+item-cut name is_name (Kept e) is = entry-cut name e is_name.base (is.whole.counted, is.number)
 item-cut name is_name (Gone t) is = tombstone-cut name t
 
 -- the pieces outside the items
@@ -207,17 +215,22 @@ place_pieces-cut name kind span prev is_base is_placed is_span small =
     (current-cut name kind is_base)) (prev-cut name prev is_base small)) (next-cut name kind is_base is_placed))
     (All-cons IsCut (span_piece span) [] (span-cut span is_span) (All-nil IsCut))
 
+-- the pieces before the items
+pub first_pieces-cut : (name : FeedName) (updated : ℤ) (kind : Kind) (span : Span) (prev : ℕ) → IsBase name.base
+    → IsKind kind → IsSpan span → prev < 2 ^ 32 → All IsCut (first_pieces name updated kind span prev)
+first_pieces-cut name updated kind span prev is_base is_kind is_span small =
+    All-append IsCut (name_pieces name updated) (place_pieces name kind span prev) (name_pieces-cut name updated)
+    (place_pieces-cut name kind span prev is_base is_kind is_span small)
+
 pub pieces-cut : (d : DocValue) → IsDoc d → All IsCut (pieces d)
 unfolding pieces
 pieces-cut d is =
-    let head = name_pieces d.name d.updated in
-    let place = place_pieces d.name d.kind d.span d.prev in
+    let first = first_pieces d.name d.updated d.kind d.span d.prev in
     let items = map (item_piece d.name) d.items in
-    All-append IsCut (head ++ place ++ items) (codes "</feed>\n" ∷ [])
-    (All-append IsCut (head ++ place) items
-    (All-append IsCut head place (name_pieces-cut d.name d.updated)
-    (place_pieces-cut d.name d.kind d.span d.prev is.name.base (is_kind d.kind d.span d.prev is.rules.placed)
-    (is_span d is) is.prev))
+    All-append IsCut (first ++ items) (codes "</feed>\n" ∷ [])
+    (All-append IsCut first items
+    (first_pieces-cut d.name d.updated d.kind d.span d.prev is.name.base
+    (is_kind d.kind d.span d.prev is.rules.placed) (is_span d is) is.prev)
     (All-map IsCut (item_piece d.name) d.items
     (All-weaker IsItem (λ item. IsCut (item_piece d.name item)) (item-cut d.name is.name) d.items is.items)))
     (All-cons IsCut (codes "</feed>\n") [] end-cut (All-nil IsCut))

@@ -7,7 +7,7 @@ use Rattle.atom_values.specs.declared.person.Person.{Person}
 use Rattle.atom_values.specs.declared.text.Text.{Text}
 use Rattle.atom_values.specs.declared.text.TextKind.{TextKind}
 use Rattle.atom_values.specs.declared.text.TextKind.TheVariants.{Plain, Html}
-use Rattle.atom_values.specs.Entry.{EntryValue, IsEntry}
+use Rattle.atom_values.specs.Entry.{EntryValue}
 use Rattle.atom_values.specs.Escape.{escaped}
 use Rattle.atom_values.specs.Link.{has_relation}
 use Rattle.atom_values.specs.Stamp as stamp
@@ -185,9 +185,10 @@ IsClear-front name e =
     (IsClear-plain updated (IsPlain-stamp e.updated)) refl) (IsClear-published e.published) refl)
     (IsClear-plain edited (IsPlain-stamp e.edited)) refl
 
-IsClear-back : (name : FeedName) (e : EntryValue) → IsBase name.base → IsEntry e → IsClear (back_text name e)
+IsClear-back : (name : FeedName) (e : EntryValue) → IsBase name.base → (1 ≤ e.number) × (e.number < 2 ^ 32)
+    → IsClear (back_text name e)
 unfolding back_text
-IsClear-back name e is_base is =
+IsClear-back name e is_base counted =
     let contributors = persons_text (codes "contributor") e.contributors in
     let edit = edit_link name e.number in
     let links = flat_map link_text e.links in
@@ -199,17 +200,18 @@ IsClear-back name e is_base is =
     (IsClear-between (contributors ++ edit ++ links) categories rights
     (IsClear-between contributors edit links
     (IsClear-flat_map (person_text (codes "contributor")) (IsClear-person (codes "contributor") refl refl)
-    e.contributors) (IsClear-edit_link name e.number is_base (is.whole.counted, is.number))
+    e.contributors) (IsClear-edit_link name e.number is_base counted)
     (IsClear-flat_map link_text IsClear-link e.links))
     (IsClear-flat_map category_text IsClear-category e.categories)
     (IsClear-optional_construct (codes "rights") e.rights refl refl))
     (IsClear-optional_construct (codes "summary") e.summary refl refl)
     (IsClear-optional_construct (codes "content") e.content refl refl)
 
-pub IsClear-inner : (name : FeedName) (e : EntryValue) → IsBase name.base → IsEntry e → IsClear (inner_text name e)
+pub IsClear-inner : (name : FeedName) (e : EntryValue) → IsBase name.base → (1 ≤ e.number) × (e.number < 2 ^ 32)
+    → IsClear (inner_text name e)
 unfolding inner_text
-IsClear-inner name e is_base is =
+IsClear-inner name e is_base counted =
     IsClear-between (front_text name e) (persons_text (codes "author") e.authors) (back_text name e)
     (IsClear-front name e)
     (IsClear-flat_map (person_text (codes "author")) (IsClear-person (codes "author") refl refl) e.authors)
-    (IsClear-back name e is_base is)
+    (IsClear-back name e is_base counted)

@@ -27,7 +27,7 @@ no_cut p rest cut e =
       ap (λ z. length (mark_of z)) none,
     )
 
-joined-front : (p : List ℕ) (ps : List (List ℕ)) (rest : List ℕ) → joined (p ∷ ps) ++ rest ≡ p ++ (joined ps ++ rest)
+pub joined-front : (p : List ℕ) (ps : List (List ℕ)) (rest : List ℕ) → joined (p ∷ ps) ++ rest ≡ p ++ (joined ps ++ rest)
 joined-front p ps rest = ap (λ z. z ++ rest) (joined-cons p ps) ∙ append_assoc p (joined ps) rest
 
 -- what is left of whole pieces behind some pieces is whole

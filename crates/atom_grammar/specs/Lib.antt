@@ -7,3 +7,4 @@ pub mod Stages
 pub mod EntryParts
 pub mod Cutting
 pub mod Progress
+pub mod Places

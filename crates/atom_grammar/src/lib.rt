@@ -17,6 +17,8 @@
 //!
 //! [`DocReader`] reads a text that comes in parts, and keeps no more of it than one piece.
 //!
+//! [`item_places`] finds the pieces of a document's items in its text, and [`read_entry`] reads that of an entry alone.
+//!
 //! Stands on `atom_writer`, whose definition of the text it cites, on `uuid` and on `memchr`.
 #![tactic(auto)]
 
@@ -31,14 +33,18 @@ mod feed_parts;
 mod item;
 mod laws;
 mod link;
+mod one_entry;
 mod opening;
 mod part_fault;
 mod person;
 mod pieces;
+mod places;
 mod progress;
 mod read;
 mod reader;
 
 pub use doc_reader::DocReader;
 pub use laws::{pieces_are_prefix_free, texts_have_one_reading};
+pub use one_entry::read_entry;
+pub use places::{PiecePlace, item_places};
 pub use read::{MAX_DOCUMENT, ReadFault, read_doc};
