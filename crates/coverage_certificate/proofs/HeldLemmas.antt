@@ -57,19 +57,17 @@ text-nil : (name : FeedName) → [] ≡ live_text name []
 unfolding live_text
 text-nil name = refl
 
--- only the mirror's count of calls and the document that was read back last changed, twice
+-- only the mirror's count of calls changed, twice
 pub keeps_joins : (a b c : MirrorValue) → KeepsAllBut a b → KeepsAllBut b c → KeepsAllBut a c
 keeps_joins a b c first second =
     second ∙ ap (λ (m : MirrorValue). let left : MirrorValue = record m {
       log = record m.log { calls = c.log.calls };
-      reread = c.reread;
     } in left) first
 
 pub spent_joins : (a b c : MirrorValue) → KeepsAllBut a b → IsSpentBy b c → IsSpentBy a c
 spent_joins a b c first second =
     second ∙ ap (λ (m : MirrorValue). let left : MirrorValue = record m {
       log = record m.log { calls = c.log.calls; spent = true };
-      reread = c.reread;
     } in left) first
 
 pub read_joins : (observable : Type 0) (s : DiskState) (a b c : MirrorValue) (failed : Type 0) → KeepsAllBut a b

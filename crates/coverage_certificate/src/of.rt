@@ -36,8 +36,8 @@ impl Certificate {
     /// The certificate of what a mirror holds. `outcome` has found the mirror complete and listed the live
     /// entries, and no document was taken since.
     ///
-    /// Reads each document that has live entries back from the log, as [`Mirror::entry`] does. One member
-    /// document at a time is in memory.
+    /// Reads each live entry back from the log, as [`Mirror::entry`] does. One entry and its member document at a
+    /// time are in memory.
     ///
     /// Errors:
     ///
@@ -70,8 +70,7 @@ impl Certificate {
         ensures changed { (index : ℕ) → result ≡ Err (LogFault.Changed index)
             → ShowsSome mirror.old.kept index }
 
-        // No area changes, and of the mirror only the count of calls and the document that was read back
-        // last. After `DiskFault` it is spent.
+        // No area changes, and of the mirror only the count of calls. After `DiskFault` it is spent.
         ensures areas { (a : AreaValue) → LeavesAlone (D.state disk.old) (D.state disk.new) a }
         ensures mirror { HasReadBack D.observable (D.state disk.new) mirror.old mirror.new
             (result ≡ Err LogFault.DiskFault) }

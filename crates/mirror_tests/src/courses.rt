@@ -171,3 +171,32 @@ fn next_entry<D: Disk>(
     let entry = mirror.entry(disk, number)?;
     Ok(Some(entry))
 }
+
+/// The titles of the live entries, in order of number. Empty if a document is missing.
+pub fn read_titles<D: Disk>(
+    rt: &impl Abort,
+    alloc: Global,
+    mirror: &mut Mirror,
+    disk: &mut D,
+) -> String
+    requires unspent { is_spent mirror.old ≡ false }
+    requires stands { D.observable → StandsFor (D.state disk.old) mirror.old }
+    ensures unspent { is_spent mirror.new ≡ false }
+    ensures stands { D.observable → StandsFor (D.state disk.new) mirror.new }
+{
+    let mut titles = String::new(alloc);
+    let outcome = mirror.outcome().expect(rt, "memory");
+    if let Outcome::Complete { live, .. } = outcome {
+        let mut after = 0;
+        for _ in 0..live {
+            let Some(entry) = next_entry(mirror, disk, after).expect(rt, "an entry") else {
+                break;
+            };
+            after = entry.number;
+            let title = str::from_utf8(entry.title.value.bytes()).expect(rt, "a title");
+            titles.push_str(title).expect(rt, "memory");
+            drop(entry);
+        }
+    }
+    titles
+}

@@ -81,19 +81,13 @@ fn failing(
 }
 
 /// Returns the course of an empty mirror if this device call fails. The load makes the calls 1 to 4, each
-/// offer makes four, and the entries of each document are read in one.
+/// offer makes four, and each of the thirteen entries is read in one.
 fn cut_course(rt: &impl Abort, alloc: Global, call: u64) -> Course {
     let taken = call.saturating_sub(5) / 4;
     match call {
         0..=4 => course_of(rt, alloc, (0, 0), 0, "load: disk fault"),
         5..=20 => course_of(rt, alloc, (0, taken), 0, "offer: disk fault"),
-        _ => course_of(
-            rt,
-            alloc,
-            (0, 4),
-            4 * (call.min(24) - 21),
-            "entry: disk fault",
-        ),
+        _ => course_of(rt, alloc, (0, 4), call.min(33) - 21, "entry: disk fault"),
     }
 }
 
@@ -101,7 +95,7 @@ fn cut_course(rt: &impl Abort, alloc: Global, call: u64) -> Course {
 fn after_a_failed_call_a_new_mirror_goes_on(rt: HostRuntime) {
     let alloc = rt.alloc();
     let offers = chain(&rt, alloc);
-    for call in 1u64..25 {
+    for call in 1u64..34 {
         let courses = failing(&rt, alloc, b"", call, &offers);
         // If the last of an offer's calls fails, the document is in the area nevertheless.
         let held = held_after(call, 4, 4);
@@ -129,9 +123,9 @@ fn after_a_failed_call_a_whole_mirror_is_loaded_again(rt: HostRuntime) {
     let calls = calls_of(&rt, alloc, &area, &offers);
     for call in 1..=calls {
         let courses = failing(&rt, alloc, &area, call, &offers);
-        // The last four calls read the entries.
+        // The last thirteen calls read the entries.
         let first = match calls - call {
-            read @ 0..4 => course_of(&rt, alloc, (4, 0), 4 * (3 - read), "entry: disk fault"),
+            left @ 0..13 => course_of(&rt, alloc, (4, 0), 12 - left, "entry: disk fault"),
             _ => course_of(&rt, alloc, (0, 0), 0, "load: disk fault"),
         };
         let wanted = (first, whole(&rt, alloc, 4));
@@ -167,7 +161,7 @@ fn a_crash_leaves_the_documents_before_or_one_more(rt: HostRuntime) {
     let alloc = rt.alloc();
     let offers = chain(&rt, alloc);
     let disk = full_disk(&rt, alloc, &offers);
-    for call in 0u64..25 {
+    for call in 0u64..34 {
         for filling in FILLINGS {
             let course = after_crash(&rt, alloc, &disk, (call, filling), &offers);
             let held = held_after(call, filling.landed(), 4);

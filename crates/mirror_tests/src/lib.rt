@@ -28,6 +28,8 @@ mod mirrors;
 #[cfg(test)]
 mod offers;
 #[cfg(test)]
+mod orders;
+#[cfg(test)]
 mod piles;
 #[cfg(test)]
 mod refusals;

@@ -21,7 +21,7 @@ use Rattle.deleted_entries.specs.Item.{item_number}
 use Rattle.deleted_entries.specs.declared.item.Item.{Item}
 use Rattle.deleted_entries.specs.declared.item.Item.TheVariants.{Kept as KeptItem, Gone as GoneItem}
 use Rattle.member_rules.specs.Shows.{HasItemOf, all_items, entry_of, live_of}
-use Rattle.mirror_walk.specs.declared.held.EntryPlace.{EntryPlace}
+use Rattle.mirror_walk.specs.declared.documents.EntryPlace.{EntryPlace}
 use Rattle.mirror_walk.specs.Holding.{KeptValue}
 use Rattle.mirror_walk.specs.Index.{HasEntries, LaysOver, ListsEntry, entry_place}
 use Rattle.mirror_walk.specs.Marks.{mark_of, marked_number, marks_of}

@@ -5,21 +5,23 @@ use Rattle.std.proofs.Common.{is_eq, refl}
 use Rattle.std.proofs.Common.{sym, ap, subst, ◌∙◌, arith, eq-eqb, ne_eqb}
 use Rattle.std.specs.BTreeMap.{BTreeMap, Updates, get, is_at}
 use Rattle.std.specs.Map.{lookup}
-use Rattle.std.specs.Prelude.{IsSome, is_some, option_and_then, slice_get, unwrap_or}
-use Rattle.std.proofs.lemmas.Bool.{cases_eq}
+use Rattle.std.specs.Prelude.{IsSome, is_some, option_and_then, option_map, slice_get, unwrap_or}
+use Rattle.std.proofs.lemmas.Bool.{cases_eq, false≢true}
 use Rattle.std.proofs.lemmas.Bool.Decides.{nat_tests}
 use Rattle.std.proofs.lemmas.Option.{slice_get_within}
 use Rattle.atom_writer.specs.Doc.{DocValue}
+use Rattle.atom_writer.specs.declared.doc.FeedName.{FeedName}
 use Rattle.atom_writer.specs.declared.doc.Kind.TheVariants.{Subscription, Archive as Sealed}
 use Rattle.member_rules.proofs.FoldLemmas.{get-push, get-push-other}
 use Rattle.mirror_walk.specs.declared.answer.Accepted.TheVariants.{Stale}
-use Rattle.mirror_walk.specs.declared.held.Best.{Best}
+use Rattle.mirror_walk.specs.declared.base_map.BaseMap.{BaseMap}
+use Rattle.mirror_walk.specs.declared.documents.Best.{Best}
 use Rattle.mirror_walk.specs.Accept.{Answer, counterpart, counterpart_of_kind, if_ends_with, stale}
 use Rattle.mirror_walk.specs.Accept.{stale_of_kind}
 use Rattle.mirror_walk.specs.Checks.{IsNew}
 use Rattle.mirror_walk.specs.Holding.{KeptValue, archive_at, best_of, gap_from, is_archive, is_subscription}
-use Rattle.mirror_walk.specs.Holding.{newer_of}
-use Rattle.mirror_walk.specs.Index.{HasBest, HasBestAfter, HasPlace, IsIndexed}
+use Rattle.mirror_walk.specs.Holding.{name_of_best, newer_of}
+use Rattle.mirror_walk.specs.Index.{HasBest, HasBestAfter, HasPlace, IsBaseMap, IsIndexed, feed_of}
 use Rattle.mirror_walk.proofs.GapLemmas.{gap-filled, gap-stays, gap-unfilled}
 use Rattle.mirror_walk.proofs.PushLemmas.{archive_at-push-other, archive_at-push-own, best_of-push-other}
 use Rattle.mirror_walk.proofs.PushLemmas.{best_of-push-own}
@@ -30,7 +32,7 @@ pub no-place : (kept : List KeptValue) (place : Option ℕ) (found : Option Kept
 no-place kept None found is none = is
 no-place kept (Some at) found is none = absurd (cc)
 
-get-stays : (kept : List KeptValue) (given : KeptValue) (at : ℕ) (found : Option KeptValue)
+pub get-stays : (kept : List KeptValue) (given : KeptValue) (at : ℕ) (found : Option KeptValue)
     → slice_get kept at ≡ found
     → IsSome found → slice_get (kept ++ given ∷ []) at ≡ found
 get-stays kept given at None there some = absurd (cc)
@@ -50,17 +52,23 @@ abbrev pub HasPlaces : List KeptValue → BTreeMap ℕ ℕ → Type 0
 HasPlaces kept archives = (number : ℕ) → HasPlace kept (get nat_cmp archives number) (archive_at kept number)
 
 -- nothing is held
-pub indexed-none : (kept : List KeptValue) (archives : BTreeMap ℕ ℕ) → kept ≡ [] → archives.entries ≡ []
-    → IsIndexed kept archives None None
+pub indexed-none : (kept : List KeptValue) (archives : BTreeMap ℕ ℕ) (base : BaseMap) → kept ≡ []
+    → archives.entries ≡ [] → IsBaseMap kept base
+    → IsIndexed kept archives None base false None None
 unfolding archive_at best_of
-indexed-none kept archives none empty =
-    subst (λ (list : List KeptValue). IsIndexed list archives None None) (sym none) record {
+indexed-none kept archives base none empty is =
+    subst (λ (list : List KeptValue). IsBaseMap list base → IsIndexed list archives None base false None None)
+    (sym none)
+    (λ is. record {
       archives_there = λ number.
           subst (λ (place : Option ℕ). HasPlace [] place None)
           (sym (ap (lookup (is_at (nat_cmp number))) empty)) refl;
       best_there = tt;
-      listing = tt;
-    }
+      base_there = is;
+      listing = λ on. absurd (false≢true on);
+      feed_there = refl;
+      name_there = refl;
+    }) is
 
 nat_cmp-apart : (a b : ℕ) → a ≢ b → is_eq (nat_cmp a b) ≡ false
 nat_cmp-apart a b apart = grind (arith, nat_tests)
@@ -230,13 +238,40 @@ best-unfilled kept document number best new is apart =
 
 -- all that is kept beside the documents, once one more is held
 pub indexed-more : (kept after : List KeptValue) (given : KeptValue) (archives : BTreeMap ℕ ℕ)
-    (best : Option Best)
+    (best : Option Best) (base : BaseMap) (feed : Option (List ℕ)) (name : Option FeedName)
     → after ≡ kept ++ given ∷ [] → HasPlaces (kept ++ given ∷ []) archives
-    → HasBestAfter kept given.document best
-    → IsIndexed after archives best None
-indexed-more kept after given archives best more places is =
-    subst (λ (list : List KeptValue). IsIndexed list archives best None) (sym more) record {
+    → HasBestAfter kept given.document best → IsBaseMap (kept ++ given ∷ []) base
+    → feed ≡ feed_of (kept ++ given ∷ []) → name ≡ name_of_best (kept ++ given ∷ [])
+    → IsIndexed after archives best base false feed name
+indexed-more kept after given archives best base feed name more places is based fed named =
+    subst (λ (list : List KeptValue). IsIndexed list archives best base false feed name) (sym more) record {
       archives_there = places;
       best_there = is given refl;
-      listing = tt;
+      base_there = based;
+      listing = λ on. absurd (false≢true on);
+      feed_there = fed;
+      name_there = named;
     }
+
+-- the feed's identifier and name, once one more document is held
+
+pub feed-first : (kept : List KeptValue) (given : KeptValue) → length kept ≡ 0
+    → feed_of (kept ++ given ∷ []) ≡ Some given.document.name.id
+feed-first [] given none = refl
+feed-first (k ∷ kept) given none = absurd (omega (arith, none))
+
+pub feed-stays : (kept : List KeptValue) (given : KeptValue) → length kept ≢ 0
+    → feed_of (kept ++ given ∷ []) ≡ feed_of kept
+feed-stays [] given some = absurd (some refl)
+feed-stays (k ∷ kept) given some = refl
+
+pub name-own : (kept : List KeptValue) (given : KeptValue) → IsNew kept given.document
+    → given.document.kind ≡ Subscription → name_of_best (kept ++ given ∷ []) ≡ Some given.document.name
+name-own kept given new kind =
+    ap (λ (o : Option KeptValue). option_map (λ (k : KeptValue). k.document.name) o) (best_of-new kept given new kind)
+
+pub name-stays : (kept : List KeptValue) (given : KeptValue) (number : ℕ) → given.document.kind ≡ Sealed number
+    → name_of_best (kept ++ given ∷ []) ≡ name_of_best kept
+name-stays kept given number kind =
+    ap (λ (o : Option KeptValue). option_map (λ (k : KeptValue). k.document.name) o)
+    (best_of-push-other kept given (ap is_subscription kind))

@@ -34,8 +34,10 @@ pub mod OfferedLemmas
 pub mod MirrorLemmas
 -- serves `Mirror::outcome`: the items of a document in `list_items`
 pub mod ListedItemsLemmas
--- serves `Mirror::outcome`: the live entries in `live_entries`
+-- serves `Mirror::outcome`: the live entries of a list of documents
 pub mod EntriesLemmas
+-- serves `Mirror::outcome` and `Mirror::offer`: the base map
+pub mod BaseLemmas
 -- serves `Mirror::outcome`: the number of live entries
 pub mod ListedCountLemmas
 -- serves `Mirror::outcome`: what is missing
@@ -80,7 +82,9 @@ pub mod FirstLemmas
 pub mod HeldOfferLemmas
 -- serves `Mirror::offer`: what the checks found
 pub mod CheckedLemmas
--- serves `Mirror::entry`: the documents that are read back
+-- serves `Mirror::entry`: the entries that are read back
 pub mod RereadLemmas
+-- serves `Mirror::entry`: the places of the items' pieces
+pub mod PlaceLemmas
 -- the crates above: the live entries in order of number
 pub mod InOrderLemmas

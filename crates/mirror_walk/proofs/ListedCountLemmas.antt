@@ -18,7 +18,7 @@ use Rattle.atom_writer.specs.Doc.{DocValue}
 use Rattle.member_rules.specs.Fold.{count_up_to}
 use Rattle.member_rules.specs.Shows.{live_of, live_count_of, greatest_member}
 use Rattle.member_rules.proofs.ShowsLemmas.{live_of-past}
-use Rattle.mirror_walk.specs.declared.held.EntryPlace.{EntryPlace}
+use Rattle.mirror_walk.specs.declared.documents.EntryPlace.{EntryPlace}
 use Rattle.mirror_walk.specs.Holding.{KeptValue}
 use Rattle.mirror_walk.specs.Index.{AreMembers, HasEntries, ListsEntry}
 

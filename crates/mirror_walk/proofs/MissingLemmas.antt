@@ -2,10 +2,10 @@
 use Rattle.std.proofs.Common.{◌≡◌, ◌≢◌, ℕ, ◌<◌, ◌≤◌, List, Option, Some, None, refl, sym, ap, subst, ◌∙◌}
 use Rattle.std.specs.Prelude.{IsSome, option_map, unwrap_or}
 use Rattle.chain_links.specs.declared.address.Address.TheVariants.{Feed, Archive}
-use Rattle.mirror_walk.specs.declared.held.Best.{Best}
+use Rattle.mirror_walk.specs.declared.documents.Best.{Best}
 use Rattle.mirror_walk.specs.Holding.{KeptValue, archive_at, best_of, first_missing, gap_from, missing_after}
 use Rattle.mirror_walk.specs.Index.{HasBest}
-use Rattle.mirror_walk.proofs.GapLemmas.{gap-above, gap-zero}
+use Rattle.mirror_walk.proofs.GapLemmas.{gap-above, gap-none, gap-zero}
 
 pub missing-feed : (kept : List KeptValue) → HasBest kept None (best_of kept) → first_missing kept ≡ Some Feed
 unfolding first_missing
@@ -52,3 +52,16 @@ held-above kept best found is at n more within =
     let there = subst (HasBest kept (Some best)) at is in
     gap-above kept found.document.prev (gap_from kept found.document.prev) refl n
     (subst (λ (m : ℕ). m < n) there.missing more) within
+
+-- if nothing is missing, all archives that the best subscription document needs are held
+pub whole-held : (kept : List KeptValue) (best : KeptValue) → first_missing kept ≡ None
+    → best_of kept ≡ Some best → (number : ℕ) → 1 ≤ number → number ≤ best.document.prev
+    → IsSome (archive_at kept number)
+unfolding first_missing
+whole-held kept best whole is number one within =
+    let prev = best.document.prev in
+    gap-none kept prev (none (gap_from kept prev) (sym (ap (missing_after kept) is) ∙ whole)) number one within
+  where
+    none : (gap : Option ℕ) → option_map Archive gap ≡ None → gap ≡ None
+    none None is = refl
+    none (Some n) is = absurd (cc)

@@ -11,7 +11,7 @@ use Rattle.std.specs.Ordering.{MatchOrdering, nat_cmp}
 use Rattle.std.proofs.lemmas.Map.Keys.{le_from_not_gt}
 use Rattle.atom_values.specs.Entry.{EntryValue}
 use Rattle.atom_writer.specs.Doc.{DocValue}
-use Rattle.mirror_walk.specs.declared.held.EntryPlace.{EntryPlace}
+use Rattle.mirror_walk.specs.declared.documents.EntryPlace.{EntryPlace}
 use Rattle.mirror_walk.specs.Holding.{KeptValue, chain_of}
 use Rattle.mirror_walk.specs.Index.{HasEntries, HasEntryAt, ListsEntry}
 use Rattle.mirror_walk.specs.Listing.{IsNextLive, IsShownIn, live_at}
@@ -28,7 +28,7 @@ place_listed kept documents number None None h some = some
 place_listed kept documents number None (Some entry) h some = absurd h
 place_listed kept documents number (Some place) entry h some = refl
 
--- `Held::entry_place`: a member's place is that of its entry, in the document that shows it
+-- `Documents::entry_place`: a member's place is that of its entry, in the document that shows it
 pub place-entry : (kept : List KeptValue) (documents : List DocValue) (number : ℕ) (place : EntryPlace)
     (entry : Option EntryValue) → ListsEntry kept documents number (Some place) entry
     → IfSome entry (HasEntryAt kept place) × IsShownIn kept documents number place.document

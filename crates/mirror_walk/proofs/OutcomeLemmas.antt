@@ -1,15 +1,16 @@
 -- The index of the documents taken, the chain of the best subscription document, and the outcome.
-use Rattle.std.proofs.Common.{◌≡◌, ℕ, ◌+◌, List, [], ◌∷◌, Option, Some, None, add-one, refl, ap, sym}
+use Rattle.std.proofs.Common.{◌≡◌, ℕ, ◌+◌, Bool, List, ◌∷◌, Option, Some, None, add-one, refl, ap, sym}
 use Rattle.std.proofs.Common.{◌∙◌, subst, arith}
-use Rattle.std.specs.Prelude.{option_map, slice_get}
+use Rattle.std.specs.Prelude.{IsSome, option_map, slice_get}
 use Rattle.std.specs.BTreeMap.{BTreeMap}
 use Rattle.std.specs.List.{cons_option}
 use Rattle.std.proofs.lemmas.Option.{MatchOption-at_some, same_Some}
+use Rattle.atom_writer.specs.declared.doc.FeedName.{FeedName}
 use Rattle.chain_links.specs.declared.address.Address.{Address}
 use Rattle.member_rules.specs.Shows.{live_count_of}
 use Rattle.mirror_walk.specs.declared.answer.Outcome.TheVariants.{Complete, Missing}
-use Rattle.mirror_walk.specs.declared.held.Best.{Best}
-use Rattle.mirror_walk.specs.declared.held.EntryPlace.{EntryPlace}
+use Rattle.mirror_walk.specs.declared.base_map.BaseMap.{BaseMap}
+use Rattle.mirror_walk.specs.declared.documents.Best.{Best}
 use Rattle.mirror_walk.specs.Holding.{HeldValue, KeptValue, archive_at, archives_from, best_of, chain_from}
 use Rattle.mirror_walk.specs.Holding.{chain_of, first_missing, missing_after}
 use Rattle.mirror_walk.specs.Index.{HasBest, HasPlace, IsBestOf, IsIndexed, IsPlaceOf}
@@ -17,9 +18,10 @@ use Rattle.mirror_walk.specs.Listing.{outcome_by, outcome_of}
 
 -- the index, at the documents of the view
 pub indexed : (inside : List KeptValue) (v : HeldValue) (archives : BTreeMap ℕ ℕ) (best : Option Best)
-    (live : Option (BTreeMap ℕ EntryPlace)) → inside ≡ v.kept → IsIndexed inside archives best live
-    → IsIndexed v.kept archives best live
-indexed inside v archives best live same there = subst (λ kept. IsIndexed kept archives best live) same there
+    (base : BaseMap) (listed : Bool) (feed : Option (List ℕ)) (name : Option FeedName) → inside ≡ v.kept
+    → IsIndexed inside archives best base listed feed name → IsIndexed v.kept archives best base listed feed name
+indexed inside v archives best base listed feed name same there =
+    subst (λ kept. IsIndexed kept archives best base listed feed name) same there
 
 -- the chain
 
@@ -31,18 +33,6 @@ archives_from-held kept number found e =
     ap (archives_from kept) (add-one number)
     ∙ ap (λ o. cons_option (option_map (λ (k : KeptValue). k.document) o) (archives_from kept number))
     (ap (archive_at kept) (sym (add-one number)) ∙ e)
-
-pub archives_from-not_held : (kept : List KeptValue) (number : ℕ) → archive_at kept (number + 1) ≡ None
-    → archives_from kept (number + 1) ≡ archives_from kept number
-unfolding archives_from
-archives_from-not_held kept number e =
-    ap (archives_from kept) (add-one number)
-    ∙ ap (λ o. cons_option (option_map (λ (k : KeptValue). k.document) o) (archives_from kept number))
-    (ap (archive_at kept) (sym (add-one number)) ∙ e)
-
-pub chain_of-none : (kept : List KeptValue) → best_of kept ≡ None → chain_of kept ≡ []
-unfolding chain_of
-chain_of-none kept e = ap (chain_from kept) e
 
 pub chain_of-best : (kept : List KeptValue) (best : KeptValue) → best_of kept ≡ Some best
     → chain_of kept ≡ best.document ∷ archives_from kept best.document.prev
@@ -90,6 +80,13 @@ best-of_whole kept whole = split (best_of kept) refl whole
         → (found : KeptValue) × (best_of kept ≡ Some found)
     split None is none = absurd (grind arith)
     split (Some best) is none = (best, is)
+
+pub best-place : (kept : List KeptValue) (place : Option Best) → HasBest kept place (best_of kept)
+    → first_missing kept ≡ None
+    → IsSome place
+best-place kept None there whole =
+    absurd (subst (HasBest kept None) (best-of_whole kept whole).1 there)
+best-place kept (Some best) there whole = refl
 
 pub outcome-missing : (kept : List KeptValue) (address : Address) → first_missing kept ≡ Some address
     → outcome_of kept ≡ Missing address

@@ -133,8 +133,8 @@ unfit_fails observable base s t kept index payload given DiskFault loaded before
 unfit_fails observable base s t kept index payload given NoMemory loaded before there read same unfit =
     record { cause = λ tells. tt; faults = same }
 
-pub unfit_all : (observable : Type 0) (base : List ℕ) (s t : DiskState) (kept : List KeptValue) (index size : ℕ)
-    (payload : List ℕ) (given : KeptValue) (result : Result KeptValue MirrorFault)
+pub unfit_all : {T : Type 0} (observable : Type 0) (base : List ℕ) (s t : DiskState) (kept : List KeptValue) (index size : ℕ)
+    (payload : List ℕ) (given : KeptValue) (result : Result T MirrorFault)
     → IsLoadedOf base (payloads_of kept) kept
     → (observable → take index (records (s.content MirrorArea)) ≡ payloads_of kept)
     → (observable → slice_get (records (s.content MirrorArea)) index ≡ Some payload)

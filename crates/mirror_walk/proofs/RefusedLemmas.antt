@@ -65,8 +65,8 @@ module _ (base : List ℕ) (kept : List KeptValue) (extents : List Extent) (inde
     unfit-one given read NoMemory unfit = tt
 
     -- `document_of`: a document that isn't taken
-    pub unfit-refused : (given : KeptValue) → IsKeptOf payload given → (size : ℕ) → size ≡ length payload
-        → (result : Result KeptValue MirrorFault) → IfErr result (IsUnfit base kept index given size)
+    pub unfit-refused : {T : Type 0} (given : KeptValue) → IsKeptOf payload given → (size : ℕ) → size ≡ length payload
+        → (result : Result T MirrorFault) → IfErr result (IsUnfit base kept index given size)
         → IfErr result (RefusesAt base kept extents index)
     unfit-refused given read size is (Ok admitted) unfit = tt
     unfit-refused given read size is (Err fault) unfit = unfit-one given read fault

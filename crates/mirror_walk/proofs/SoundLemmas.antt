@@ -46,7 +46,7 @@ module _ (s t : DiskState) (one two three : MirrorValue) (same : three ≡ recor
         stands = λ tells.
             let stands = sound.stands tells in
             subst (StandsFor t) (sym same)
-            (record { listed = stands.listed; payloads = stands.payloads; reread = stands.reread });
+            (record { listed = stands.listed; payloads = stands.payloads });
         rests = λ tells rest. subst (IsAtRest t) (sym kept) (sound.rests tells rest);
         most = subst (TakesFew s t one.kept) (sym kept) sound.most;
       }

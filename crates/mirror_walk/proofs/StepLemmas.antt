@@ -1,7 +1,6 @@
 -- The images that a crash leaves of a mirror at rest, and while a document is appended.
-use Rattle.std.proofs.Common.{◌≡◌, inl, inr, ℕ, zero, suc, List, [], ◌∷◌, ◌++◌, length, sym, ◌∙◌, ap, subst}
-use Rattle.std.proofs.Common.{arith, ◌≢◌, Option, Some, None, false}
-use Rattle.std.specs.Prelude.{MatchOption, slice_get}
+use Rattle.std.proofs.Common.{◌≡◌, inl, inr, ℕ, List, [], ◌∷◌, ◌++◌, length, sym, ◌∙◌, ap, subst}
+use Rattle.std.proofs.Common.{arith, ◌≢◌, false}
 use Rattle.atom_writer.specs.Pieces.{text}
 use Rattle.feed_disk.specs.Disk.{DiskState}
 use Rattle.feed_disk.specs.Moments.{AlwaysLeaves, LeavesAlone, NowOnly}
@@ -14,9 +13,8 @@ use Rattle.feed_journal.specs.Records.{records, size_of, Begins, IsStep}
 use Rattle.mirror_walk.specs.Accept.{IsKeptOf}
 use Rattle.mirror_walk.specs.Holding.{KeptValue, payloads_of}
 use Rattle.mirror_walk.specs.Loaded.{IsLoadedOf}
-use Rattle.mirror_walk.specs.Mirror.{IsAtRest, IsHeldAt, IsOfferStep, KeepsMirror, LoadsTo}
+use Rattle.mirror_walk.specs.Mirror.{IsAtRest, IsOfferStep, KeepsMirror, LoadsTo}
 use Rattle.mirror_walk.specs.Mirror.{MirrorValue, StandsFor, is_spent}
-use Rattle.mirror_walk.specs.declared.mirror.Reread.{Reread}
 use Rattle.mirror_walk.specs.Taking.{IsTakeStep, IsTakenNext, IsToBeTaken}
 use Rattle.mirror_walk.proofs.TakenLemmas.{loaded-more, payloads-more, kept-text}
 use Rattle.mirror_walk.proofs.WithinLemmas.{within-taken}
@@ -119,20 +117,6 @@ module _ (law : BegunAreWhole) (s : DiskState) (mirror : MirrorValue) (keeps : K
       rest-leaves law mirror.base mirror.kept (keeps.documents unspent).loaded s stands.payloads rest
       (IsOfferStep mirror address bytes) (λ image loads. inl loads)
 
--- a document that was read back is held still once another one is
-held_still : (kept : List KeptValue) (given : KeptValue) (reread : Option Reread)
-    → MatchOption reread (Unit {0}) (IsHeldAt kept)
-    → MatchOption reread (Unit {0}) (IsHeldAt (kept ++ given ∷ []))
-held_still kept given None held = tt
-held_still kept given (Some reread) held =
-    record { given = held.given; there = get-more kept reread.index held.there; same = held.same }
-  where
-    get-more : (list : List KeptValue) (index : ℕ) → slice_get list index ≡ Some held.given
-        → slice_get (list ++ given ∷ []) index ≡ Some held.given
-    get-more [] index there = absurd (cc)
-    get-more (k ∷ list) zero there = there
-    get-more (k ∷ list) (suc index) there = get-more list index there
-
 -- an append through the log of a mirror, whose area is the mirror's
 module _ (s t : DiskState) (mirror : MirrorValue) (given : KeptValue) (payload : List ℕ)
     (keeps : KeepsMirror mirror)
@@ -165,17 +149,14 @@ module _ (s t : DiskState) (mirror : MirrorValue) (given : KeptValue) (payload :
         → NowOnly t a (Begins (records (t.content a)))) same run)
 
     pub appended-stands : (after : MirrorValue) → after.kept ≡ mirror.kept ++ given ∷ []
-        → after.reread ≡ mirror.reread → IsListed after.log (t.content area) → StandsFor t after
-    appended-stands after kept reread listed =
+        → IsListed after.log (t.content area) → StandsFor t after
+    appended-stands after kept listed =
         let listed' = subst (λ (a : Area). IsListed after.log (t.content a)) same listed in
         record {
           listed = listed';
           payloads = payloads-appended mirror given payload loaded more taken.read.text s t stands.payloads
               here
               ∙ ap payloads_of (sym kept);
-          reread = subst (λ (r : Option Reread). MatchOption r (Unit {0}) (IsHeldAt after.kept)) (sym reread)
-              (subst (λ (l : List KeptValue). MatchOption mirror.reread (Unit {0}) (IsHeldAt l)) (sym kept)
-              (held_still mirror.kept given mirror.reread stands.reread));
         }
 
 -- the other areas
@@ -191,7 +172,6 @@ stands-room s mirror log is stands = record {
   listed = subst (λ (l : LogValue). IsListed l (s.content MirrorArea)) (sym is)
       (record { list = stands.listed.list; long = stands.listed.long });
   payloads = stands.payloads;
-  reread = stands.reread;
 }
 
 pub keeps-room : (mirror : MirrorValue) (log : LogValue) → log ≡ record mirror.log { spare = log.spare }

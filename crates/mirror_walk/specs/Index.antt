@@ -1,18 +1,24 @@
 -- The index of a mirror, by which it finds the documents that it took without a search.
-use Rattle.std.specs.Prelude.{◌≡◌, ◌≢◌, ◌≤◌, ◌<◌, ◌^◌, ℕ, List, [], ◌∷◌, ◌++◌, Option, Some, None, IsSome}
-use Rattle.std.specs.Prelude.{MatchOption, unwrap_or, slice_get, All}
+use Rattle.std.specs.Prelude.{◌≡◌, ◌≢◌, ◌≤◌, ◌<◌, ◌^◌, ℕ, nat_eq, List, [], ◌∷◌, ◌++◌, Option, Some, None}
+use Rattle.std.specs.Prelude.{IsSome, Bool, IsTrue, MatchOption, unwrap_or, option_map, slice_get, All, map}
 use Rattle.std.specs.BTreeMap.{BTreeMap, get}
+use Rattle.std.specs.List.{IsDistinct}
 use Rattle.std.specs.Ordering.{nat_cmp}
 use Rattle.atom_values.specs.Entry.{EntryValue}
 use Rattle.atom_writer.specs.Doc.{DocValue}
+use Rattle.atom_writer.specs.declared.doc.FeedName.{FeedName}
 use Rattle.deleted_entries.specs.declared.item.Item.TheVariants.{Kept as KeptItem}
 use Rattle.member_rules.specs.Shows.{live_of}
-use Rattle.mirror_walk.specs.declared.held.Best.{Best}
-use Rattle.mirror_walk.specs.declared.held.EntryPlace.{EntryPlace}
+use Rattle.mirror_walk.specs.declared.base_map.BaseMap.{BaseMap}
+use Rattle.mirror_walk.specs.declared.base_map.Replaced.{Replaced}
+use Rattle.mirror_walk.specs.declared.documents.Best.{Best}
+use Rattle.mirror_walk.specs.declared.documents.EntryPlace.{EntryPlace}
 use Rattle.mirror_walk.specs.declared.mark.ItemMark.{ItemMark}
 use Rattle.mirror_walk.specs.declared.mark.ItemMark.TheVariants.{Live, Gone}
-use Rattle.mirror_walk.specs.Holding.{KeptValue, archive_at, best_of, chain_of, first_missing, gap_from}
+use Rattle.mirror_walk.specs.Holding.{KeptValue, archive_at, archives_from, best_of, chain_of, first_missing}
+use Rattle.mirror_walk.specs.Holding.{gap_from, name_of_best}
 use Rattle.mirror_walk.specs.Listing.{IsShownIn}
+use Rattle.mirror_walk.specs.Marks.{marked_number}
 
 -- the index is that of a document among those taken
 pub record IsPlaceOf (kept : List KeptValue) (at : ℕ) (found : Option KeptValue) : Type 0 where
@@ -75,15 +81,54 @@ pub record LaysOver {X P : Type 0} (number_of : X → ℕ) (place : ℕ → X �
   pub others : (number : ℕ) → All (λ item. number_of item ≢ number) items
       → get nat_cmp new number ≡ get nat_cmp old number
 
+-- the member of an item that was laid over a map, and the place that the map had for the member before
+abbrev pub replaced_number : Replaced → ℕ
+replaced_number replaced = replaced.number
+
+abbrev pub replaced_place : ℕ → Replaced → Option EntryPlace
+replaced_place at replaced = replaced.place
+
+-- what an item replaces that is laid over these entries
+abbrev pub replaced_in : BTreeMap ℕ EntryPlace → ItemMark → Replaced
+replaced_in entries item =
+    record { number = marked_number item; place = get nat_cmp entries (marked_number item) }
+
+-- the archives from 1 up to `last` are held, and the map has the places of the entries that they show
+pub record HasArchives (kept : List KeptValue) (last : ℕ) (entries : BTreeMap ℕ EntryPlace) : Type 0 where
+  pub held : (number : ℕ) → 1 ≤ number → number ≤ last → IsSome (archive_at kept number)
+  pub shown : HasEntries kept (archives_from kept last) entries
+  pub members : AreMembers entries
+
+-- a base map with archives alone
+pub record IsBare (kept : List KeptValue) (base : BaseMap) : Type 0 where
+  pub archives : HasArchives kept base.last base.entries
+  pub bare : base.replaced.items ≡ []
+
+-- A base map, over which a subscription document may be laid. Once all that it replaced is put back, the map
+-- has archives alone.
+pub record IsBaseMap (kept : List KeptValue) (base : BaseMap) : Type 0 where
+  pub distinct : IsDistinct nat_eq (map replaced_number base.replaced.items)
+  pub under : BTreeMap ℕ EntryPlace
+  pub restores : LaysOver replaced_number replaced_place base.replaced.items base.entries under
+  pub archives : HasArchives kept base.last under
+
 -- the map has the live entries, and nothing is missing
 pub record IsListing (kept : List KeptValue) (live : BTreeMap ℕ EntryPlace) : Type 0 where
   pub whole : first_missing kept ≡ None
   pub entries : HasEntries kept (chain_of kept) live
   pub members : AreMembers live
 
--- the indexes of the archives and of the best subscription document, and the live entries if they are listed
-pub record IsIndexed (kept : List KeptValue) (archives : BTreeMap ℕ ℕ) (best : Option Best)
-    (live : Option (BTreeMap ℕ EntryPlace)) : Type 0 where
+-- the identifier of the feed that all documents belong to
+abbrev pub feed_of : List KeptValue → Option (List ℕ)
+feed_of kept = option_map (λ (first : KeptValue). first.document.name.id) (slice_get kept 0)
+
+-- the indexes of the archives and of the best subscription document, the base map, which has the live entries if
+-- they are listed, and the feed's identifier and name
+pub record IsIndexed (kept : List KeptValue) (archives : BTreeMap ℕ ℕ) (best : Option Best) (base : BaseMap)
+    (listed : Bool) (feed : Option (List ℕ)) (name : Option FeedName) : Type 0 where
   pub archives_there : (number : ℕ) → HasPlace kept (get nat_cmp archives number) (archive_at kept number)
   pub best_there : HasBest kept best (best_of kept)
-  pub listing : MatchOption live (Unit {0}) (IsListing kept)
+  pub base_there : IsBaseMap kept base
+  pub listing : IsTrue listed → IsListing kept base.entries
+  pub feed_there : feed ≡ feed_of kept
+  pub name_there : name ≡ name_of_best kept

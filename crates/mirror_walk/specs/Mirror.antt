@@ -1,7 +1,6 @@
 -- A mirror over the log of its area, as contracts see it.
-use Rattle.std.specs.Prelude.{◌≡◌, ◌≢◌, ◌⊎◌, ℕ, ◌+◌, ◌*◌, ◌≤◌, Bool, false, List, [], ◌∷◌, ◌++◌, map, length, slice_get}
-use Rattle.std.specs.Prelude.{Option}
-use Rattle.std.specs.Prelude.{Some, Ok, MatchOption}
+use Rattle.std.specs.Prelude.{◌≡◌, ◌≢◌, ◌⊎◌, ℕ, ◌+◌, ◌*◌, ◌≤◌, Bool, false, List, [], ◌∷◌, ◌++◌, map, length}
+use Rattle.std.specs.Prelude.{Ok}
 use Rattle.feed_disk.specs.Disk.{DiskState}
 use Rattle.feed_disk.specs.Moments.{LeavesAlone, NowOnly}
 use Rattle.feed_disk.specs.declared.area.Area.{Area}
@@ -10,20 +9,18 @@ use Rattle.feed_journal.specs.Limits.{area_limit}
 use Rattle.feed_journal.specs.Log.{IsListed, IsLog, LogValue, payload_lengths}
 use Rattle.feed_journal.specs.Records.{records, size_of, Begins, IsWhole}
 use Rattle.mirror_walk.specs.declared.answer.Accepted.TheVariants.{Taken}
-use Rattle.mirror_walk.specs.declared.mirror.Reread.{Reread}
 use Rattle.mirror_walk.specs.Accept.{IsKeptOf, accept_within}
 use Rattle.mirror_walk.specs.Holding.{KeptValue, payloads_of}
 use Rattle.mirror_walk.specs.Loaded.{IsLoadedOf}
 
 -- its base, the documents taken with their digests, whether the live entries are listed, the capacity of its
--- area, its log, and the document that was read back last
+-- area, and its log
 pub record MirrorValue : Type 0 where
   pub base : List ℕ
   pub kept : List KeptValue
   pub listed : Bool
   pub capacity : ℕ
   pub log : LogValue
-  pub reread : Option Reread
 
 -- a device call failed, so the mirror has to be loaded again
 abbrev pub is_spent : MirrorValue → Bool
@@ -49,17 +46,10 @@ pub record KeepsMirror (mirror : MirrorValue) : Type 0 where
   pub capacity : mirror.capacity ≤ area_limit
   pub documents : is_spent mirror ≡ false → KeepsDocuments mirror.base mirror.kept mirror.log
 
--- a document that was read back is the one held at its index
-pub record IsHeldAt (kept : List KeptValue) (reread : Reread) : Type 0 where
-  pub given : KeptValue
-  pub there : slice_get kept reread.index ≡ Some given
-  pub same : reread.document ≡ given.document
-
 -- the mirror holds the documents of the disk: the payloads are their texts, and its log lists them
 pub record StandsFor (disk : DiskState) (mirror : MirrorValue) : Type 0 where
   pub listed : IsListed mirror.log (disk.content MirrorArea)
   pub payloads : records (disk.content MirrorArea) ≡ payloads_of mirror.kept
-  pub reread : MatchOption mirror.reread (Unit {0}) (IsHeldAt mirror.kept)
 
 -- In each image of now the area begins with the frames of these documents, and a closed gate. A disk is at
 -- rest after a load of a whole area, and after each offer without a failed device call.

@@ -36,7 +36,8 @@ IsAnswerBefore mirror address bytes answer =
 abbrev pub IsChecked : MirrorValue → List ℕ → List ℕ → Result Checked Offered → Type 0
 IsChecked mirror address bytes (Ok (Answered accepted)) =
     (accepted ≢ Taken) × IsAnswerBefore mirror address bytes (Ok accepted)
-IsChecked mirror address bytes (Ok (New given payload)) = IsToBeTaken mirror address bytes given payload
+IsChecked mirror address bytes (Ok (New given payload)) =
+    (given.name ≡ given.kept.document.name) × IsToBeTaken mirror address bytes given.kept payload
 IsChecked mirror address bytes (Err refusal) =
     (refusal ≢ DiskFault) × ((refusal ≡ NoMemory) ⊎ IsAnswerBefore mirror address bytes (Err refusal))
 

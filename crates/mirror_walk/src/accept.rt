@@ -9,12 +9,10 @@ ghost use Rattle.mirror_walk.specs.Holding.{KeptValue, archive_at, gap_from};
 ghost use Rattle.mirror_walk.specs.Index.{HasBestAfter};
 
 use crate::answer::{Accepted, Offered};
-use crate::held::{Best, Held};
-use crate::kept::{Kept, kept_of};
-use atom_grammar::MAX_DOCUMENT;
+use crate::documents::{Best, Documents};
+use crate::kept::{Given, Kept};
 use atom_values::{Bytes, NoMemory};
-use atom_writer::Kind;
-use deleted_entries::FeedId;
+use atom_writer::{FeedName, Kind};
 
 /// `Break` unless the span of `newer` begins right after that of `older` ends.
 fn check_spans(older: &Kept, newer: &Kept) -> Result<(), Offered>
@@ -31,45 +29,24 @@ fn check_spans(older: &Kept, newer: &Kept) -> Result<(), Offered>
     }
 }
 
-impl Held {
-    /// Offers a document: bytes that were found at an address. Returns whether it is held from now on.
-    ///
-    /// The answer is that of [`crate::Mirror::offer`], but never `Full` or `DiskFault`, which come from the
-    /// mirror's area and disk. `NoMemory` may come in place of any answer. Any answer but `Taken` leaves all
-    /// as it was.
-    ///
-    /// Reads the bytes once and digests them once.
-    pub fn offer(&mut self, address: &[u8], bytes: &[u8]) -> Result<Accepted, Offered>
-        requires { length bytes.now ≤ MAX_DOCUMENT }
-        // The answer, and what is held afterwards, unless memory runs out.
-        ensures answer { (result ≡ Err Offered.NoMemory)
-            ⊎ IsAnswer self.old.base self.old.kept address.now bytes.now result self.new.kept }
-        // A document gets the first answer that fits it, unless memory runs out.
-        ensures first_fit { (given : KeptValue) → IsKeptOf bytes.now given
-            → (result ≡ accept self.old.base self.old.kept address.now given)
-            ⊎ (result ≡ Err Offered.NoMemory) }
-        ensures unchanged { result ≢ Ok Accepted.Taken → self.new ≡ self.old }
-        ensures base { self.new.base ≡ self.old.base }
-    {
-        let given = kept_of(self.alloc, bytes)?;
-        if let Some(accepted) = self.check(address, &given)? {
-            return Ok(accepted);
-        }
-        self.take(given)?;
-        Ok(Accepted::Taken)
-    }
-
+impl Documents {
     /// Checks a document that was offered under this address: `Known`, `Stale` or a refusal. `None` if the
     /// mirror is to take it.
-    pub(crate) fn check(&self, address: &[u8], given: &Kept) -> Result<Option<Accepted>, Offered>
+    pub(crate) fn check(
+        &self,
+        address: &[u8],
+        name: &FeedName,
+        given: &Kept,
+    ) -> Result<Option<Accepted>, Offered>
+        requires { name.now ≡ given.now.document.name }
         ensures first_fit { let answer = accept self.now.base self.now.kept address.now given.now in
             MatchResult result (λ found. answer ≡ Ok (unwrap_or found Accepted.Taken))
             (λ refusal. (refusal ≡ Offered.NoMemory) ⊎ (answer ≡ Err refusal)) }
         ensures new { result ≡ Ok None → IsNew self.now.kept given.now.document }
         ensures not_taken { result ≢ Ok (Some Accepted.Taken) }
     {
-        self.check_address(address, given)?;
-        self.check_feed(given)?;
+        self.check_address(address, name, given)?;
+        self.check_feed(name, given)?;
         if let Some(answer) = self.compare(given)? {
             return Ok(Some(answer));
         }
@@ -78,10 +55,11 @@ impl Held {
     }
 
     /// `WrongAddress` unless the document's own address is the one given and has the mirror's base.
-    fn check_address(&self, address: &[u8], given: &Kept) -> Result<(), Offered>
+    fn check_address(&self, address: &[u8], name: &FeedName, given: &Kept) -> Result<(), Offered>
+        requires { name.now ≡ given.now.document.name }
         ensures { Checks (wrong_address self.now.base address.now given.now.document) result }
     {
-        let base = &given.name().base;
+        let base = &name.base;
         let own = given.kind().address();
         if base.text() == self.base.text() && self.base.read(address) == Some(own) {
             return Ok(());
@@ -92,20 +70,14 @@ impl Held {
         })
     }
 
-    /// The identifier of the feed whose documents are held. `None` if no document is held.
-    fn feed(&self) -> Option<FeedId>
-        ensures { result ≡ option_map (λ first. first.document.name.id) (slice_get self.now.kept 0) }
-    {
-        Some(self.kept.first()?.id())
-    }
-
     /// `WrongFeed` if a document of another feed is held.
     #[tactic(auto, unfolding(crate::specs::Accept::wrong_feed))]
-    fn check_feed(&self, given: &Kept) -> Result<(), Offered>
+    fn check_feed(&self, name: &FeedName, given: &Kept) -> Result<(), Offered>
+        requires { name.now ≡ given.now.document.name }
         ensures { Checks (wrong_feed self.now.kept given.now.document) result }
     {
-        let given = given.id();
-        match self.feed() {
+        let given = name.id;
+        match self.feed {
             Some(kept) if kept != given => Err(Offered::WrongFeed { kept, given }),
             _ => Ok(()),
         }
@@ -197,23 +169,34 @@ impl Held {
     }
 
     /// Holds a new document. `NoMemory` leaves all as it was.
-    pub(crate) fn take(&mut self, given: Kept) -> Result<(), NoMemory>
-        requires { IsNew self.old.kept given.document }
-        ensures kept { OnOk result (self.new.kept ≡ self.old.kept ++ given ∷ []) }
+    pub(crate) fn take(&mut self, given: Given) -> Result<(), NoMemory>
+        requires new { IsNew self.old.kept given.kept.document }
+        requires name { given.name ≡ given.kept.document.name }
+        ensures kept { OnOk result (self.new.kept ≡ self.old.kept ++ given.kept ∷ []) }
         ensures unlisted { OnOk result (self.new.listed ≡ false) }
         ensures base { self.new.base ≡ self.old.base }
         ensures err { OnErr result (self.new ≡ self.old) }
     {
         self.kept.reserve(1)?;
+        let Given { name, kept } = given;
         let at = self.kept.len();
-        let best = self.best_with(at, &given);
-        if let Kind::Archive(number) = given.kind() {
-            self.archives.insert(number, at)?;
+        let best = self.best_with(at, &kept);
+        let feed = name.id;
+        match kept.kind() {
+            Kind::Archive(number) => {
+                drop(name);
+                self.archives.insert(number, at)?;
+            }
+            // It is the new best one, since it isn't stale.
+            Kind::Subscription => self.name = Some(name),
         }
         self.best = best;
+        if at == 0 {
+            self.feed = Some(feed);
+        }
         // `reserve` made room for it, so this doesn't fail.
-        self.kept.push(given).unwrap();
-        self.live = None;
+        self.kept.push(kept).unwrap();
+        self.listed = false;
         Ok(())
     }
 

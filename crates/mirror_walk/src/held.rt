@@ -1,43 +1,35 @@
-ghost use Rattle.std.specs.Prelude.{◌≡◌, ◌≢◌, [], false, IfSome, None, Some, option_map, option_copied};
+ghost use Rattle.std.specs.Prelude.{◌≡◌, ◌≢◌, ◌⊎◌, ◌≤◌, [], false, Err, Ok, OnErr, IfOk, IfSome, IsSome, IsTrue, None, length};
+ghost use Rattle.std.specs.Prelude.{List, option_copied, option_map};
 ghost use Rattle.chain_links.specs.Address.{IsAddress};
-ghost use Rattle.chain_links.specs.declared.address.Address.{Address};
 ghost use Rattle.member_rules.specs.Chain.{place_of};
-ghost use Rattle.mirror_walk.specs.Holding.{archive_at, best_of, digest_at, first_missing, name_of_best};
+ghost use Rattle.member_rules.specs.Head.{HeadValue};
+ghost use Rattle.member_rules.specs.declared.operation.Op.{Op};
+ghost use Rattle.mirror_walk.specs.Accept.{IsAnswer, IsKeptOf, accept};
+ghost use Rattle.mirror_walk.specs.Holding.{KeptValue, best_of, digest_at, first_missing, name_of_best};
+ghost use Rattle.mirror_walk.specs.Index.{HasEntryAt};
+ghost use Rattle.mirror_walk.specs.Laws.{ShowsServed};
+ghost use Rattle.mirror_walk.specs.Listing.{HasAddress, IsLastLive, IsNextLive, IsShownAt, is_complete, live_at};
+ghost use Rattle.mirror_walk.specs.Listing.{outcome_of};
+ghost use Rattle.mirror_walk.specs.Offers.{AreServed, AreTakenOf, Offering};
 
-use crate::kept::Kept;
+use crate::answer::{Accepted, Offered, Outcome};
+use crate::documents::{Documents, EntryPlace};
+use crate::kept::read_given;
+use atom_grammar::MAX_DOCUMENT;
+use atom_values::NoMemory;
 use atom_writer::FeedName;
 use chain_links::{Address, Base, Place};
 use std::alloc::Global;
-use std::collections::BTreeMap;
 use std::marker::Model;
 
-/// The best subscription document: its index among the documents taken, and the greatest archive that it
-/// needs and that isn't held, or 0.
-#[derive(Clone, Copy, Debug)]
-pub(crate) struct Best {
-    pub(crate) at: usize,
-    pub(crate) missing: u32,
-}
-
-/// The place of a live member's entry.
-#[derive(Clone, Copy, Debug)]
-pub struct EntryPlace {
-    /// The index of the entry's document among those taken, from 0.
-    pub document: usize,
-    /// The index of the entry among the document's items, from 0.
-    pub item: usize,
-}
-
-/// The documents of a mirror without a disk: the plain form of [`crate::Mirror`], which stands on it.
+/// The plain form of [`crate::Mirror`]: what it holds, without a disk.
 ///
 /// It answers offers as a mirror does whose area has room for each document, and has the mirror's other calls
-/// that need no disk.
+/// that need no disk. Memory holds no entry of a document. So `entry_place` says where an entry is, and a
+/// caller that keeps the documents finds it there.
 ///
 /// Contracts see the base, the documents taken with their digests, in order, and whether the live entries are
-/// listed. Memory holds no entry of a document, only the parts that the checks of later offers need. So
-/// `entry_place` says where an entry is, and a caller that keeps the documents finds it there. The index of
-/// each archive and of the best subscription document is kept too, so that an offer looks at no other
-/// document.
+/// listed.
 ///
 /// ```
 /// let mut held = Held::new(alloc, base);
@@ -50,26 +42,15 @@ pub struct EntryPlace {
 /// ```
 #[derive(Drop)]
 pub struct Held {
-    pub(crate) alloc: Global,
-    pub(crate) base: Base,
-    pub(crate) kept: Vec<Kept>,
-    /// The index among the documents taken of each archive, by its number.
-    pub(crate) archives: BTreeMap<u32, usize>,
-    pub(crate) best: Option<Best>,
-    /// The live entries by the members' numbers, if they are listed.
-    pub(crate) live: Option<BTreeMap<u32, EntryPlace>>,
+    documents: Documents,
 }
 
 impl Model for Held {
-    ghost use Rattle.std.specs.Prelude.{is_some};
     ghost use Rattle.mirror_walk.specs.Holding.{HeldValue};
-    ghost use Rattle.mirror_walk.specs.Index.{IsIndexed};
 
     ghost Value = { HeldValue };
 
-    ghost view = { λ h. record { base = h.base; kept = h.kept.items; listed = is_some h.live } };
-
-    ghost invariant = { λ h. IsIndexed h.kept.items h.archives h.best h.live };
+    ghost view = { λ h. h.documents };
 }
 
 impl Held {
@@ -80,27 +61,35 @@ impl Held {
         ensures unlisted { result.listed ≡ false }
     {
         Held {
-            alloc,
-            base,
-            kept: Vec::new(alloc),
-            archives: BTreeMap::new(alloc),
-            best: None,
-            live: None,
+            documents: Documents::new(alloc, base),
         }
     }
 
-    /// The held archive of this number.
-    pub(crate) fn archive(&self, number: u32) -> Option<&Kept>
-        ensures { option_copied result ≡ archive_at self.now.kept number }
+    /// Offers a document: bytes that were found at an address. Returns whether it is held from now on.
+    ///
+    /// The answer is that of [`crate::Mirror::offer`], but never `Full` or `DiskFault`, which come from the
+    /// mirror's area and disk. `NoMemory` may come in place of any answer. Any answer but `Taken` leaves all
+    /// as it was.
+    ///
+    /// Reads the bytes once and digests them once.
+    pub fn offer(&mut self, address: &[u8], bytes: &[u8]) -> Result<Accepted, Offered>
+        requires { length bytes.now ≤ MAX_DOCUMENT }
+        // The answer, and what is held afterwards, unless memory runs out.
+        ensures answer { (result ≡ Err Offered.NoMemory)
+            ⊎ IsAnswer self.old.base self.old.kept address.now bytes.now result self.new.kept }
+        // A document gets the first answer that fits it, unless memory runs out.
+        ensures first_fit { (given : KeptValue) → IsKeptOf bytes.now given
+            → (result ≡ accept self.old.base self.old.kept address.now given)
+            ⊎ (result ≡ Err Offered.NoMemory) }
+        ensures unchanged { result ≢ Ok Accepted.Taken → self.new ≡ self.old }
+        ensures base { self.new.base ≡ self.old.base }
     {
-        self.kept.get(*self.archives.get(&number)?)
-    }
-
-    /// The held subscription document with the greatest `last`.
-    pub(crate) fn best_kept(&self) -> Option<&Kept>
-        ensures { option_copied result ≡ best_of self.now.kept }
-    {
-        self.kept.get(self.best?.at)
+        let given = read_given(self.documents.alloc, bytes)?;
+        if let Some(accepted) = self.documents.check(address, &given.name, &given.kept)? {
+            return Ok(accepted);
+        }
+        self.documents.take(given)?;
+        Ok(Accepted::Taken)
     }
 
     /// The place of the best subscription document in the chain. `None` if no subscription document is held.
@@ -108,7 +97,7 @@ impl Held {
     pub fn best(&self) -> Option<Place>
         ensures { result ≡ option_map (λ kept. place_of kept.document) (best_of self.now.kept) }
     {
-        Some(self.best_kept()?.place())
+        self.documents.best()
     }
 
     /// The feed's name as the best subscription document states it. `None` if no subscription document is
@@ -116,7 +105,7 @@ impl Held {
     pub fn name(&self) -> Option<&FeedName>
         ensures { option_copied result ≡ name_of_best self.now.kept }
     {
-        Some(self.best_kept()?.name())
+        self.documents.name()
     }
 
     /// The SHA-256 digest of the bytes of the best subscription document for `Feed`, and of the held archive
@@ -124,38 +113,56 @@ impl Held {
     pub fn digest(&self, address: Address) -> Option<[u8; 32]>
         ensures { result ≡ digest_at self.now.kept address }
     {
-        let kept = match address {
-            Address::Feed => self.best_kept()?,
-            Address::Archive(number) => self.archive(number)?,
-            Address::Member(_) => return None,
-        };
-        Some(kept.digest())
+        self.documents.digest(address)
     }
 
-    /// The first missing document: the subscription document if none is held, else the greatest archive that
-    /// the best one needs, from its `prev` down to 1, and that isn't held. `None` if none is missing.
-    ///
-    /// Takes no memory, and the same time however many documents are held.
+    /// The first missing document, as [`crate::Mirror::wanted`] says.
     pub fn wanted(&self) -> Option<Address>
         ensures missing { result ≡ first_missing self.now.kept }
         ensures address { IfSome result IsAddress }
     {
-        match self.best {
-            None => Some(Address::Feed),
-            Some(best) => archive_address(best.missing),
-        }
+        self.documents.wanted()
     }
-}
 
-/// The address of the archive with this number. `None` for 0.
-fn archive_address(number: u32) -> Option<Address>
-    ensures none { number ≡ 0 → result ≡ None }
-    ensures some { number ≢ 0 → result ≡ Some (Address.Archive number) }
-    ensures address { IfSome result IsAddress }
-{
-    if number == 0 {
-        None
-    } else {
-        Some(Address::Archive(number))
+    /// Returns the first missing document, or else the version and the number of live entries, as
+    /// [`crate::Mirror::outcome`] does. If none is missing, the live entries are listed afterwards, for
+    /// `next_live` and `entry_place`. `NoMemory` if there is no memory for the list.
+    pub fn outcome(&mut self) -> Result<Outcome, NoMemory>
+        ensures outcome { IfOk result (λ outcome. outcome ≡ outcome_of self.old.kept) }
+        ensures address { IfOk result HasAddress }
+        ensures listed { IfOk result (λ outcome. IsTrue (is_complete outcome) → IsTrue self.new.listed) }
+        ensures base { self.new.base ≡ self.old.base }
+        ensures kept { self.new.kept ≡ self.old.kept }
+        ensures err { OnErr result (self.new ≡ self.old) }
+        // If one feed served all documents held, the result is that of the feed at this version.
+        ensures served { (head : HeadValue) (history : List Op) (offers : List Offering)
+            → self.old.base ≡ head.name.base → AreServed head history offers
+            → AreTakenOf self.old.base offers self.old.kept
+            → ShowsServed head history offers self.old.kept (best_of self.old.kept) }
+    {
+        self.documents.outcome()
+    }
+
+    /// The least number after this one of a live member. `None` if there is none. `outcome` has listed the
+    /// live entries, and no document was taken since. Takes no memory.
+    pub fn next_live(&self, after: u32) -> Option<u32>
+        requires { IsTrue self.now.listed }
+        ensures found { IfSome result (IsNextLive self.now.kept after) }
+        ensures last { result ≡ None → IsLastLive self.now.kept after }
+        ensures whole { first_missing self.now.kept ≡ None }
+    {
+        self.documents.next_live(after)
+    }
+
+    /// The place of a live member's entry. `outcome` has listed the live entries, and no document was taken
+    /// since. Takes no memory.
+    pub fn entry_place(&self, number: u32) -> EntryPlace
+        requires listed { IsTrue self.now.listed }
+        requires live { IsSome (live_at self.now.kept number) }
+        ensures place { IfSome (live_at self.now.kept number) (HasEntryAt self.now.kept result) }
+        ensures shown { IsShownAt self.now.kept number result.document }
+        ensures whole { first_missing self.now.kept ≡ None }
+    {
+        self.documents.entry_place(number)
     }
 }

@@ -1,120 +1,72 @@
-ghost use Rattle.std.specs.Prelude.{◌≡◌, ◌⊎◌, ℕ, ◌≤◌, length, Ok, Err, IfOk};
+ghost use Rattle.std.specs.Prelude.{◌≡◌, ◌⊎◌, ℕ, ◌≤◌, ◌<◌, length, slice_get, Err, IfOk, IfSome, IsOkAnd};
+ghost use Rattle.atom_grammar.specs.Places.{HasPiece};
 ghost use Rattle.atom_grammar.specs.Refusal.{IsNoDocument, IsPlaceOfRefusal};
 ghost use Rattle.atom_writer.specs.Doc.{KeepsRules};
+ghost use Rattle.atom_writer.specs.Pieces.{text};
 ghost use Rattle.member_rules.specs.Chain.{place_of};
 ghost use Rattle.mirror_walk.specs.Accept.{IsKeptOf};
 ghost use Rattle.mirror_walk.specs.Holding.{KeptValue};
 ghost use Rattle.mirror_walk.specs.Marks.{AreFromOne, marks_of};
 
-use crate::mark::{ItemMark, marks};
-use crate::origin::Origin;
-use atom_grammar::{MAX_DOCUMENT, ReadFault, read_doc};
-use atom_values::NoMemory;
-use atom_writer::{Doc, FeedName, Kind};
+use crate::mark::ItemMark;
+use crate::outline::{Outline, Outlined};
+use atom_grammar::{MAX_DOCUMENT, PiecePlace, ReadFault};
+use atom_writer::{FeedName, Kind};
 use chain_links::{Place, Span};
-use deleted_entries::FeedId;
 use sha2::{Digest, Sha256};
 use std::alloc::Global;
 use std::marker::Model;
 
 /// A document that a mirror took, and the SHA-256 digest of its bytes.
-///
-/// Contracts see the whole document. In memory are only the parts that the checks of later offers and the
-/// list of live entries need: of each item its member's number, and whether it is an entry.
 #[derive(Drop)]
 pub(crate) struct Kept {
-    name: FeedName,
-    kind: Kind,
-    span: Span,
-    prev: u32,
-    items: Vec<ItemMark>,
-    digest: [u8; 32],
-    origin: Origin,
+    pub(crate) outline: Outline,
+    pub(crate) digest: [u8; 32],
 }
 
 impl Model for Kept {
     ghost use Rattle.mirror_walk.specs.Holding.{KeptValue};
-    ghost use Rattle.mirror_walk.specs.Marks.{IsOutlineOf};
 
     ghost Value = { KeptValue };
 
-    ghost view = { λ k. record { document = k.origin.document; digest = k.digest } };
+    ghost view = { λ k. record { document = k.outline; digest = k.digest } };
+}
 
-    ghost invariant = { λ k. IsOutlineOf k.origin.document k.name k.kind k.span k.prev k.items.items };
+/// A document that was read, with the feed's name as it states it.
+#[derive(Drop)]
+pub(crate) struct Given {
+    pub(crate) name: FeedName,
+    pub(crate) kept: Kept,
 }
 
 impl Kept {
-    /// Keeps the parts of this document that a mirror needs. `digest` is the digest of the document's bytes.
-    /// `NoMemory` if there is no memory for the marks of the items.
-    pub(crate) fn of(alloc: Global, document: Doc, digest: [u8; 32]) -> Result<Kept, NoMemory>
-        ensures { IfOk result (λ kept. kept ≡ record { document = document; digest = digest }) }
-    {
-        let items = marks(alloc, document.items.as_slice())?;
-        let origin = Origin::of(&document);
-        let Doc {
-            name,
-            kind,
-            span,
-            prev,
-            updated: _,
-            items: _,
-        } = document;
-        Ok(Kept {
-            name,
-            kind,
-            span,
-            prev,
-            items,
-            digest,
-            origin,
-        })
-    }
-
-    /// The feed's name, as the document states it.
-    pub(crate) fn name(&self) -> &FeedName
-        ensures { result.now ≡ self.now.document.name }
-    {
-        &self.name
-    }
-
-    /// The identifier of the document's feed.
-    pub(crate) fn id(&self) -> FeedId
-        ensures { result ≡ self.now.document.name.id }
-    {
-        self.name.id
-    }
-
     /// The document's kind.
     pub(crate) fn kind(&self) -> Kind
         ensures kind { result ≡ self.now.document.kind }
         ensures rules { KeepsRules self.now.document }
     {
-        self.kind
+        self.outline.kind()
     }
 
     /// The operations that the document covers.
     pub(crate) fn span(&self) -> Span
         ensures { result ≡ self.now.document.span }
     {
-        self.span
+        self.outline.span()
     }
 
     /// The number of the archive before the document, or 0 if there is none.
     pub(crate) fn prev(&self) -> u32
         ensures { result ≡ self.now.document.prev }
     {
-        self.prev
+        self.outline.prev()
     }
 
     /// The document's place in the chain.
     pub(crate) fn place(&self) -> Place
         ensures { result ≡ place_of self.now.document }
     {
-        Place {
-            address: self.kind.address(),
-            span: self.span,
-            prev: self.prev,
-        }
+        self.outline.place()
     }
 
     /// The marks of the document's items, newest operation first.
@@ -123,7 +75,16 @@ impl Kept {
         ensures from_one { AreFromOne result.now }
         ensures rules { KeepsRules self.now.document }
     {
-        self.items.as_slice()
+        self.outline.items()
+    }
+
+    /// Where the piece of the item with this index is in the document's text.
+    pub(crate) fn piece(&self, index: usize) -> PiecePlace
+        requires { index < length self.now.document.items }
+        ensures { IfSome (slice_get self.now.document.items index) (λ item.
+            HasPiece (text self.now.document) self.now.document.name item result) }
+    {
+        self.outline.piece(index)
     }
 
     /// The SHA-256 digest of the document's bytes.
@@ -134,23 +95,21 @@ impl Kept {
     }
 }
 
-/// Reads bytes as a document, and keeps the parts of it that a mirror needs. Reads the bytes once, and
-/// digests them once.
-///
-/// `NotADocument` exactly if the bytes are the text of no document, as [`read_doc`] says. `NoMemory` if there
-/// is no memory.
-pub(crate) fn kept_of(alloc: Global, bytes: &[u8]) -> Result<Kept, ReadFault>
+/// Reads bytes as a document, as [`Outline::read`] does, and digests them once.
+pub(crate) fn read_given(alloc: Global, bytes: &[u8]) -> Result<Given, ReadFault>
     requires { length bytes.now ≤ MAX_DOCUMENT }
     // The bytes are the text of the document that is returned.
-    ensures found { IfOk result (IsKeptOf bytes.now) }
+    ensures found { IfOk result (λ given. IsKeptOf bytes.now given.kept) }
+    ensures name { IfOk result (λ given. given.name ≡ given.kept.document.name) }
     // Each document's text is read as that document, unless memory runs out.
     ensures only { (given : KeptValue) → IsKeptOf bytes.now given
-        → (result ≡ Ok given) ⊎ (result ≡ Err ReadFault.NoMemory) }
+        → IsOkAnd result (λ read. read.kept ≡ given) ⊎ (result ≡ Err ReadFault.NoMemory) }
     // A refusal states why and where.
     ensures refused { (at : ℕ) → result ≡ Err (ReadFault.NotADocument at)
         → IsNoDocument bytes.now × IsPlaceOfRefusal bytes.now at }
 {
-    let document = read_doc(alloc, bytes)?;
+    let Outlined { name, outline } = Outline::read(alloc, bytes)?;
     let digest = Sha256::digest(bytes);
-    Kept::of(alloc, document, digest).map_err(|_| ReadFault::NoMemory)
+    let kept = Kept { outline, digest };
+    Ok(Given { name, kept })
 }

@@ -23,8 +23,9 @@
 //! [`Mirror::next_live`] and [`Mirror::entry`] say so. Archives held past that chain don't count.
 //!
 //! The texts of the documents taken are the payloads of the mirror area, in order. A crash at any moment of
-//! an offer leaves the documents held before, or those and the new one. In memory are only the parts of each
-//! document that the checks need, and [`Mirror::entry`] reads a document back.
+//! an offer leaves the documents held before, or those and the new one. In memory is an [`Outline`] of each
+//! document: what the checks need, and where each item's piece is in the text. [`Mirror::entry`] reads the
+//! piece of one entry back.
 //!
 //! [`Mirror::walk`] asks a source of documents for those that are missing, newest first, and for none twice.
 //!
@@ -37,6 +38,8 @@
 
 mod accept;
 mod answer;
+mod base_map;
+mod documents;
 mod entry;
 mod held;
 mod kept;
@@ -48,11 +51,15 @@ mod mirror;
 mod mirror_fault;
 mod offer;
 mod origin;
+mod outline;
 mod walk;
 
 pub use answer::{Accepted, Offered, Outcome};
-pub use held::{EntryPlace, Held};
+pub use documents::EntryPlace;
+pub use held::Held;
 pub use laws::{served_documents_show_the_fold, walks_ask_for_nothing_twice};
+pub use mark::ItemMark;
 pub use mirror::Mirror;
 pub use mirror_fault::MirrorFault;
+pub use outline::{Outline, Outlined};
 pub use walk::{Refusal, WalkFault, Walked};

@@ -1,4 +1,5 @@
-ghost use Rattle.std.specs.Prelude.{◌≡◌, ◌<◌, ◌^◌, ◌∷◌, List, IsTrue, IsSome, IfOk, IfSome, OnOk, OnErr};
+ghost use Rattle.std.specs.Prelude.{◌≡◌, ◌≤◌, ◌<◌, ◌^◌, ℕ, ◌∷◌, List, IsTrue, IsSome, IfOk, IfSome, OnOk};
+ghost use Rattle.std.specs.Prelude.{OnErr};
 ghost use Rattle.std.specs.Prelude.{None, Some, length, map, nat_eq, slice_get};
 ghost use Rattle.std.specs.BTreeMap.{Updates};
 ghost use Rattle.std.specs.Ordering.{nat_cmp};
@@ -6,20 +7,23 @@ ghost use Rattle.member_rules.specs.Head.{HeadValue};
 ghost use Rattle.member_rules.specs.declared.operation.Op.{Op};
 ghost use Rattle.member_rules.specs.Shows.{live_count_of};
 ghost use Rattle.std.specs.List.{IsDistinct};
-ghost use Rattle.atom_writer.specs.Doc.{DocValue};
-ghost use Rattle.mirror_walk.specs.Holding.{KeptValue, best_of, chain_of, first_missing};
-ghost use Rattle.mirror_walk.specs.Index.{AreMembers, HasEntries, HasEntryAt, LaysOver, entry_place};
+ghost use Rattle.mirror_walk.specs.Holding.{KeptValue, archive_at, archives_from, best_of, chain_of};
+ghost use Rattle.mirror_walk.specs.Holding.{first_missing};
+ghost use Rattle.mirror_walk.specs.Index.{AreMembers, HasEntries, HasEntryAt, IsBare, IsBaseMap, IsListing};
+ghost use Rattle.mirror_walk.specs.Index.{LaysOver, entry_place};
 ghost use Rattle.mirror_walk.specs.Laws.{ShowsServed};
 ghost use Rattle.mirror_walk.specs.Offers.{AreServed, AreTakenOf, Offering};
-ghost use Rattle.mirror_walk.specs.Marks.{AreFromOne, marked_number};
+ghost use Rattle.mirror_walk.specs.Marks.{AreFromOne, marked_number, marks_of};
 ghost use Rattle.mirror_walk.specs.Listing.{HasAddress, IsLastLive, IsNextLive, IsShownAt, is_complete};
 ghost use Rattle.mirror_walk.specs.Listing.{live_at, outcome_of};
 
 use crate::answer::Outcome;
-use crate::held::{EntryPlace, Held};
+use crate::base_map::{BaseMap, replaced_by};
+use crate::documents::{Documents, EntryPlace};
 use crate::mark::ItemMark;
 use atom_values::NoMemory;
 use std::collections::BTreeMap;
+use std::mem;
 use std::ops::Bound;
 
 /// Lists an item over those of older documents: the place of its entry, and nothing if it is a tombstone.
@@ -63,14 +67,18 @@ fn list_items(
     Ok(())
 }
 
-impl Held {
+impl Documents {
     /// Returns the first missing document, as `wanted` does, or else the version and the number of live
     /// entries. Archives that the best subscription document doesn't need are not used.
     ///
-    /// If none is missing, the live entries are listed afterwards, for `next_live` and `entry_place`. The
-    /// first call after a document was taken makes the list, in one pass over the items of the needed
-    /// documents. `NoMemory` if there is no memory for it.
-    pub fn outcome(&mut self) -> Result<Outcome, NoMemory>
+    /// If none is missing, the live entries are listed afterwards, for `next_live` and `entry_place`.
+    /// `NoMemory` if there is no memory for the list, and then the next call makes it from nothing.
+    ///
+    /// Cost: the first list takes one pass over the items of the needed documents. A later one passes over
+    /// those of the archives that are new in the chain, of the best subscription document, and of the one that
+    /// was the best when the last list was made. If the best subscription document needs fewer archives than
+    /// are listed, the list is made from nothing. Without a new document, a call makes no list.
+    pub(crate) fn outcome(&mut self) -> Result<Outcome, NoMemory>
         ensures outcome { IfOk result (λ outcome. outcome ≡ outcome_of self.old.kept) }
         ensures address { IfOk result HasAddress }
         ensures listed { IfOk result (λ outcome. IsTrue (is_complete outcome) → IsTrue self.new.listed) }
@@ -102,10 +110,86 @@ impl Held {
         ensures kept { self.new.kept ≡ self.old.kept }
         ensures err { OnErr result (self.new ≡ self.old) }
     {
-        if self.live.is_none() {
-            self.live = Some(self.live_entries()?);
+        if self.listed {
+            return Ok(());
+        }
+        // If memory runs out, the empty map stays.
+        let map = mem::replace(&mut self.map, BaseMap::new(self.alloc));
+        self.map = self.laid(map)?;
+        self.listed = true;
+        Ok(())
+    }
+
+    /// Lays the archives that the best subscription document needs over those of the map, and then that
+    /// document.
+    fn laid(&self, map: BaseMap) -> Result<BaseMap, NoMemory>
+        requires whole { first_missing self.now.kept ≡ None }
+        requires base { IsBaseMap self.now.kept map }
+        ensures base { IfOk result (IsBaseMap self.now.kept) }
+        ensures listing { IfOk result (λ laid. IsListing self.now.kept laid.entries) }
+    {
+        // No document is missing, so there is a best subscription document.
+        let best = self.best.unwrap();
+        let prev = self.kept[best.at].prev();
+        let mut map = self.below_best(map, prev)?;
+        self.lay_archives(&mut map, prev)?;
+        self.lay_best(&mut map, best.at)?;
+        Ok(map)
+    }
+
+    /// The map without its subscription document, or an empty map if it has archives past `prev`.
+    fn below_best(&self, map: BaseMap, prev: u32) -> Result<BaseMap, NoMemory>
+        requires { IsBaseMap self.now.kept map }
+        ensures bare { IfOk result (IsBare self.now.kept) }
+        ensures last { IfOk result (λ below. below.last ≤ prev) }
+    {
+        if map.last <= prev {
+            map.lifted()
+        } else {
+            Ok(BaseMap::new(self.alloc))
+        }
+    }
+
+    /// Lays the archives up to `prev` over those of the map, oldest first.
+    fn lay_archives(&self, map: &mut BaseMap, prev: u32) -> Result<(), NoMemory>
+        requires held { (number : ℕ) → 1 ≤ number → number ≤ prev
+            → IsSome (archive_at self.now.kept number) }
+        requires bare { IsBare self.now.kept map.old }
+        requires last { map.old.last ≤ prev }
+        ensures bare { OnOk result (IsBare self.now.kept map.new) }
+        ensures last { OnOk result (map.new.last ≡ prev) }
+    {
+        for before in map.last..prev {
+            // The call requires all archives up to `prev`.
+            let at = *self.archives.get(&(before + 1)).unwrap();
+            self.list_document(at, &mut map.entries)?;
+            map.last = before + 1;
         }
         Ok(())
+    }
+
+    /// Lays the subscription document of this index over the archives, and notes what its items replace.
+    fn lay_best(&self, map: &mut BaseMap, at: usize) -> Result<(), NoMemory>
+        requires within { at < length self.now.kept }
+        requires bare { IsBare self.now.kept map.old }
+        ensures base { OnOk result (IsBaseMap self.now.kept map.new) }
+        ensures entries { OnOk result ((found : KeptValue) → slice_get self.now.kept at ≡ Some found
+            → HasEntries self.now.kept (found.document ∷ archives_from self.now.kept map.old.last)
+            map.new.entries) }
+        ensures members { OnOk result (AreMembers map.new.entries) }
+    {
+        map.replaced = replaced_by(self.alloc, &map.entries, self.kept[at].items())?;
+        self.list_document(at, &mut map.entries)
+    }
+
+    /// Lists the items of the document with this index over those of older documents.
+    fn list_document(&self, at: usize, live: &mut BTreeMap<u32, EntryPlace>) -> Result<(), NoMemory>
+        requires { at < length self.now.kept }
+        ensures laid { OnOk result ((found : KeptValue) → slice_get self.now.kept at ≡ Some found
+            → LaysOver marked_number (entry_place at) (marks_of found.document) live.old live.new) }
+        ensures members { OnOk result (AreMembers live.old → AreMembers live.new) }
+    {
+        list_items(live, at, self.kept[at].items())
     }
 
     /// How many live entries are listed.
@@ -113,51 +197,21 @@ impl Held {
         requires { IsTrue self.now.listed }
         ensures { result ≡ live_count_of (chain_of self.now.kept) }
     {
-        // The call requires the list. The count fits: each key is a number from 1 in 32 bits.
-        self.live.as_ref().unwrap().len() as u32
-    }
-
-    /// The live entries that the best subscription document and the archives that it needs show, as far as
-    /// they are held.
-    fn live_entries(&self) -> Result<BTreeMap<u32, EntryPlace>, NoMemory>
-        ensures entries { IfOk result (HasEntries self.now.kept (chain_of self.now.kept)) }
-        ensures members { IfOk result AreMembers }
-    {
-        let mut live = BTreeMap::new(self.alloc);
-        let Some(best) = self.best else {
-            return Ok(live);
-        };
-        let prev = self.kept[best.at].prev();
-        for before in 0..prev {
-            if let Some(at) = self.archives.get(&(before + 1)) {
-                self.list_document(*at, &mut live)?;
-            }
-        }
-        self.list_document(best.at, &mut live)?;
-        Ok(live)
-    }
-
-    /// Lists the items of the document with this index over those of older documents.
-    fn list_document(&self, at: usize, live: &mut BTreeMap<u32, EntryPlace>) -> Result<(), NoMemory>
-        requires { at < length self.now.kept }
-        ensures entries { OnOk result ((found : KeptValue) (older : List DocValue)
-            → slice_get self.now.kept at ≡ Some found → HasEntries self.now.kept older live.old
-            → HasEntries self.now.kept (found.document ∷ older) live.new) }
-        ensures members { OnOk result (AreMembers live.old → AreMembers live.new) }
-    {
-        list_items(live, at, self.kept[at].items())
+        // The count fits: each key is a number from 1 in 32 bits.
+        self.map.entries.len() as u32
     }
 
     /// The least number after this one of a live member. `None` if there is none. `outcome` has listed the
     /// live entries, and no document was taken since. Takes no memory.
-    pub fn next_live(&self, after: u32) -> Option<u32>
+    pub(crate) fn next_live(&self, after: u32) -> Option<u32>
         requires { IsTrue self.now.listed }
         ensures found { IfSome result (IsNextLive self.now.kept after) }
         ensures last { result ≡ None → IsLastLive self.now.kept after }
         ensures whole { first_missing self.now.kept ≡ None }
     {
-        let live = self.live.as_ref()?;
-        let (number, _) = live
+        let (number, _) = self
+            .map
+            .entries
             .range((Bound::Excluded(after), Bound::Unbounded))
             .next()?;
         Some(*number)
@@ -165,7 +219,7 @@ impl Held {
 
     /// The place of a live member's entry. `outcome` has listed the live entries, and no document was taken
     /// since. Takes no memory.
-    pub fn entry_place(&self, number: u32) -> EntryPlace
+    pub(crate) fn entry_place(&self, number: u32) -> EntryPlace
         requires listed { IsTrue self.now.listed }
         requires live { IsSome (live_at self.now.kept number) }
         ensures place { IfSome (live_at self.now.kept number) (HasEntryAt self.now.kept result) }
@@ -173,6 +227,6 @@ impl Held {
         ensures whole { first_missing self.now.kept ≡ None }
     {
         // The call requires that the entries are listed and that the member is live.
-        *self.live.as_ref().unwrap().get(&number).unwrap()
+        *self.map.entries.get(&number).unwrap()
     }
 }

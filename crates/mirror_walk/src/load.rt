@@ -17,8 +17,8 @@ ghost use Rattle.mirror_walk.specs.Mirror.{IsAtRest, IsNewlyLoaded, KeepsDocumen
 ghost use Rattle.mirror_walk.specs.Refused.{IsRefusal, Refuses, RefusesAt};
 
 use crate::answer::Offered;
-use crate::held::Held;
-use crate::kept::{Kept, kept_of};
+use crate::documents::Documents;
+use crate::kept::{Given, read_given};
 use crate::mirror::Mirror;
 use crate::mirror_fault::MirrorFault;
 use atom_grammar::ReadFault;
@@ -98,13 +98,12 @@ fn reopen<D: Disk>(
     ensures fault { IfErr result (FailsBy D.observable base (D.state disk.old) (D.state disk.new)) }
     ensures refused { IfErr result (Refuses base log.extents) }
 {
-    let held = held_of(alloc, disk, &mut log, base)?;
+    let documents = held_of(alloc, disk, &mut log, base)?;
     Ok(Mirror {
         alloc,
-        held,
+        documents,
         log,
         capacity,
-        reread: None,
     })
 }
 
@@ -114,7 +113,7 @@ fn held_of<D: Disk>(
     disk: &mut D,
     log: &mut Log,
     base: Base,
-) -> Result<Held, MirrorFault>
+) -> Result<Documents, MirrorFault>
     requires { IsReadable D.observable (D.state disk.old) log.old }
     ensures base { IfOk result (λ held. held.base ≡ base) }
     ensures unlisted { IfOk result (λ held. held.listed ≡ false) }
@@ -126,7 +125,7 @@ fn held_of<D: Disk>(
     ensures fault { IfErr result (FailsBy D.observable base (D.state disk.old) (D.state disk.new)) }
     ensures refused { IfErr result (Refuses base log.old.extents) }
 {
-    let mut held = Held::new(alloc, base);
+    let mut held = Documents::new(alloc, base);
     for index in 0..log.len() {
         let given = document_of(alloc, disk, log, &held, index)?;
         held.take(given)?;
@@ -139,52 +138,54 @@ fn document_of<D: Disk>(
     alloc: Global,
     disk: &mut D,
     log: &mut Log,
-    held: &Held,
+    held: &Documents,
     index: u32,
-) -> Result<Kept, MirrorFault>
+) -> Result<Given, MirrorFault>
     requires log { IsReadable D.observable (D.state disk.old) log.old }
     requires within { index < length log.old.extents }
     requires count { length held.now.kept ≡ index }
     requires loaded { IsLoadedOf held.now.base (payloads_of held.now.kept) held.now.kept }
     requires before { D.observable
         → take index (records ((D.state disk.old).content MirrorArea)) ≡ payloads_of held.now.kept }
-    ensures document { IfOk result (λ given. IsKeptOf (text given.document) given) }
-    ensures next { IfOk result (IsNext held.now.base held.now.kept) }
-    ensures new { IfOk result (λ given. IsNew held.now.kept given.document) }
+    ensures document { IfOk result (λ given. IsKeptOf (text given.kept.document) given.kept) }
+    ensures name { IfOk result (λ given. given.name ≡ given.kept.document.name) }
+    ensures next { IfOk result (λ given. IsNext held.now.base held.now.kept given.kept) }
+    ensures new { IfOk result (λ given. IsNew held.now.kept given.kept.document) }
     ensures payload { IfOk result (λ given. D.observable
-        → slice_get (records ((D.state disk.old).content MirrorArea)) index ≡ Some (text given.document)) }
+        → slice_get (records ((D.state disk.old).content MirrorArea)) index ≡ Some (text given.kept.document)) }
     ensures length { IfOk result (λ given.
-        slice_get (payload_lengths log.old.extents) index ≡ Some (length (text given.document))) }
+        slice_get (payload_lengths log.old.extents) index ≡ Some (length (text given.kept.document))) }
     ensures worked { OnOk result (Worked (D.state disk.old) (D.state disk.new) log.old log.new) }
     ensures reads { OnlyReads (D.state disk.old) (D.state disk.new) }
     ensures fault { IfErr result (FailsBy D.observable held.now.base (D.state disk.old) (D.state disk.new)) }
     ensures refused { IfErr result (RefusesAt held.now.base held.now.kept log.old.extents index) }
 {
     let payload = log.read(disk, index)?;
-    match kept_of(alloc, payload.as_slice()) {
+    match read_given(alloc, payload.as_slice()) {
         Ok(given) => held.admit(given, index, payload.len()),
         Err(ReadFault::NotADocument { at }) => Err(MirrorFault::BadRecord { index, at }),
         Err(ReadFault::NoMemory) => Err(MirrorFault::NoMemory),
     }
 }
 
-impl Held {
+impl Documents {
     /// Returns the document of the payload with this index and length, if it is taken under its own address.
     #[tactic(auto, using(crate::proofs::FirstLemmas::first_differs))]
-    fn admit(&self, given: Kept, index: u32, size: usize) -> Result<Kept, MirrorFault>
-        requires document { IsKeptOf (text given.document) given }
+    fn admit(&self, given: Given, index: u32, size: usize) -> Result<Given, MirrorFault>
+        requires document { IsKeptOf (text given.kept.document) given.kept }
+        requires name { given.name ≡ given.kept.document.name }
         requires count { length self.now.kept ≡ index }
         ensures same { IfOk result (λ admitted. admitted ≡ given) }
-        ensures next { OnOk result (IsNext self.now.base self.now.kept given) }
-        ensures new { OnOk result (IsNew self.now.kept given.document) }
-        ensures fault { IfErr result (IsUnfit self.now.base self.now.kept index given size) }
+        ensures next { OnOk result (IsNext self.now.base self.now.kept given.kept) }
+        ensures new { OnOk result (IsNew self.now.kept given.kept.document) }
+        ensures fault { IfErr result (IsUnfit self.now.base self.now.kept index given.kept size) }
     {
         if self.is_next(&given)? {
             Ok(given)
         } else if index == 0 {
             // Only another base keeps the first document out.
             Err(MirrorFault::OtherBase {
-                kept: given.name().base.copy(self.alloc)?,
+                kept: given.name.base.copy(self.alloc)?,
             })
         } else {
             Err(MirrorFault::BadRecord { index, at: size })
@@ -192,12 +193,14 @@ impl Held {
     }
 
     /// Whether the mirror takes the document under its own address.
-    fn is_next(&self, given: &Kept) -> Result<bool, NoMemory>
-        ensures next { IfOk result (λ next. IsTrue next ↔ IsNext self.now.base self.now.kept given.now) }
-        ensures new { result ≡ Ok true → IsNew self.now.kept given.now.document }
+    fn is_next(&self, given: &Given) -> Result<bool, NoMemory>
+        requires { given.now.name ≡ given.now.kept.document.name }
+        ensures next { IfOk result (λ next. IsTrue next ↔ IsNext self.now.base self.now.kept given.now.kept) }
+        ensures new { result ≡ Ok true → IsNew self.now.kept given.now.kept.document }
     {
-        let address = given.name().base.print(self.alloc, given.kind().address())?;
-        match self.check(address.as_slice(), given) {
+        let own = given.kept.kind().address();
+        let address = given.name.base.print(self.alloc, own)?;
+        match self.check(address.as_slice(), &given.name, &given.kept) {
             Ok(None) => Ok(true),
             Ok(Some(_)) => Ok(false),
             Err(Offered::NoMemory) => Err(NoMemory),

@@ -8,7 +8,7 @@ use std::alloc::Global;
 /// An item of a document without its content: the number of its member, from 1, and whether it is an entry or
 /// a tombstone.
 #[derive(Clone, Copy, Debug, PartialEq, Eq)]
-pub(crate) enum ItemMark {
+pub enum ItemMark {
     /// The item is an entry.
     Live(u32),
     /// The item is a tombstone.
@@ -31,7 +31,7 @@ impl ItemMark {
     }
 
     /// The number of the item's member.
-    pub(crate) fn number(self) -> u32
+    pub fn number(self) -> u32
         ensures { result ≡ marked_number self }
     {
         match self {

@@ -14,36 +14,27 @@ ghost use Rattle.mirror_walk.specs.Offers.{AreServed, AreTakenOf, Offering};
 ghost use Rattle.mirror_walk.specs.Published.{HoldsServed, IsNextCounted};
 
 use crate::answer::Outcome;
-use crate::held::Held;
+use crate::documents::Documents;
 use atom_values::NoMemory;
-use atom_writer::{Doc, FeedName};
+use atom_writer::FeedName;
 use chain_links::{Address, Place};
 use feed_journal::Log;
 use std::alloc::Global;
 use std::marker::Model;
 
-/// A document that was read back from the log, and its index among those taken.
-#[derive(Drop)]
-pub(crate) struct Reread {
-    pub(crate) index: u32,
-    pub(crate) document: Doc,
-}
-
 /// A mirror of one feed: the documents that it took of those offered to it, each a payload of the mirror area
 /// of a disk.
 ///
 /// It doesn't hold its disk, which is lent to each call that reaches it. In memory it has what the checks of
-/// the next offers need, and the document that was read back last. After `DiskFault` it is spent: drop it and
-/// load it again.
+/// the next offers need, and of each item its member's number and where it is on the disk. After `DiskFault` it
+/// is spent: drop it and load it again.
 #[derive(Drop)]
 pub struct Mirror {
     pub(crate) alloc: Global,
-    pub(crate) held: Held,
+    pub(crate) documents: Documents,
     pub(crate) log: Log,
     /// The greatest size of the area, in bytes.
     pub(crate) capacity: u64,
-    /// The entries are asked for in order of number, and those of one document often come one after another.
-    pub(crate) reread: Option<Reread>,
 }
 
 impl Model for Mirror {
@@ -52,21 +43,19 @@ impl Model for Mirror {
     ghost Value = { MirrorValue };
 
     ghost view = { λ m. record {
-      base = m.held.base;
-      kept = m.held.kept;
-      listed = m.held.listed;
+      base = m.documents.base;
+      kept = m.documents.kept;
+      listed = m.documents.listed;
       capacity = m.capacity;
       log = m.log;
-      reread = m.reread;
     } };
 
     ghost invariant = { λ m. KeepsMirror record {
-      base = m.held.base;
-      kept = m.held.kept;
-      listed = m.held.listed;
+      base = m.documents.base;
+      kept = m.documents.kept;
+      listed = m.documents.listed;
       capacity = m.capacity;
       log = m.log;
-      reread = m.reread;
     } };
 }
 
@@ -80,7 +69,7 @@ impl Mirror {
         ensures missing { result ≡ first_missing self.now.kept }
         ensures address { IfSome result IsAddress }
     {
-        self.held.wanted()
+        self.documents.wanted()
     }
 
     /// The place of the best subscription document in the chain: the one with the greatest `last`. `None` if
@@ -89,7 +78,7 @@ impl Mirror {
         requires { is_spent self.now ≡ false }
         ensures { result ≡ option_map (λ kept. place_of kept.document) (best_of self.now.kept) }
     {
-        self.held.best()
+        self.documents.best()
     }
 
     /// The feed's name as the best subscription document states it. `None` if no subscription document is
@@ -98,7 +87,7 @@ impl Mirror {
         requires { is_spent self.now ≡ false }
         ensures { option_copied result ≡ name_of_best self.now.kept }
     {
-        self.held.name()
+        self.documents.name()
     }
 
     /// The SHA-256 digest of the bytes of the best subscription document for `Feed`, and of the held archive
@@ -107,16 +96,19 @@ impl Mirror {
         requires { is_spent self.now ≡ false }
         ensures { result ≡ digest_at self.now.kept address }
     {
-        self.held.digest(address)
+        self.documents.digest(address)
     }
 
     /// Returns the first missing document, as `wanted` does, or else the version and the number of live
     /// entries. Archives that the best subscription document doesn't need are not used.
     ///
-    /// If none is missing, the live entries are listed afterwards, for `next_live` and `entry`. The first
-    /// call after a document was taken makes the list, in one pass over the marks of the needed documents'
-    /// items. No document is read back. `NoMemory` if there is no memory for the list, and then nothing
-    /// changed.
+    /// If none is missing, the live entries are listed afterwards, for `next_live` and `entry`. No document is
+    /// read back. `NoMemory` if there is no memory for the list, and then the next call makes it from nothing.
+    ///
+    /// Cost: the first list takes one pass over the marks of the needed documents' items. A later one passes
+    /// over those of the archives that are new in the chain, of the best subscription document, and of the one
+    /// that was the best when the last list was made. If the best subscription document needs fewer archives
+    /// than are listed, the list is made from nothing. Without a new document, a call makes no list.
     pub fn outcome(&mut self) -> Result<Outcome, NoMemory>
         requires { is_spent self.old ≡ false }
         ensures outcome { IfOk result (λ outcome. outcome ≡ outcome_of self.old.kept) }
@@ -130,7 +122,7 @@ impl Mirror {
             → AreTakenOf self.old.base offers self.old.kept
             → ShowsServed head history offers self.old.kept (best_of self.old.kept) }
     {
-        self.held.outcome()
+        self.documents.outcome()
     }
 
     /// The least number after this one of a live member. `None` if there is none. `outcome` has listed the
@@ -150,6 +142,6 @@ impl Mirror {
         ensures whole { first_missing self.now.kept ≡ None }
         ensures loaded { IsLoadedOf self.now.base (payloads_of self.now.kept) self.now.kept }
     {
-        self.held.next_live(after)
+        self.documents.next_live(after)
     }
 }

@@ -14,7 +14,7 @@ ghost use Rattle.mirror_walk.specs.Offers.{AreServed, AreTakenOf, Offering};
 ghost use Rattle.mirror_walk.specs.Taking.{HasOnlyMoreRoom, IsChecked, IsNoRoom, IsTakenNext, IsTakeStep};
 
 use crate::answer::{Accepted, Offered};
-use crate::kept::{Kept, kept_of};
+use crate::kept::{Given, read_given};
 use crate::mirror::Mirror;
 use atom_grammar::MAX_DOCUMENT;
 use feed_disk::Disk;
@@ -26,7 +26,7 @@ pub(crate) enum Checked {
     /// The document isn't taken.
     Answered(Accepted),
     /// The document is to be taken, with its text as the payload.
-    New(Kept, Framed),
+    New(Given, Framed),
 }
 
 impl Mirror {
@@ -49,15 +49,15 @@ impl Mirror {
     /// - `Full` if the area has no room for the document within the mirror's capacity.
     /// - `Taken`: the document is on the disk. This is the only answer that changes what is held.
     ///
-    /// Any other answer but `DiskFault` leaves the mirror as it was, with its log, the list of the live
-    /// entries and the document that was read back last. So `entry` costs what it did before.
+    /// Any other answer but `DiskFault` leaves the mirror as it was, with its log and the list of the live
+    /// entries.
     ///
     /// `NoMemory` may come in place of any answer. `DiskFault` may come in place of
     /// `Taken`, if the disk's count of faults rose. Then the mirror is spent, and a crash leaves the
     /// documents held before, or those and the new one.
     ///
-    /// Reads the bytes once, digests them once and copies them once. `Taken` makes four device calls, and no
-    /// other answer but `DiskFault` makes one.
+    /// Reads the bytes once, passes over them for the places of the items, and digests and copies them once.
+    /// `Taken` makes four device calls, and no other answer but `DiskFault` makes one.
     pub fn offer<D: Disk>(
         &mut self,
         disk: &mut D,
@@ -76,8 +76,7 @@ impl Mirror {
             → (result ≡ accept_within self.old.capacity self.old.base self.old.kept address.now given)
             ⊎ (result ≡ Err Offered.NoMemory) ⊎ (result ≡ Err Offered.DiskFault) }
         // Only the room that the log has for one more payload may differ. What is held stays, and what `entry`
-        // reads by: the places of the payloads, the list of the live entries and the document that was read
-        // back last.
+        // reads by: the places of the payloads and the list of the live entries.
         ensures unchanged { result ≢ Ok Accepted.Taken → result ≢ Err Offered.DiskFault
             → HasOnlyMoreRoom self.old self.new × (disk.new ≡ disk.old) }
         ensures setting { KeepsSetting (D.state disk.old) (D.state disk.new) self.old self.new }
@@ -115,8 +114,8 @@ impl Mirror {
         requires size { length bytes.now ≤ MAX_DOCUMENT }
         ensures { IsChecked self.now address.now bytes.now result }
     {
-        let given = kept_of(self.alloc, bytes)?;
-        if let Some(accepted) = self.held.check(address, &given)? {
+        let given = read_given(self.alloc, bytes)?;
+        if let Some(accepted) = self.documents.check(address, &given.name, &given.kept)? {
             return Ok(Checked::Answered(accepted));
         }
         let framed = self.framed(bytes)?;
@@ -149,15 +148,16 @@ impl Mirror {
     fn take<D: Disk>(
         &mut self,
         disk: &mut D,
-        given: Kept,
+        given: Given,
         framed: &Framed,
     ) -> Result<Accepted, Offered>
         requires unspent { is_spent self.old ≡ false }
         requires stands { D.observable → StandsFor (D.state disk.old) self.old }
-        requires taken { IsTakenNext self.old given framed.now }
+        requires taken { IsTakenNext self.old given.kept framed.now }
+        requires name { given.name ≡ given.kept.document.name }
         ensures answers { (result ≡ Ok Accepted.Taken) ⊎ (result ≡ Err Offered.NoMemory)
             ⊎ (result ≡ Err Offered.DiskFault) }
-        ensures kept { OnOk result (self.new.kept ≡ self.old.kept ++ given ∷ []) }
+        ensures kept { OnOk result (self.new.kept ≡ self.old.kept ++ given.kept ∷ []) }
         ensures unchanged { result ≡ Err Offered.NoMemory
             → HasOnlyMoreRoom self.old self.new × (disk.new ≡ disk.old) }
         ensures setting { KeepsSetting (D.state disk.old) (D.state disk.new) self.old self.new }
@@ -165,13 +165,13 @@ impl Mirror {
             → StaysSound D.observable (D.state disk.old) (D.state disk.new) self.old self.new }
         ensures spent { result ≡ Err Offered.DiskFault → is_spent self.new ≡ true }
         ensures moments { D.observable → IsAtRest (D.state disk.old) self.old.kept
-            → AlwaysLeaves (D.state disk.old) (D.state disk.new) MirrorArea (IsTakeStep self.old given) }
+            → AlwaysLeaves (D.state disk.old) (D.state disk.new) MirrorArea (IsTakeStep self.old given.kept) }
         ensures faults { CountsFault (D.state disk.old).faults (D.state disk.new).faults
             (result ≡ Err Offered.DiskFault) }
     {
         begun_images_are_whole();
         self.log.reserve()?;
-        self.held.take(given)?;
+        self.documents.take(given)?;
         self.log.append(disk, framed)?;
         Ok(Accepted::Taken)
     }

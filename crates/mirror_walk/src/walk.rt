@@ -310,7 +310,7 @@ impl Mirror {
     {
         // Its contract is a law that the proof uses.
         begun_images_are_whole();
-        let text = self.held.base.print(self.alloc, address)?;
+        let text = self.documents.base.print(self.alloc, address)?;
         let Some(bytes) = fetch.get(self.alloc, text.as_slice())? else {
             return Ok(Visit::NotThere);
         };

@@ -10,8 +10,8 @@ use Rattle.mirror_walk.proofs.RefusedLemmas.{short-refused, unfit-refused}
 use Rattle.mirror_walk.proofs.SizeLemmas.{follow-most}
 use Rattle.mirror_walk.proofs.load.document_of.Goals as goal
 
-pub kept_of-requires : goal.kept_of-requires
-kept_of-requires g c =
+pub read_given-requires : goal.read_given-requires
+read_given-requires g c =
     let log = c.args.log.now in
     let small = follow-most 0 log.extents log.size c.args.index (length c.in_ok-payload.payload.items)
     c.requires.log.rules.follow c.in_ok-payload.ensures.length in
@@ -25,12 +25,12 @@ returns-in-Ok-clause-fault g c =
     let kept = c.args.held.now.kept in
     let size : c.len.result ≡ length payload = search rules in
     unfit_all g.D.Disk.observable base s (g.D.Disk.state c.read.new.disk) kept c.args.index c.len.result payload
-    c.in-Ok.given
+    c.in-Ok.given.kept
     c.admit.result c.requires.loaded c.requires.before
     (λ tells. subst (λ (a : Area). slice_get (records (s.content a)) c.args.index ≡ Some payload)
     c.requires.log.area
     (c.in_ok-payload.ensures.payload tells))
-    (subst (λ (b : List ℕ). IsKeptOf b c.in-Ok.given) c.as_slice.ensures.value c.in-Ok.ensures.found)
+    (subst (λ (b : List ℕ). IsKeptOf b c.in-Ok.given.kept) c.as_slice.ensures.value c.in-Ok.ensures.found)
     (c.in_ok-payload.ensures.faults.unfailed (λ is. absurd (cc)))
     size
     c.admit.ensures.fault
@@ -54,6 +54,6 @@ returns-in-Ok-clause-refused g c =
     let payload = c.in_ok-payload.payload.items in
     let size : c.len.result ≡ length payload = search rules in
     unfit-refused c.args.held.now.base c.args.held.now.kept c.args.log.now.extents c.args.index payload
-    c.in_ok-payload.ensures.length c.in-Ok.given
-    (subst (λ (b : List ℕ). IsKeptOf b c.in-Ok.given) c.as_slice.ensures.value c.in-Ok.ensures.found)
+    c.in_ok-payload.ensures.length c.in-Ok.given.kept
+    (subst (λ (b : List ℕ). IsKeptOf b c.in-Ok.given.kept) c.as_slice.ensures.value c.in-Ok.ensures.found)
     c.len.result size c.admit.result c.admit.ensures.fault

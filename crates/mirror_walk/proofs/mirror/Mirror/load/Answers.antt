@@ -1,8 +1,8 @@
-use Rattle.std.proofs.Common.{Err, List, ℕ, ap, subst}
+use Rattle.std.proofs.Common.{Err, List, ℕ, ap, sym, subst, ◌∙◌}
 use Rattle.std.proofs.lemmas.Result.{err_from_is_err_and}
 use Rattle.feed_disk.specs.declared.area.Area.TheVariants.{Mirror as MirrorArea}
 use Rattle.feed_disk.proofs.MomentLemmas.{alone_joins}
-use Rattle.feed_journal.specs.Records.{records}
+use Rattle.feed_journal.specs.Records.{Begins, records}
 use Rattle.feed_journal.specs.declared.fault.LogFault.{LogFault}
 use Rattle.mirror_walk.specs.Loaded.{IsMirrorFault}
 use Rattle.mirror_walk.proofs.LoadLemmas.{loads-without}
@@ -36,3 +36,10 @@ pub returns-clause-others : goal.returns-clause-others
 returns-clause-others g c = λ a other. alone_joins (g.D.Disk.state c.args.disk.now)
     (g.D.Disk.state c.load.new.disk) (g.D.Disk.state c.reopen.new.disk) a (c.load.ensures.others a other)
     (c.reopen.ensures.reads.areas a)
+
+pub returns-clause-rests : goal.returns-clause-rests
+returns-clause-rests g c = λ tells whole image now.
+    let area = c.reopen.ensures.reads.areas MirrorArea in
+    let payloads = sym (ap records area.content) ∙ (c.in_ok-mirror.ensures.stands tells).payloads in
+    subst (λ (l : List (List ℕ)). Begins l image) payloads
+    (c.in_ok-log.ensures.rests tells whole image (area.now image now))

@@ -99,24 +99,30 @@ pub take-requires-clause-taken : goal.take-requires-clause-taken
 take-requires-clause-taken g c =
     (subst (λ (found : Checked). IsChecked c.args.self.now c.args.address.now c.args.bytes.now (Ok found))
     c.in-New.is
-    c.in_ok-accepted.ensures).taken
+    c.in_ok-accepted.ensures).1.taken
+
+pub take-requires-clause-name : goal.take-requires-clause-name
+take-requires-clause-name g c =
+    (subst (λ (found : Checked). IsChecked c.args.self.now c.args.address.now c.args.bytes.now (Ok found))
+    c.in-New.is
+    c.in_ok-accepted.ensures).0
 
 -- the answer of a document that was to be taken
 pub returns-in-New-clause-answer : goal.returns-in-New-clause-answer
 returns-in-New-clause-answer g c =
     let mirror = c.args.self.now in
-    let to = subst (λ (found : Checked). IsChecked mirror c.args.address.now c.args.bytes.now (Ok found))
+    let to = (subst (λ (found : Checked). IsChecked mirror c.args.address.now c.args.bytes.now (Ok found))
     c.in-New.is
-    c.in_ok-accepted.ensures in
+    c.in_ok-accepted.ensures).1 in
     let keeps = subst KeepsMirror c.self.view_is c.self.invariant in
-    let fits : size_of (payloads_of mirror.kept) + (length (text c.in-New.given.document) + header_length)
+    let fits : size_of (payloads_of mirror.kept) + (length (text c.in-New.given.kept.document) + header_length)
     ≤ mirror.capacity =
     omega (arith, to.taken.fits, (keeps.documents c.requires.unspent).size, ap length to.taken.read.text) in
-    let accepted = within-taken mirror.capacity mirror.base mirror.kept c.args.address.now c.in-New.given
+    let accepted = within-taken mirror.capacity mirror.base mirror.kept c.args.address.now c.in-New.given.kept
     to.accepted
     fits in
-    taken-answers mirror c.args.address.now c.args.bytes.now c.take.result c.in-New.given c.take.new.self.kept
-    (subst (λ (b : List ℕ). IsKeptOf b c.in-New.given) to.bytes_are to.taken.read) accepted
+    taken-answers mirror c.args.address.now c.args.bytes.now c.take.result c.in-New.given.kept c.take.new.self.kept
+    (subst (λ (b : List ℕ). IsKeptOf b c.in-New.given.kept) to.bytes_are to.taken.read) accepted
     c.take.ensures.kept
     c.take.ensures.answers
 
@@ -138,13 +144,13 @@ returns-in-New-clause-unchanged g c = λ other other'.
 pub returns-in-New-clause-moments : goal.returns-in-New-clause-moments
 returns-in-New-clause-moments g c = λ tells rest.
     let mirror = c.args.self.now in
-    let to = subst (λ (found : Checked). IsChecked mirror c.args.address.now c.args.bytes.now (Ok found))
+    let to = (subst (λ (found : Checked). IsChecked mirror c.args.address.now c.args.bytes.now (Ok found))
     c.in-New.is
-    c.in_ok-accepted.ensures in
+    c.in_ok-accepted.ensures).1 in
     let keeps = subst KeepsMirror c.self.view_is c.self.invariant in
     always_weaker (g.D.Disk.state c.args.disk.now) (g.D.Disk.state c.take.new.disk) MirrorArea
-    (IsTakeStep mirror c.in-New.given) (IsOfferStep mirror c.args.address.now c.args.bytes.now)
-    (offer-step mirror c.args.address.now c.args.bytes.now c.in-New.given c.in-New.framed
+    (IsTakeStep mirror c.in-New.given.kept) (IsOfferStep mirror c.args.address.now c.args.bytes.now)
+    (offer-step mirror c.args.address.now c.args.bytes.now c.in-New.given.kept c.in-New.framed
     (keeps.documents c.requires.unspent).size to) (c.take.ensures.moments tells rest)
 
 pub returns-in-New-clause-served : goal.returns-in-New-clause-served

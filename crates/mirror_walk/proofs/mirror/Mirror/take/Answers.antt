@@ -17,12 +17,11 @@ use Rattle.mirror_walk.proofs.mirror.Mirror.take.Goals.{After-append}
 -- the mirror before the call, by its fields, and with the room that its log got
 abbrev before : (g : Over) → After-append g → MirrorValue
 before g c = record {
-  base = c.self.inside.held.base;
-  kept = c.self.inside.held.kept;
-  listed = c.self.inside.held.listed;
+  base = c.self.inside.documents.base;
+  kept = c.self.inside.documents.kept;
+  listed = c.self.inside.documents.listed;
   capacity = c.self.inside.capacity;
   log = c.self.inside.log;
-  reread = c.self.inside.reread;
 }
 
 area : (g : Over) (c : After-append g) → c.reserve.new.self.area ≡ MirrorArea
@@ -39,8 +38,8 @@ documents g c =
     (keeps-room (before g c) c.reserve.new.self c.reserve.ensures.log c.self.invariant).documents
     (ap (λ (l : LogValue). l.spent) c.reserve.ensures.log ∙ unspent)
 
-taken : (g : Over) (c : After-append g) → IsTakenNext (before g c) c.args.given c.args.framed.now
-taken g c = subst (λ (m : MirrorValue). IsTakenNext m c.args.given c.args.framed.now) (sym c.self.view_is)
+taken : (g : Over) (c : After-append g) → IsTakenNext (before g c) c.args.given.kept c.args.framed.now
+taken g c = subst (λ (m : MirrorValue). IsTakenNext m c.args.given.kept c.args.framed.now) (sym c.self.view_is)
     c.requires.taken
 
 pub append-requires-clause-room : goal.append-requires-clause-room
@@ -69,9 +68,9 @@ append-requires-clause-room g c =
 leaves : (g : Over) (c : After-append g) → g.D.Disk.observable
     → IsAtRest (g.D.Disk.state c.args.disk.now) c.args.self.now.kept
     → AlwaysLeaves (g.D.Disk.state c.args.disk.now) (g.D.Disk.state c.append.new.disk) MirrorArea
-    (IsTakeStep c.args.self.now c.args.given)
+    (IsTakeStep c.args.self.now c.args.given.kept)
 leaves g c tells rest = appended-leaves (g.D.Disk.state c.args.disk.now) (g.D.Disk.state c.append.new.disk)
-    c.args.self.now c.args.given c.args.framed.now (keeps g c) c.requires.unspent (c.requires.stands tells)
+    c.args.self.now c.args.given.kept c.args.framed.now (keeps g c) c.requires.unspent (c.requires.stands tells)
     c.requires.taken c.reserve.new.self.area (area g c) (c.append.ensures.moments tells) rest
 
 pub returns-in_err-append-clause-moments : goal.returns-in_err-append-clause-moments
@@ -104,7 +103,7 @@ invariant_of-self-2 g c =
           subst (λ (b : List ℕ). KeepsDocuments b c.take.new.self.kept c.append.new.self)
           (sym c.take.ensures.base)
           (subst (λ (l : List KeptValue). KeepsDocuments (before g d).base l c.append.new.self) (sym kept)
-          (keeps-taken (before g d).base (before g d).kept c.args.given c.args.framed.now c.reserve.new.self
+          (keeps-taken (before g d).base (before g d).kept c.args.given.kept c.args.framed.now c.reserve.new.self
           c.append.new.self (documents g d) (taken g d).read (taken g d).next ok));
     }
 
@@ -124,17 +123,17 @@ returns-clause-sound g c = λ works.
     let area_is = c.reserve.new.self.area in
     let listed = c.in_ok-append.ensures.listed in
     let calls = c.append.ensures.calls.most in
-    let kept : c.take.new.self.kept ≡ c.args.self.now.kept ++ c.args.given ∷ [] =
-    c.in_ok-take.ensures.kept ∙ ap (λ (m : MirrorValue). m.kept ++ c.args.given ∷ []) c.self.view_is in
+    let kept : c.take.new.self.kept ≡ c.args.self.now.kept ++ c.args.given.kept ∷ [] =
+    c.in_ok-take.ensures.kept ∙ ap (λ (m : MirrorValue). m.kept ++ c.args.given.kept ∷ []) c.self.view_is in
     record {
       unspent = ap (λ (l : LogValue). l.spent) c.in_ok-append.ensures.ok.log
           ∙ ap (λ (l : LogValue). l.spent) c.reserve.ensures.log ∙ unspent;
       stands = λ tells.
-          appended-stands s t (before g d) c.args.given c.args.framed.now c.self.invariant unspent
+          appended-stands s t (before g d) c.args.given.kept c.args.framed.now c.self.invariant unspent
           (subst (StandsFor s) (sym c.self.view_is) (c.requires.stands tells)) (taken g d) area_is (area g d)
-          (listed tells).list _ c.in_ok-take.ensures.kept refl (listed tells).listed;
+          (listed tells).list _ c.in_ok-take.ensures.kept (listed tells).listed;
       rests = λ tells rest.
-          subst (IsAtRest t) (sym kept) (appended-rests s t c.args.self.now c.args.given c.args.framed.now
+          subst (IsAtRest t) (sym kept) (appended-rests s t c.args.self.now c.args.given.kept c.args.framed.now
           (keeps g d) c.requires.unspent (c.requires.stands tells) c.requires.taken area_is (area g d)
           (listed tells).list (c.in_ok-append.ensures.rests tells) rest);
       most = omega (arith, calls.within, calls.makes.clock, simp length-append at (ap length kept));
