@@ -1,7 +1,7 @@
 -- The documents of the lines, as one line after another is read.
 use Rattle.std.proofs.Common.{◌≡◌, ℕ, zero, suc, ◌+◌, ◌<◌, Bool, true, false, cond, List, [], ◌∷◌, ◌++◌, length, take, drop, get_or}
 use Rattle.std.proofs.Common.{Option, Some, None, Result, Ok, Err, refl, sym, ap, subst, ◌∙◌, arith}
-use Rattle.std.specs.Prelude.{All, IsErrAnd, slice_get, filter_map}
+use Rattle.std.specs.Prelude.{All, IsErrAnd, slice_get, filter_map, option_map}
 use Rattle.std.specs.BTreeMap.{BTreeMap, get, Updates}
 use Rattle.std.specs.List.{AllZip, cons_option}
 use Rattle.std.specs.Map.{lookup}
@@ -10,12 +10,14 @@ use Rattle.std.proofs.lemmas.List.{take_more}
 use Rattle.std.proofs.lemmas.List.Elements.{All-append, All-cons, All-head, All-nil, All-tail, filter_map-append}
 use Rattle.std.proofs.lemmas.Option.{same_Some, slice_get_within}
 use Rattle.atom_writer.specs.Doc.{DocValue}
+use Rattle.atom_writer.specs.declared.doc.FeedName.{FeedName}
 use Rattle.chain_links.specs.Address.{IsAddress}
 use Rattle.chain_links.specs.declared.address.Address.{Address}
 use Rattle.chain_links.specs.declared.address.Address.TheVariants.{Feed, Archive, Member}
 use Rattle.coverage_certificate.specs.Certificate.{AreCoverLines, CertificateValue, CoverValue, IsArchive}
 use Rattle.doc_source.specs.declared.offer.Offer.{Offer}
-use Rattle.coverage_auditor.specs.Chain.{ArePlaces, IsShelf, IsShelved, IsShelvedAt, shown}
+use Rattle.coverage_auditor.specs.Chain.{ArePlaces, HasFirstName, IsChainOf, IsOfFeed}
+use Rattle.coverage_auditor.specs.Chain.{IsShelf, IsShelved, IsShelvedAt, shown}
 use Rattle.coverage_auditor.specs.Checks.{KeepsDocuments, PlacesLine, ReadsLine, ReadsLines}
 use Rattle.coverage_auditor.specs.Finding.{HasDocument, RefusesLine}
 use Rattle.coverage_auditor.specs.Offers.{Key, key_cmp, line_key}
@@ -125,6 +127,45 @@ module _ (c : CertificateValue) (pile : List Offer) where
       ∙ ap (λ (found : Option DocValue). filter_map (slice_get documents) places ++ cons_option found [])
       shelved.there
 
+  -- the first of the lines' documents is the first that was read
+
+  first-of : (documents : List DocValue) (last : DocValue) → slice_get documents 0 ≡ None
+      → slice_get (documents ++ last ∷ []) 0 ≡ Some last
+  first-of [] last none = refl
+  first-of (first ∷ documents) last none = absurd (some none)
+    where
+      some : Some first ≡ None → ⊥
+      some e = cc
+
+  pub first-more : (documents documents' : List DocValue) (places : List ℕ) (line : CoverValue) (at : ℕ)
+      → KeepsDocuments documents documents' → ArePlaces documents places
+      → IsShelved c pile documents' line at → (documents ≡ [] → at ≡ 0)
+      → slice_get (shown documents places) 0 ≡ slice_get documents 0
+      → slice_get (shown documents' (places ++ at ∷ [])) 0 ≡ slice_get documents' 0
+  first-more documents documents' places line at keeps are shelved first same =
+      ap (λ (ds : List DocValue). slice_get ds 0)
+      (shown-more documents' places line at shelved
+      ∙ ap (λ (ds : List DocValue). ds ++ shelved.document ∷ []) (shown-kept documents documents' places keeps are))
+      ∙ split documents refl
+    where
+      split : (ds : List DocValue) → documents ≡ ds
+          → slice_get (shown documents places ++ shelved.document ∷ []) 0 ≡ slice_get documents' 0
+      split [] none =
+          first-of (shown documents places) shelved.document
+          (same ∙ ap (λ (ds : List DocValue). slice_get ds 0) none)
+          ∙ sym shelved.there ∙ ap (slice_get documents') (first none)
+      split (oldest ∷ more) some =
+          let there : slice_get documents 0 ≡ Some oldest = ap (λ (ds : List DocValue). slice_get ds 0) some in
+          slice_get-before (shown documents places) shelved.document 0 oldest (same ∙ there)
+          ∙ sym (keeps 0 oldest there)
+
+  pub shelved-some : (documents : List DocValue) (line : CoverValue) (at : ℕ) → documents ≡ []
+      → IsShelved c pile documents line at → ⊥
+  shelved-some documents line at none shelved =
+      let l = slice_get_within documents at shelved.document shelved.there in
+      let empty = ap (λ (ds : List DocValue). length ds) none in
+      omega (arith, l, empty)
+
   -- one more line
   pub documents-more : (lines : List CoverValue) (count : ℕ) (d : CoverValue)
       (documents documents' : List DocValue) (places : List ℕ) (at : ℕ) (next : List CoverValue)
@@ -150,6 +191,45 @@ module _ (c : CertificateValue) (pile : List Offer) where
       split (first ∷ lines) [] are zipped same is = absurd zipped
       split (first ∷ lines) (newest ∷ others) are zipped same is =
           record { newest = newest; others = others; split = is; read = all }
+
+  first-belongs : (lines : List CoverValue) (newest : DocValue) (others : List DocValue)
+      → AreDocuments c pile lines (newest ∷ others) → (newest.name.base ≡ c.base) × (newest.name.id ≡ c.feed)
+  first-belongs [] newest others all = absurd all
+  first-belongs (line ∷ lines) newest others all = (all.0.belongs.base, all.0.belongs.feed)
+
+  of-feed : (name : FeedName) → name.base ≡ c.base → name.id ≡ c.feed → (lines : List CoverValue)
+      (documents : List DocValue) → AreDocuments c pile lines documents → All (IsOfFeed name) documents
+  of-feed name base id [] [] all = All-nil (IsOfFeed name)
+  of-feed name base id [] (d ∷ documents) all = absurd all
+  of-feed name base id (line ∷ lines) [] all = absurd all
+  of-feed name base id (line ∷ lines) (d ∷ documents) all =
+      All-cons (IsOfFeed name) d documents
+      (record { base = all.0.belongs.base ∙ sym base; feed = all.0.belongs.feed ∙ sym id })
+      (of-feed name base id lines documents all.1)
+
+  -- the name that is kept is the newest document's
+  pub whole-named : (documents : List DocValue) (places : List ℕ) (name : Option FeedName)
+      (whole : IsWhole c pile (shown documents places))
+      → slice_get (shown documents places) 0 ≡ slice_get documents 0 → HasFirstName documents name
+      → name ≡ Some whole.newest.name
+  whole-named documents places name whole first named =
+      named ∙ ap (option_map (λ (d : DocValue). d.name))
+      (sym first ∙ ap (λ (ds : List DocValue). slice_get ds 0) whole.split)
+
+  pub chain-of : (documents : List DocValue) (places : List ℕ) (name : FeedName) → ArePlaces documents places
+      → IsWhole c pile (shown documents places)
+      → slice_get (shown documents places) 0 ≡ slice_get documents 0 → HasFirstName documents (Some name)
+      → IsChainOf name documents places
+  chain-of documents places name are whole first named =
+      let is = same_Some name whole.newest.name (whole-named documents places (Some name) whole first named) in
+      let own = first-belongs c.lines whole.newest whole.others
+      (subst (AreDocuments c pile c.lines) whole.split whole.read) in
+      record {
+        placed = are;
+        named = named ∙ ap (option_map (λ (d : DocValue). d.name)) (sym first);
+        of_feed = of-feed name (ap (λ (n : FeedName). n.base) is ∙ own.0)
+            (ap (λ (n : FeedName). n.id) is ∙ own.1) c.lines (shown documents places) whole.read;
+      }
 
   pub refused-from : (at : ℕ) (d : CoverValue) (documents : List DocValue) (verdict : Verdict)
       → at < length c.lines → AreDocuments c pile (take at c.lines) documents

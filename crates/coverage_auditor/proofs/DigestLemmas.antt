@@ -6,9 +6,9 @@ use Rattle.std.proofs.lemmas.List.{drop_more}
 use Rattle.std.proofs.lemmas.Option.{get_or_from_slice_get, same_Some, slice_get_within}
 use Rattle.atom_values.specs.Entry.{EntryValue}
 use Rattle.atom_writer.specs.Doc.{DocValue}
-use Rattle.deleted_entries.specs.Item.{item_number}
 use Rattle.deleted_entries.specs.declared.item.Item.TheVariants.{Kept}
 use Rattle.mirror_walk.specs.Index.{LaysOver}
+use Rattle.mirror_walk.specs.Marks.{marked_number, marks_of}
 use Rattle.coverage_auditor.specs.declared.live.EntryPlace.{EntryPlace}
 use Rattle.coverage_auditor.specs.LiveList.{HasEntries, HasEntryAt, entry_place}
 use Rattle.coverage_auditor.proofs.EntriesLemmas.{HasEntries-more, HasEntries-none}
@@ -38,7 +38,7 @@ listed-none documents live empty =
 
 pub listed-more : (documents : List DocValue) (older at : ℕ) (document : DocValue)
     (old new : BTreeMap ℕ EntryPlace) → at + 1 ≡ length documents - older
-    → slice_get documents at ≡ Some document → LaysOver item_number (entry_place at) document.items old new
+    → slice_get documents at ≡ Some document → LaysOver marked_number (entry_place at) (marks_of document) old new
     → HasEntries documents (drop (length documents - older) documents) old
     → HasEntries documents (drop (length documents - (older + 1)) documents) new
 listed-more documents older at document old new next there laid entries =

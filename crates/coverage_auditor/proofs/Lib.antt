@@ -4,6 +4,8 @@ pub mod ListLemmas
 pub mod OffersLemmas
 -- serves `Shelf::place` and `Chain::read`: the documents of the lines
 pub mod ChainLemmas
+-- serves `Document::entry` and `entry_at`: an entry, read from its piece
+pub mod DocumentLemmas
 -- serves the checks of links.rt
 pub mod LinksLemmas
 -- serves `check` and `audit`: the checks in turn, and what is accepted

@@ -3,6 +3,7 @@ use Rattle.std.specs.Prelude.{◌≡◌, ℕ, List, Option, Some, None, Result, 
 use Rattle.atom_writer.specs.Doc.{DocValue}
 use Rattle.coverage_certificate.specs.Certificate.{CertificateValue, CoverValue}
 use Rattle.doc_source.specs.declared.offer.Offer.{Offer}
+use Rattle.coverage_auditor.specs.declared.chain.Found.{Found}
 use Rattle.coverage_auditor.specs.declared.halt.Halt.{Halt}
 use Rattle.coverage_auditor.specs.declared.halt.Halt.TheVariants.{Refused, NoMemory}
 use Rattle.coverage_auditor.specs.declared.verdict.Verdict.{Verdict}
@@ -17,9 +18,9 @@ Checks verdict (Ok _) = verdict ≡ None
 Checks verdict (Err (Refused found)) = verdict ≡ Some found
 Checks verdict (Err NoMemory) = Unit {0}
 
--- the line's document, or why it has none
-abbrev pub ReadsLine : CertificateValue → List Offer → CoverValue → Result DocValue Halt → Type 0
-ReadsLine c pile line (Ok document) = HasDocument c pile line document
+-- the line's document with its name, or why it has none
+abbrev pub ReadsLine : CertificateValue → List Offer → CoverValue → Result Found Halt → Type 0
+ReadsLine c pile line (Ok found) = HasDocument c pile line found.document × (found.name ≡ found.document.name)
 ReadsLine c pile line (Err (Refused verdict)) = RefusesLine c pile line verdict
 ReadsLine c pile line (Err NoMemory) = Unit {0}
 

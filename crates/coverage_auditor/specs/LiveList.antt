@@ -4,9 +4,10 @@ use Rattle.std.specs.BTreeMap.{BTreeMap, get}
 use Rattle.std.specs.Ordering.{nat_cmp}
 use Rattle.atom_values.specs.Entry.{EntryValue}
 use Rattle.atom_writer.specs.Doc.{DocValue}
-use Rattle.deleted_entries.specs.declared.item.Item.{Item}
-use Rattle.deleted_entries.specs.declared.item.Item.TheVariants.{Kept, Gone}
+use Rattle.deleted_entries.specs.declared.item.Item.TheVariants.{Kept}
 use Rattle.member_rules.specs.Shows.{live_of}
+use Rattle.mirror_walk.specs.declared.mark.ItemMark.{ItemMark}
+use Rattle.mirror_walk.specs.declared.mark.ItemMark.TheVariants.{Live, Gone}
 use Rattle.coverage_auditor.specs.declared.live.EntryPlace.{EntryPlace}
 
 -- the item at a place is this entry
@@ -27,9 +28,9 @@ HasEntries documents listed live =
     (number : ℕ) → ListsEntry documents (get nat_cmp live number) (live_of listed number)
 
 -- the place of an item's entry; a tombstone has none
-abbrev pub entry_place : ℕ → ℕ → Item → Option EntryPlace
-entry_place document at (Kept entry) = Some record { document = document; item = at }
-entry_place document at (Gone tombstone) = None
+abbrev pub entry_place : ℕ → ℕ → ItemMark → Option EntryPlace
+entry_place document at (Live number) = Some record { document = document; item = at }
+entry_place document at (Gone number) = None
 
 -- no member with a number after this one is live
 abbrev pub IsLastLive : List DocValue → ℕ → Type 0

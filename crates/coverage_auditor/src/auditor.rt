@@ -42,9 +42,10 @@ fn check(alloc: Global, certificate: &Certificate, pile: &[Offer]) -> Result<(),
 /// - `LiveDiffers`: the live entries of the documents have another number or another digest.
 /// - `Accepted`.
 ///
-/// `NoMemory` if there is no memory. Digests each offer at most once, and reads each at most once; the memory is that
-/// of the documents of the lines. Takes time in proportion to the pile, and to the lines times the logarithm of the
-/// number of offers.
+/// `NoMemory` if there is no memory. Digests each offer at most once, reads each line's document once, and the piece of
+/// each live entry once more; the texts stay in `pile`, and beside it the memory is 16 bytes for each item, about 100
+/// for each document, and a map of the live members. Takes time in proportion to the pile, and to the lines times the
+/// logarithm of the number of offers.
 pub fn audit(alloc: Global, certificate: &Certificate, pile: &[Offer]) -> Result<Verdict, NoMemory>
     requires { AreShort pile.now }
     ensures verdict { IfOk result (IsVerdict certificate.now pile.now) }

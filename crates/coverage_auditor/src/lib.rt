@@ -16,13 +16,14 @@
 //! fails. If one feed served all documents of the pile, an accepted certificate states the feed's chain and its live
 //! entries at that version: `specs/Certified.antt`.
 //!
-//! Stands on `coverage_certificate` for the certificate and its definitions, on `atom_grammar`, which reads the
-//! documents, on `member_rules` and `mirror_walk` for the definitions of chains and live entries, on `doc_source` for
-//! the offers of a pile, and on `sha2`.
+//! Stands on `coverage_certificate` for the certificate and its definitions, on `mirror_walk` for the outlines of
+//! documents, on `atom_grammar`, which reads their entries, on `member_rules` and `mirror_walk` for the definitions of
+//! chains and live entries, on `doc_source` for the offers of a pile, and on `sha2`.
 #![tactic(auto)]
 
 mod auditor;
 mod chain;
+mod document;
 mod halt;
 mod laws;
 mod links;

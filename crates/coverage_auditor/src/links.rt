@@ -10,12 +10,12 @@ use chain_links::follows;
 use coverage_certificate::Certificate;
 
 /// `VersionDiffers` unless the newest document ends with the certificate's version.
-pub(crate) fn check_version(certificate: &Certificate, chain: &Chain) -> Result<(), Halt>
+pub(crate) fn check_version(certificate: &Certificate, chain: &Chain<'_>) -> Result<(), Halt>
     requires { 0 < length chain.now }
     ensures { (newest : DocValue) (others : List DocValue) → chain.now ≡ newest ∷ others
         → Checks (version_differs certificate.now newest) result }
 {
-    let found = chain.document(0).span.last;
+    let found = chain.document(0).span().last;
     if found == certificate.version {
         Ok(())
     } else {
@@ -24,7 +24,7 @@ pub(crate) fn check_version(certificate: &Certificate, chain: &Chain) -> Result<
 }
 
 /// `BrokenChain` unless each document but the newest comes right before the one before it.
-pub(crate) fn check_links(chain: &Chain) -> Result<(), Halt>
+pub(crate) fn check_links(chain: &Chain<'_>) -> Result<(), Halt>
     ensures { Checks (broken_chain chain.now) result }
 {
     for at in 1..chain.len() {
@@ -39,12 +39,12 @@ pub(crate) fn check_links(chain: &Chain) -> Result<(), Halt>
 }
 
 /// `NotTheFirst` unless the oldest document begins with the first operation.
-pub(crate) fn check_first(chain: &Chain) -> Result<(), Halt>
+pub(crate) fn check_first(chain: &Chain<'_>) -> Result<(), Halt>
     requires { 0 < length chain.now }
     ensures { (newest : DocValue) (others : List DocValue) → chain.now ≡ newest ∷ others
         → Checks (not_the_first (oldest_of newest others)) result }
 {
-    let first = chain.document(chain.len() - 1).span.first;
+    let first = chain.document(chain.len() - 1).span().first;
     if first == 1 {
         Ok(())
     } else {

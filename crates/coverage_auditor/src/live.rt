@@ -1,12 +1,12 @@
-ghost use Rattle.std.specs.Prelude.{◌≡◌, ◌<◌, ◌≤◌, ◌^◌, ◌∷◌, List, IfOk, OnOk, MatchOption, length, map, nat_eq};
+ghost use Rattle.std.specs.Prelude.{◌≡◌, ◌<◌, ◌^◌, ◌∷◌, List, IfOk, OnOk, MatchOption, length, map, nat_eq};
 ghost use Rattle.std.specs.BTreeMap.{Updates};
 ghost use Rattle.std.specs.List.{IsDistinct};
 ghost use Rattle.std.specs.Ordering.{nat_cmp};
 ghost use Rattle.atom_values.specs.Entry.{EntryValue};
 ghost use Rattle.atom_writer.specs.Doc.{DocValue};
-ghost use Rattle.deleted_entries.specs.Item.{item_number};
 ghost use Rattle.member_rules.specs.Shows.{live_count_of};
 ghost use Rattle.mirror_walk.specs.Index.{AreMembers, LaysOver};
+ghost use Rattle.mirror_walk.specs.Marks.{AreFromOne, marked_number};
 ghost use Rattle.coverage_auditor.specs.Checks.{Checks};
 ghost use Rattle.coverage_auditor.specs.Links.{digest_by, live_differs};
 ghost use Rattle.coverage_auditor.specs.LiveList.{HasEntries, HasEntryAt, IsLastLive, IsNextPlace, entry_place};
@@ -17,7 +17,7 @@ use crate::verdict::Verdict;
 use atom_values::{Entry, NoMemory};
 use atom_writer::write_member;
 use coverage_certificate::Certificate;
-use deleted_entries::Item;
+use mirror_walk::ItemMark;
 use sha2::{Digest, Sha256};
 use std::alloc::Global;
 use std::collections::BTreeMap;
@@ -35,19 +35,18 @@ fn list_item(
     live: &mut BTreeMap<u32, EntryPlace>,
     document: usize,
     at: usize,
-    item: &Item,
+    item: ItemMark,
 ) -> Result<(), NoMemory>
     ensures updates { OnOk result
-        (Updates nat_cmp live.old live.new (item_number item.now) (entry_place document at item.now)) }
-    ensures from_one { 1 ≤ item_number item.now }
-    ensures small { item_number item.now < 2 ^ 32 }
+        (Updates nat_cmp live.old live.new (marked_number item) (entry_place document at item)) }
+    ensures small { marked_number item < 2 ^ 32 }
 {
     let number = item.number();
     match item {
-        Item::Kept(_) => {
+        ItemMark::Live(_) => {
             live.insert(number, EntryPlace { document, item: at })?;
         }
-        Item::Gone(_) => {
+        ItemMark::Gone(_) => {
             live.remove(&number);
         }
     }
@@ -58,21 +57,22 @@ fn list_item(
 fn list_items(
     live: &mut BTreeMap<u32, EntryPlace>,
     document: usize,
-    items: &[Item],
+    items: &[ItemMark],
 ) -> Result<(), NoMemory>
-    requires { IsDistinct nat_eq (map item_number items.now) }
+    requires distinct { IsDistinct nat_eq (map marked_number items.now) }
+    requires from_one { AreFromOne items.now }
     ensures items { OnOk result
-        (LaysOver item_number (entry_place document) items.now live.old live.new) }
+        (LaysOver marked_number (entry_place document) items.now live.old live.new) }
     ensures members { OnOk result (AreMembers live.old → AreMembers live.new) }
 {
     for (at, item) in items.iter().enumerate() {
-        list_item(live, document, at, item)?;
+        list_item(live, document, at, *item)?;
     }
     Ok(())
 }
 
 /// The places of the live entries that the documents show, by the numbers of their members.
-fn live_places(alloc: Global, chain: &Chain) -> Result<BTreeMap<u32, EntryPlace>, NoMemory>
+fn live_places(alloc: Global, chain: &Chain<'_>) -> Result<BTreeMap<u32, EntryPlace>, NoMemory>
     ensures entries { IfOk result (HasEntries chain.now chain.now) }
     ensures members { IfOk result AreMembers }
 {
@@ -80,7 +80,7 @@ fn live_places(alloc: Global, chain: &Chain) -> Result<BTreeMap<u32, EntryPlace>
     let count = chain.len();
     for older in 0..count {
         let at = count - 1 - older;
-        list_items(&mut live, at, chain.document(at).items.as_slice())?;
+        list_items(&mut live, at, chain.document(at).items())?;
     }
     Ok(live)
 }
@@ -97,23 +97,21 @@ fn next_live(live: &BTreeMap<u32, EntryPlace>, after: u32) -> Option<(u32, Entry
     Some((*number, *place))
 }
 
-/// The entry at a place.
-fn entry_at(chain: &Chain, place: EntryPlace) -> &Entry
+/// The entry at a place, read from its piece of the pile. `NoMemory` if there is no memory for it.
+fn entry_at(alloc: Global, chain: &Chain<'_>, place: EntryPlace) -> Result<Entry, NoMemory>
     requires { (entry : EntryValue) × HasEntryAt chain.now place entry }
-    ensures { HasEntryAt chain.now place result.now }
+    ensures { IfOk result (HasEntryAt chain.now place) }
 {
-    match &chain.document(place.document).items.as_slice()[place.item] {
-        Item::Kept(entry) => entry,
-        // The place is that of an entry, so it has no tombstone.
-        Item::Gone(_) => unreachable!(),
-    }
+    chain
+        .document(place.document)
+        .entry(alloc, chain.name(), place.item)
 }
 
 /// The SHA-256 digest of the member documents of the live entries, joined in order of number, with the name
-/// in the newest document. One member document is in memory at a time.
+/// in the newest document. One entry and its member document are in memory at a time.
 fn live_digest(
     alloc: Global,
-    chain: &Chain,
+    chain: &Chain<'_>,
     live: &BTreeMap<u32, EntryPlace>,
 ) -> Result<[u8; 32], NoMemory>
     requires some { 0 < length chain.now }
@@ -121,12 +119,14 @@ fn live_digest(
     ensures { IfOk result (λ digest. (newest : DocValue) (others : List DocValue)
         → chain.now ≡ newest ∷ others → digest ≡ digest_by newest chain.now) }
 {
-    let name = &chain.document(0).name;
+    let name = chain.name();
     let mut hasher = Sha256::new();
     let mut after = 0;
     'members: while let Some((number, place)) = next_live(live, after) {
-        let text = write_member(alloc, name, entry_at(chain, place))?;
-        hasher.update(text.as_slice());
+        let entry = entry_at(alloc, chain, place)?;
+        let text = write_member(alloc, name, &entry);
+        drop(entry);
+        hasher.update(text?.as_slice());
         after = number;
     }
     Ok(hasher.finalize())
@@ -136,7 +136,7 @@ fn live_digest(
 pub(crate) fn check_live(
     alloc: Global,
     certificate: &Certificate,
-    chain: &Chain,
+    chain: &Chain<'_>,
 ) -> Result<(), Halt>
     requires { 0 < length chain.now }
     ensures { (newest : DocValue) (others : List DocValue) → chain.now ≡ newest ∷ others

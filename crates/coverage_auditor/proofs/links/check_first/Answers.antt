@@ -2,6 +2,7 @@ use Rattle.std.proofs.Common.{◌≡◌, ℕ, ◌-◌, ◌∷◌, List, Some, ap
 use Rattle.std.specs.Prelude.{slice_get}
 use Rattle.std.proofs.lemmas.Option.{same_Some}
 use Rattle.atom_writer.specs.Doc.{DocValue}
+use Rattle.chain_links.specs.declared.place.Span.{Span}
 use Rattle.coverage_auditor.specs.Links.{oldest_of}
 use Rattle.coverage_auditor.specs.declared.verdict.Verdict.TheVariants.{NotTheFirst}
 use Rattle.coverage_auditor.proofs.LinksLemmas.{oldest-at, unless-other, unless-same}
@@ -21,7 +22,7 @@ pub returns-then-first-eq1 : goal.returns-then-first-eq1
 returns-then-first-eq1 c newest others split =
     let is = last-is c.args.chain.now c.len.result c.document.result.now newest others c.len.ensures split
     c.document.ensures in
-    let first = ap (λ (d : DocValue). d.span.first) (c.behind-chain.view_is ∙ is) in
+    let first = ap (λ (s : Span). s.first) c.span-first.ensures ∙ ap (λ (d : DocValue). d.span.first) is in
     let oldest = oldest_of newest others in
     unless-same oldest.span.first 1 (NotTheFirst oldest.span.first) (sym first ∙ c.if-first-eq1.true)
 
@@ -29,7 +30,7 @@ pub returns-else-first-eq1 : goal.returns-else-first-eq1
 returns-else-first-eq1 c newest others split =
     let is = last-is c.args.chain.now c.len.result c.document.result.now newest others c.len.ensures split
     c.document.ensures in
-    let first = ap (λ (d : DocValue). d.span.first) (c.behind-chain.view_is ∙ is) in
+    let first = ap (λ (s : Span). s.first) c.span-first.ensures ∙ ap (λ (d : DocValue). d.span.first) is in
     let oldest = oldest_of newest others in
     unless-other oldest.span.first 1 (NotTheFirst oldest.span.first) (λ e. c.if-first-eq1.false (first ∙ e))
     ∙ ap (λ n. Some (NotTheFirst n)) (sym first)

@@ -1,7 +1,6 @@
-use Rattle.std.proofs.Common.{◌≡◌, inl, inr, ℕ, suc, ◌+◌, ◌-◌, ◌<◌, ◌≤◌, Bool, true, false, Some, ap, length, sym, subst, ◌∙◌, arith}
+use Rattle.std.proofs.Common.{◌≡◌, inl, inr, suc, ◌-◌, false, Some, ap, sym, subst, ◌∙◌, arith}
 use Rattle.std.specs.Prelude.{slice_get}
 use Rattle.std.proofs.lemmas.Bool.{cases_Bool, false≢true}
-use Rattle.atom_writer.specs.Doc.{DocValue}
 use Rattle.chain_links.specs.Address.{IsAddress}
 use Rattle.chain_links.specs.Place.{Adjoins}
 use Rattle.chain_links.specs.declared.place.Place.{Place}
@@ -9,8 +8,7 @@ use Rattle.member_rules.specs.Chain.{place_of}
 use Rattle.mirror_walk.proofs.MirrorLemmas.{placed-address}
 use Rattle.coverage_auditor.specs.Links.{is_followed}
 use Rattle.coverage_auditor.specs.declared.verdict.Verdict.TheVariants.{BrokenChain}
-use Rattle.coverage_auditor.proofs.LinksLemmas.{AreFollowed, adjoins-followed, chain-broken, chain-whole, followed-adjoins}
-use Rattle.coverage_auditor.proofs.LinksLemmas.{followed-more}
+use Rattle.coverage_auditor.proofs.LinksLemmas.{AreFollowed, chain-broken, chain-whole, followed-adjoins}
 use Rattle.coverage_auditor.proofs.links.check_links.Goals as goal
 
 pub returns-then-not-follows : goal.returns-then-not-follows
@@ -22,11 +20,10 @@ returns-then-not-follows c =
     let o = c.place-older.ensures in
     let at = c.loop-at.at in
     let one : at ≡ suc (at - 1) = omega (arith, c.loop-at.auto.at) in
-    let newer_place : c.place-newer.result ≡ place_of newer =
-    (λ i. record { address = n.address i; span = n.span i; prev = n.prev i }) in
-    let older_place : c.place-older.result ≡ place_of older =
-    (λ i. record { address = o.address i; span = o.span i; prev = o.prev i }) in
-    let named = subst (λ a. IsAddress a) (sym o.address) (placed-address older.kind older.span older.prev
+    let newer_place : c.place-newer.result ≡ place_of newer = n.place in
+    let older_place : c.place-older.result ≡ place_of older = o.place in
+    let address = ap (λ (p : Place). p.address) o.place in
+    let named = subst (λ a. IsAddress a) (sym address) (placed-address older.kind older.span older.prev
     o.rules.placed) in
     let broken : is_followed newer older ≡ false = elim (cases_Bool (is_followed newer older)) [
       | inl follows ↦
@@ -40,7 +37,7 @@ returns-then-not-follows c =
     chain-broken documents (at - 1) newer older
     (subst (AreFollowed documents) one c.loop-at.invariant) c.document.ensures
     (subst (λ k. slice_get documents k ≡ Some older) one c.document-in-loop-at.ensures) broken
-    ∙ ap (λ a. Some (BrokenChain a)) (sym o.address)
+    ∙ ap (λ a. Some (BrokenChain a)) (sym address)
 
 pub returns : goal.returns
 returns c =

@@ -15,7 +15,7 @@ use Rattle.coverage_auditor.proofs.live.live_digest.Goals as goal
 
 pub members-init : goal.members-init
 members-init c =
-    subst (Holds256 c.new-hasher.result) (sym (text-none c.behind-chain.inside.name c.args.chain.now))
+    subst (Holds256 c.new-hasher.result) (sym (text-none c.name-name.result.now c.args.chain.now))
     c.new-hasher.ensures
 
 pub entry_at-requires : goal.entry_at-requires
@@ -32,9 +32,9 @@ members-smaller c =
 pub members-preserved : goal.members-preserved
 members-preserved c =
     let documents = c.args.chain.now in
-    let name = c.behind-chain.inside.name in
+    let name = c.name-name.result.now in
     let next = c.in-Some.ensures documents c.requires.entries in
-    let entry = same-entry documents c.in-Some.place c.entry_at.result.now next.entry c.entry_at.ensures next.there in
+    let entry = same-entry documents c.in-Some.place c.in_ok-entry.entry next.entry c.in_ok-entry.ensures next.there in
     let text = c.as_slice.ensures.value ∙ c.in_ok-text.ensures ∙ ap (member_text name) entry in
     let held = c.update.ensures (text_up_to name documents c.members.after) c.members.invariant in
     subst (Holds256 c.update.new.self)
@@ -45,12 +45,9 @@ members-preserved c =
 pub returns : goal.returns
 returns c newest others split =
     let documents = c.args.chain.now in
-    let name = c.behind-chain.inside.name in
+    let name = c.name-name.result.now in
     let last = c.in_default.ensures documents c.requires.entries in
-    let first : c.document.result.now ≡ newest =
-    same_Some c.document.result.now newest
-    (sym c.document.ensures ∙ ap (λ (ds : List DocValue). slice_get ds 0) split) in
-    let named : name ≡ newest.name = ap (λ (d : DocValue). d.name) (c.behind-chain.view_is ∙ first) in
+    let named : name ≡ newest.name = c.name-name.ensures.first newest others split in
     c.finalize.ensures (text_up_to name documents c.members.after) c.members.invariant
     ∙ ap sha256 (text-last name documents c.members.after last)
     ∙ ap (λ (n : FeedName). sha256 (live_text n (live_entries_of documents))) named

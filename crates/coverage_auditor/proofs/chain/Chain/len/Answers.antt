@@ -5,6 +5,6 @@ use Rattle.coverage_auditor.proofs.chain.Chain.len.Goals as goal
 
 pub returns : goal.returns
 returns c =
-    let size = length-shown c.self.inside.documents.items c.self.inside.places.items c.self.invariant in
+    let size = length-shown c.self.inside.documents.items c.self.inside.places.items c.self.invariant.placed in
     let view = ap (λ (documents : List DocValue). length documents) c.self.view_is in
     omega (arith, size, view, c.self.inside.places.ok, c.len.ensures)

@@ -1,5 +1,6 @@
-use Rattle.std.proofs.Common.{take}
-use Rattle.coverage_auditor.specs.Chain.{ArePlaces, IsShelf, shown}
+use Rattle.std.proofs.Common.{◌≡◌, take}
+use Rattle.std.specs.Prelude.{slice_get}
+use Rattle.coverage_auditor.specs.Chain.{ArePlaces, HasFirstName, IsShelf, shown}
 use Rattle.coverage_auditor.specs.Offers.{IsIndexOf}
 use Rattle.coverage_auditor.specs.Verdict.{AreDocuments}
 use Rattle.coverage_auditor.proofs.chain.Chain.read.Given as goal
@@ -11,4 +12,6 @@ invariant-loop-line l = record {
   are : ArePlaces l.shelf.documents.items l.places.items;
   read : AreDocuments l.certificate l.pile (take l.line-index l.lines)
       (shown l.shelf.documents.items l.places.items);
+  named : HasFirstName l.shelf.documents.items l.shelf.name;
+  first : slice_get (shown l.shelf.documents.items l.places.items) 0 ≡ slice_get l.shelf.documents.items 0;
 }
