@@ -49,8 +49,10 @@ median() { cut -d ' ' -f "$2" "$1" | sort -n | sed -n "$(((rounds + 1) / 2))p"; 
 
 # The peak memory of the program on an empty pile. It ends with 3, since the feed's document is missing.
 empty() {
-    rm -f mirror
-    timed bare nothing "$tool" mirror --base http://feed.example/
+    for _ in $(seq "$rounds"); do
+        rm -f mirror
+        timed bare nothing "$tool" mirror --base http://feed.example/
+    done
     median bare 2
 }
 
