@@ -1,19 +1,20 @@
 -- One step of the pass over a span, newest operation first: what is left of its items, without the members that were
 -- met.
-use Rattle.std.proofs.Common.{◌≡◌, inl, inr, ℕ, ◌+◌, ◌<◌, ◌≤◌, Option, Some, cond, length, drop, get_or, nat_cmp, arith}
+use Rattle.std.proofs.Common.{◌≡◌, inl, inr, ℕ, ◌+◌, ◌<◌, ◌≤◌, Option, Some, None, cond, length, drop, get_or, nat_cmp, arith}
 use Rattle.std.proofs.Common.{append_assoc, Bool, true, false, not, nat_eq, List, [], ◌∷◌, ◌++◌, if◌then◌else◌, subst}
 use Rattle.std.proofs.Common.{refl, ap, sym, ◌∙◌}
-use Rattle.std.specs.Prelude.{filter, option_map, unwrap_or}
+use Rattle.std.specs.Prelude.{filter}
 use Rattle.std.specs.Ordering.{is_eq}
 use Rattle.std.proofs.lemmas.List.{append-nil, drop_more, drop_all}
 use Rattle.std.proofs.lemmas.Bool.Decides.{nat_tests}
 use Rattle.std.proofs.lemmas.Bool.{cases_eq, eq-eqb, ne_eqb}
+use Rattle.std.proofs.lemmas.Option.{none-some, same_Some}
 use Rattle.deleted_entries.specs.Item.{item_number}
 use Rattle.deleted_entries.specs.declared.item.Item.{Item}
 use Rattle.member_rules.specs.declared.operation.Op.{Op}
-use Rattle.member_rules.specs.declared.operation.Op.TheVariants.{Add, Change, Remove}
+use Rattle.member_rules.specs.declared.operation.Op.TheVariants.{Add, Change, Remove, Set}
 use Rattle.deleted_entries.specs.declared.item.Item.TheVariants.{Kept, Gone}
-use Rattle.member_rules.specs.Operation.{item_of, number_of}
+use Rattle.member_rules.specs.Operation.{item_of, member_of}
 use Rattle.member_rules.proofs.NewestItemsLemmas.{without, in_place, newest_items}
 
 -- the items of members that were not met
@@ -104,17 +105,34 @@ Taken-old met after items count operations operation item l at is also y taken =
     ∙ ap (λ (rest : List Item). items ++ unmet met rest) (sym (newest-at operations count operation item l at is))
     ∙ taken
 
--- the item of an operation, by the number that it names
-pub item-of_number : (operation : Op) (number : ℕ) → number ≡ number_of operation
-    → (item : Item) × (item_of operation ≡ Some item) × (item_number item ≡ number)
-item-of_number (Add entry) number e = (Kept entry, refl, sym e)
-item-of_number (Change entry) number e = (Kept entry, refl, sym e)
-item-of_number (Remove removal) number e = (Gone removal.tombstone, refl, sym e)
+-- the next operation names no member
+pub Taken-skip : (met : ℕ → Bool) (items : List Item) (count : ℕ) (operations : List Op) (operation : Op)
+    → count < length operations → operation ≡ get_or operations count operation → item_of operation ≡ None
+    → Taken met items count operations → Taken met items (count + 1) operations
+unfolding Taken
+Taken-skip met items count operations operation l at is taken =
+    let later = drop (count + 1) operations in
+    let same : newest_items (drop count operations) ≡ newest_items later =
+    ap newest_items (drop_more operations count operation l)
+    ∙ ap (λ (o : Op). newest_items (o ∷ later)) (sym at)
+    ∙ ap (λ (i : Option Item). in_place i (newest_items later)) is in
+    ap (λ (rest : List Item). items ++ unmet met rest) (sym same) ∙ taken
 
-pub number-of_item : (operation : Op) (number : ℕ) (item : Item) → number ≡ number_of operation
-    → item_of operation ≡ Some item → item_number item ≡ number
-number-of_item operation number item e is =
-    sym (e ∙ ap (λ (o : Option Item). unwrap_or (option_map item_number o) 0) is)
+-- the item of an operation, by the number of the member that it names
+pub item-of_member : (operation : Op) (number : ℕ) → Some number ≡ member_of operation
+    → (item : Item) × (item_of operation ≡ Some item) × (item_number item ≡ number)
+item-of_member (Add entry) number e = (Kept entry, refl, same_Some entry.number number (sym e))
+item-of_member (Change entry) number e = (Kept entry, refl, same_Some entry.number number (sym e))
+item-of_member (Remove removal) number e =
+    (Gone removal.tombstone, refl, same_Some removal.tombstone.number number (sym e))
+item-of_member (Set setting moment) number e = absurd (none-some number (sym e))
+
+-- an operation that names no member leaves no item
+pub no-item : (operation : Op) → None ≡ member_of operation → item_of operation ≡ None
+no-item (Add entry) e = absurd (none-some entry.number e)
+no-item (Change entry) e = absurd (none-some entry.number e)
+no-item (Remove removal) e = absurd (none-some removal.tombstone.number e)
+no-item (Set setting moment) e = refl
 
 is_eq-nat_cmp : (x y : ℕ) → is_eq (nat_cmp x y) ≡ nat_eq y x
 is_eq-nat_cmp x y = grind (arith, nat_tests)

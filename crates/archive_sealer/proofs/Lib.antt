@@ -1,5 +1,7 @@
 -- serves `items`: one step of its pass
 pub mod ItemsStepLemmas
+-- serves `last_place` and `place_after`: the places of windows
+pub mod PlaceLemmas
 -- serves `subscription` and `archive`: each as a document of the one form
 pub mod DocumentFormLemmas
 -- serves `copies`: its walk along the order
@@ -12,3 +14,5 @@ pub mod WindowItemsLemmas
 pub mod WindowLemmas
 -- serves `Window::document`, `Window::subscription` and `Window::archive`
 pub mod WindowFormLemmas
+-- serves callers of `Window::prepare` and `Window::commit`
+pub mod FeedLemmas

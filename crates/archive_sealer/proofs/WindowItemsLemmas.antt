@@ -8,7 +8,7 @@ use Rattle.std.specs.Cmp.{nat_eq_equiv}
 use Rattle.std.proofs.lemmas.Bool.{cases_eq, cases_order, eq-eqb, eqb-false, ne_eqb}
 use Rattle.std.proofs.lemmas.List.{reverse-append, map-set, map_push, set-get_or, get_or-set_same, get_or-set_other}
 use Rattle.std.proofs.lemmas.List.{get_or_append_left, get_or_push, get_or-map, length-map, length_push}
-use Rattle.std.proofs.lemmas.List.Elements.{All-cons, All-head, All-tail, All-weaker, All-get_or, All-filter}
+use Rattle.std.proofs.lemmas.List.Elements.{All-nil, All-cons, All-head, All-tail, All-weaker, All-get_or, All-filter}
 use Rattle.std.proofs.lemmas.List.Elements.{All-map}
 use Rattle.std.proofs.lemmas.List.Folds.{list_any_none}
 use Rattle.std.proofs.lemmas.Option.{slice_get-get_or, slice_get_within, get_or_from_slice_get, slice_get_cases, same_Some}
@@ -22,6 +22,34 @@ use Rattle.member_rules.specs.Operation.{item_of}
 use Rattle.member_rules.proofs.NewestItemsLemmas.{without, in_place, newest_items, items_of-newest}
 use Rattle.recency_list.specs.Recency.{touched, without as slots_without}
 use Rattle.archive_sealer.specs.Window.{AreItems, IsPut, IsSlotOf}
+
+-- no operations have no items
+pub AreItems-none : (items : List Item) (slots : List ℕ) (operations : List Op) → items ≡ [] → slots ≡ []
+    → operations ≡ [] → AreItems items slots operations
+unfolding items_of IsDistinct
+AreItems-none items slots operations i s o = rw (i, s, o) record {
+  apart = tt;
+  there = All-nil (λ slot. slot < 0);
+  are = refl;
+}
+
+-- the items of operations and one more that names no member
+items-skip : (operations : List Op) (operation : Op) → item_of operation ≡ None
+    → items_of (operations ++ operation ∷ []) ≡ items_of operations
+items-skip operations operation none =
+    items_of-newest (operations ++ operation ∷ [])
+    ∙ ap newest_items (reverse-append operations (operation ∷ []))
+    ∙ ap (λ (i : Option Item). in_place i (newest_items (reverse operations))) none
+    ∙ sym (items_of-newest operations)
+
+-- an operation that names no member leaves the items as they are
+pub AreItems-skip : (items : List Item) (slots : List ℕ) (operations : List Op) → AreItems items slots operations
+    → (operation : Op) → item_of operation ≡ None → AreItems items slots (operations ++ operation ∷ [])
+AreItems-skip items slots operations of operation none = record {
+  apart = of.apart;
+  there = of.there;
+  are = of.are ∙ sym (items-skip operations operation none);
+}
 
 -- the items of operations and one more
 pub items-push : (operations : List Op) (operation : Op) (item : Item) → item_of operation ≡ Some item

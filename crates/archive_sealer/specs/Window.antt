@@ -1,5 +1,5 @@
 -- The open window of a feed: the operations after those of the sealed windows, and what is kept of them.
-use Rattle.std.specs.Prelude.{◌≡◌, ◌≢◌, ◌⊎◌, ℕ, ◌+◌, ◌-◌, ◌*◌, ◌/◌, ◌<◌, ◌≤◌, ℤ, List, [], ◌∷◌, ◌++◌, Option, Some}
+use Rattle.std.specs.Prelude.{◌≡◌, ◌≢◌, ◌⊎◌, ℕ, ◌+◌, ◌-◌, ◌<◌, ◌≤◌, ℤ, List, [], ◌∷◌, ◌++◌, Option, Some}
 use Rattle.std.specs.Prelude.{All, option_map, length, drop, map, nat_eq, slice_get, slice_set}
 use Rattle.std.specs.List.{IsDistinct, filter_map}
 use Rattle.atom_writer.specs.Doc.{DocValue}
@@ -8,19 +8,27 @@ use Rattle.atom_writer.specs.declared.doc.Kind.TheVariants.{Subscription, Archiv
 use Rattle.deleted_entries.specs.Item.{item_number}
 use Rattle.deleted_entries.specs.declared.item.Item.{Item}
 use Rattle.member_rules.specs.declared.operation.Op.{Op}
-use Rattle.member_rules.specs.Documents.{document_of}
-use Rattle.member_rules.specs.Head.{HeadValue, window_limit}
+use Rattle.member_rules.specs.Documents.{document_of, title_after}
+use Rattle.member_rules.specs.Head.{HeadValue}
 use Rattle.member_rules.specs.History.{history_limit}
 use Rattle.member_rules.specs.Items.{items_of}
 use Rattle.member_rules.specs.Operation.{moment_of}
-use Rattle.member_rules.specs.Windows.{windows_of}
-use Rattle.recency_list.specs.Recency.{RecencyValue}
+use Rattle.member_rules.specs.Setting.{IsWindowSize}
+use Rattle.member_rules.specs.Windows.{size_after, windows_from, windows_of}
+use Rattle.recency_list.specs.Recency.{RecencyValue, touched}
 
--- how many operations fill a window; all operations that were committed; and how many more there is room for
+-- the size of the feed's first window and its first title; all operations that were committed; and how many more there
+-- is room for
 pub record WindowValue : Type 0 where
-  pub size : ℕ
+  pub first : ℕ
+  pub title : List ℕ
   pub history : List Op
   pub spare : ℕ
+
+-- the window is that of the feed with this head
+pub record IsOfFeed (window : WindowValue) (head : HeadValue) : Type 0 where
+  pub first : head.window ≡ window.first
+  pub title : head.name.title ≡ window.title
 
 -- the last window of the history is full, and isn't sealed yet
 abbrev pub IsFull : HeadValue → List Op → Type 0
@@ -38,25 +46,33 @@ IsOpenKind head history Subscription = Unit {0}
 IsOpenKind head history (Archive number) =
     IsFull head history × (number ≡ (windows_of head history).sealed + 1)
 
--- what a window keeps: how many operations fill it, how many windows are sealed, how many operations those have, how
--- many are in the open one, the moment of the last operation, and a slot for each member that the open window names
+-- what a window keeps: how many operations fill the open window, and the one after it; how many windows are sealed, and
+-- how many operations those have; how many operations are in the open one; the moment of the last operation, and the
+-- title after it; and a slot for each member that the open window names
 pub record Kept : Type 0 where
   pub size : ℕ
+  pub next_size : ℕ
   pub sealed : ℕ
   pub before : ℕ
   pub count : ℕ
   pub last : Option ℤ
+  pub title : List ℕ
   pub items : List Item
   pub order : RecencyValue
 
--- the numbers are those after so many operations
-pub record AreCounts (kept : Kept) (operations : ℕ) : Type 0 where
-  pub limits : (1 ≤ kept.size) × (kept.size ≤ window_limit)
-  pub few : operations ≤ history_limit
-  pub sealed : kept.sealed ≡ (operations - 1) / kept.size
-  pub before : kept.before ≡ kept.sealed * kept.size
-  pub count : kept.before + kept.count ≡ operations
+-- the numbers are those after the operations of a feed whose first window has this size
+pub record AreCounts (kept : Kept) (first : ℕ) (history : List Op) : Type 0 where
+  pub first_size : IsWindowSize first
+  pub size : (windows_from first history).ends (kept.sealed + 1) ≡ kept.before + kept.size
+  pub next_size : kept.next_size ≡ size_after first history
+  pub limits : IsWindowSize kept.size
+  pub next_limits : IsWindowSize kept.next_size
+  pub few : length history ≤ history_limit
+  pub sealed : kept.sealed ≡ (windows_from first history).sealed
+  pub before : kept.before ≡ (windows_from first history).ends kept.sealed
+  pub count : kept.before + kept.count ≡ length history
   pub within : kept.count ≤ kept.size
+  pub counted : kept.sealed ≤ kept.before
 
 -- the items have a slot for each member, and the listed ones are those of these operations, in the order that the
 -- documents have
@@ -65,10 +81,11 @@ pub record AreItems (items : List Item) (slots : List ℕ) (operations : List Op
   pub there : All (λ slot. slot < length items) slots
   pub are : filter_map (slice_get items) slots ≡ items_of operations
 
--- this is kept after these operations
-pub record IsKeptOf (kept : Kept) (history : List Op) : Type 0 where
-  pub counts : AreCounts kept (length history)
+-- this is kept after these operations of a feed with this first size and this first title
+pub record IsKeptOf (kept : Kept) (first : ℕ) (first_title : List ℕ) (history : List Op) : Type 0 where
+  pub counts : AreCounts kept first history
   pub last : kept.last ≡ option_map moment_of (slice_get history (length history - 1))
+  pub title : kept.title ≡ title_after first_title history
   pub items : AreItems kept.items kept.order.list (drop kept.before history)
   pub few : length kept.items ≤ kept.count
 
@@ -82,3 +99,10 @@ IsPut item before after slot =
     (IsSlotOf (item_number item) before slot × (after ≡ slice_set before slot item))
     ⊎ (All (λ other. item_number other ≢ item_number item) before × (after ≡ before ++ item ∷ [])
     × (slot ≡ length before))
+
+-- the item was put into a slot, which is the newest now
+pub record IsTouched (item : Item) (before after : List Item) (was is : RecencyValue) : Type 0 where
+  pub slot : ℕ
+  pub put : IsPut item before after slot
+  pub list : is.list ≡ touched slot was.list
+  pub slots : is.slots ≡ was.slots

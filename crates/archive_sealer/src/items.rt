@@ -1,4 +1,4 @@
-ghost use Rattle.std.specs.Prelude.{◌≡◌, ◌≤◌, Some, length, IfOk};
+ghost use Rattle.std.specs.Prelude.{◌≡◌, ◌≤◌, [], ◌∷◌, ◌++◌, length, IfOk, IfSome, OnOk};
 ghost use Rattle.member_rules.specs.Head.{window_limit};
 ghost use Rattle.member_rules.specs.Items.{items_of};
 ghost use Rattle.member_rules.specs.Operation as operations;
@@ -20,22 +20,29 @@ pub(crate) fn items(alloc: Global, span: &[Op]) -> Result<Many<Item, MAX_ITEMS>,
     items.reserve(span.len())?;
     let mut met = BTreeSet::new(alloc);
     for operation in span.iter().rev() {
-        if met.insert(operation.number())? {
-            let item = item(alloc, operation)?;
-            if items.push(item).is_err() {
-                return Err(NoMemory);
-            }
+        let Some(number) = operation.member() else {
+            continue;
+        };
+        if !met.insert(number)? {
+            continue;
         }
+        push_item(alloc, &mut items, operation)?;
     }
     Ok(items)
 }
 
-/// The item that the operation leaves of its member.
-fn item(alloc: Global, operation: &Op) -> Result<Item, NoMemory>
-    ensures { IfOk result (λ item. operations.item_of operation.now ≡ Some item) }
+/// Adds the item that the operation leaves of its member.
+fn push_item(
+    alloc: Global,
+    items: &mut Many<Item, MAX_ITEMS>,
+    operation: &Op,
+) -> Result<(), NoMemory>
+    ensures { OnOk result (IfSome (operations.item_of operation.now) (λ item. items.new.items ≡ items.old.items ++ item ∷ [])) }
 {
-    match operation {
-        Op::Add(entry) | Op::Change(entry) => Ok(Item::Kept(entry.copy(alloc)?)),
-        Op::Remove(removal) => Ok(Item::Gone(removal.tombstone)),
-    }
+    let item = match operation {
+        Op::Add(entry) | Op::Change(entry) => Item::Kept(entry.copy(alloc)?),
+        Op::Remove(removal) => Item::Gone(removal.tombstone),
+        Op::Set { .. } => return Ok(()),
+    };
+    items.push(item).map_err(|_| NoMemory)
 }

@@ -5,7 +5,7 @@
 //! A feed keeps a [`Window`], which is given each operation once and keeps no history:
 //!
 //! ```
-//! let mut window = Window::new(alloc, head.window)?;
+//! let mut window = Window::new(alloc, head.window, head.name.title.copy(alloc)?)?;
 //! window.prepare()?;
 //! window.commit(operation);
 //! if window.is_full() {
@@ -21,6 +21,7 @@
 mod document;
 mod items;
 mod past;
+mod place;
 mod window;
 
 pub use document::{archive, full_windows, sealed_windows, subscription};

@@ -5,29 +5,31 @@ ghost use Rattle.deleted_entries.specs.Item.{item_number};
 ghost use Rattle.member_rules.specs.Documents as documents;
 ghost use Rattle.member_rules.specs.Head.{HeadValue, window_limit};
 ghost use Rattle.member_rules.specs.History.{history_limit};
-ghost use Rattle.member_rules.specs.Operation as operations;
 ghost use Rattle.member_rules.specs.Windows.{windows_of};
-ghost use Rattle.archive_sealer.specs.Window.{IsFull, IsOpenKind, IsPut, IsSlotOf, open_document};
+ghost use Rattle.archive_sealer.specs.Window.{IsFull, IsOfFeed, IsOpenKind, IsPut, IsSlotOf, IsTouched, open_document};
 
+use crate::document::titled;
 use crate::past::Past;
-use atom_values::{Copies, Many, NoMemory, Stamp};
+use atom_values::{AtomText, Copies, Many, NoMemory, Stamp};
 use atom_writer::{Doc, Kind, MAX_ITEMS};
 use chain_links::Span;
 use deleted_entries::Item;
-use member_rules::{Head, Op};
+use member_rules::{Head, Op, Setting};
 use recency_list::{Recency, Steps};
 use std::alloc::Global;
 use std::marker::{Brand, Model};
 
 /// The open window of a feed, from which its next documents are made. It keeps the last item of each member that its
-/// operations name, at most 100, and nothing of the operations before it. So its memory doesn't grow with the history.
+/// operations name, at most 100, the feed's title, and nothing of the operations before it. So its memory doesn't grow
+/// with the history.
 ///
 /// Contracts see the whole history, by a value that takes no bytes.
 #[derive(Debug, Drop)]
 pub struct Window {
     alloc: Global,
-    /// How many operations fill a window.
+    /// How many operations fill the open window, and the one after it.
     size: u32,
+    next_size: u32,
     /// How many windows are sealed, and how many operations those have.
     sealed: u32,
     before: u32,
@@ -35,6 +37,8 @@ pub struct Window {
     count: u32,
     /// The moment of the last operation.
     last: Option<Stamp>,
+    /// The feed's title after the last operation.
+    title: AtomText,
     /// A slot for each member that the open window names.
     items: Vec<Item>,
     /// The slots by their members' last operations.
@@ -49,45 +53,52 @@ impl Model for Window {
     ghost Value = { WindowValue };
 
     ghost view = { λ w. record {
-      size = w.size;
+      first = w.past.first;
+      title = w.past.title;
       history = w.past.operations;
       spare = min (vec_capacity w.items - vec_len w.items) (w.order.slots - vec_len w.items);
     } };
 
     ghost invariant = { λ w. IsKeptOf record {
       size = w.size;
+      next_size = w.next_size;
       sealed = w.sealed;
       before = w.before;
       count = w.count;
       last = w.last;
+      title = w.title;
       items = w.items.items;
       order = w.order;
-    } w.past.operations };
+    } w.past.first w.past.title w.past.operations };
 }
 
 impl Window {
-    /// The window of a new feed, whose windows have `size` operations, from 1 to 100. It takes the memory for one full
-    /// window.
+    /// The window of a new feed. The first window has `size` operations, from 1 to 100, and the feed has this title. It
+    /// takes the memory for one full window.
     ///
     /// Error: `NoMemory`.
-    pub fn new(alloc: Global, size: u32) -> Result<Window, NoMemory>
+    pub fn new(alloc: Global, size: u32, title: AtomText) -> Result<Window, NoMemory>
         requires { (1 ≤ size) × (size ≤ window_limit) }
-        ensures size { IfOk result (λ window. window.size ≡ size) }
+        ensures first { IfOk result (λ window. window.first ≡ size) }
+        ensures title { IfOk result (λ window. window.title ≡ title) }
         ensures empty { IfOk result (λ window. window.history ≡ []) }
     {
         let items = Vec::with_capacity(alloc, size as usize)?;
         let mut order = Recency::new(alloc);
         order.reserve(size)?;
+        let past = Past::new(size, &title);
         Ok(Window {
             alloc,
             size,
+            next_size: size,
             sealed: 0,
             before: 0,
             count: 0,
             last: None,
+            title,
             items,
             order,
-            past: Past::new(),
+            past,
         })
     }
 
@@ -100,15 +111,15 @@ impl Window {
 
     /// How many windows are sealed: each full one but the last.
     pub fn sealed(&self) -> u32
-        ensures { (head : HeadValue) → head.window ≡ self.now.size
+        ensures { (head : HeadValue) → IsOfFeed self.now head
             → result ≡ (windows_of head self.now.history).sealed }
     {
         self.sealed
     }
 
-    /// Whether the open window is full. Then the next operation seals it.
+    /// Whether the open window is full: it has as many operations as its size. Then the next operation seals it.
     pub fn is_full(&self) -> bool
-        ensures { (head : HeadValue) → head.window ≡ self.now.size
+        ensures { (head : HeadValue) → IsOfFeed self.now head
             → (IsTrue result ↔ IsFull head self.now.history) }
     {
         self.count == self.size
@@ -125,26 +136,42 @@ impl Window {
     }
 
     /// Adds an operation, in the room that `prepare` made. If the open window is full, it is sealed, and the operation is
-    /// the first of the next one. It takes no memory, and at most one look at each member that the window names.
+    /// the first of the next one. A new size holds from the window after the operation's own. It takes no memory, and at
+    /// most one look at each member that the window names.
     pub fn commit(&mut self, operation: Op)
         requires room { 1 ≤ self.old.spare }
         requires few { length self.old.history < history_limit }
         ensures history { self.new.history ≡ self.old.history ++ operation ∷ [] }
-        ensures size { self.new.size ≡ self.old.size }
+        ensures first { self.new.first ≡ self.old.first }
+        ensures title { self.new.title ≡ self.old.title }
     {
         self.past = Past::with(&self.past, &operation);
         if self.count == self.size {
             self.sealed += 1;
             self.before += self.size;
+            self.size = self.next_size;
             self.count = 0;
             self.items.clear();
             self.order.clear();
         }
         self.count += 1;
         self.last = Some(operation.moment());
-        let slot = put(&mut self.items, item_of(operation));
-        let mut steps = Steps::<Brand>::new();
-        self.order.touch(slot, &mut steps);
+        match operation {
+            Op::Add(entry) | Op::Change(entry) => {
+                touch(&mut self.items, &mut self.order, Item::Kept(entry));
+            }
+            Op::Remove(removal) => {
+                touch(
+                    &mut self.items,
+                    &mut self.order,
+                    Item::Gone(removal.tombstone),
+                );
+            }
+            Op::Set { setting, .. } => match setting {
+                Setting::Title(title) => self.title = title.into_text(),
+                Setting::Window(size) => self.next_size = size.get(),
+            },
+        }
     }
 
     /// The subscription document of the history. It is [`crate::subscription`] of all operations, but it looks only at
@@ -152,7 +179,7 @@ impl Window {
     ///
     /// Error: `NoMemory`.
     pub fn subscription(&self, head: &Head) -> Result<Doc, NoMemory>
-        requires { head.now.window ≡ self.now.size }
+        requires { IsOfFeed self.now head.now }
         ensures { IfOk result (λ doc. doc ≡ documents.subscription head.now self.now.history) }
     {
         self.document(head, Kind::Subscription)
@@ -163,7 +190,7 @@ impl Window {
     ///
     /// Error: `NoMemory`.
     pub fn archive(&self, head: &Head) -> Result<Doc, NoMemory>
-        requires size { head.now.window ≡ self.now.size }
+        requires feed { IsOfFeed self.now head.now }
         requires full { IsFull head.now self.now.history }
         ensures { IfOk result (λ doc. doc ≡ documents.archive head.now self.now.history
             ((windows_of head.now self.now.history).sealed + 1)) }
@@ -173,12 +200,12 @@ impl Window {
 
     /// The document of this kind that has the open window's operations.
     fn document(&self, head: &Head, kind: Kind) -> Result<Doc, NoMemory>
-        requires size { head.now.window ≡ self.now.size }
+        requires feed { IsOfFeed self.now head.now }
         requires kind { IsOpenKind head.now self.now.history kind }
         ensures { IfOk result (λ doc. doc ≡ open_document head.now kind self.now.history) }
     {
         let items = copies(self.alloc, self.items.as_slice(), &self.order)?;
-        let name = head.name.copy(self.alloc)?;
+        let name = titled(self.alloc, &head.name, &self.title)?;
         let span = Span {
             first: self.before + 1,
             last: self.before + self.count,
@@ -212,6 +239,18 @@ fn push_copy(alloc: Global, copies: &mut Many<Item, MAX_ITEMS>, item: &Item) -> 
     copies.push(copy).map_err(|_| NoMemory)
 }
 
+/// Makes the item that of its member, and its slot the newest.
+fn touch(items: &mut Vec<Item>, order: &mut Recency, item: Item)
+    requires room { vec_len items.old < vec_capacity items.old }
+    requires slots { vec_len items.old < order.old.slots }
+    requires few { length items.old.items ≤ window_limit }
+    ensures { IsTouched item items.old.items items.new.items order.old order.new }
+{
+    let slot = put(items, item);
+    let mut steps = Steps::<Brand>::new();
+    order.touch(slot, &mut steps);
+}
+
 /// Puts the item into the slot of its member, or into a new slot if the member has none. Returns the slot.
 fn put(items: &mut Vec<Item>, item: Item) -> u32
     requires room { vec_len items.old < vec_capacity items.old }
@@ -243,14 +282,4 @@ fn slot_of(items: &[Item], number: u32) -> Option<u32>
         }
     }
     None
-}
-
-/// The item that the operation leaves of its member.
-fn item_of(operation: Op) -> Item
-    ensures { operations.item_of operation ≡ Some result }
-{
-    match operation {
-        Op::Add(entry) | Op::Change(entry) => Item::Kept(entry),
-        Op::Remove(removal) => Item::Gone(removal.tombstone),
-    }
 }

@@ -32,7 +32,7 @@ use Rattle.mirror_walk.proofs.FeedDocumentLemmas.{IsOfFeed, archive-of, archive-
 use Rattle.mirror_walk.proofs.FeedDocumentLemmas.{served-reading, subscription-prev, version-of}
 use Rattle.mirror_walk.proofs.MirrorLemmas.{address-archive}
 use Rattle.coverage_certificate.specs.Served.{fold_entries}
-use Rattle.coverage_certificate.proofs.ServedLemmas.{shown-entries}
+use Rattle.coverage_certificate.proofs.ServedLemmas.{live_digest-named, shown-entries}
 use Rattle.coverage_auditor.specs.Certified.{IsServedPile, ShowsCertified, offering_of}
 use Rattle.coverage_auditor.specs.Finding.{HasDocument, offer_of}
 use Rattle.coverage_auditor.specs.Verdict.{AreDocuments, Covers}
@@ -162,8 +162,8 @@ module _ (head : HeadValue) (history : List Op) where
     are-of (line ∷ lines) (d ∷ documents) all =
         All-cons IsOf d documents (is-of line d all.0) (are-of lines documents all.1)
 
-    name-of : (operations : List Op) → (subscription head operations).name ≡ head.name
-    unfolding subscription subscription_of document_of name_of
+    name-of : (operations : List Op) → (subscription head operations).name ≡ name_of head operations
+    unfolding subscription subscription_of document_of
     name-of operations = refl
 
     -- the first line
@@ -196,7 +196,7 @@ module _ (head : HeadValue) (history : List Op) where
         (law-of_chain head past is_served.is_head lawful) in
         let shows : ShowsVersion head history newest.span.last documents =
         record { past = is_version.past; whole_chain = same; fold = fold } in
-        let name : newest.name ≡ head.name =
+        let name : newest.name ≡ name_of head past =
         ap (λ (d : DocValue). d.name) is_version.same ∙ name-of past in
         record {
           documents = documents;
@@ -206,5 +206,6 @@ module _ (head : HeadValue) (history : List Op) where
           digest = sym covers.digest
               ∙ ap₂ (λ (n : FeedName) (es : List EntryValue). live_digest_of n es) name
               (shown-entries head documents past lawful fold)
+              ∙ live_digest-named head past (fold_entries past)
               ∙ ap (λ (v : ℕ). live_digest_of head.name (fold_entries (take v history))) covers.version;
         }

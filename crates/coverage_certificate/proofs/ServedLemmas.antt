@@ -1,5 +1,5 @@
 -- The certificate of documents that one feed served.
-use Rattle.std.proofs.Common.{◌≡◌, ℕ, zero, suc, List, ◌∷◌, map, Option, Some, None, take, refl, sym, ap, ap₂}
+use Rattle.std.proofs.Common.{◌≡◌, ℕ, zero, suc, List, [], ◌∷◌, ◌++◌, map, Option, Some, None, take, refl, sym, ap, ap₂}
 use Rattle.std.proofs.Common.{subst, ◌∙◌}
 use Rattle.std.specs.Prelude.{option_map}
 use Rattle.std.specs.List.{cons_option}
@@ -7,14 +7,17 @@ use Rattle.std.proofs.lemmas.List.{length-take-le}
 use Rattle.std.proofs.lemmas.Option.{same_Some}
 use Rattle.sha2.specs.Sha256.{sha256}
 use Rattle.atom_values.specs.Entry.{EntryValue}
+use Rattle.atom_values.specs.declared.person.Person.{Person}
 use Rattle.atom_writer.specs.Doc.{DocValue}
+use Rattle.atom_writer.specs.Entries.{back_text, edit_link, front_text}
+use Rattle.atom_writer.specs.Members.{member_text, shown_authors}
 use Rattle.atom_writer.specs.Pieces.{own_address, text}
 use Rattle.atom_writer.specs.declared.doc.FeedName.{FeedName}
 use Rattle.chain_links.specs.declared.address.Address.{Address}
 use Rattle.chain_links.specs.declared.address.Address.TheVariants.{Feed, Archive}
 use Rattle.member_rules.specs.declared.operation.Op.{Op}
 use Rattle.member_rules.specs.Chain.{ShowsTheFold, chain, chain_of as cut_chain}
-use Rattle.member_rules.specs.Documents.{document_of, name_of, subscription_of}
+use Rattle.member_rules.specs.Documents.{document_of, name_of, subscription_of, title_after}
 use Rattle.member_rules.specs.Fold.{fold_of, made}
 use Rattle.member_rules.specs.Head.{HeadValue}
 use Rattle.member_rules.specs.History.{IsLawful}
@@ -37,7 +40,8 @@ use Rattle.mirror_walk.proofs.PublishedLemmas.{served-lawful}
 use Rattle.mirror_walk.proofs.TakenLemmas.{loaded-offered}
 use Rattle.coverage_certificate.specs.Certificate.{CertificateValue, CoverValue}
 use Rattle.coverage_certificate.specs.Held.{certificate_by, certificate_of, line_at, lines_of}
-use Rattle.coverage_certificate.specs.Live.{live_digest_of, live_entries_of}
+use Rattle.coverage_certificate.specs.Digest.{digest_of}
+use Rattle.coverage_certificate.specs.Live.{live_digest_of, live_entries_of, live_text}
 use Rattle.coverage_certificate.specs.Served.{fold_entries, line_of, served_certificate}
 use Rattle.coverage_certificate.proofs.HeldLemmas.{archives_to, lines-are}
 use Rattle.mirror_walk.proofs.InOrderLemmas.{entries-same}
@@ -108,11 +112,33 @@ shown-entries head documents past lawful shows =
     (λ k l. sym (shows.live k) ∙ live_of-past documents k l)
     (λ k l. ((AreMembers-of head.created past lawful.following).none_past k l).0)
 
+-- no document of a member states the feed's title
+member_text-titled : (name : FeedName) (title : List ℕ) (e : EntryValue) (authors : List Person) → e.authors ≡ authors
+    → member_text (record name { title = title }) e ≡ member_text name e
+unfolding member_text front_text back_text edit_link shown_authors
+member_text-titled name title e [] is = rw is refl
+member_text-titled name title e (person ∷ more) is = rw is refl
+
+live_text-titled : (name : FeedName) (title : List ℕ) (entries : List EntryValue)
+    → live_text (record name { title = title }) entries ≡ live_text name entries
+unfolding live_text
+live_text-titled name title [] = refl
+live_text-titled name title (e ∷ entries) =
+    ap₂ (λ (one more : List ℕ). one ++ more) (member_text-titled name title e e.authors refl)
+    (live_text-titled name title entries)
+
+-- for crates above: so a change of the title leaves the digest
+pub live_digest-named : (head : HeadValue) (operations : List Op) (entries : List EntryValue)
+    → live_digest_of (name_of head operations) entries ≡ live_digest_of head.name entries
+unfolding name_of
+live_digest-named head operations entries =
+    ap digest_of (live_text-titled head.name (title_after head.name.title operations) entries)
+
 -- the certificate
 
 first-name : (head : HeadValue) (operations : List Op) (newest : DocValue) (others : List DocValue)
-    → newest ∷ others ≡ chain head operations → newest.name ≡ head.name
-unfolding chain cut_chain subscription_of document_of name_of
+    → newest ∷ others ≡ chain head operations → newest.name ≡ name_of head operations
+unfolding chain cut_chain subscription_of document_of
 first-name head operations newest others e =
     let windows = windows_of head operations in
     let same : newest ≡ subscription_of windows.ends windows.sealed head operations = cc in
@@ -140,7 +166,7 @@ module _ (base : List ℕ) (payloads : List (List ℕ)) (kept : List KeptValue) 
   -- the feed after the operations up to the best document's last one.
   pub certificate-served : (best : KeptValue) → best_of kept ≡ Some best
       → certificate_of base kept ≡ Some (served_certificate head (take best.document.span.last history))
-  unfolding certificate_of certificate_by served_certificate
+  unfolding certificate_of certificate_by served_certificate name_of
   certificate-served best e =
       let version = best.document.span.last in
       let past = take version history in
@@ -159,7 +185,8 @@ module _ (base : List ℕ) (payloads : List (List ℕ)) (kept : List KeptValue) 
             ∙ ap (map line_of) shows.whole_chain;
         live_count = shows.fold.count;
         live_digest = ap₂ (λ (n : FeedName) (entries : List EntryValue). live_digest_of n entries) name
-            (shown-entries head (chain_of kept) past lawful shows.fold);
+            (shown-entries head (chain_of kept) past lawful shows.fold)
+            ∙ live_digest-named head past (fold_entries past);
       })
 
   -- the clause `served` of `Certificate::of`

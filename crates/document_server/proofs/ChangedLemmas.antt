@@ -99,6 +99,7 @@ module _ (store : StoreValue) where
   done-other (op.Add entry) = made-other _
   done-other (op.Change entry) = made-other _
   done-other (op.Remove removal) = deleted-other
+  done-other (op.Set setting moment) = made-other _
 
   accepted-other : (operation : Op) (given : Outcome) → IsAccepted store operation given → IsOther given.reply
   accepted-other operation given (inl (area, size, needed, capacity, full, is)) = of-other given _ (made-other _) is

@@ -36,12 +36,14 @@ use Rattle.member_rules.specs.Decide.{next_moment, unless_large, unless_other}
 use Rattle.member_rules.specs.Fold.{fold_of, last_moment, made}
 use Rattle.member_rules.specs.History.{IsLawful, history_limit, later_of}
 use Rattle.member_rules.specs.Operation.{KeepsEntry}
+use Rattle.member_rules.specs.Setting.{IsSetting}
 use Rattle.member_rules.specs.declared.ask.Ask.{Ask}
-use Rattle.member_rules.specs.declared.ask.Ask.TheVariants.{Create, Replace, Delete}
+use Rattle.member_rules.specs.declared.ask.Ask.TheVariants.{Create, Replace, Delete, Change as ChangeSetting}
 use Rattle.member_rules.specs.declared.fault.RuleFault.{RuleFault}
 use Rattle.member_rules.specs.declared.fault.RuleFault.TheVariants.{NotFound, ClockSpent, TooLarge}
 use Rattle.member_rules.specs.declared.operation.Op.{Op}
-use Rattle.member_rules.specs.declared.operation.Op.TheVariants.{Add, Change, Remove}
+use Rattle.member_rules.specs.declared.operation.Op.TheVariants.{Add, Change, Remove, Set}
+use Rattle.member_rules.specs.declared.setting.Setting.{Setting}
 use Rattle.member_rules.specs.declared.state.State.{State}
 use Rattle.member_rules.specs.declared.state.State.TheVariants as member
 use Rattle.member_rules.proofs.FoldLemmas.{made-le-length}
@@ -145,11 +147,16 @@ large-set : (name : FeedName) (make : EntryValue → Op) (entry : EntryValue) (o
 unfolding unless_large
 large-set name make entry operation e = large-test _ (make entry) operation _ e
 
+-- equal results that are `Ok` have the same operation
+same_ok : (a b : Op) → (let r : Result Op RuleFault = Ok a in r ≡ Ok b) → a ≡ b
+same_ok a b e = cc
+
 -- the rules that the type of an ask keeps
 abbrev KeepsAsk : Ask → Type 0
 KeepsAsk (Create draft) = IsDraft draft
 KeepsAsk (Replace number draft) = (1 ≤ number) × (number < 2 ^ 32) × IsDraft draft
 KeepsAsk (Delete number) = Unit {0}
+KeepsAsk (ChangeSetting setting) = IsSetting setting
 
 module _ (name : FeedName) (created : ℤ) (history : List Op) (now : ℕ) (operation : Op)
     (few : length history < history_limit) where
@@ -194,11 +201,16 @@ module _ (name : FeedName) (created : ℤ) (history : List Op) (now : ℕ) (oper
       (λ m. Ok (Remove record { tombstone = record { number = number; when = later_of m s.0.updated }; moment = m }))
       operation s.2 in
       subst KeepsEntry
-      (same (Remove record { tombstone = record { number = number; when = later_of m.0 s.0.updated }; moment = m.0 })
+      (same_ok (Remove record { tombstone = record { number = number; when = later_of m.0 s.0.updated }; moment = m.0 })
       operation m.2) tt
-    where
-      same : (a b : Op) → (let r : Result Op RuleFault = Ok a in r ≡ Ok b) → a ≡ b
-      same a b e = cc
+
+  -- an ask for a setting becomes an operation with that setting, which keeps the rules of its type
+  kept-setting : (setting : Setting) → IsSetting setting
+      → decide name created history (ChangeSetting setting) now ≡ Ok operation → KeepsEntry operation
+  unfolding decide
+  kept-setting setting is e =
+      let m = split-ok (next_moment created history now) (λ m. Ok (Set setting m)) operation e in
+      subst KeepsEntry (same_ok (Set setting m.0) operation m.2) is
 
 -- The outcome of a request
 
@@ -223,6 +235,8 @@ module _ (store : StoreValue) (few : length store.history < history_limit)
       (λ stored live. live-entries store.history lawful.operations number stored live) e
   entry-kept (Delete number) now operation is e =
       removed-entry store.head.name store.head.created store.history now operation few number e
+  entry-kept (ChangeSetting setting) now operation is e =
+      kept-setting store.head.name store.head.created store.history now operation few setting is e
 
   accepted-lawful : (ask : Ask) (now : ℕ) (operation : Op) (given : Outcome) → KeepsAsk ask
       → decide store.head.name store.head.created store.history ask now ≡ Ok operation

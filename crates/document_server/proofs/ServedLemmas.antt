@@ -72,6 +72,7 @@ module _ (store : StoreValue) where
   done-other (op.Add entry) = entry-feed
   done-other (op.Change entry) = entry-feed
   done-other (op.Remove removal) = plain-feed
+  done-other (op.Set setting moment) = plain-feed
 
   accepted-other : (operation : Op) (given : Outcome) → IsAccepted store operation given → IsNoFeed given
   accepted-other operation given (inl (area, size, needed, capacity, full, is)) = other-reply given _ plain-feed is

@@ -44,7 +44,7 @@ use Rattle.member_rules.specs.declared.ask.Ask.TheVariants as ask
 use Rattle.member_rules.specs.declared.fault.RuleFault.{RuleFault}
 use Rattle.member_rules.specs.declared.fault.RuleFault.TheVariants as rule
 use Rattle.member_rules.specs.declared.operation.Op.{Op}
-use Rattle.member_rules.specs.declared.operation.Op.TheVariants.{Add, Change, Remove}
+use Rattle.member_rules.specs.declared.operation.Op.TheVariants.{Add, Change, Remove, Set}
 use Rattle.member_rules.specs.declared.state.State.{State}
 use Rattle.member_rules.specs.declared.state.State.TheVariants as member
 
@@ -129,7 +129,8 @@ abbrev pub entry_refusal : ℕ → Why → Reply
 entry_refusal at why.Draft = line_reply 403 line.Draft
 entry_refusal at why = made_reply 400 (codes "entry" ++ spaced at ++ codes " " ++ why_word why ++ codes "\n")
 
--- a change that is made: the member document, and the address of a new member (RFC 5023 sections 9.2 to 9.4)
+-- a change that is made: the member document, and the address of a new member (RFC 5023 sections 9.2 to 9.4); no
+-- request asks for a setting
 abbrev pub done_reply : FeedName → Op → Reply
 done_reply name (Add entry) = record {
   status = 201;
@@ -140,6 +141,7 @@ done_reply name (Add entry) = record {
 }
 done_reply name (Change entry) = document_reply media.Entry (member_text name entry)
 done_reply name (Remove removal) = line_reply 200 line.Deleted
+done_reply name (Set setting moment) = made_reply 200 (codes "set\n")
 
 -- The outcome of a request
 

@@ -137,7 +137,7 @@ pub(crate) fn delete<D: Disk>(
 }
 
 /// Decides what the ask becomes, and commits it if it is accepted.
-fn change<D: Disk>(
+pub(crate) fn change<D: Disk>(
     alloc: Global,
     store: &mut Store,
     disk: &mut D,

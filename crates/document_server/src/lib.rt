@@ -10,7 +10,8 @@
 //! ```
 //!
 //! The reply and the store are those of `specs/Reply.antt`, unless memory ran out or the disk failed. A reply that
-//! acknowledges a change is returned after the commit of the change, so no crash loses it.
+//! acknowledges a change is returned after the commit of the change, so no crash loses it. [`set`] changes a setting of
+//! the feed in the same way, without a request.
 //!
 //! Stands on `feed_recovery` for the store, on `http_face` for requests and replies, and on `entry_reader` for the
 //! entries that clients write.
@@ -28,6 +29,7 @@ mod media;
 mod replies;
 mod script_door;
 mod session;
+mod setting;
 
 pub use clock::Clock;
 pub use dispatch::answer;
@@ -36,3 +38,4 @@ pub use laws::{requests_have_one_outcome, shown_are_served};
 pub use line::Line;
 pub use script_door::{ScriptDoor, SetClock};
 pub use session::{End, MAX_CONNECTIONS, ServeEnd, serve};
+pub use setting::set;

@@ -169,7 +169,7 @@ fn member_address(alloc: Global, base: &Base, number: u32) -> Result<Vec<u8>, No
     base.print(alloc, Address::Member(number))
 }
 
-/// The reply to a change that was made (RFC 5023 sections 9.2 to 9.4).
+/// The reply to a change that was made (RFC 5023 sections 9.2 to 9.4). No request asks for a setting.
 pub(crate) fn made_change(alloc: Global, name: &FeedName, operation: &Op) -> Result<Reply, NoMemory>
     ensures reply { IfOk result (λ reply. reply ≡ done_reply name.now operation.now) }
     ensures own { IfOk result IsOwn }
@@ -186,5 +186,6 @@ pub(crate) fn made_change(alloc: Global, name: &FeedName, operation: &Op) -> Res
         }
         Op::Change(entry) => Ok(document(Media::Entry, write_member(alloc, name, entry)?)),
         Op::Remove(_) => Ok(line(200, Line7::Deleted)),
+        Op::Set { .. } => Ok(made_line(200, Vec::from_slice(alloc, b"set\n")?)),
     }
 }

@@ -1,7 +1,7 @@
 //! Tests of the bytes of operations and heads. The bytes are written by hand, field by field.
-use crate::rules::expect_sentence;
+use crate::rules::{expect_sentence, moment, title_setting, window_setting};
 use atom_values::{AtomText, Draft, Stamp};
-use member_rules::{CodecFault, Op, head_bytes, op_bytes, read_head, read_op};
+use member_rules::{CodecFault, Op, Setting, head_bytes, op_bytes, read_head, read_op};
 use std::alloc::{AllocError, Global};
 use std::process::Abort;
 
@@ -45,6 +45,21 @@ static REMOVE: &[u8] = b"\x03\
 \x00\x00\x3a\x16\x3e\xe9\xc8\x00\
 \x00\x00\x3a\x16\x3e\xe9\xc8\x00";
 
+/// An operation that sets the title `New`.
+static TITLE: &[u8] = b"\x04\
+\x00\x00\x3a\x16\x3e\xe9\xc8\x00\
+\x01\
+\x00\x00\x00\x03New";
+
+/// Where the fields of that operation begin, and those of the next one.
+static SETTING_FIELDS: [usize; 4] = [0, 1, 9, 10];
+
+/// An operation that sets the size 3 of windows.
+static WINDOW: &[u8] = b"\x04\
+\x00\x00\x3a\x16\x3e\xe9\xc8\x00\
+\x02\
+\x00\x00\x00\x03";
+
 static HEAD: &[u8] = b"\x01\
 \x00\x00\x00\x14http://feed.example/\
 \x6d\x1f\x0c\x5a\x93\xbe\x4c\x27\x8d\x10\x2b\x7f\x9e\x4a\x5c\x36\
@@ -58,10 +73,12 @@ static HEAD: &[u8] = b"\x01\
 /// refusal, if one is expected.
 type Change = (usize, usize, &'static [u8], Option<usize>);
 
-static CHANGE_CHANGES: [Change; 30] = [
+static CHANGE_CHANGES: [Change; 31] = [
     (0, 1, b"\x00", Some(0)),
     (0, 1, b"\x01", None),
-    (0, 1, b"\x04", Some(0)),
+    // An operation that sets a setting has its moment at byte 1, here one of the year 0, and its kind at byte 9.
+    (0, 1, b"\x04", Some(9)),
+    (0, 1, b"\x05", Some(0)),
     (1, 4, b"\x00\x00\x00\x00", Some(1)),
     (1, 4, b"\xff\xff\xff\xff", None),
     (5, 8, b"\x00\x01\x1f\x02\x41\x24\x3b\xff", None),
@@ -117,8 +134,53 @@ static REMOVE_CHANGES: [Change; 6] = [
     (21, 0, b"\x00", Some(21)),
 ];
 
-static HEAD_CHANGES: [Change; 18] = [
-    (0, 1, b"\x02", Some(0)),
+static TITLE_CHANGES: [Change; 19] = [
+    (0, 1, b"\x00", Some(0)),
+    // The number of a removal, and then its moment, which is after the last one.
+    (0, 1, b"\x03", Some(5)),
+    (0, 1, b"\x05", Some(0)),
+    (1, 8, b"\x00\x00\x00\x00\x00\x00\x00\x00", None),
+    (1, 8, b"\x00\x01\x1f\x02\x41\x24\x3b\xff", None),
+    (1, 8, b"\x00\x01\x1f\x02\x41\x24\x3c\x00", Some(1)),
+    (9, 1, b"\x00", Some(9)),
+    (9, 1, b"\x03", Some(9)),
+    (9, 1, b"\xff", Some(9)),
+    // The size 3, and then three bytes too many.
+    (9, 1, b"\x02", Some(14)),
+    (10, 7, b"\x00\x00\x00\x00", None),
+    (10, 4, b"\x00\x00\x00\x00", Some(14)),
+    (10, 4, b"\x00\x00\x00\x04", Some(10)),
+    (10, 4, b"\xff\xff\xff\xff", Some(10)),
+    (14, 1, b"\x09", None),
+    (14, 1, b"\x0b", Some(10)),
+    (16, 1, b"\xff", Some(10)),
+    (14, 3, b"\xef\xbf\xbf", Some(10)),
+    (17, 0, b"\x00", Some(17)),
+];
+
+static WINDOW_CHANGES: [Change; 13] = [
+    (1, 8, b"\x00\x01\x1f\x02\x41\x24\x3b\xff", None),
+    (1, 8, b"\x00\x01\x1f\x02\x41\x24\x3c\x00", Some(1)),
+    (9, 1, b"\x00", Some(9)),
+    // A text of three bytes, of which there are none.
+    (9, 1, b"\x01", Some(10)),
+    (9, 1, b"\x03", Some(9)),
+    (10, 4, b"\x00\x00\x00\x00", Some(10)),
+    (10, 4, b"\x00\x00\x00\x01", None),
+    (10, 4, b"\x00\x00\x00\x64", None),
+    (10, 4, b"\x00\x00\x00\x65", Some(10)),
+    (10, 4, b"\x00\x00\x01\x01", Some(10)),
+    (10, 4, b"\x01\x00\x00\x01", Some(10)),
+    (14, 0, b"\x00", Some(14)),
+    (14, 0, b"New", Some(14)),
+];
+
+static HEAD_CHANGES: [Change; 22] = [
+    (0, 1, b"\x00", Some(0)),
+    (0, 1, b"\x02", None),
+    (0, 1, b"\x03", None),
+    (0, 1, b"\x04", Some(0)),
+    (0, 1, b"\xff", Some(0)),
     (5, 1, b"H", Some(1)),
     (1, 24, b"\x00\x00\x00\x00", Some(1)),
     (31, 1, b"\x8c", Some(25)),
@@ -181,10 +243,12 @@ fn head_refusal(rt: &impl Abort, alloc: Global, bytes: &[u8]) -> Option<usize> {
 #[test]
 fn refuses_a_changed_field_of_an_operation(rt: HostRuntime) {
     let alloc = rt.alloc();
-    let cases: [(&[u8], &[Change]); 3] = [
+    let cases: [(&[u8], &[Change]); 5] = [
         (ADD, &ADD_CHANGES),
         (CHANGE, &CHANGE_CHANGES),
         (REMOVE, &REMOVE_CHANGES),
+        (TITLE, &TITLE_CHANGES),
+        (WINDOW, &WINDOW_CHANGES),
     ];
     for (bytes, changes) in cases {
         assert!(rt; operation_refusal(&rt, alloc, bytes) == None);
@@ -209,14 +273,17 @@ fn refuses_a_changed_field_of_a_head(rt: HostRuntime) {
 
 #[test]
 fn refuses_each_prefix_at_its_last_field(rt: HostRuntime) {
-    for end in 0..ADD.len() {
-        let field = ADD_FIELDS
-            .iter()
-            .rev()
-            .find(|start| **start <= end)
-            .copied();
-        let refusal = operation_refusal(&rt, rt.alloc(), &ADD[..end]);
-        assert!(rt; refusal == field, "{end}");
+    let cases: [(&[u8], &[usize]); 3] = [
+        (ADD, &ADD_FIELDS),
+        (TITLE, &SETTING_FIELDS),
+        (WINDOW, &SETTING_FIELDS),
+    ];
+    for (bytes, fields) in cases {
+        for end in 0..bytes.len() {
+            let field = fields.iter().rev().find(|start| **start <= end).copied();
+            let refusal = operation_refusal(&rt, rt.alloc(), &bytes[..end]);
+            assert!(rt; refusal == field, "{end}");
+        }
     }
 }
 
@@ -244,13 +311,17 @@ fn texts_have_limits(rt: HostRuntime) {
         let made = long_title(alloc, &CHANGE[..22], length, &CHANGE[27..]).expect(&rt, "memory");
         assert!(rt; operation_refusal(&rt, alloc, made.as_slice()) == refused);
     }
+    for (length, refused) in [(1_024, None), (1_025, Some(10))] {
+        let made = long_title(alloc, &TITLE[..10], length, b"").expect(&rt, "memory");
+        assert!(rt; operation_refusal(&rt, alloc, made.as_slice()) == refused);
+    }
     for (length, refused) in [(1_024, None), (1_025, Some(41))] {
         let made = long_title(alloc, &HEAD[..41], length, &HEAD[49..]).expect(&rt, "memory");
         assert!(rt; head_refusal(&rt, alloc, made.as_slice()) == refused);
     }
 }
 
-/// The operation of the bytes of [`CHANGE`] is made by other calls, so it isn't the reader that says what they mean.
+/// The operations of these bytes are made by other calls, so it isn't the reader that says what they mean.
 #[test]
 fn writes_an_operation_that_was_made(rt: HostRuntime) {
     let title = AtomText::of(rt.alloc(), b"A").expect(&rt, "a text");
@@ -261,6 +332,21 @@ fn writes_an_operation_that_was_made(rt: HostRuntime) {
     let written = op_bytes(rt.alloc(), &operation).expect(&rt, "memory");
     assert!(rt; written.as_slice() == CHANGE);
     drop(operation);
+}
+
+fn expect_set(rt: &impl Abort, alloc: Global, setting: Setting, bytes: &[u8]) {
+    let moment = moment(rt, 1_700_000_000_000);
+    let operation = Op::Set { setting, moment };
+    let written = op_bytes(alloc, &operation).expect(rt, "memory");
+    assert!(rt; written.as_slice() == bytes);
+    drop(operation);
+}
+
+#[test]
+fn writes_settings_that_were_made(rt: HostRuntime) {
+    let alloc = rt.alloc();
+    expect_set(&rt, alloc, title_setting(&rt, alloc, b"New"), TITLE);
+    expect_set(&rt, alloc, window_setting(&rt, 3), WINDOW);
 }
 
 #[test]

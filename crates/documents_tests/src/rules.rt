@@ -8,8 +8,8 @@ use atom_writer::FeedName;
 use chain_links::Base;
 use deleted_entries::{FeedId, Tombstone};
 use member_rules::{
-    Ask, Head, Members, Op, Removal, RuleFault, decide, plain_count, plain_last_moment,
-    plain_live_count, plain_state,
+    Ask, Head, Members, NEWEST_FORMAT, Op, Removal, RuleFault, Setting, ShortText, State,
+    WindowSize, decide, plain_count, plain_last_moment, plain_live_count, plain_state,
 };
 use std::alloc::Global;
 use std::fmt::{Debug, Display};
@@ -46,6 +46,21 @@ pub(crate) fn entry(rt: &impl Abort, alloc: Global, number: u32, edited: i64, up
     let mut draft = draft(rt, alloc);
     draft.updated = Some(moment(rt, updated));
     draft.normal(number, moment(rt, edited), None)
+}
+
+fn short_text(rt: &impl Abort, alloc: Global, bytes: &[u8]) -> ShortText {
+    let text = AtomText::of(alloc, bytes).expect(rt, "a text");
+    ShortText::of(text).expect(rt, "a short text")
+}
+
+/// The setting of this title.
+pub(crate) fn title_setting(rt: &impl Abort, alloc: Global, bytes: &[u8]) -> Setting {
+    Setting::Title(short_text(rt, alloc, bytes))
+}
+
+/// The setting of windows of this size.
+pub(crate) fn window_setting(rt: &impl Abort, operations: u32) -> Setting {
+    Setting::Window(WindowSize::new(operations).expect(rt, "a size"))
 }
 
 /// A feed with its history, and the table of the members after that history.
@@ -104,15 +119,20 @@ fn fault_text(rt: &impl Abort, alloc: Global, fault: &RuleFault) -> String {
     text.expect(rt, "memory")
 }
 
-/// The operation by its kind, its number, its moment and the stamp that it carries.
+/// The operation by its kind, its number, its moment and the stamp that it carries, or the size or the number of bytes
+/// of the title that it sets.
 fn operation_text(rt: &impl Abort, alloc: Global, operation: &Op) -> String {
-    let (name, stamp) = match operation {
-        Op::Add(entry) => ("Add", entry.updated),
-        Op::Change(entry) => ("Change", entry.updated),
-        Op::Remove(removal) => ("Remove", removal.tombstone.when),
+    let (name, carried) = match operation {
+        Op::Add(entry) => ("Add", entry.updated.millis()),
+        Op::Change(entry) => ("Change", entry.updated.millis()),
+        Op::Remove(removal) => ("Remove", removal.tombstone.when.millis()),
+        Op::Set { setting, .. } => match setting {
+            Setting::Title(title) => ("Title", title.text().bytes().len() as i64),
+            Setting::Window(size) => ("Window", i64::from(size.get())),
+        },
     };
     let (number, moment) = (operation.number(), operation.moment().millis());
-    format!(in alloc; "{name} {number} {moment} {}", stamp.millis()).expect(rt, "memory")
+    format!(in alloc; "{name} {number} {moment} {carried}").expect(rt, "memory")
 }
 
 #[derive(Clone, Copy)]
@@ -120,11 +140,15 @@ enum Verb {
     Create,
     Replace,
     Delete,
+    /// Sets a title of this many letters.
+    Title,
+    /// Sets this size of windows.
+    Window,
 }
 
-use Verb::{Create, Delete, Replace};
+use Verb::{Create, Delete, Replace, Title, Window};
 
-/// An ask: what is asked, of which member, and the clock in milliseconds.
+/// An ask: what is asked, the number of the member or of the setting, and the clock in milliseconds.
 type Step = (Verb, u32, u64);
 
 /// The identifier and the `updated` that the drafts of some cases have.
@@ -145,6 +169,14 @@ fn case_draft(rt: &impl Abort, alloc: Global, drafts: &Drafts) -> Draft {
     draft
 }
 
+/// The title of this many letters, or the size of windows.
+fn case_setting(rt: &impl Abort, alloc: Global, verb: Verb, number: u32) -> Setting {
+    match verb {
+        Title => title_setting(rt, alloc, &[b'a'; 64][..number.min(64) as usize]),
+        _ => window_setting(rt, number),
+    }
+}
+
 fn case_ask(rt: &impl Abort, alloc: Global, drafts: &Drafts, verb: Verb, number: u32) -> Ask {
     match verb {
         Create => Ask::Create(case_draft(rt, alloc, drafts)),
@@ -153,6 +185,7 @@ fn case_ask(rt: &impl Abort, alloc: Global, drafts: &Drafts, verb: Verb, number:
             draft: case_draft(rt, alloc, drafts),
         },
         Delete => Ask::Delete { number },
+        Title | Window => Ask::Change(case_setting(rt, alloc, verb, number)),
     }
 }
 
@@ -207,7 +240,7 @@ const OWN: Drafts = Drafts {
 };
 
 /// Steps, and the operation of the last.
-static OPERATIONS: [(&[Step], &str); 6] = [
+static OPERATIONS: [(&[Step], &str); 12] = [
     (
         &[(Create, 0, LAST)],
         "Add 1 253402300799999 253402300799999",
@@ -219,6 +252,28 @@ static OPERATIONS: [(&[Step], &str); 6] = [
     (
         &[(Create, 0, 5), (Delete, 1, 9), (Create, 0, 10)],
         "Add 2 10 10",
+    ),
+    // A setting names no member, and no member stands in its way.
+    (&[(Title, 3, 5)], "Title 0 5 3"),
+    (
+        &[(Create, 0, 5), (Delete, 1, 9), (Window, 1, 9)],
+        "Window 0 10 1",
+    ),
+    (
+        &[(Window, 100, 5), (Title, 0, 3), (Window, 2, LAST)],
+        "Window 0 253402300799999 2",
+    ),
+    (
+        &[(Title, 1, 5), (Window, 2, 5), (Create, 0, 5)],
+        "Add 1 7 7",
+    ),
+    (
+        &[(Create, 0, 5), (Title, 2, 6), (Replace, 1, 7)],
+        "Change 1 7 7",
+    ),
+    (
+        &[(Create, 0, 5), (Window, 2, 6), (Delete, 1, 6)],
+        "Remove 1 7 7",
     ),
 ];
 
@@ -240,7 +295,7 @@ fn answers_the_operation(rt: HostRuntime) {
 }
 
 /// Steps with the id of another member in drafts, and the refusal of the last.
-static REFUSALS: [(&[Step], &str); 11] = [
+static REFUSALS: [(&[Step], &str); 15] = [
     (&[(Delete, 0, 5)], "NotFound 0"),
     (&[(Delete, 1, u64::MAX)], "NotFound 1"),
     (&[(Create, 0, 5), (Replace, 0, 6)], "NotFound 0"),
@@ -267,6 +322,19 @@ static REFUSALS: [(&[Step], &str); 11] = [
         &[(Create, 0, u64::MAX)],
         "ClockSpent 0 18446744073709551615",
     ),
+    (
+        &[(Create, 0, LAST), (Title, 1, 5)],
+        "ClockSpent 253402300799999 5",
+    ),
+    (
+        &[(Title, 1, LAST), (Window, 1, 0)],
+        "ClockSpent 253402300799999 0",
+    ),
+    (
+        &[(Window, 1, 9), (Title, 1, u64::MAX)],
+        "ClockSpent 9 18446744073709551615",
+    ),
+    (&[(Title, 1, 5), (Delete, 1, 6)], "NotFound 1"),
 ];
 
 /// Steps with the member's own id in drafts, and what the last becomes.
@@ -345,11 +413,15 @@ fn operation(rt: &impl Abort, alloc: Global, step: Step, stamp: i64) -> Op {
             },
             moment: accepted,
         }),
+        Title | Window => Op::Set {
+            setting: case_setting(rt, alloc, verb, number),
+            moment: accepted,
+        },
     }
 }
 
 /// Operations, the last moment, and whether they may follow.
-static FOLLOWING: [(Step, i64, bool); 11] = [
+static FOLLOWING: [(Step, i64, bool); 16] = [
     ((Create, 2, 6), 0, true),
     ((Create, 2, 5), 0, false),
     ((Create, 1, 6), 0, false),
@@ -361,6 +433,11 @@ static FOLLOWING: [(Step, i64, bool); 11] = [
     ((Delete, 1, 6), 999, false),
     ((Delete, 1, 6), 1_001, false),
     ((Delete, 2, 6), 1_000, false),
+    ((Title, 3, 6), 0, true),
+    ((Title, 3, 5), 0, false),
+    ((Title, 3, 4), 0, false),
+    ((Window, 1, 6), 0, true),
+    ((Window, 1, 5), 0, false),
 ];
 
 #[test]
@@ -377,40 +454,75 @@ fn tells_which_operations_may_follow(rt: HostRuntime) {
     drop(feed);
 }
 
-/// Steps, and the newest member after each.
-static NEWEST: [(Step, u32); 5] = [
-    ((Create, 0, 5), 1),
-    ((Create, 0, 6), 2),
-    ((Create, 0, 7), 3),
-    ((Replace, 2, 8), 2),
-    ((Delete, 1, 9), 1),
+/// What operations do, the members that they name, and their numbers.
+static NAMED: [(Verb, Option<u32>, u32); 5] = [
+    (Create, Some(3), 3),
+    (Replace, Some(3), 3),
+    (Delete, Some(3), 3),
+    (Title, None, 0),
+    (Window, None, 0),
 ];
 
-/// Numbers after those steps, each with the member before it and the `edited` of its entry. No member has 0 or 4.
-static MEMBERS: [(u32, Option<u32>, Option<i64>); 5] = [
-    (0, None, None),
-    (1, Some(2), None),
-    (2, Some(3), Some(8)),
-    (3, None, Some(7)),
-    (4, None, None),
+#[test]
+fn a_setting_names_no_member(rt: HostRuntime) {
+    for &(verb, member, number) in &NAMED {
+        let operation = operation(&rt, rt.alloc(), (verb, 3, 5), 7);
+        assert!(rt; operation.member() == member && operation.number() == number);
+        drop(operation);
+    }
+}
+
+/// Steps. After each, the newest member, how many were made, and how many are live.
+static NEWEST: [(Step, Option<u32>, u32, u32); 9] = [
+    ((Title, 3, 4), None, 0, 0),
+    ((Create, 0, 5), Some(1), 1, 1),
+    ((Create, 0, 6), Some(2), 2, 2),
+    ((Window, 4, 7), Some(2), 2, 2),
+    ((Create, 0, 8), Some(3), 3, 3),
+    ((Replace, 2, 9), Some(2), 3, 3),
+    ((Delete, 1, 10), Some(1), 3, 2),
+    ((Title, 0, 11), Some(1), 3, 2),
+    ((Window, 1, 12), Some(1), 3, 2),
 ];
+
+/// A member: its number, the member before it, the `edited` of its entry and the operation that set the entry.
+type Listed = (u32, Option<u32>, Option<i64>, Option<u32>);
+
+/// The members after those steps. None has the number 0 or 4.
+static MEMBERS: [Listed; 5] = [
+    (0, None, None, None),
+    (1, Some(2), None, None),
+    (2, Some(3), Some(9), Some(6)),
+    (3, None, Some(8), Some(5)),
+    (4, None, None, None),
+];
+
+fn listed(members: &Members, number: u32) -> Listed {
+    (
+        number,
+        members.before(number),
+        members.edited(number).map(|stamp| stamp.millis()),
+        match members.state(number) {
+            State::Live { version, .. } => Some(version),
+            State::Never | State::Gone { .. } => None,
+        },
+    )
+}
 
 #[test]
 fn members_come_by_their_last_operations(rt: HostRuntime) {
     let mut feed = empty(&rt, rt.alloc());
     assert!(rt; feed.members.newest() == None);
-    for &((verb, number, now), newest) in &NEWEST {
+    for &((verb, number, now), newest, count, live) in &NEWEST {
         // The entry's `updated` is 1,000.
         let ask = case_ask(&rt, rt.alloc(), &DATED, verb, number);
         drop(apply(&rt, &mut feed, ask, now));
-        assert!(rt; feed.members.newest() == Some(newest));
+        assert!(rt; feed.members.newest() == newest);
+        assert!(rt; feed.members.count() == count && feed.members.live_count() == live);
+        assert!(rt; u64::try_from(feed.members.last_moment().millis()).ok() == Some(now));
     }
-    for &(number, before, edited) in &MEMBERS {
-        let found = (
-            feed.members.before(number),
-            feed.members.edited(number).map(|stamp| stamp.millis()),
-        );
-        assert!(rt; found == (before, edited));
+    for member in &MEMBERS {
+        assert!(rt; listed(&feed.members, member.0) == *member);
     }
     drop(feed);
 }
@@ -426,7 +538,7 @@ fn expect_equal_copy<T: Copies + Debug + Drop>(rt: &impl Abort, alloc: Global, v
 
 #[test]
 fn copies_of_operations_are_equal(rt: HostRuntime) {
-    for verb in [Create, Replace, Delete] {
+    for verb in [Create, Replace, Delete, Title, Window] {
         let operation = operation(&rt, rt.alloc(), (verb, 3, 5), 7);
         expect_equal_copy(&rt, rt.alloc(), &operation);
         drop(operation);
@@ -435,7 +547,7 @@ fn copies_of_operations_are_equal(rt: HostRuntime) {
 
 #[test]
 fn copies_of_asks_are_equal(rt: HostRuntime) {
-    for verb in [Create, Replace, Delete] {
+    for verb in [Create, Replace, Delete, Title, Window] {
         let ask = case_ask(&rt, rt.alloc(), &OWN, verb, 3);
         expect_equal_copy(&rt, rt.alloc(), &ask);
         drop(ask);
@@ -443,8 +555,59 @@ fn copies_of_asks_are_equal(rt: HostRuntime) {
 }
 
 #[test]
+fn copies_of_settings_are_equal(rt: HostRuntime) {
+    let size = WindowSize::new(100).expect(&rt, "a size");
+    expect_equal_copy(&rt, rt.alloc(), &size);
+    let text = short_text(&rt, rt.alloc(), b"New");
+    expect_equal_copy(&rt, rt.alloc(), &text);
+    drop(text);
+    for verb in [Title, Window] {
+        let setting = case_setting(&rt, rt.alloc(), verb, 3);
+        expect_equal_copy(&rt, rt.alloc(), &setting);
+        drop(setting);
+    }
+}
+
+/// How many letters a text has, and whether it may be a feed's title.
+static TEXTS: [(usize, bool); 4] = [(0, true), (3, true), (1_024, true), (1_025, false)];
+
+/// Numbers of operations, and whether a window may have so many.
+static SIZES: [(u32, bool); 6] = [
+    (0, false),
+    (1, true),
+    (4, true),
+    (100, true),
+    (101, false),
+    (u32::MAX, false),
+];
+
+#[test]
+fn settings_have_limits(rt: HostRuntime) {
+    for &(length, taken) in &TEXTS {
+        let mut letters = Vec::new(rt.alloc());
+        letters.resize(length, b'a').expect(&rt, "memory");
+        let text = AtomText::of(rt.alloc(), letters.as_slice()).expect(&rt, "a text");
+        let short = ShortText::of(text);
+        assert!(rt; short.is_some() == taken, "{length}");
+        if let Some(short) = short {
+            let text = short.into_text();
+            assert!(rt; text.bytes() == letters.as_slice());
+            drop(text);
+        }
+    }
+    for &(operations, taken) in &SIZES {
+        let size = WindowSize::new(operations).map(|size| size.get());
+        assert!(rt;
+            size == if taken { Some(operations) } else { None },
+            "{operations}"
+        );
+    }
+}
+
+#[test]
 fn a_copy_of_a_head_is_equal(rt: HostRuntime) {
     let head = Head {
+        format: NEWEST_FORMAT,
         name: feed_name(&rt, rt.alloc()),
         window: 4,
         capacity: 65_536,
@@ -470,10 +633,12 @@ pub(crate) fn some_ask(rt: &impl Abort, alloc: Global, seed: u64, number: u32) -
         id: None,
         updated: if seed >> 60 == 0 { Some(9_000) } else { None },
     };
-    let verb = match (seed >> 20) % 4 {
-        0 => Replace,
-        1 => Delete,
-        _ => Create,
+    let (verb, number) = match (seed >> 20) % 8 {
+        0 | 1 => (Replace, number),
+        2 | 3 => (Delete, number),
+        4 if seed >> 63 == 0 => (Title, number),
+        4 => (Window, number.min(99) + 1),
+        _ => (Create, number),
     };
     case_ask(rt, alloc, &drafts, verb, number)
 }

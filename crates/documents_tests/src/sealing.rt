@@ -1,33 +1,164 @@
 //! Tests of `archive_sealer`. Expected documents come from RFC 5005 section 4 and RFC 6721. A `Window` is compared with
 //! the functions over the list of its operations.
-ghost use Rattle.std.specs.Prelude.{◌≡◌, ◌+◌, ◌≤◌, pos, length};
+ghost use Rattle.std.specs.Prelude.{◌≤◌, pos, length};
+ghost use Rattle.archive_sealer.specs.Window.{IsOfFeed};
 ghost use Rattle.member_rules.specs.Table.{IsTableOf};
 
-use crate::rules::{Feed, apply, draft, empty, entry, feed_name, moment, next};
+use crate::rules::{
+    Feed, apply, draft, empty, entry, feed_name, moment, next, title_setting, window_setting,
+};
 use archive_sealer::{Window, archive, full_windows, sealed_windows, subscription};
 use atom_values::{Copies, NoMemory, Stamp};
 use atom_writer::{Doc, write_doc};
 use deleted_entries::{Item, Tombstone};
-use member_rules::{Ask, Head, Op, Removal};
+use member_rules::{Ask, Head, NEWEST_FORMAT, Op, Removal, Setting};
 use std::alloc::Global;
 use std::process::Abort;
 
-/// A history and one of its documents. The operations go round the members: each member is made and then changed, at
-/// the moments 1, 2 and so on. The last operation removes member 1 where `removed` says so.
+/// An operation on the member with this number, or of a setting.
 #[derive(Clone, Copy)]
-struct Case {
-    members: u8,
-    count: u8,
-    removed: bool,
-    window: u8,
-    /// The number of the archive, or 0 for the subscription document.
-    archive: u32,
-    expected: &'static str,
+enum Step {
+    Add(u32),
+    Change(u32),
+    Remove(u32),
+    Title(&'static [u8]),
+    Size(u32),
 }
+
+use Step::{Add, Change, Remove, Size, Title};
+
+/// A document: its archive's number or 0 for the subscription document, its title, and what `doc_text` says of it.
+type Shown = (u32, &'static [u8], &'static str);
+
+/// The size of the first window, the operations at the moments 1, 2 and so on, and documents of that history.
+type Case = (u8, &'static [Step], &'static [Shown]);
+
+static CASES: [Case; 14] = [
+    (
+        4,
+        &[],
+        &[(0, b"Feed", "Subscription 1-0 prev 0 updated 0:")],
+    ),
+    // Only the last version of a member that was changed twice counts.
+    (
+        100,
+        &[Add(1), Add(2), Change(1), Change(2), Change(1)],
+        &[(0, b"Feed", "Subscription 1-5 prev 0 updated 5: 1@5 2@4")],
+    ),
+    (
+        100,
+        &[Add(1), Change(1), Change(1), Remove(1)],
+        &[(0, b"Feed", "Subscription 1-4 prev 0 updated 4: -1@4")],
+    ),
+    // A full window stays open until the next operation.
+    (
+        4,
+        &[Add(1), Add(2), Add(3), Add(4)],
+        &[(
+            0,
+            b"Feed",
+            "Subscription 1-4 prev 0 updated 4: 4@4 3@3 2@2 1@1",
+        )],
+    ),
+    (
+        4,
+        &[Add(1), Add(2), Add(3), Add(4), Add(5)],
+        &[
+            (0, b"Feed", "Subscription 5-5 prev 1 updated 5: 5@5"),
+            (
+                1,
+                b"Feed",
+                "Archive(1) 1-4 prev 0 updated 4: 4@4 3@3 2@2 1@1",
+            ),
+        ],
+    ),
+    (
+        1,
+        &[Add(1), Add(2), Add(3)],
+        &[(2, b"Feed", "Archive(2) 2-2 prev 1 updated 2: 2@2")],
+    ),
+    // A title holds from its operation on. It has no item.
+    (
+        4,
+        &[Add(1), Add(2), Title(b"New"), Add(3), Add(4)],
+        &[
+            (0, b"New", "Subscription 5-5 prev 1 updated 5: 4@5"),
+            (1, b"New", "Archive(1) 1-4 prev 0 updated 4: 3@4 2@2 1@1"),
+        ],
+    ),
+    (
+        4,
+        &[
+            Add(1),
+            Add(2),
+            Title(b"New"),
+            Add(3),
+            Add(4),
+            Title(b"Next"),
+        ],
+        &[
+            (0, b"Next", "Subscription 5-6 prev 1 updated 6: 4@5"),
+            (1, b"New", "Archive(1) 1-4 prev 0 updated 4: 3@4 2@2 1@1"),
+        ],
+    ),
+    (
+        1,
+        &[Title(b"x"), Title(b"y")],
+        &[
+            (0, b"y", "Subscription 2-2 prev 1 updated 2:"),
+            (1, b"x", "Archive(1) 1-1 prev 0 updated 1:"),
+        ],
+    ),
+    // The title that seals a window isn't in the window's archive.
+    (
+        2,
+        &[Add(1), Add(2), Title(b"New")],
+        &[
+            (0, b"New", "Subscription 3-3 prev 1 updated 3:"),
+            (1, b"Feed", "Archive(1) 1-2 prev 0 updated 2: 2@2 1@1"),
+        ],
+    ),
+    // A size holds from the next window on.
+    (
+        2,
+        &[Add(1), Size(3), Add(2), Add(3), Add(4), Add(5)],
+        &[
+            (0, b"Feed", "Subscription 6-6 prev 2 updated 6: 5@6"),
+            (1, b"Feed", "Archive(1) 1-2 prev 0 updated 2: 1@1"),
+            (2, b"Feed", "Archive(2) 3-5 prev 1 updated 5: 4@5 3@4 2@3"),
+        ],
+    ),
+    (
+        4,
+        &[Add(1), Size(1), Add(2)],
+        &[(0, b"Feed", "Subscription 1-3 prev 0 updated 3: 2@3 1@1")],
+    ),
+    (
+        4,
+        &[Add(1), Size(1), Add(2), Add(3), Add(4), Add(5)],
+        &[
+            (0, b"Feed", "Subscription 6-6 prev 2 updated 6: 5@6"),
+            (1, b"Feed", "Archive(1) 1-4 prev 0 updated 4: 3@4 2@3 1@1"),
+            (2, b"Feed", "Archive(2) 5-5 prev 1 updated 5: 4@5"),
+        ],
+    ),
+    // The last of two sizes in a window counts. A size that seals a window is in the next one.
+    (
+        1,
+        &[Add(1), Size(3), Add(2), Size(2), Size(1), Remove(2)],
+        &[
+            (0, b"Feed", "Subscription 6-6 prev 3 updated 6: -2@6"),
+            (1, b"Feed", "Archive(1) 1-1 prev 0 updated 1: 1@1"),
+            (2, b"Feed", "Archive(2) 2-2 prev 1 updated 2:"),
+            (3, b"Feed", "Archive(3) 3-5 prev 2 updated 5: 2@3"),
+        ],
+    ),
+];
 
 pub(crate) fn head(rt: &impl Abort, alloc: Global, window: u8) -> Head {
     assert!(rt; (1..=100).contains(&window));
     Head {
+        format: NEWEST_FORMAT,
         name: feed_name(rt, alloc),
         window: u32::from(window),
         capacity: 4_096,
@@ -35,44 +166,51 @@ pub(crate) fn head(rt: &impl Abort, alloc: Global, window: u8) -> Head {
     }
 }
 
-fn history(rt: &impl Abort, alloc: Global, case: &Case) -> Vec<Op>
-    ensures { length result.items ≤ 256 }
-{
-    let mut operations = Vec::new(alloc);
-    for made in 0..case.count {
-        let at = i64::from(made) + 1;
-        let number = u32::from(made % case.members.max(1)) + 1;
-        let entry = entry(rt, alloc, number, at, at);
-        operations
-            .push(if made < case.members {
-                Op::Add(entry)
-            } else {
-                Op::Change(entry)
-            })
-            .expect(rt, "memory");
+/// The operation of a step at this moment.
+fn operation(rt: &impl Abort, alloc: Global, step: Step, at: i64) -> Op {
+    let accepted = moment(rt, at);
+    match step {
+        Add(number) => Op::Add(entry(rt, alloc, number.max(1), at, at)),
+        Change(number) => Op::Change(entry(rt, alloc, number.max(1), at, at)),
+        Remove(number) => Op::Remove(Removal {
+            tombstone: Tombstone {
+                number: number.max(1),
+                when: accepted,
+            },
+            moment: accepted,
+        }),
+        Title(title) => set(title_setting(rt, alloc, title), accepted),
+        Size(size) => set(window_setting(rt, size), accepted),
     }
-    if case.removed {
-        let moment = moment(rt, i64::from(case.count) + 1);
-        let tombstone = Tombstone {
-            number: 1,
-            when: moment,
-        };
+}
+
+fn set(setting: Setting, moment: Stamp) -> Op {
+    Op::Set { setting, moment }
+}
+
+fn history(rt: &impl Abort, alloc: Global, steps: &[Step]) -> Vec<Op> {
+    let mut operations = Vec::new(alloc);
+    let mut at = 0i64;
+    for step in steps {
+        at = at.saturating_add(1);
         operations
-            .push(Op::Remove(Removal { tombstone, moment }))
+            .push(operation(rt, alloc, *step, at))
             .expect(rt, "memory");
     }
     operations
 }
 
-fn document(rt: &impl Abort, alloc: Global, case: &Case) -> Doc {
-    let head = head(rt, alloc, case.window);
-    let history = history(rt, alloc, case);
+/// The document with this number, or the subscription document if it is 0.
+fn document(rt: &impl Abort, alloc: Global, window: u8, steps: &[Step], number: u32) -> Doc {
+    let head = head(rt, alloc, window);
+    let history = history(rt, alloc, steps);
     let operations = history.as_slice();
-    let made = if case.archive == 0 {
+    assert!(rt; operations.len() <= 256);
+    let made = if number == 0 {
         subscription(alloc, &head, operations)
     } else {
-        assert!(rt; case.archive <= full_windows(&head, operations));
-        archive(alloc, &head, operations, case.archive)
+        assert!(rt; number <= full_windows(&head, operations));
+        archive(alloc, &head, operations, number)
     };
     drop((head, history));
     made.expect(rt, "memory")
@@ -100,73 +238,42 @@ fn doc_text(rt: &impl Abort, alloc: Global, doc: &Doc) -> String {
 
 #[test]
 fn documents_of_histories(rt: HostRuntime) {
-    let added = Case {
-        members: 100,
-        count: 0,
-        removed: false,
-        window: 4,
-        archive: 0,
-        expected: "Subscription 1-0 prev 0 updated 0:",
-    };
-    let changed = Case {
-        members: 2,
-        count: 5,
-        window: 100,
-        // Only the last version of a member that was changed twice counts.
-        expected: "Subscription 1-5 prev 0 updated 5: 1@5 2@4",
-        ..added
-    };
-    let removed = Case {
-        members: 1,
-        count: 3,
-        removed: true,
-        expected: "Subscription 1-4 prev 0 updated 4: -1@4",
-        ..changed
-    };
-    // A full window stays open until the next operation.
-    let full = Case {
-        count: 4,
-        expected: "Subscription 1-4 prev 0 updated 4: 4@4 3@3 2@2 1@1",
-        ..added
-    };
-    let past_full = Case {
-        count: 5,
-        expected: "Subscription 5-5 prev 1 updated 5: 5@5",
-        ..added
-    };
-    let archive_of_four = Case {
-        archive: 1,
-        expected: "Archive(1) 1-4 prev 0 updated 4: 4@4 3@3 2@2 1@1",
-        ..past_full
-    };
-    let archive_of_one = Case {
-        count: 3,
-        window: 1,
-        archive: 2,
-        expected: "Archive(2) 2-2 prev 1 updated 2: 2@2",
-        ..added
-    };
-    for case in [
-        added,
-        changed,
-        removed,
-        full,
-        past_full,
-        archive_of_four,
-        archive_of_one,
-    ] {
-        let doc = document(&rt, rt.alloc(), &case);
-        assert!(rt; doc_text(&rt, rt.alloc(), &doc).as_str() == case.expected);
-        drop(doc);
+    for &(window, steps, documents) in &CASES {
+        for &(number, title, expected) in documents {
+            let doc = document(&rt, rt.alloc(), window, steps, number);
+            assert!(rt; doc.name.title.bytes() == title, "{expected}");
+            assert!(rt; doc_text(&rt, rt.alloc(), &doc).as_str() == expected);
+            drop(doc);
+        }
     }
 }
 
-/// An ask that changes or removes one of few members, so that a window often names a member again.
+/// A size of windows. Most are small.
+fn some_size(seed: u64) -> u32 {
+    if (seed >> 60) % 4 == 0 {
+        ((seed >> 40) % 100) as u32 + 1
+    } else {
+        ((seed >> 40) % 6) as u32 + 1
+    }
+}
+
+/// Sets a title of one letter, or a size.
+fn some_setting(rt: &impl Abort, alloc: Global, seed: u64) -> Setting {
+    if seed >> 63 == 0 {
+        title_setting(rt, alloc, &[b'a' + ((seed >> 50) % 26) as u8])
+    } else {
+        window_setting(rt, some_size(seed))
+    }
+}
+
+/// An ask that changes or removes one of few members, so that a window often names a member again, or that changes a
+/// setting.
 fn repeated_ask(rt: &impl Abort, alloc: Global, seed: u64, count: u32) -> Ask {
     let number = ((seed >> 33) % (u64::from(count) + 1)) as u32;
-    match (seed >> 20) % 8 {
-        0 => Ask::Create(draft(rt, alloc)),
-        1 => Ask::Delete { number },
+    match (seed >> 20) % 16 {
+        0 | 1 => Ask::Create(draft(rt, alloc)),
+        2 | 3 => Ask::Delete { number },
+        4 | 5 => Ask::Change(some_setting(rt, alloc, seed)),
         _ => Ask::Replace {
             number,
             draft: draft(rt, alloc),
@@ -206,7 +313,7 @@ fn text(rt: &impl Abort, alloc: Global, made: Result<Doc, NoMemory>) -> Vec<u8> 
 }
 
 fn by_window(rt: &impl Abort, alloc: Global, head: &Head, window: &Window) -> Said
-    requires { head.now.window ≡ window.now.size }
+    requires { IsOfFeed window.now head.now }
 {
     let archive = if window.is_full() {
         Some(text(rt, alloc, window.archive(head)))
@@ -242,7 +349,8 @@ fn by_list(rt: &impl Abort, alloc: Global, head: &Head, history: &[Op]) -> Said
 fn compare(rt: &impl Abort, alloc: Global, head: &Head, history: &[Op])
     requires { length history.now ≤ 1_000 }
 {
-    let mut window = Window::new(alloc, head.window).expect(rt, "memory");
+    let title = head.name.title.copy(alloc).expect(rt, "memory");
+    let mut window = Window::new(alloc, head.window, title).expect(rt, "memory");
     for (count, operation) in history.iter().enumerate() {
         let (given, _) = history.split_at(count);
         let said = by_window(rt, alloc, head, &window);
@@ -254,6 +362,25 @@ fn compare(rt: &impl Abort, alloc: Global, head: &Head, history: &[Op])
     drop(window);
 }
 
+/// How many operations set a title, and how many a size.
+fn settings(history: &[Op]) -> (usize, usize) {
+    let (mut titles, mut sizes) = (0usize, 0usize);
+    for operation in history {
+        match operation {
+            Op::Set {
+                setting: Setting::Title(_),
+                ..
+            } => titles = titles.saturating_add(1),
+            Op::Set {
+                setting: Setting::Window(_),
+                ..
+            } => sizes = sizes.saturating_add(1),
+            Op::Add(_) | Op::Change(_) | Op::Remove(_) => {}
+        }
+    }
+    (titles, sizes)
+}
+
 #[test]
 fn a_window_says_what_its_list_of_operations_does(rt: HostRuntime) {
     let alloc = rt.alloc();
@@ -261,6 +388,9 @@ fn a_window_says_what_its_list_of_operations_does(rt: HostRuntime) {
     extend(&rt, alloc, &mut feed, 1_000);
     let history = feed.history.as_slice();
     assert!(rt; history.len() == 1_000);
+    // Enough settings were changed for the comparison to mean something.
+    let (titles, sizes) = settings(history);
+    assert!(rt; titles > 20 && sizes > 20);
     for size in [1, 3, 100] {
         let head = head(&rt, alloc, size);
         compare(&rt, alloc, &head, history);

@@ -34,6 +34,3 @@ IsTableOf-with_room table spare created history t = record {
 pub history-with_room : (window new : WindowValue) → new ≡ record window { spare = new.spare } →
     new.history ≡ window.history
 history-with_room window new same = ap (λ (w : WindowValue). w.history) same
-
-pub size-with_room : (window new : WindowValue) → new ≡ record window { spare = new.spare } → new.size ≡ window.size
-size-with_room window new same = ap (λ (w : WindowValue). w.size) same

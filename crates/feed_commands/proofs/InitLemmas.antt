@@ -8,6 +8,7 @@ use Rattle.feed_recovery.specs.declared.fault.InitFault.TheVariants as init
 use Rattle.feed_commands.specs.Crash.{MakesStore, head_at, last_stamp}
 use Rattle.command_ends.specs.Fault.{fault_answer, IsRefusal}
 use Rattle.command_ends.specs.StoreFaults.{init_fault}
+use Rattle.member_rules.specs.Head.{newest_format}
 use Rattle.feed_commands.specs.Stored.{HasRecords, IsInitAnswer}
 
 pub init_refused : (content : Area → List ℕ) (fault : InitFault) → (fault ≡ init.AlreadyInit → HasRecords content)
@@ -19,8 +20,19 @@ init_refused content init.NoMemory has refusal = absurd refusal
 -- the stamp of the moment at which the store is made
 pub made_at : (before after : DiskState) (name : FeedName) (window capacity now : ℕ) (stamp : ℤ) (done : Type 0)
     → stamp ≡ pos (min now last_stamp)
-    → MakesStore before after (record { name = name; window = window; capacity = capacity; created = stamp }) done
+    → MakesStore before after (record {
+      format = newest_format;
+      name = name;
+      window = window;
+      capacity = capacity;
+      created = stamp;
+    }) done
     → MakesStore before after (head_at name window capacity now) done
 made_at before after name window capacity now stamp done is makes =
-    subst (λ (s : ℤ).
-    MakesStore before after (record { name = name; window = window; capacity = capacity; created = s }) done) is makes
+    subst (λ (s : ℤ). MakesStore before after (record {
+      format = newest_format;
+      name = name;
+      window = window;
+      capacity = capacity;
+      created = s;
+    }) done) is makes

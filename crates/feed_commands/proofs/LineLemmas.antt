@@ -9,10 +9,10 @@ use Rattle.std.proofs.lemmas.Fmt.{length-decimal-le}
 use Rattle.std.proofs.lemmas.List.{append_assoc, take_all, length-drop, length-take-le}
 use Rattle.std.proofs.lemmas.List.Elements.{All-head, All-tail}
 use Rattle.tool_words.specs.declared.line.LineAsk.{LineAsk}
-use Rattle.tool_words.specs.declared.line.LineAsk.TheVariants.{Add, Change, Remove}
+use Rattle.tool_words.specs.declared.line.LineAsk.TheVariants.{Add, Change, Remove, Title, Window}
 use Rattle.tool_words.specs.Line as words
-use Rattle.tool_words.specs.Line.{change_by, change_of, line_title_limit, member_number, parted, title_of}
-use Rattle.tool_words.proofs.LineLemmas.{member_number-none, title_of-long}
+use Rattle.tool_words.specs.Line.{change_by, change_of, line_title_limit, member_number, parted, title_of, window_number}
+use Rattle.tool_words.proofs.LineLemmas.{member_number-none, title_of-long, window_number-none}
 use Rattle.feed_commands.specs.Line.{ask_of, line_ask, prefix_limit}
 use Rattle.feed_commands.specs.Lines.{HasNoLf, ended_lines, lines, onto_ended, onto_first}
 
@@ -83,6 +83,12 @@ member_number-long digits h =
     (λ n low high e. absurd
     (omega (arith, ap length e, length-decimal-le 10 n (omega arith) (omega arith) (omega arith))))
 
+window_number-long : (digits : List ℕ) → 10 < length digits → window_number digits ≡ None
+window_number-long digits h =
+    window_number-none digits
+    (λ n low high e. absurd
+    (omega (arith, ap length e, length-decimal-le 10 n (omega arith) (omega arith) (omega arith))))
+
 -- the parts are the words but the space
 abbrev HasSize : List ℕ → List ℕ × List ℕ → Type 0
 HasSize words parts = length words ≡ length parts.0 + 1 + length parts.1
@@ -133,16 +139,24 @@ words_ask-long line h =
     let change : change_of (drop 7 line) ≡ None = change_of-long (drop 7 line) (omega (arith, length-drop 7 line)) in
     let remove : option_map Remove (member_number (drop 7 line)) ≡ None =
     ap (option_map Remove) (member_number-long (drop 7 line) (omega (arith, length-drop 7 line))) in
-    rw (add, change, remove)
+    let title : option_map Title (title_of (drop 6 line)) ≡ None =
+    ap (option_map Title) (title_of-long (drop 6 line) (omega (arith, length-drop 6 line))) in
+    let window : option_map Window (window_number (drop 7 line)) ≡ None =
+    ap (option_map Window) (window_number-long (drop 7 line) (omega (arith, length-drop 7 line))) in
+    rw (add, change, remove, title, window)
     (same_choice (starts_with nat_eq line (codes "add ")) (starts_with nat_eq line (codes "change "))
-    (starts_with nat_eq line (codes "remove ")))
+    (starts_with nat_eq line (codes "remove ")) (starts_with nat_eq line (codes "title "))
+    (starts_with nat_eq line (codes "window ")))
   where
-    same_choice : (a b c : Bool) →
-        ◌≡◌ {A = Option LineAsk} (if a then None else (if b then None else (if c then None else None))) None
-    same_choice true b c = refl
-    same_choice false true c = refl
-    same_choice false false true = refl
-    same_choice false false false = refl
+    same_choice : (a b c d e : Bool) → ◌≡◌ {A = Option LineAsk}
+        (if a then None else (if b then None else (if c then None else (if d then None else (if e then None else
+        None))))) None
+    same_choice true b c d e = refl
+    same_choice false true c d e = refl
+    same_choice false false true d e = refl
+    same_choice false false false true e = refl
+    same_choice false false false false true = refl
+    same_choice false false false false false = refl
 
 line_ask-long : (line : List ℕ) → line_title_limit + 18 < length line → line_ask line ≡ None
 unfolding line_ask

@@ -10,7 +10,7 @@ use Rattle.command_ends.specs.declared.status.Status.TheVariants.{Done}
 use Rattle.member_rules.specs.declared.operation.Op.{Op}
 use Rattle.member_rules.specs.declared.ask.Ask.{Ask}
 use Rattle.member_rules.specs.declared.fault.RuleFault.{RuleFault}
-use Rattle.member_rules.specs.Head.{HeadValue}
+use Rattle.member_rules.specs.Head.{HeadValue, newest_format}
 use Rattle.member_rules.specs.Decide.{decide}
 use Rattle.member_rules.specs.Documents.{subscription}
 use Rattle.command_ends.specs.Answer.{Answer}
@@ -21,6 +21,7 @@ use Rattle.feed_commands.specs.Line.{line_ask}
 -- the head that `apply W` uses
 unfoldable pub test_head : ℕ → HeadValue
 test_head window = record {
+  format = newest_format;
   name = record {
     base = codes "http://feed.example/";
     id = 0x6d ∷ 0x1f ∷ 0x0c ∷ 0x5a ∷ 0x93 ∷ 0xbe ∷ 0x4c ∷ 0x27 ∷ 0x8d ∷ 0x10 ∷ 0x2b ∷ 0x7f ∷ 0x9e ∷ 0x4a ∷ 0x5c ∷ 0x36

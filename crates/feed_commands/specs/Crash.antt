@@ -15,7 +15,7 @@ use Rattle.command_ends.specs.declared.status.Status.TheVariants as ends
 use Rattle.feed_commands.specs.Applied.{IsMadeByFirst, IsMadeByRead, Step}
 use Rattle.command_ends.specs.Status.{code_of}
 use Rattle.feed_commands.specs.Stored.{applied_store, stored_step}
-use Rattle.member_rules.specs.Head.{HeadValue}
+use Rattle.member_rules.specs.Head.{HeadValue, newest_format}
 use Rattle.member_rules.specs.declared.operation.Op.{Op}
 use Rattle.tool_words.specs.Words.{IsCommandOf}
 use Rattle.tool_words.specs.declared.command.Command.{Command}
@@ -38,8 +38,13 @@ last_stamp = 253_402_300_799_999
 
 -- the head of a store that is made at this moment of the clock, or at the greatest stamp
 abbrev pub head_at : FeedName → ℕ → ℕ → ℕ → HeadValue
-head_at name window capacity now =
-    record { name = name; window = window; capacity = capacity; created = pos (min now last_stamp) }
+head_at name window capacity now = record {
+  format = newest_format;
+  name = name;
+  window = window;
+  capacity = capacity;
+  created = pos (min now last_stamp);
+}
 
 -- A store is made with this head: on an unused disk a crash leaves no payload or the head alone, and the head if all
 -- is done.

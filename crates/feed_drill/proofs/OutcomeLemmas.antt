@@ -27,7 +27,7 @@ use Rattle.member_rules.specs.Head.{HeadValue}
 use Rattle.member_rules.specs.declared.ask.Ask.{Ask}
 use Rattle.member_rules.specs.declared.ask.Ask.TheVariants as ask
 use Rattle.member_rules.specs.declared.operation.Op.{Op}
-use Rattle.member_rules.specs.declared.operation.Op.TheVariants.{Add, Change, Remove}
+use Rattle.member_rules.specs.declared.operation.Op.TheVariants.{Add, Change, Remove, Set}
 use Rattle.member_rules.specs.declared.state.State.{State}
 use Rattle.member_rules.specs.declared.state.State.TheVariants as member
 
@@ -135,6 +135,7 @@ pub done-media : (name : FeedName) (operation : Op) → (done_reply name operati
 done-media name (Add entry) is = absurd (cc)
 done-media name (Change entry) is = absurd (cc)
 done-media name (Remove removal) is = absurd (cc)
+done-media name (Set setting moment) is = absurd (cc)
 
 -- the outcome of the request for the feed's document
 pub feed-shown : (store : StoreValue) (now : ℕ) (outcome : Outcome)

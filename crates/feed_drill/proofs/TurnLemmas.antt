@@ -15,7 +15,7 @@ use Rattle.feed_drill.specs.Turn.{Turn}
 use Rattle.feed_drill.specs.declared.wish.Wish.{Wish}
 use Rattle.feed_drill.proofs.OutcomeLemmas.{Comes, Does, done-media, wish-does}
 use Rattle.feed_drill.proofs.PathLemmas.{moment-is, step-goes}
-use Rattle.feed_life.specs.Asks.{Sends, docs_of}
+use Rattle.feed_life.specs.Asks.{Sends, docs_of, of_request}
 use Rattle.feed_life.specs.Events.{IsStep, StepsAsk, StepsHalt}
 use Rattle.feed_life.specs.Life.{LifeValue, Lives}
 use Rattle.feed_life.specs.declared.event.Event.{Event}
@@ -181,8 +181,8 @@ crashes-done : (old new : LifeValue) (turn : ℕ) (wish : Wish) (now : ℕ) (sto
     → IsStep old new (wish_event old.head.name.base turn wish now (Some stop)) history held line
     → IsCrashed old new turn (ask_of turn wish) now stop history held
 crashes-done old new turn wish now stop history held line of read step =
-    let steps : StepsHalt old new (request_of old.head.name.base turn (ask_of turn wish)) now stop history step.later
-    held step.left line = step.steps in
+    let steps : StepsHalt old new (of_request (request_of old.head.name.base turn (ask_of turn wish)) now) stop history
+    step.later held step.left line = step.steps in
     record {
       later = steps.halted.later;
       either = either-way old.head turn now wish history of read steps.halted.later steps.halted.stopped.gains (λ gains.

@@ -19,7 +19,11 @@ unfoldable pub entry_body : ℕ → List ℕ
 entry_body turn =
     codes "<entry xmlns=\"http://www.w3.org/2005/Atom\"><title>" ++ title_of turn ++ codes "</title></entry>"
 
--- the request for what a turn asks, below a base address
+-- the request for the feed's document
+unfoldable pub feed_request : List ℕ → RequestValue
+feed_request base = record { verb = Get; target = printed base Feed; media = None; body = [] }
+
+-- the request for what a turn asks, below a base address; no turn asks for a setting, for which there is no request
 unfoldable pub request_of : List ℕ → ℕ → Ask → RequestValue
 request_of base turn (ask.Create draft) = record {
   verb = Post;
@@ -39,10 +43,7 @@ request_of base turn (ask.Delete number) = record {
   media = None;
   body = [];
 }
-
--- the request for the feed's document
-unfoldable pub feed_request : List ℕ → RequestValue
-feed_request base = record { verb = Get; target = printed base Feed; media = None; body = [] }
+request_of base turn (ask.Change setting) = feed_request base
 
 -- A request whose crash left the history without its operation is made again without a crash. `kept` says whether the
 -- operation outlived the crash.

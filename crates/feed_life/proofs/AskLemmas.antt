@@ -1,16 +1,15 @@
 -- A store is loaded from the disk of a life, and answers a request.
 use Rattle.std.proofs.Common.{◌≡◌, ◌≢◌, inl, inr, ℕ, List, ◌++◌, length, false, true, ap, sym, subst, ◌∙◌}
 use Rattle.document_server.specs.Answer.{IsAnswer, added}
-use Rattle.document_server.specs.Reply.{IsOutcome, disk_fault, no_memory}
+use Rattle.document_server.specs.Reply.{disk_fault, no_memory}
 use Rattle.feed_disk.specs.DiskLaw.{memory_is_disk}
 use Rattle.feed_disk.specs.Memory.{MemoryValue, state_of}
 use Rattle.feed_disk.specs.declared.area.Area.TheVariants.{Journal, Sealed}
 use Rattle.feed_journal.specs.Log.{IsLog}
 use Rattle.feed_journal.specs.Records.{records}
 use Rattle.feed_life.specs.Life.{IsStoreOf}
-use Rattle.feed_life.specs.Asks.{IsAnswered, IsLeft, IsOpened, IsReplied}
+use Rattle.feed_life.specs.Asks.{IsAnswered, IsLeft, IsOpened, IsReplied, Outcomes}
 use Rattle.feed_life.specs.Crashes.{HasPayloadsOf}
-use Rattle.http_face.specs.Request.{RequestValue}
 use Rattle.http_face.specs.declared.reply.Reply.{Reply}
 use Rattle.document_server.specs.declared.line.Line.{Line}
 use Rattle.feed_recovery.specs.Documents.{sealed_count}
@@ -64,7 +63,7 @@ store-opened head history before after store one is_store stands logs same settl
           (subst (λ (l : List Op). Settled (state_of after) store.head l (length l)) one_way.1 (settled whole));
     }
 
-module _ (head : HeadValue) (request : RequestValue) (now : ℕ) (history : List Op)
+module _ (head : HeadValue) (outcomes : Outcomes) (history : List Op)
     (before loaded after : MemoryValue) (old new : StoreValue) (reply : Reply)
     (opened : IsOpened head history before loaded old) (same : new.head ≡ old.head) where
   pub head-is : new.head ≡ head
@@ -84,9 +83,9 @@ module _ (head : HeadValue) (request : RequestValue) (now : ℕ) (history : List
     settled = subst (λ (h : HeadValue). Settled (state_of after) h new.history (length new.history)) head-is settled;
   }
 
-  pub reply-made : (failed : Type 0) → IsAnswer (IsOutcome old request now) old new reply failed → reply ≢ no_memory
+  pub reply-made : (failed : Type 0) → IsAnswer (outcomes old) old new reply failed → reply ≢ no_memory
       → reply ≢ disk_fault → StandsFor (state_of after) new
-      → IsReplied head request now history new.history before after reply
+      → IsReplied head outcomes history new.history before after reply
   reply-made failed (inl given) memory disk stands = record {
     store = old;
     loaded = opened.loaded;
@@ -104,13 +103,13 @@ module _ (head : HeadValue) (request : RequestValue) (now : ℕ) (history : List
   reply-made failed (inr (inr fault)) memory disk stands = absurd (disk fault.0)
 
   pub store-answered : (failed : Type 0) (line : Line) (sealed : ℕ)
-      → IsAnswer (IsOutcome old request now) old new reply failed
+      → IsAnswer (outcomes old) old new reply failed
       → reply.status ≢ 503 → is_spent new ≡ false → (reply ≡ disk_fault → is_spent new ≡ true)
       → (reply ≢ disk_fault → StandsFor (state_of after) new)
       → (reply ≢ disk_fault → IsAtRest (state_of loaded)
       → Settled (state_of after) new.head new.history (length new.history))
       → line.status ≡ reply.status → line.version ≡ length new.history → line.whole ≡ true
-      → sealed ≡ sealed_count new → IsAnswered head request now history before after reply line sealed
+      → sealed ≡ sealed_count new → IsAnswered head outcomes history before after reply line sealed
   store-answered failed line sealed answer known unspent spent stands settled status version whole count =
       let disk : reply ≢ disk_fault = λ is. let wrong = spent is in let right = unspent in cc in
       record {

@@ -15,7 +15,7 @@ use Rattle.document_server.specs.declared.line.Line.{Line}
 use Rattle.document_server.proofs.ServedLemmas.{shown-served}
 use Rattle.feed_disk.specs.Memory.{MemoryValue}
 use Rattle.feed_life.specs.Life.{IsMirrorOf, IsSentBy, IsStoreOf, LifeValue, Lives}
-use Rattle.feed_life.specs.Asks.{CountsCalls, IsAnswered, IsAsked, IsDocOf, IsReplied, Sends, docs_of}
+use Rattle.feed_life.specs.Asks.{CountsCalls, IsAnswered, IsAsked, IsDocOf, IsReplied, Sends, docs_of, of_request}
 use Rattle.feed_life.specs.declared.sent.SentDoc.{SentDoc}
 use Rattle.feed_life.proofs.StayLemmas.{all-sent-later, mirrors-later, sent-now, served-later}
 use Rattle.feed_recovery.specs.Store.{StoreValue}
@@ -83,7 +83,8 @@ shown-at store head history request reply same_head same_history shown =
 
 module _ (head : HeadValue) (request : RequestValue) (now : ℕ) (history later : List Op) (before after : MemoryValue)
     (reply : Reply) (is_head : IsHead head) (lawful : IsLawful head history)
-    (replied : IsReplied head request now history later before after reply) (lawful_later : IsLawful head later) where
+    (replied : IsReplied head (of_request request now) history later before after reply)
+    (lawful_later : IsLawful head later) where
   abbrev more : List Op
   more = history ++ added replied.outcome.adds
 
@@ -141,7 +142,7 @@ module _ (head : HeadValue) (request : RequestValue) (now : ℕ) (history later 
 -- a life whose fields are these
 asked-inside : (old : LifeValue) (request : RequestValue) (now : ℕ) (history : List Op) (held : List (List KeptValue))
     (disk : MemoryValue) (reply : Reply) (line : Line) (sealed : ℕ) (found : Option SentDoc) (sent : List SentDoc)
-    → Lives old history held → IsAnswered old.head request now history old.disk disk reply line sealed
+    → Lives old history held → IsAnswered old.head (of_request request now) history old.disk disk reply line sealed
     → Sends old.head.name.base request reply line.version found → sent ≡ old.sent ++ docs_of found
     → CountsCalls old.disk disk line
     → IsAsked old (record old {
@@ -186,7 +187,7 @@ pub life-asked : (inside old : LifeValue) (request : RequestValue) (now : ℕ) (
     (held : List (List KeptValue)) (disk : MemoryValue) (reply : Reply) (line : Line) (sealed : ℕ)
     (found : Option SentDoc) (sent : List SentDoc) → inside ≡ old → Lives old history held
     → (IsStoreOf inside.head history inside.disk
-    → IsAnswered inside.head request now history inside.disk disk reply line sealed)
+    → IsAnswered inside.head (of_request request now) history inside.disk disk reply line sealed)
     → Sends inside.head.name.base request reply line.version found → sent ≡ inside.sent ++ docs_of found
     → CountsCalls inside.disk disk line
     → IsAsked old (record inside { disk = disk; sent = sent; version = line.version; sealed = sealed; lost = false })

@@ -7,20 +7,19 @@ use Rattle.atom_writer.specs.Pieces.{text}
 use Rattle.document_server.specs.Answer.{added}
 use Rattle.document_server.specs.declared.line.Line.{Line}
 use Rattle.feed_disk.specs.Memory.{MemoryValue}
-use Rattle.feed_life.specs.Asks.{Gains, docs_of}
+use Rattle.feed_life.specs.Asks.{Gains, Outcomes, docs_of, of_request, of_setting}
 use Rattle.feed_life.specs.Events.{IsLifeOf, LivesOn, StepsAnyMirror, StepsBy, StepsGift}
 use Rattle.feed_life.specs.Headline.{KeepsAll}
 use Rattle.feed_life.specs.Life.{IsMirrorOf, LifeValue, Lives}
 use Rattle.feed_life.specs.Mirrors.{IsShown}
 use Rattle.feed_life.specs.declared.event.Event.{Event}
-use Rattle.feed_life.specs.declared.event.Event.TheVariants.{Ask, Give, Walk}
+use Rattle.feed_life.specs.declared.event.Event.TheVariants.{Ask, Give, Walk, Set}
 use Rattle.feed_life.specs.declared.event.Stop.{Stop}
 use Rattle.feed_life.specs.declared.sent.SentDoc.{SentDoc}
 use Rattle.feed_life.proofs.OpenedLemmas.{content-loads}
 use Rattle.feed_life.proofs.ShownLemmas.{served-shows}
 use Rattle.feed_life.proofs.ZipLemmas.{zip-left}
 use Rattle.feed_recovery.specs.Opening.{seal_of}
-use Rattle.http_face.specs.Request.{RequestValue}
 use Rattle.member_rules.specs.Documents.{archive}
 use Rattle.member_rules.specs.Head.{HeadValue, IsHead}
 use Rattle.member_rules.specs.Laws.{ArchivesStay}
@@ -72,11 +71,11 @@ gift-grows old new history later held left mirror stop None steps =
 gift-grows old new history later held left mirror stop (Some doc) steps =
     any-mirror-grows old new history later held left mirror stop _ steps
 
-halt-grows : (old new : LifeValue) (request : RequestValue) (now : ℕ) (history later : List Op)
-    → new.head ≡ old.head → new.sent ≡ old.sent
-    → (later ≡ history) ⊎ Gains old.head request now history later old.disk → Grows old new history later
-halt-grows old new request now history later head sent (inl same) = grows-none old new history later head sent same
-halt-grows old new request now history later head sent (inr gains) = record {
+halt-grows : (old new : LifeValue) (outcomes : Outcomes) (history later : List Op) → new.head ≡ old.head
+    → new.sent ≡ old.sent → (later ≡ history) ⊎ Gains old.head outcomes history later old.disk
+    → Grows old new history later
+halt-grows old new outcomes history later head sent (inl same) = grows-none old new history later head sent same
+halt-grows old new outcomes history later head sent (inr gains) = record {
   head_is = head;
   more = added gains.outcome.adds;
   history_is = gains.history_is;
@@ -94,10 +93,22 @@ step-grows old new (Ask request now None) history later held left line steps = r
   sent_is = steps.asked.sent;
 }
 step-grows old new (Ask request now (Some stop)) history later held left line steps =
-    halt-grows old new request now history later (ap (λ (l : LifeValue). l.head) steps.stays)
+    halt-grows old new (of_request request now) history later (ap (λ (l : LifeValue). l.head) steps.stays)
     (ap (λ (l : LifeValue). l.sent) steps.stays)
-    (subst (λ (l : List Op). (l ≡ history) ⊎ Gains old.head request now history l old.disk) (sym steps.history_is)
-    steps.halted.stopped.gains)
+    (subst (λ (l : List Op). (l ≡ history) ⊎ Gains old.head (of_request request now) history l old.disk)
+    (sym steps.history_is) steps.halted.stopped.gains)
+step-grows old new (Set setting now None) history later held left line steps = record {
+  head_is = ap (λ (l : LifeValue). l.head) steps.stays;
+  more = added steps.is_set.replied.outcome.adds;
+  history_is = steps.history_is ∙ steps.is_set.replied.history_is;
+  docs = [];
+  sent_is = ap (λ (l : LifeValue). l.sent) steps.stays ∙ sym (append-nil old.sent);
+}
+step-grows old new (Set setting now (Some stop)) history later held left line steps =
+    halt-grows old new (of_setting setting now) history later (ap (λ (l : LifeValue). l.head) steps.stays)
+    (ap (λ (l : LifeValue). l.sent) steps.stays)
+    (subst (λ (l : List Op). (l ≡ history) ⊎ Gains old.head (of_setting setting now) history l old.disk)
+    (sym steps.history_is) steps.halted.stopped.gains)
 step-grows old new (Give mirror sent stop) history later held left line (none, steps) =
     gift-grows old new history later held left mirror stop (slice_get old.sent sent) steps
 step-grows old new (Walk mirror stop) history later held left line (none, steps) =

@@ -12,11 +12,13 @@ pub mod AskLemmas
 pub mod StayLemmas
 -- `Life::answer`: `asked`
 pub mod AskedLemmas
+-- `Turn::make`: what a request and a setting come to
+pub mod TurnLemmas
 -- `ask_into` and `crash_after`: what a crash leaves
 pub mod CrashLemmas
 -- `ask_into`: `stopped`
 pub mod StoppedLemmas
--- `Life::answer_into`: `halted`
+-- `Life::answer_into`: `halted`, and `Life::change`: `is_set`
 pub mod HaltedLemmas
 -- `Life::outcome` and `Life::certificate`, and `Life::step`: the mirror of a number
 pub mod ZipLemmas

@@ -1,21 +1,22 @@
 -- A step of a life by an event.
 use Rattle.std.proofs.Common.{◌≡◌, inr, ℕ, ◌<◌, List, Option, None, Some, Bool, false, get_or, length, slice_get}
-use Rattle.std.proofs.Common.{slice_set, ap, refl, sym, subst, ◌∙◌}
+use Rattle.std.proofs.Common.{slice_set, ap, refl, sym, subst, ◌∙◌, Result, Ok, Err, OnOk}
 use Rattle.std.proofs.lemmas.List.Elements.{All-get_or}
 use Rattle.std.proofs.lemmas.Option.{same_Some, slice_get_read}
 use Rattle.atom_values.specs.Counts.{counted}
 use Rattle.document_server.specs.declared.line.Line.{Line}
 use Rattle.feed_disk.specs.Memory.{MemoryValue}
-use Rattle.feed_life.specs.Asks.{IsAsked, IsHalted}
+use Rattle.feed_life.specs.Asks.{IsAsked, IsHalted, IsSet, of_request, of_setting}
 use Rattle.feed_life.specs.Events.{IsStep, StepsGift, StepsMirror, with_stop}
 use Rattle.feed_life.specs.Life.{IsMirrorOf, IsSentBy, IsStoreOf, LifeValue, Lives}
 use Rattle.feed_life.specs.Mirrors.{IsGift, IsWalk, LeavesGiven, LeavesWalked}
-use Rattle.feed_life.specs.declared.event.Event.TheVariants.{Ask, Give, Walk}
+use Rattle.feed_life.specs.declared.event.Event.TheVariants.{Ask, Give, Walk, Set}
 use Rattle.feed_life.specs.declared.event.Stop.{Stop}
 use Rattle.feed_life.specs.declared.sent.SentDoc.{SentDoc}
 use Rattle.feed_life.proofs.ZipLemmas.{IsItem, zip-item, zip-set, zip-set_left}
 use Rattle.http_face.specs.Request.{RequestValue}
 use Rattle.member_rules.specs.declared.operation.Op.{Op}
+use Rattle.member_rules.specs.declared.setting.Setting.{Setting}
 use Rattle.mirror_walk.specs.Holding.{KeptValue}
 
 -- Asks
@@ -38,15 +39,60 @@ ask-stepped old new request now history held line asked stays = record {
   lives = asked.lives;
 }
 
+-- the life after a stop
+abbrev StaysHalted : LifeValue → LifeValue → Type 0
+StaysHalted old new = new ≡ record old {
+  disk = new.disk;
+  version = new.version;
+  sealed = new.sealed;
+  stops = counted old.stops;
+}
+
 pub halt-stepped : (old new : LifeValue) (request : RequestValue) (now : ℕ) (stop : Stop) (history : List Op)
-    (held : List (List KeptValue)) → IsHalted old new request now stop history held
-    → new ≡ record old {
-      disk = new.disk;
-      version = new.version;
-      sealed = new.sealed;
-      stops = counted old.stops;
-    } → IsStep old new (Ask request now (Some stop)) history held None
+    (held : List (List KeptValue)) → IsHalted old new (of_request request now) stop history held → StaysHalted old new
+    → IsStep old new (Ask request now (Some stop)) history held None
 halt-stepped old new request now stop history held halted stays = record {
+  later = halted.later;
+  left = held;
+  steps = record {
+    no_line = refl;
+    halted = halted;
+    history_is = refl;
+    held_is = refl;
+    stays = stays;
+  };
+  lives = halted.lives;
+}
+
+-- Settings
+
+-- what two clauses of a call together say once it worked
+pub both-ok : {T E : Type 0} (result : Result T E) {P Q R : Type 0} → (P → Q → R) → OnOk result P → OnOk result Q
+    → OnOk result R
+both-ok (Ok value) both one other = both one other
+both-ok (Err fault) both one other = tt
+
+pub set-stepped : (old new : LifeValue) (setting : Setting) (now : ℕ) (history : List Op) (held : List (List KeptValue))
+    → IsSet old new setting now history held
+    → new ≡ record old { disk = new.disk; version = new.version; sealed = new.sealed }
+    → IsStep old new (Set setting now None) history held None
+set-stepped old new setting now history held is_set stays = record {
+  later = is_set.later;
+  left = held;
+  steps = record {
+    no_line = refl;
+    is_set = is_set;
+    history_is = refl;
+    held_is = refl;
+    stays = stays;
+  };
+  lives = is_set.lives;
+}
+
+pub set-halted : (old new : LifeValue) (setting : Setting) (now : ℕ) (stop : Stop) (history : List Op)
+    (held : List (List KeptValue)) → IsHalted old new (of_setting setting now) stop history held → StaysHalted old new
+    → IsStep old new (Set setting now (Some stop)) history held None
+set-halted old new setting now stop history held halted stays = record {
   later = halted.later;
   left = held;
   steps = record {

@@ -5,16 +5,15 @@ use Rattle.std.proofs.Common.{length, take, ap, refl, sym, subst, ◌∙◌, ari
 use Rattle.std.proofs.Math.Seq.{take-append_seam}
 use Rattle.std.proofs.lemmas.Bool.{cases_eq}
 use Rattle.std.proofs.lemmas.List.{take_all}
-use Rattle.document_server.specs.Answer.{Grows, IsAnswer, IsDone, LeavesAnswered, MayAdd, added}
-use Rattle.document_server.specs.Reply.{IsOutcome, disk_fault}
-use Rattle.document_server.proofs.LinkLemmas.{stays-or-grows}
+use Rattle.document_server.specs.Answer.{Grows, IsAnswer, LeavesAnswered, MayAdd, added}
+use Rattle.document_server.specs.Reply.{disk_fault}
 use Rattle.feed_disk.specs.Memory.{MemoryValue, state_of}
 use Rattle.feed_disk.specs.Moments.{LeavesOnlyBoth}
 use Rattle.feed_disk.specs.Raised.{raised}
 use Rattle.feed_disk.specs.declared.area.Area.TheVariants.{Journal, Sealed}
 use Rattle.feed_journal.specs.Laws.{BegunAreWhole}
 use Rattle.feed_journal.specs.Log.{MakesSome}
-use Rattle.feed_life.specs.Asks.{Gains, IsOpened, IsReplied, IsRunInto, LeavesStopped, Runs, TakesCalls}
+use Rattle.feed_life.specs.Asks.{Gains, IsOpened, IsReplied, IsRunInto, LeavesStopped, Outcomes, Runs, TakesCalls}
 use Rattle.feed_life.specs.Crashes.{HasPayloadsOf, IsCrash, IsCrashAt, IsCrashFrom, IsImageAfter, IsImageBy, clock_of}
 use Rattle.feed_life.specs.Life.{IsStoreOf}
 use Rattle.feed_life.specs.declared.event.Stop.{Stop}
@@ -23,9 +22,7 @@ use Rattle.feed_life.proofs.CrashLemmas.{crash-past, crash-settled}
 use Rattle.feed_recovery.specs.Prepare.{commit_calls}
 use Rattle.feed_recovery.specs.Settled.{IsAtRest, OpensPast, Settled}
 use Rattle.feed_recovery.specs.Store.{StandsFor, StoreValue, call_count, is_spent, seal_count}
-use Rattle.http_face.specs.Request.{RequestValue}
 use Rattle.http_face.specs.declared.reply.Reply.{Reply}
-use Rattle.http_face.specs.declared.request.Verb.TheVariants.{Get}
 use Rattle.member_rules.specs.Head.{HeadValue}
 use Rattle.member_rules.specs.declared.operation.Op.{Op}
 
@@ -43,10 +40,10 @@ length-added : (adds : Option Op) → length (added adds) ≤ 1
 length-added None = omega arith
 length-added (Some operation) = omega arith
 
-may-add-few : (old : StoreValue) (request : RequestValue) (now : ℕ) (operations : List Op)
-    → MayAdd (IsOutcome old request now) operations → length operations ≤ 1
-may-add-few old request now operations (inl none) = omega (arith, ap length none)
-may-add-few old request now operations (inr given) = omega (arith, ap length given.2, length-added given.0.adds)
+may-add-few : (old : StoreValue) (outcomes : Outcomes) (operations : List Op)
+    → MayAdd (outcomes old) operations → length operations ≤ 1
+may-add-few old outcomes operations (inl none) = omega (arith, ap length none)
+may-add-few old outcomes operations (inr given) = omega (arith, ap length given.2, length-added given.0.adds)
 
 -- The device calls of a request
 
@@ -80,15 +77,15 @@ counted-by store new (Some operation) loaded ran gained below makes (inr grows) 
   takes = (grows.seal, grows.due, refl);
 }
 
-module _ (head : HeadValue) (request : RequestValue) (now : ℕ) (history : List Op) (disk loaded ran : MemoryValue)
+module _ (head : HeadValue) (outcomes : Outcomes) (history : List Op) (disk loaded ran : MemoryValue)
     (old new : StoreValue) (reply : Reply) (opened : IsOpened head history disk loaded old)
     (same : new.head ≡ old.head) where
   -- an answered request, and the number of its device calls
   record Replies : Type 0 where
-    replied : IsReplied head request now history new.history disk ran reply
+    replied : IsReplied head outcomes history new.history disk ran reply
     counted : Counted replied.store replied.outcome.adds loaded ran
 
-  reply-counted : (failed : Type 0) → IsAnswer (IsOutcome old request now) old new reply failed → reply.status ≢ 503
+  reply-counted : (failed : Type 0) → IsAnswer (outcomes old) old new reply failed → reply.status ≢ 503
       → reply ≢ disk_fault → StandsFor (state_of ran) new → clock_of loaded < 2 ^ 64
       → MakesSome (state_of loaded) (state_of ran) (call_count old) (call_count new)
       → (new.history ≡ old.history) ⊎ Grows (state_of loaded) (state_of ran) old new → Replies
@@ -104,7 +101,7 @@ module _ (head : HeadValue) (request : RequestValue) (now : ℕ) (history : List
       reply_is = given.reply_is;
       seals = seal_count new;
       sealed = given.gains.seals;
-      opens = opens-left head request now history disk loaded ran old new reply opened same stands;
+      opens = opens-left head outcomes history disk loaded ran old new reply opened same stands;
     };
     counted = counted-by old new given.given.adds loaded ran given.gains.history below makes either;
   }
@@ -112,21 +109,18 @@ module _ (head : HeadValue) (request : RequestValue) (now : ℕ) (history : List
       absurd (known (ap (λ (r : Reply). r.status) lack.0))
   reply-counted failed (inr (inr fault)) known undisk stands below makes either = absurd (undisk fault.0)
 
-  pub request-runs : (failed : Type 0) → IsAnswer (IsOutcome old request now) old new reply failed
+  pub turn-runs : (failed : Type 0) → IsAnswer (outcomes old) old new reply failed
       → reply.status ≢ 503 → is_spent new ≡ false → (reply ≡ disk_fault → is_spent new ≡ true)
       → (reply ≢ disk_fault → StandsFor (state_of ran) new)
       → (reply ≢ disk_fault → IsAtRest (state_of loaded)
       → Settled (state_of ran) new.head new.history (length new.history))
       → (reply ≢ disk_fault → IsAtRest (state_of loaded) → IsAtRest (state_of ran))
-      → LeavesAnswered (IsOutcome old request now) (state_of loaded) (state_of ran) old new (reply ≡ disk_fault)
+      → LeavesAnswered (outcomes old) (state_of loaded) (state_of ran) old new (reply ≡ disk_fault)
       → MakesSome (state_of loaded) (state_of ran) (call_count old) (call_count new)
-      → (request.verb ≢ Get → IsDone reply → Grows (state_of loaded) (state_of ran) old new)
-      → ((request.verb ≡ Get) ⊎ (¬ IsDone reply) → new.history ≡ old.history) → clock_of loaded < 2 ^ 64
-      → Runs head request now history disk loaded ran
-  request-runs failed answer known unspent spent stands settled rests leaves makes grows stays below =
+      → (new.history ≡ old.history) ⊎ Grows (state_of loaded) (state_of ran) old new → clock_of loaded < 2 ^ 64
+      → Runs head outcomes history disk loaded ran
+  turn-runs failed answer known unspent spent stands settled rests leaves makes either below =
       let undisk : reply ≢ disk_fault = λ is. let wrong = spent is in let right = unspent in cc in
-      let either = stays-or-grows request.verb reply (new.history ≡ old.history)
-      (Grows (state_of loaded) (state_of ran) old new) grows stays in
       let replies = reply-counted failed answer known undisk (stands undisk) below makes either in
       record {
         whole = new.history;
@@ -135,13 +129,13 @@ module _ (head : HeadValue) (request : RequestValue) (now : ℕ) (history : List
         rests = rests undisk opened.rests;
         settled =
             subst (λ (h : HeadValue). Settled (state_of ran) h new.history (length new.history))
-            (head-is head request now history disk loaded ran old new reply opened same)
+            (head-is head outcomes history disk loaded ran old new reply opened same)
             (settled undisk opened.rests);
         number = replies.counted.number;
         made = replies.counted.made;
         takes = replies.counted.takes;
         operations = leaves.operations;
-        few = may-add-few old request now leaves.operations leaves.may;
+        few = may-add-few old outcomes leaves.operations leaves.may;
         gained =
             leaves.gained undisk ∙ ap (λ (l : List Op). l ++ leaves.operations) opened.loaded.history_is;
         leaves =
@@ -153,11 +147,11 @@ module _ (head : HeadValue) (request : RequestValue) (now : ℕ) (history : List
       }
 
 -- a crash before the first call
-pub stopped-before : (head : HeadValue) (request : RequestValue) (now : ℕ) (stop : Stop) (history : List Op)
+pub stopped-before : (head : HeadValue) (outcomes : Outcomes) (stop : Stop) (history : List Op)
     (disk loaded left : MemoryValue) → stop.call ≡ 0 → HasPayloadsOf disk loaded
     → Settled (state_of loaded) head history (length history) → IsImageAfter loaded stop.choice left
-    → IsCrash (state_of loaded).image_now left → LeavesStopped head request now stop history disk left
-stopped-before head request now stop history disk loaded left none same settled image crash = record {
+    → IsCrash (state_of loaded).image_now left → LeavesStopped head outcomes stop history disk left
+stopped-before head outcomes stop history disk loaded left none same settled image crash = record {
   later = history;
   stopped = record {
     gains = inl refl;
@@ -168,13 +162,13 @@ stopped-before head request now stop history disk loaded left none same settled 
   store = crash-settled head history loaded left settled crash;
 }
 
-module _ (head : HeadValue) (request : RequestValue) (now : ℕ) (stop : Stop) (history : List Op)
+module _ (head : HeadValue) (outcomes : Outcomes) (stop : Stop) (history : List Op)
     (disk loaded ran left : MemoryValue) (same : HasPayloadsOf disk loaded)
-    (runs : Runs head request now history disk loaded ran) (some : 0 < stop.call)
+    (runs : Runs head outcomes history disk loaded ran) (some : 0 < stop.call)
     (image : IsImageBy stop (clock_of loaded) ran left) where
   -- the request without the stop leaves its reply and store, on an image of now
   replied-left : BegunAreWhole → IsCrash (state_of ran).image_now left
-      → IsReplied head request now history runs.whole disk left runs.reply
+      → IsReplied head outcomes history runs.whole disk left runs.reply
   replied-left law crash =
       let replied = runs.replied in
       let journal = (state_of left).content Journal in
@@ -196,7 +190,7 @@ module _ (head : HeadValue) (request : RequestValue) (now : ℕ) (stop : Stop) (
       }
 
   gained : (later : List Op) → (later ≡ history) ⊎ (later ≡ runs.whole)
-      → (later ≡ history) ⊎ Gains head request now history later disk
+      → (later ≡ history) ⊎ Gains head outcomes history later disk
   gained later (inl stays) = inl stays
   gained later (inr whole) = inr record {
     store = runs.replied.store;
@@ -208,8 +202,8 @@ module _ (head : HeadValue) (request : RequestValue) (now : ℕ) (stop : Stop) (
 
   -- a request that left this history after its stop
   run-into : (later : List Op) → (later ≡ history) ⊎ (later ≡ runs.whole)
-      → (runs.number < stop.call → IsReplied head request now history later disk left runs.reply)
-      → IsRunInto head request now stop history later disk left
+      → (runs.number < stop.call → IsReplied head outcomes history later disk left runs.reply)
+      → IsRunInto head outcomes stop history later disk left
   run-into later either past = record {
     whole = runs.whole;
     ran = ran;
@@ -224,8 +218,8 @@ module _ (head : HeadValue) (request : RequestValue) (now : ℕ) (stop : Stop) (
   }
 
   leaves-run : (later : List Op) → (later ≡ history) ⊎ (later ≡ runs.whole)
-      → (runs.number < stop.call → IsReplied head request now history later disk left runs.reply)
-      → IsStoreOf head later left → LeavesStopped head request now stop history disk left
+      → (runs.number < stop.call → IsReplied head outcomes history later disk left runs.reply)
+      → IsStoreOf head later left → LeavesStopped head outcomes stop history disk left
   leaves-run later either past store = record {
     later = later;
     stopped = record {
@@ -242,7 +236,7 @@ module _ (head : HeadValue) (request : RequestValue) (now : ℕ) (stop : Stop) (
       → number < call → ⊥
   unmade begun number call moment made raises at within past = omega arith
 
-  stopped-at : IsCrashAt (clock_of loaded) stop.call ran left → LeavesStopped head request now stop history disk left
+  stopped-at : IsCrashAt (clock_of loaded) stop.call ran left → LeavesStopped head outcomes stop history disk left
   stopped-at crash =
       let past = runs.leaves.each crash.short crash.moment ((state_of left).content Journal)
       ((state_of left).content Sealed) crash.after (crash.crash.among Journal) (crash.crash.among Sealed) in
@@ -259,7 +253,7 @@ module _ (head : HeadValue) (request : RequestValue) (now : ℕ) (stop : Stop) (
       whole-or (inr more) = inr (more ∙ sym runs.gained)
 
   pub stopped-from : BegunAreWhole → IsCrashFrom (clock_of loaded) stop.call ran left
-      → LeavesStopped head request now stop history disk left
+      → LeavesStopped head outcomes stop history disk left
   stopped-from law (inl (over, crash)) =
       leaves-run runs.whole (inr refl) (λ _. replied-left law crash)
       (crash-settled head runs.whole ran left runs.settled crash)

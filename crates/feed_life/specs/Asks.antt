@@ -3,7 +3,7 @@ use Rattle.std.specs.Prelude.{◌≡◌, ◌⊎◌, ◌<◌, ◌≤◌, ℕ, Lis
 use Rattle.chain_links.specs.Address.{IsAddress, IsTarget, printed}
 use Rattle.chain_links.specs.declared.address.Address.{Address}
 use Rattle.document_server.specs.Answer.{IsSealedBy, added}
-use Rattle.document_server.specs.Reply.{IsOutcome, Outcome}
+use Rattle.document_server.specs.Reply.{IsAsked as IsAskedOf, IsOutcome, Outcome}
 use Rattle.document_server.specs.declared.line.Line.{Line}
 use Rattle.feed_disk.specs.Memory.{MemoryValue, state_of}
 use Rattle.feed_disk.specs.Moments.{LeavesOnlyBoth}
@@ -24,10 +24,22 @@ use Rattle.http_face.specs.declared.reply.Media.TheVariants.{Feed as FeedMedia}
 use Rattle.http_face.specs.declared.reply.Reply.{Reply}
 use Rattle.member_rules.specs.Head.{HeadValue}
 use Rattle.member_rules.specs.Windows.{windows_of}
+use Rattle.member_rules.specs.declared.ask.Ask.TheVariants.{Change}
 use Rattle.member_rules.specs.declared.operation.Op.{Op}
+use Rattle.member_rules.specs.declared.setting.Setting.{Setting}
 use Rattle.mirror_walk.specs.Holding.{KeptValue}
 
 -- Asks
+
+-- the outcomes that an event may have, by the store that it meets: of a request, or of a change of a setting
+abbrev pub Outcomes : Type 1
+Outcomes = StoreValue → Outcome → Type 0
+
+abbrev pub of_request : RequestValue → ℕ → Outcomes
+of_request request now = λ store. IsOutcome store request now
+
+abbrev pub of_setting : Setting → ℕ → Outcomes
+of_setting setting now = λ store. IsAskedOf store (Change setting) now
 
 -- the store of a disk, which opens to this head and this history, with the store's number of seals and its sizes
 pub record IsLoadedFrom (head : HeadValue) (history : List Op) (disk : MemoryValue) (store : StoreValue)
@@ -48,12 +60,12 @@ pub record IsOpened (head : HeadValue) (history : List Op) (disk after : MemoryV
 
 -- A request was answered by the store of a disk: the reply is an outcome's. The disk after it opens to the history with
 -- the outcome's operation, and the seal that was due and missing was made with the operation, and no other.
-pub record IsReplied (head : HeadValue) (request : RequestValue) (now : ℕ) (history later : List Op)
+pub record IsReplied (head : HeadValue) (outcomes : Outcomes) (history later : List Op)
     (disk after : MemoryValue) (reply : Reply) : Type 0 where
   pub store : StoreValue
   pub loaded : IsLoadedFrom head history disk store
   pub outcome : Outcome
-  pub is_outcome : IsOutcome store request now outcome
+  pub is_outcome : outcomes store outcome
   pub history_is : later ≡ history ++ added outcome.adds
   pub reply_is : reply ≡ outcome.reply
   pub seals : ℕ
@@ -78,10 +90,10 @@ docs_of None = []
 docs_of (Some doc) = doc ∷ []
 
 -- a reply, its line, and the number of archives that are sealed then
-pub record IsAnswered (head : HeadValue) (request : RequestValue) (now : ℕ) (history : List Op)
+pub record IsAnswered (head : HeadValue) (outcomes : Outcomes) (history : List Op)
     (disk after : MemoryValue) (reply : Reply) (line : Line) (sealed : ℕ) : Type 0 where
   pub later : List Op
-  pub replied : IsReplied head request now history later disk after reply
+  pub replied : IsReplied head outcomes history later disk after reply
   pub store : IsStoreOf head later after
   pub sealed_is : sealed ≡ (windows_of head later).sealed
   pub status : line.status ≡ reply.status
@@ -99,7 +111,7 @@ pub record IsAsked (old new : LifeValue) (request : RequestValue) (now : ℕ) (h
   pub later : List Op
   pub reply : Reply
   pub gained : Option SentDoc
-  pub replied : IsReplied old.head request now history later old.disk new.disk reply
+  pub replied : IsReplied old.head (of_request request now) history later old.disk new.disk reply
   pub sends : Sends old.head.name.base request reply (length later) gained
   pub sent : new.sent ≡ old.sent ++ docs_of gained
   pub lives : Lives new later held
@@ -108,15 +120,23 @@ pub record IsAsked (old new : LifeValue) (request : RequestValue) (now : ℕ) (h
   pub calls : CountsCalls old.disk new.disk line
   pub whole : line.whole ≡ true
 
+-- A life after a change of a setting: the history. Mirrors, what was sent and stops stay.
+pub record IsSet (old new : LifeValue) (setting : Setting) (now : ℕ) (history : List Op) (held : List (List KeptValue))
+    : Type 0 where
+  pub later : List Op
+  pub reply : Reply
+  pub replied : IsReplied old.head (of_setting setting now) history later old.disk new.disk reply
+  pub lives : Lives new later held
+
 -- Asks with a stop
 
 -- the history gains the operation of an outcome of the store of a disk, if the outcome has one
-pub record Gains (head : HeadValue) (request : RequestValue) (now : ℕ) (history later : List Op) (disk : MemoryValue)
+pub record Gains (head : HeadValue) (outcomes : Outcomes) (history later : List Op) (disk : MemoryValue)
     : Type 0 where
   pub store : StoreValue
   pub loaded : IsLoadedFrom head history disk store
   pub outcome : Outcome
-  pub is_outcome : IsOutcome store request now outcome
+  pub is_outcome : outcomes store outcome
   pub history_is : later ≡ history ++ added outcome.adds
 
 -- The device calls of a request that adds this: for an operation those of its append, and those of the append of the
@@ -129,34 +149,34 @@ TakesCalls store (Some operation) number =
 -- A request that was answered after the load of its store, by this number of device calls. It left the history `whole`
 -- on the disk `ran`. The disk left is the image of that disk by the stop. It has the history before, or `whole`. Past
 -- the last device call it has all that the request leaves without the stop.
-pub record IsRunInto (head : HeadValue) (request : RequestValue) (now : ℕ) (stop : Stop) (history later : List Op)
+pub record IsRunInto (head : HeadValue) (outcomes : Outcomes) (stop : Stop) (history later : List Op)
     (disk left : MemoryValue) : Type 0 where
   pub whole : List Op
   pub ran : MemoryValue
   pub reply : Reply
-  pub replied : IsReplied head request now history whole disk ran reply
+  pub replied : IsReplied head outcomes history whole disk ran reply
   pub cut : IsCutWithin stop disk ran left
   pub number : ℕ
   pub made : clock_of ran ≡ raised (clock_of cut.loaded) number
   pub takes : TakesCalls replied.store replied.outcome.adds number
   pub either : (later ≡ history) ⊎ (later ≡ whole)
-  pub past : number < stop.call → IsReplied head request now history later disk left reply
+  pub past : number < stop.call → IsReplied head outcomes history later disk left reply
 
 -- A request that was stopped: the history is as before, or gains the operation of an outcome. A crash before the first
 -- device call leaves it as before.
-pub record IsStopped (head : HeadValue) (request : RequestValue) (now : ℕ) (stop : Stop) (history later : List Op)
+pub record IsStopped (head : HeadValue) (outcomes : Outcomes) (stop : Stop) (history later : List Op)
     (disk left : MemoryValue) : Type 0 where
-  pub gains : (later ≡ history) ⊎ Gains head request now history later disk
+  pub gains : (later ≡ history) ⊎ Gains head outcomes history later disk
   pub before : stop.call ≡ 0 → later ≡ history
   pub cut : stop.call ≡ 0 → IsCutBefore stop disk left
-  pub within : 0 < stop.call → IsRunInto head request now stop history later disk left
+  pub within : 0 < stop.call → IsRunInto head outcomes stop history later disk left
 
 -- a request that was answered on the disk that a store was loaded from, and what a crash within it leaves
-pub record Runs (head : HeadValue) (request : RequestValue) (now : ℕ) (history : List Op)
+pub record Runs (head : HeadValue) (outcomes : Outcomes) (history : List Op)
     (disk loaded ran : MemoryValue) : Type 0 where
   pub whole : List Op
   pub reply : Reply
-  pub replied : IsReplied head request now history whole disk ran reply
+  pub replied : IsReplied head outcomes history whole disk ran reply
   pub rests : IsAtRest (state_of ran)
   pub settled : Settled (state_of ran) head whole (length whole)
   pub number : ℕ
@@ -169,10 +189,10 @@ pub record Runs (head : HeadValue) (request : RequestValue) (now : ℕ) (history
       (λ _. OpensPast head (history ++ operations) (length history))
 
 -- the disk that a stopped request leaves
-pub record LeavesStopped (head : HeadValue) (request : RequestValue) (now : ℕ) (stop : Stop) (history : List Op)
+pub record LeavesStopped (head : HeadValue) (outcomes : Outcomes) (stop : Stop) (history : List Op)
     (disk left : MemoryValue) : Type 0 where
   pub later : List Op
-  pub stopped : IsStopped head request now stop history later disk left
+  pub stopped : IsStopped head outcomes stop history later disk left
   pub store : IsStoreOf head later left
 
 -- a store's disk, the number of operations and that of sealed archives
@@ -182,10 +202,10 @@ pub record IsLeft (head : HeadValue) (history : List Op) (disk : MemoryValue) (v
   pub sealed_is : sealed ≡ (windows_of head history).sealed
 
 -- A life after a request that was stopped. Its store's disk is the one left, which was loaded. Nothing is sent.
-pub record IsHalted (old new : LifeValue) (request : RequestValue) (now : ℕ) (stop : Stop) (history : List Op)
+pub record IsHalted (old new : LifeValue) (outcomes : Outcomes) (stop : Stop) (history : List Op)
     (held : List (List KeptValue)) : Type 0 where
   pub later : List Op
   pub left : MemoryValue
-  pub stopped : IsStopped old.head request now stop history later old.disk left
+  pub stopped : IsStopped old.head outcomes stop history later old.disk left
   pub same : HasPayloadsOf left new.disk
   pub lives : Lives new later held

@@ -4,16 +4,17 @@ use Rattle.std.specs.Prelude.{slice_get, slice_set}
 use Rattle.atom_values.specs.Counts.{counted}
 use Rattle.document_server.specs.declared.line.Line.{Line}
 use Rattle.feed_disk.specs.Memory.{MemoryValue}
-use Rattle.feed_life.specs.Asks.{IsAsked, IsHalted}
+use Rattle.feed_life.specs.Asks.{IsAsked, IsHalted, IsSet, Outcomes, of_request, of_setting}
 use Rattle.feed_life.specs.Life.{LifeValue, Lives}
 use Rattle.feed_life.specs.Mirrors.{IsGift, IsWalk}
 use Rattle.feed_life.specs.declared.event.Event.{Event}
-use Rattle.feed_life.specs.declared.event.Event.TheVariants.{Ask, Give, Walk}
+use Rattle.feed_life.specs.declared.event.Event.TheVariants.{Ask, Give, Walk, Set}
 use Rattle.feed_life.specs.declared.event.Stop.{Stop}
 use Rattle.feed_life.specs.declared.sent.SentDoc.{SentDoc}
 use Rattle.http_face.specs.Request.{RequestValue}
 use Rattle.member_rules.specs.Head.{HeadValue}
 use Rattle.member_rules.specs.declared.operation.Op.{Op}
+use Rattle.member_rules.specs.declared.setting.Setting.{Setting}
 use Rattle.mirror_walk.specs.Holding.{KeptValue}
 
 -- Mirrors
@@ -81,11 +82,20 @@ pub record StepsAsk (old new : LifeValue) (request : RequestValue) (now : ℕ) (
   pub held_is : left ≡ held
   pub stays : new ≡ record old { disk = new.disk; sent = new.sent; version = new.version; sealed = new.sealed }
 
--- a request that was stopped: no line, and nothing is sent
-pub record StepsHalt (old new : LifeValue) (request : RequestValue) (now : ℕ) (stop : Stop) (history later : List Op)
+-- a change of a setting: no line, and the mirrors and what was sent stay
+pub record StepsSet (old new : LifeValue) (setting : Setting) (now : ℕ) (history later : List Op)
     (held left : List (List KeptValue)) (line : Option Line) : Type 0 where
   pub no_line : line ≡ None
-  pub halted : IsHalted old new request now stop history held
+  pub is_set : IsSet old new setting now history held
+  pub history_is : later ≡ is_set.later
+  pub held_is : left ≡ held
+  pub stays : new ≡ record old { disk = new.disk; version = new.version; sealed = new.sealed }
+
+-- a request or a change of a setting that was stopped: no line, and nothing is sent
+pub record StepsHalt (old new : LifeValue) (outcomes : Outcomes) (stop : Stop) (history later : List Op)
+    (held left : List (List KeptValue)) (line : Option Line) : Type 0 where
+  pub no_line : line ≡ None
+  pub halted : IsHalted old new outcomes stop history held
   pub history_is : later ≡ halted.later
   pub held_is : left ≡ held
   pub stays : new ≡ record old {
@@ -103,7 +113,11 @@ abbrev pub StepsBy : LifeValue → LifeValue → Event → List Op → List Op �
 StepsBy old new (Ask request now None) history later held left line =
     StepsAsk old new request now history later held left line
 StepsBy old new (Ask request now (Some stop)) history later held left line =
-    StepsHalt old new request now stop history later held left line
+    StepsHalt old new (of_request request now) stop history later held left line
+StepsBy old new (Set setting now None) history later held left line =
+    StepsSet old new setting now history later held left line
+StepsBy old new (Set setting now (Some stop)) history later held left line =
+    StepsHalt old new (of_setting setting now) stop history later held left line
 StepsBy old new (Give mirror sent stop) history later held left line =
     (line ≡ None) × StepsGift old new history later held left mirror stop (slice_get old.sent sent)
 StepsBy old new (Walk mirror stop) history later held left line =

@@ -9,9 +9,10 @@ ghost use Rattle.member_rules.specs.Head.{HeadValue};
 ghost use Rattle.member_rules.specs.declared.operation.Op.{Op as Operation};
 
 use crate::sent::SentDoc;
+use crate::turn::Turn;
 use atom_values::{Bytes, NoMemory};
 use chain_links::Base;
-use document_server::{Line, answer};
+use document_server::Line;
 use feed_disk::MemoryDisk;
 use feed_recovery::{Store, stores_open_in_one_way};
 use http_face::{Body, Media, Reply, Request};
@@ -21,7 +22,7 @@ use std::alloc::Global;
 /// The status of the reply that memory ran out.
 pub(crate) const NO_MEMORY: u16 = 503;
 
-/// An answered request.
+/// A turn that was made.
 #[derive(Drop)]
 pub(crate) struct Answered {
     pub(crate) reply: Reply,
@@ -48,21 +49,24 @@ pub(crate) fn open(alloc: Global, disk: &mut MemoryDisk) -> Result<Store, NoMemo
     }
 }
 
-/// Answers a request on the store of a disk.
-pub(crate) fn ask(
+/// Makes a turn on the store of a disk.
+pub(crate) fn ask<T: Turn>(
     alloc: Global,
     disk: &mut MemoryDisk,
-    request: &Request,
+    turn: &T,
     now: u64,
 ) -> Result<Answered, NoMemory>
     ensures answered { IfOk result (λ given. (head : HeadValue) (history : List Operation)
         → IsStoreOf head history disk.old
-        → IsAnswered head request.now now history disk.old disk.new
+        → IsAnswered head (T.outcomes turn.now now) history disk.old disk.new
         given.reply given.line given.sealed) }
     ensures calls { IfOk result (λ given. CountsCalls disk.old disk.new given.line) }
 {
     let mut store = open(alloc, disk)?;
-    let reply = answer(alloc, &mut store, disk, request, now);
+    let Ok(reply) = turn.make(alloc, &mut store, disk, now) else {
+        drop(store);
+        return Err(NoMemory);
+    };
     if reply.status == NO_MEMORY || store.is_spent() {
         drop(reply);
         drop(store);

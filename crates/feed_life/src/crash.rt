@@ -10,12 +10,11 @@ ghost use Rattle.member_rules.specs.declared.operation.Op.{Op as Operation};
 
 use crate::ask::{NO_MEMORY, open};
 use crate::event::Stop;
+use crate::turn::Turn;
 use atom_values::NoMemory;
-use document_server::answer;
 use feed_disk::{Area, Choice, Disk, MemoryDisk};
 use feed_journal::begun_images_are_whole;
 use feed_recovery::Store;
-use http_face::Request;
 use std::alloc::Global;
 
 /// The number of operations of a store and that of its sealed archives.
@@ -71,19 +70,19 @@ pub(crate) fn crash_from(
     crash_at(disk, begun + stop.call, &stop.choice)
 }
 
-/// Answers a request, without the reply. Returns the number of device calls before it.
-fn run(
+/// Makes a turn, without the reply. Returns the number of device calls before it.
+fn run<T: Turn>(
     alloc: Global,
     store: &mut Store,
     disk: &mut MemoryDisk,
-    request: &Request,
+    turn: &T,
     now: u64,
 ) -> Result<u64, NoMemory>
     requires unspent { is_spent store.old ≡ false }
     requires stands { StandsFor (state_of disk.old) store.old }
     ensures runs { OnOk result ((head : HeadValue) (history : List Operation) (before : MemoryValue)
         → IsOpened head history before disk.old store.old
-        → Runs head request.now now history before disk.old disk.new) }
+        → Runs head (T.outcomes turn.now now) history before disk.old disk.new) }
     ensures begun { IfOk result (λ begun. begun ≡ (state_of disk.old).clock) }
     ensures later { (state_of disk.old).clock ≤ (state_of disk.new).clock }
 {
@@ -91,7 +90,7 @@ fn run(
     if begun == u64::MAX {
         return Err(NoMemory);
     }
-    let reply = answer(alloc, store, disk, request, now);
+    let reply = turn.make(alloc, store, disk, now)?;
     let status = reply.status;
     drop(reply);
     if status == NO_MEMORY || store.is_spent() {
@@ -100,17 +99,17 @@ fn run(
     Ok(begun)
 }
 
-/// Answers a request on the store of a disk, and crashes within one of its device calls.
-pub(crate) fn ask_into(
+/// Makes a turn on the store of a disk, and crashes within one of its device calls.
+pub(crate) fn ask_into<T: Turn>(
     alloc: Global,
     disk: &mut MemoryDisk,
-    request: &Request,
+    turn: &T,
     now: u64,
     stop: &Stop,
 ) -> Result<MemoryDisk, NoMemory>
     ensures stopped { IfOk result (λ left. (head : HeadValue) (history : List Operation)
         → IsStoreOf head history disk.old
-        → LeavesStopped head request.now now stop.now history disk.old left) }
+        → LeavesStopped head (T.outcomes turn.now now) stop.now history disk.old left) }
 {
     // A law, which does nothing.
     begun_images_are_whole();
@@ -119,7 +118,7 @@ pub(crate) fn ask_into(
         drop(store);
         return crash_after(disk, &stop.choice);
     }
-    let begun = run(alloc, &mut store, disk, request, now);
+    let begun = run(alloc, &mut store, disk, turn, now);
     drop(store);
     crash_from(disk, begun?, stop)
 }

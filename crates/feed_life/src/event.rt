@@ -1,5 +1,6 @@
 use feed_disk::Choice;
 use http_face::Request;
+use member_rules::Setting;
 
 /// A crash within an event.
 #[derive(Debug, Drop)]
@@ -29,6 +30,12 @@ pub enum Event {
     /// A mirror walks over the documents of the store.
     Walk {
         mirror: u32,
+        stop: Option<Stop>,
+    },
+    /// The operator changes a setting of the feed, with the clock at `now`. A refused change does nothing.
+    Set {
+        setting: Setting,
+        now: u64,
         stop: Option<Stop>,
     },
 }

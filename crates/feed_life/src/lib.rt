@@ -10,8 +10,9 @@
 //! println!(rt; "{:?} after {} operations", life.outcome(0)?, life.version())?;
 //! ```
 //!
-//! An event is a request to the store, a gift of a document that the store sent to a mirror, or a walk of a mirror over
-//! the store's documents. Each may have a [`Stop`], which is a crash within one of its device calls.
+//! An event is a request to the store, a change of a setting of its feed, a gift of a document that the store sent to
+//! a mirror, or a walk of a mirror over the store's documents. Each may have a [`Stop`], which is a crash within one of
+//! its device calls.
 //!
 //! After each event, until memory runs out:
 //!
@@ -40,6 +41,7 @@ mod mirrors;
 mod sent;
 mod step;
 mod store_fetch;
+mod turn;
 mod walks;
 
 pub use event::{Event, Stop};

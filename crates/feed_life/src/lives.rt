@@ -2,7 +2,7 @@ ghost use Rattle.std.specs.Prelude.{◌≡◌, ◌≤◌, List, [], false, true,
 ghost use Rattle.std.specs.Prelude.{◌++◌};
 ghost use Rattle.atom_values.specs.Counts.{counted};
 ghost use Rattle.feed_life.specs.Life.{IsStoreOf, Lives, empty_disk, mirror_limit};
-ghost use Rattle.feed_life.specs.Asks.{IsAsked, IsHalted, docs_of};
+ghost use Rattle.feed_life.specs.Asks.{IsAsked, IsHalted, IsSet, docs_of};
 ghost use Rattle.member_rules.specs.Head.{IsHead};
 ghost use Rattle.member_rules.specs.declared.operation.Op.{Op as Operation};
 ghost use Rattle.mirror_walk.specs.Holding.{KeptValue};
@@ -11,12 +11,13 @@ use crate::ask::{ask, doc_of};
 use crate::crash::{ask_into, load_numbers};
 use crate::event::Stop;
 use crate::sent::SentDoc;
+use crate::turn::Turn;
 use atom_values::{Bytes, Copies, Many, NoMemory};
 use document_server::Line;
 use feed_disk::MemoryDisk;
 use feed_recovery::Store;
 use http_face::Request;
-use member_rules::{Head, sealed_windows_are_full};
+use member_rules::{Head, Setting, sealed_windows_are_full};
 use std::alloc::Global;
 use std::marker::Model;
 use std::mem::replace;
@@ -138,17 +139,38 @@ impl Life {
         Ok(line)
     }
 
-    /// Answers a request, and crashes within one of its device calls. Nothing is sent.
-    pub(crate) fn answer_into(
+    /// Changes a setting of the feed, unless it is refused. Nothing is sent.
+    pub(crate) fn change(&mut self, setting: &Setting, now: u64) -> Result<(), NoMemory>
+        requires { self.old.lost ≡ false }
+        ensures is_set { OnOk result ((history : List Operation) (held : List (List KeptValue))
+            → Lives self.old history held → IsSet self.old self.new setting.now now history held) }
+        ensures stays { OnOk result (self.new ≡ record self.old {
+          disk = self.new.disk;
+          version = self.new.version;
+          sealed = self.new.sealed;
+        }) }
+        ensures lost { OnErr result (self.new.lost ≡ true) }
+    {
+        self.lost = true;
+        let answered = ask(self.alloc, &mut self.disk, setting, now)?;
+        self.version = answered.line.version;
+        self.sealed = answered.sealed;
+        drop(answered);
+        self.lost = false;
+        Ok(())
+    }
+
+    /// Makes a turn, and crashes within one of its device calls. Nothing is sent.
+    pub(crate) fn answer_into<T: Turn>(
         &mut self,
-        request: &Request,
+        turn: &T,
         now: u64,
         stop: &Stop,
     ) -> Result<(), NoMemory>
         requires { self.old.lost ≡ false }
         ensures halted { OnOk result ((history : List Operation) (held : List (List KeptValue))
             → Lives self.old history held
-            → IsHalted self.old self.new request.now now stop.now history held) }
+            → IsHalted self.old self.new (T.outcomes turn.now now) stop.now history held) }
         ensures stays { OnOk result (self.new ≡ record self.old {
           disk = self.new.disk;
           version = self.new.version;
@@ -158,7 +180,7 @@ impl Life {
         ensures lost { OnErr result (self.new.lost ≡ true) }
     {
         self.lost = true;
-        let left = ask_into(self.alloc, &mut self.disk, request, now, stop)?;
+        let left = ask_into(self.alloc, &mut self.disk, turn, now, stop)?;
         drop(replace(&mut self.disk, left));
         let numbers = load_numbers(self.alloc, &mut self.disk)?;
         self.version = numbers.version;
@@ -196,7 +218,7 @@ impl Life {
         self.sent.as_slice()
     }
 
-    /// Returns how many requests had a stop.
+    /// Returns how many requests and changes of a setting had a stop.
     pub fn stops(&self) -> u64
         ensures { result ≡ self.now.stops }
     {

@@ -18,7 +18,7 @@ use coverage_certificate::Certificate;
 use document_server::Line;
 use feed_disk::MemoryDisk;
 use http_face::Request;
-use member_rules::{Head, archives_stay};
+use member_rules::{Head, Setting, archives_stay};
 use mirror_walk::{Outcome, served_documents_show_the_fold};
 use std::alloc::Global;
 use std::mem::replace;
@@ -93,6 +93,10 @@ impl Life {
                 self.walk(*mirror, stop)?;
                 Ok(None)
             }
+            Event::Set { setting, now, stop } => {
+                self.set(setting, *now, stop)?;
+                Ok(None)
+            }
         }
     }
 
@@ -119,6 +123,21 @@ impl Life {
                 self.answer_into(request, now, stop)?;
                 Ok(None)
             }
+        }
+    }
+
+    /// Changes a setting of the feed, and crashes within that if there is a stop.
+    fn set(&mut self, setting: &Setting, now: u64, stop: &Option<Stop>) -> Result<(), NoMemory>
+        requires { self.old.lost ≡ false }
+        ensures stepped { OnOk result ((history : List Operation) (held : List (List KeptValue))
+            → Lives self.old history held
+            → IsStep self.old self.new (Event.Set setting.now now stop.now) history held None) }
+        ensures alive { OnOk result (self.new.lost ≡ false) }
+        ensures lost { OnErr result (self.new.lost ≡ true) }
+    {
+        match stop {
+            None => self.change(setting, now),
+            Some(stop) => self.answer_into(setting, now, stop),
         }
     }
 

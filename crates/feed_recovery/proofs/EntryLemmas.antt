@@ -24,7 +24,8 @@ use Rattle.member_rules.specs.Operation.{IsOperation}
 use Rattle.member_rules.specs.declared.codec.CodecFault.{CodecFault}
 use Rattle.member_rules.specs.declared.codec.CodecFault.TheVariants.{BadField, NoMemory}
 use Rattle.member_rules.specs.declared.operation.Op.{Op}
-use Rattle.member_rules.specs.declared.operation.Op.TheVariants.{Add, Change, Remove}
+use Rattle.member_rules.specs.declared.operation.Op.TheVariants.{Add, Change, Remove, Set}
+use Rattle.member_rules.specs.declared.setting.Setting.{Setting}
 use Rattle.member_rules.specs.Removal.{RemovalValue}
 use Rattle.member_rules.proofs.LawLemmas.{law-of_chain}
 use Rattle.member_rules.proofs.OperationLemmas.{operations_compared}
@@ -37,6 +38,11 @@ module _ (result : Result Op CodecFault) (payload : List ℕ) (entry : EntryValu
     → (result ≡ Ok operation) ⊎ (result ≡ Err NoMemory)) where
   pub no_removal : (removal : RemovalValue) → result ≡ Ok (Remove removal) → ⊥
   no_removal removal is = ⊎_elim
+      (λ added. ⊎_elim (λ found. cc) (λ spent. cc) (only (Add entry) is_entry added))
+      (λ changed. ⊎_elim (λ found. cc) (λ spent. cc) (only (Change entry) is_entry changed)) sets
+
+  pub no_setting : (setting : Setting) (moment : ℤ) → result ≡ Ok (Set setting moment) → ⊥
+  no_setting setting moment is = ⊎_elim
       (λ added. ⊎_elim (λ found. cc) (λ spent. cc) (only (Add entry) is_entry added))
       (λ changed. ⊎_elim (λ found. cc) (λ spent. cc) (only (Change entry) is_entry changed)) sets
 

@@ -14,7 +14,8 @@ use Rattle.member_rules.specs.History.{AreFollowing, Fits}
 use Rattle.member_rules.specs.Operation.{makes, names}
 use Rattle.member_rules.specs.Removal.{RemovalValue}
 use Rattle.member_rules.specs.declared.operation.Op.{Op}
-use Rattle.member_rules.specs.declared.operation.Op.TheVariants.{Add, Change, Remove}
+use Rattle.member_rules.specs.declared.operation.Op.TheVariants.{Add, Change, Remove, Set}
+use Rattle.member_rules.specs.declared.setting.Setting.{Setting}
 use Rattle.member_rules.specs.declared.state.State.TheVariants.{Live, Gone as Deleted}
 use Rattle.member_rules.proofs.FoldLemmas.{get-push, get-push-other, made-push}
 use Rattle.member_rules.proofs.StateLemmas.{AreMembers-of, differ, is_there, live_within, state_of-push-item}
@@ -157,4 +158,15 @@ module _ (created : ℤ) (history : List Op) (operation : Op) (extents journal :
           | inr apart ↦
               (kept number version (ap (names number) is ∙ differ removal.tombstone.number number apart) since).2
         ];
+      }
+
+  -- an operation that changes a setting names no member
+  pub places-set : (setting : Setting) (moment : ℤ) → operation ≡ Set setting moment
+      → ArePlaces extents (history ++ operation ∷ []) (journal ++ extent ∷ [])
+  places-set setting moment is =
+      let more : made (history ++ operation ∷ []) ≡ made history + 0 =
+      made-push history operation ∙ ap (λ (o : Op). made history + (if makes o then 1 else 0)) is in
+      record {
+        count = omega (arith, more, places.count);
+        live = λ number version since. (kept number version (ap (names number) is) since).2;
       }

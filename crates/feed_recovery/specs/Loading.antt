@@ -2,7 +2,7 @@
 use Rattle.std.specs.Prelude.{◌≡◌, ◌↔◌, ◌+◌, ◌-◌, ◌*◌, ◌<◌, ◌≤◌, ℕ, min, false, List, [], ◌∷◌, ◌++◌, length, take}
 use Rattle.std.specs.Prelude.{slice_get}
 use Rattle.std.specs.Prelude.{Bool, IsTrue, Option, Some, None}
-use Rattle.archive_sealer.specs.Window.{WindowValue}
+use Rattle.archive_sealer.specs.Window.{IsOfFeed, WindowValue}
 use Rattle.atom_values.specs.Counts.{HasRisen, counter_limit}
 use Rattle.feed_disk.specs.Disk.{DiskState}
 use Rattle.feed_disk.specs.Moments.{LeavesAlone}
@@ -114,7 +114,7 @@ fault_of index CodecNoMemory = NoMemory
 pub record HasReplayed (head : HeadValue) (members : Table) (window : WindowValue) : Type 0 where
   pub is_head : IsHead head
   pub lawful : IsLawful head window.history
-  pub size : window.size ≡ head.window
+  pub of_feed : IsOfFeed window head
   pub table : IsTableOf members head.created window.history
 
 -- the log has the frame of the head and one for each operation, and each live member has a place

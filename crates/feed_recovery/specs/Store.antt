@@ -34,9 +34,9 @@ call_count store = min (store.journal.calls + store.seals.calls) counter_limit
 abbrev pub is_spent : StoreValue → Bool
 is_spent store = store.journal.spent || store.seals.spent
 
--- the fewest bytes by which an operation makes the journal longer: those of a removal, and the header of its frame
+-- the fewest bytes by which an operation makes the journal longer: those of a setting, and the header of its frame
 abbrev pub least_frame : ℕ
-least_frame = 26
+least_frame = 19
 
 -- The rules that a store keeps. By `long` a journal within the limit of an area has fewer payloads than a log may have,
 -- so a commit needs no condition on their number.

@@ -244,6 +244,7 @@ fn entry_of(alloc: Global, payload: &[u8], version: u32) -> Result<Entry, Member
     match read_op(alloc, payload) {
         Ok(Op::Add(entry) | Op::Change(entry)) => Ok(entry),
         Ok(Op::Remove(_)) => Err(MemberFault::Changed { index: version }),
+        Ok(Op::Set { .. }) => Err(MemberFault::Changed { index: version }),
         Err(CodecFault::BadField { .. }) => Err(MemberFault::Changed { index: version }),
         Err(CodecFault::NoMemory) => Err(MemberFault::NoMemory),
     }

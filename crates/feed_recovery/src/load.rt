@@ -1,6 +1,6 @@
 ghost use Rattle.std.specs.Prelude.{◌≡◌, ◌↔◌, ◌⊎◌, ◌+◌, ◌<◌, ◌++◌, ◌∷◌, ℕ, ℤ, true, false};
 ghost use Rattle.std.specs.Prelude.{List, [], length, slice_get, take, Some, None, IfOk, IfSome, IfErr, OnOk, IsTrue};
-ghost use Rattle.archive_sealer.specs.Window.{IsFull};
+ghost use Rattle.archive_sealer.specs.Window.{IsFull, IsOfFeed};
 ghost use Rattle.atom_values.specs.Counts.{CountsFault};
 ghost use Rattle.atom_writer.specs.Pieced.{text_of};
 ghost use Rattle.feed_disk.specs.Moments.{LeavesAlone};
@@ -33,6 +33,7 @@ use crate::fault::LoadFault;
 use crate::places::Places;
 use crate::store::Store;
 use archive_sealer::Window;
+use atom_values::Copies;
 use atom_writer::{entry_len, write_doc};
 use feed_disk::{Area, Disk};
 use feed_journal::{Frame, FrameReader, Log, LogFault, begun_images_are_whole};
@@ -356,7 +357,8 @@ fn replay<D: Disk>(
     ensures fault { IfErr result (FailsBy D.observable (D.state disk.old) (D.state disk.new)) }
     ensures refused { IfErr result IsRefusal }
 {
-    let window = Window::new(alloc, head.window)?;
+    let title = head.name.title.copy(alloc)?;
+    let window = Window::new(alloc, head.window, title)?;
     let mut replayed = Replayed {
         members: Members::new(alloc, head.created),
         window,
@@ -417,7 +419,7 @@ fn is_small(head: &Head, operation: &Op) -> bool
 {
     match operation {
         Op::Add(entry) | Op::Change(entry) => entry_len(&head.name, entry) <= ENTRY_LIMIT,
-        Op::Remove(_) => true,
+        Op::Remove(_) | Op::Set { .. } => true,
     }
 }
 
@@ -444,7 +446,7 @@ fn is_sealed<D: Disk>(
     seals: &mut Log,
 ) -> Result<bool, LoadFault>
     requires seals { IsReadable D.observable (D.state disk.old) Sealed seals.old }
-    requires size { window.now.size ≡ head.now.window }
+    requires feed { IsOfFeed window.now head.now }
     requires full { IsFull head.now window.now.history }
     requires within { (windows_of head.now window.now.history).sealed < length seals.old.extents }
     ensures same { IfOk result (λ same. D.observable

@@ -63,6 +63,7 @@ impl Places {
             Op::Add(_) => self.extents.push(extent).unwrap(),
             Op::Change(entry) => self.extents[entry.number as usize - 1] = extent,
             Op::Remove(_) => {}
+            Op::Set { .. } => {}
         }
     }
 

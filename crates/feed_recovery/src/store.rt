@@ -34,6 +34,7 @@ pub struct Store {
 
 impl Model for Store {
     ghost use Rattle.std.specs.Prelude.{◌≡◌, min};
+    ghost use Rattle.archive_sealer.specs.Window.{IsOfFeed};
     ghost use Rattle.feed_recovery.specs.Places.{ArePlaces};
     ghost use Rattle.feed_recovery.specs.Store.{StoreValue, KeepsStore, KeepsNewest, is_spent};
 
@@ -57,7 +58,7 @@ impl Model for Store {
           seals = s.seals;
           spare = min s.window.spare s.places.spare;
         } in
-        KeepsStore store × (s.window.size ≡ s.head.window) × (s.spent ≡ is_spent store)
+        KeepsStore store × IsOfFeed s.window s.head × (s.spent ≡ is_spent store)
         × KeepsNewest store s.newest × ArePlaces s.places.extents s.window.history s.journal.extents };
 }
 

@@ -60,14 +60,16 @@ fn a_request_crashes_at_each_call(rt: HostRuntime) {
 }
 
 /// Requests of a store with two live members: a POST, a PUT and a DELETE, which append their operation with four calls,
-/// and requests that append nothing.
-const REQUESTS: [Does; 6] = [
+/// and requests that append nothing. Two changes of a setting append their operation too.
+const REQUESTS: [Does; 8] = [
     Does::Make(3),
     Does::Replace(1, 3),
     Does::Delete(2),
     Does::Feed,
     Does::Replace(3, 3),
     Does::Delete(3),
+    Does::Title(3),
+    Does::Window(2),
 ];
 
 /// Such a request crashes, and then the document of the feed is compared.
@@ -92,6 +94,41 @@ fn a_request_of_four_calls_crashes_at_each(rt: HostRuntime) {
             for left in ALL {
                 expect_four_calls(&rt, rt.alloc(), does, call, left);
             }
+        }
+    }
+}
+
+/// In windows of one operation, a title and then a size crash, each in the call that seals the archive before it or in
+/// its own. The documents before and after are compared.
+fn expect_settings(rt: &impl Abort, alloc: Global, call: u64, left: Left) {
+    let crash = Some((call, left));
+    let events = [
+        (Does::Make(1), None),
+        (Does::Make(2), None),
+        (Does::Title(3), crash),
+        (Does::Feed, None),
+        (Does::Archive(2), None),
+        (Does::Title(4), None),
+        (Does::Window(3), crash),
+        (Does::Feed, None),
+        (Does::Archive(3), None),
+        (Does::Window(2), None),
+        (Does::Title(5), None),
+        (Does::Replace(1, 6), None),
+        (Does::Feed, None),
+        (Does::Make(7), None),
+        (Does::Feed, None),
+        (Does::Archive(2), None),
+        (Does::Walk(0), None),
+    ];
+    follow(rt, alloc, 1, &events);
+}
+
+#[test]
+fn a_setting_crashes_at_each_call(rt: HostRuntime) {
+    for call in 0..11 {
+        for left in ALL {
+            expect_settings(&rt, rt.alloc(), call, left);
         }
     }
 }

@@ -8,7 +8,7 @@ use document_server::Line;
 use feed_disk::Choice;
 use feed_life::{Event, Life, Stop};
 use http_face::{Request, Verb};
-use member_rules::Head;
+use member_rules::{Head, NEWEST_FORMAT, Setting, ShortText, WindowSize};
 use std::alloc::Global;
 use std::process::Abort;
 
@@ -45,6 +45,10 @@ pub enum Does {
     Give(u32, u32),
     /// This mirror walks.
     Walk(u32),
+    /// The feed gets the title `f` and this number.
+    Title(u32),
+    /// Later windows get this many operations.
+    Window(u32),
 }
 
 /// The head of a feed with windows of this many operations.
@@ -52,6 +56,7 @@ pub fn head(rt: &impl Abort, alloc: Global, window: u32, capacity: u64) -> Head 
     assert!(rt; (1..=100).contains(&window));
     assert!(rt; (4_096..=68_719_476_736).contains(&capacity));
     Head {
+        format: NEWEST_FORMAT,
         name: FeedName {
             base: Base::parse(alloc, b"http://feed.example/").expect(rt, "a base"),
             id: FeedId::parse(b"6d1f0c5a-93be-4c27-8d10-2b7f9e4a5c36").expect(rt, "an identifier"),
@@ -116,6 +121,18 @@ pub fn request(
     }
 }
 
+/// The title `f` and this number, as a setting.
+fn title(rt: &impl Abort, alloc: Global, number: u32) -> Setting {
+    let text = format!(in alloc; "f{number}").expect(rt, "memory");
+    let text = AtomText::of(alloc, text.as_bytes()).expect(rt, "a title");
+    Setting::Title(ShortText::of(text).expect(rt, "a short title"))
+}
+
+/// This size of windows, as a setting.
+fn window(rt: &impl Abort, size: u32) -> Setting {
+    Setting::Window(WindowSize::new(size).expect(rt, "a size"))
+}
+
 fn stop(rt: &impl Abort, alloc: Global, (call, left): Crash) -> Stop {
     let choice = match left {
         Left::Old => Choice::Old,
@@ -129,12 +146,23 @@ fn stop(rt: &impl Abort, alloc: Global, (call, left): Crash) -> Stop {
     Stop { call, choice }
 }
 
+/// A change of a setting.
+fn set(setting: Setting, stop: Option<Stop>) -> Event {
+    Event::Set {
+        setting,
+        now: NOW,
+        stop,
+    }
+}
+
 /// An event.
 pub fn event(rt: &impl Abort, alloc: Global, does: Does, crash: Option<Crash>) -> Event {
     let stop = crash.map(|crash| stop(rt, alloc, crash));
     let (verb, address, title) = match does {
         Does::Give(mirror, sent) => return Event::Give { mirror, sent, stop },
         Does::Walk(mirror) => return Event::Walk { mirror, stop },
+        Does::Title(number) => return set(title(rt, alloc, number), stop),
+        Does::Window(size) => return set(window(rt, size), stop),
         Does::Make(title) => (Verb::Post, Address::Feed, Some(title)),
         Does::Replace(number, title) => (Verb::Put, Address::Member(number), Some(title)),
         Does::Delete(number) => (Verb::Delete, Address::Member(number), None),

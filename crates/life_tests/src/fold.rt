@@ -7,8 +7,16 @@ use mirror_walk::Outcome;
 use std::alloc::Global;
 use std::process::Abort;
 
-/// An operation: the number of its member, and the number in its title, or `None` for a deletion.
-pub type Change = (u32, Option<u32>);
+/// An operation.
+#[derive(Clone, Copy, Debug, PartialEq, Eq)]
+pub enum Change {
+    /// On the member with this number: its new title is `t` and the other number, or it is deleted.
+    Member(u32, Option<u32>),
+    /// The feed's title is `f` and this number.
+    Title(u32),
+    /// Later windows have this many operations.
+    Window(u32),
+}
 
 /// A document of the feed: the subscription document of a version, or an archive.
 #[derive(Clone, Copy, Debug, PartialEq, Eq)]
@@ -44,12 +52,14 @@ pub fn appended((call, left): Crash) -> u64 {
     }
 }
 
-/// The last operation of this member.
-fn last_of(changes: &[Change], number: u32) -> Option<Change> {
+/// The title that this member's last operation gave it, or `None` in its place for a deletion.
+fn last_of(changes: &[Change], number: u32) -> Option<Option<u32>> {
     let mut last = None;
-    for &change in changes {
-        if change.0 == number {
-            last = Some(change);
+    for change in changes {
+        if let Change::Member(named, title) = *change {
+            if named == number {
+                last = Some(title);
+            }
         }
     }
     last
@@ -58,8 +68,10 @@ fn last_of(changes: &[Change], number: u32) -> Option<Change> {
 /// The number of members ever made. They are numbered from 1.
 fn made(changes: &[Change]) -> u32 {
     let mut most = 0;
-    for &(number, _) in changes {
-        most = number.max(most);
+    for change in changes {
+        if let Change::Member(number, _) = *change {
+            most = number.max(most);
+        }
     }
     most
 }
@@ -67,8 +79,8 @@ fn made(changes: &[Change]) -> u32 {
 /// The number of members that are live.
 fn live(changes: &[Change]) -> u32 {
     let mut live = made(changes);
-    for (_, title) in changes {
-        if title.is_none() {
+    for change in changes {
+        if let Change::Member(_, None) = *change {
             live = live.saturating_sub(1);
         }
     }
@@ -131,19 +143,50 @@ impl Fold {
         self.prev(self.version())
     }
 
+    /// The size of a window that begins after this many operations.
+    fn size_after(&self, operations: u32) -> u32 {
+        let mut size = self.window;
+        for change in self.changes.iter().take(operations as usize) {
+            if let Change::Window(new) = *change {
+                size = new;
+            }
+        }
+        size
+    }
+
+    /// The number of operations up to the end of this window. Windows are counted from 1.
+    fn end(&self, number: u32) -> u32 {
+        let mut end: u32 = 0;
+        for _ in 0..number {
+            end = end.saturating_add(self.size_after(end));
+        }
+        end
+    }
+
     /// The newest archive that the subscription document of a version names, or 0.
     fn prev(&self, version: u32) -> u32 {
-        version
-            .saturating_sub(1)
-            .checked_div(self.window)
-            .unwrap_or(0)
+        let mut prev = 0;
+        let mut end = self.size_after(0);
+        for number in 1..=version {
+            if end >= version {
+                break;
+            }
+            prev = number;
+            end = end.saturating_add(self.size_after(end));
+        }
+        prev
     }
 
     /// The operation of a request if it has one, and the status of the reply.
     fn effect(&self, does: Does) -> (Option<Change>, u16) {
         let changes = self.changes.as_slice();
         let (number, title) = match does {
-            Does::Make(title) => return (Some((made(changes).saturating_add(1), Some(title))), 201),
+            Does::Make(title) => {
+                let number = made(changes).saturating_add(1);
+                return (Some(Change::Member(number, Some(title))), 201);
+            }
+            Does::Title(number) => return (Some(Change::Title(number)), 200),
+            Does::Window(size) => return (Some(Change::Window(size)), 200),
             Does::Replace(number, title) => (number, Some(title)),
             Does::Delete(number) => (number, None),
             Does::Archive(number) if number == 0 || number > self.sealed() => return (None, 404),
@@ -151,8 +194,8 @@ impl Fold {
         };
         match last_of(changes, number) {
             None => (None, 404),
-            Some((_, None)) => (None, 410),
-            Some((_, Some(_))) => (Some((number, title)), 200),
+            Some(None) => (None, 410),
+            Some(Some(_)) => (Some(Change::Member(number, title)), 200),
         }
     }
 
@@ -225,6 +268,9 @@ impl Fold {
             self.stops = self.stops.saturating_add(1);
             return None;
         }
+        if matches!(does, Does::Title(_) | Does::Window(_)) {
+            return None;
+        }
         if status == 200 {
             self.send(rt, does);
         }
@@ -256,26 +302,38 @@ impl Fold {
         }
     }
 
+    /// The feed's title after this many operations.
+    fn title(&self, rt: &impl Abort, alloc: Global, operations: u32) -> String {
+        let mut title = format!(in alloc; "Feed").expect(rt, "memory");
+        for change in self.changes.iter().take(operations as usize) {
+            if let Change::Title(number) = *change {
+                title = format!(in alloc; "f{number}").expect(rt, "memory");
+            }
+        }
+        title
+    }
+
     /// The text of a document.
     pub fn text(&self, rt: &impl Abort, alloc: Global, doc: Doc) -> String {
         let (prev, last) = match doc {
             Doc::Feed(version) => (self.prev(version), version),
-            Doc::Archive(number) => (number.saturating_sub(1), number.saturating_mul(self.window)),
+            Doc::Archive(number) => (number.saturating_sub(1), self.end(number)),
         };
-        let before = prev.saturating_mul(self.window);
+        let before = self.end(prev);
         let first = before.saturating_add(1);
+        let title = self.title(rt, alloc, last);
         let updated = moment(rt, alloc, last);
         let links = links(rt, alloc, doc, prev);
         let items = items(rt, alloc, self.changes.as_slice(), before, last);
         format!(in alloc;
-            "{OPENING}<updated>{updated}</updated>\n<author><name>Editor</name></author>\n{links}<sp:span first=\"{first}\" last=\"{last}\"/>\n{items}</feed>\n"
+            "{OPENING}<title>{title}</title>\n<updated>{updated}</updated>\n<author><name>Editor</name></author>\n{links}<sp:span first=\"{first}\" last=\"{last}\"/>\n{items}</feed>\n"
         ).expect(rt, "memory")
     }
 }
 
 /// The first lines of each document.
 const OPENING: &str =
-    "<?xml version=\"1.0\" encoding=\"utf-8\"?>\n<feed xmlns=\"http://www.w3.org/2005/Atom\" xmlns:fh=\"http://purl.org/syndication/history/1.0\" xmlns:at=\"http://purl.org/atompub/tombstones/1.0\" xmlns:app=\"http://www.w3.org/2007/app\" xmlns:sp=\"urn:archived-feed:span:1\">\n<id>urn:uuid:6d1f0c5a-93be-4c27-8d10-2b7f9e4a5c36</id>\n<title>Feed</title>\n";
+    "<?xml version=\"1.0\" encoding=\"utf-8\"?>\n<feed xmlns=\"http://www.w3.org/2005/Atom\" xmlns:fh=\"http://purl.org/syndication/history/1.0\" xmlns:at=\"http://purl.org/atompub/tombstones/1.0\" xmlns:app=\"http://www.w3.org/2007/app\" xmlns:sp=\"urn:archived-feed:span:1\">\n<id>urn:uuid:6d1f0c5a-93be-4c27-8d10-2b7f9e4a5c36</id>\n";
 
 /// The timestamp of an operation, or of a feed without operations. The clock stands still, so each is a millisecond
 /// after the one before.
@@ -324,7 +382,12 @@ fn links(rt: &impl Abort, alloc: Global, doc: Doc, prev: u32) -> String {
 }
 
 /// The line of the item of an operation.
-fn item(rt: &impl Abort, alloc: Global, (number, title): Change, operation: u32) -> String {
+fn item(
+    rt: &impl Abort,
+    alloc: Global,
+    (number, title): (u32, Option<u32>),
+    operation: u32,
+) -> String {
     let moment = moment(rt, alloc, operation);
     let text = match title {
         Some(title) => format!(in alloc;
@@ -342,12 +405,12 @@ fn items(rt: &impl Abort, alloc: Global, changes: &[Change], before: u32, last: 
     let mut text = String::new(alloc);
     let mut shown: Vec<u32> = Vec::new(alloc);
     for index in (before..last).rev() {
-        let Some(&change) = changes.get(index as usize) else {
+        let Some(&Change::Member(number, title)) = changes.get(index as usize) else {
             continue;
         };
-        if !shown.contains(&change.0) {
-            shown.push(change.0).expect(rt, "memory");
-            let line = item(rt, alloc, change, index.saturating_add(1));
+        if !shown.contains(&number) {
+            shown.push(number).expect(rt, "memory");
+            let line = item(rt, alloc, (number, title), index.saturating_add(1));
             text.push_str(line.as_str()).expect(rt, "memory");
         }
     }

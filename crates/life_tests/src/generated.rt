@@ -29,7 +29,7 @@ impl Random {
 
 /// An event of this number, and its crash if it has one.
 fn drawn(random: &mut Random, number: u32) -> (Does, Option<Crash>) {
-    let (kind, member, place) = (random.below(10), random.below(9), random.below(12));
+    let (kind, member, place) = (random.below(12), random.below(9), random.below(12));
     let does = match kind {
         0..=2 => Does::Make(number),
         3 => Does::Replace(member, number),
@@ -37,6 +37,8 @@ fn drawn(random: &mut Random, number: u32) -> (Does, Option<Crash>) {
         5 => Does::Feed,
         6 => Does::Archive(member),
         7 | 8 => Does::Give(member % 3, place),
+        9 => Does::Title(number),
+        10 => Does::Window(member % 4 + 1),
         _ => Does::Walk(member % 3),
     };
     let left = match random.below(4) {

@@ -1,15 +1,16 @@
 -- Cuts of a history into spans, and windows as one of them.
-use Rattle.std.proofs.Common.{◌≡◌, ◌≢◌, inl, inr, ℕ, zero, suc, ◌+◌, ◌-◌, ◌*◌, ◌/◌, ◌<◌, ◌≤◌, List, [], ◌∷◌, ◌++◌}
-use Rattle.std.proofs.Common.{length, take, refl, ap, subst, ◌∙◌, add-one, arith, length-append}
-use Rattle.std.proofs.lemmas.Nat.{le-div}
+use Rattle.std.proofs.Common.{◌≡◌, ◌≢◌, inl, inr, ℕ, zero, suc, ◌+◌, ◌-◌, ◌<◌, ◌≤◌, List, [], ◌∷◌, ◌++◌, length, take}
+use Rattle.std.proofs.Common.{take-take, refl, ap, subst, ◌∙◌, add-one, arith, length-append}
 use Rattle.std.proofs.lemmas.Bool.{cases_lt}
 use Rattle.std.proofs.lemmas.List.{length-take-le}
-use Rattle.std.proofs.Math.Nat.{div-le_self, div-le_of_le-mul, div-mul-le_self, div-eq_of_lt-le, mul-le-mul_right}
 use Rattle.member_rules.specs.declared.operation.Op.{Op}
 use Rattle.member_rules.specs.Head.{HeadValue, IsHead, window_limit}
-use Rattle.member_rules.specs.Windows.{windows_of}
+use Rattle.member_rules.specs.Setting.{IsWindowSize}
+use Rattle.member_rules.specs.Windows.{window_ends, last_within, windows_from, windows_of}
 use Rattle.member_rules.specs.Chain.{IsOpenCut}
-use Rattle.member_rules.specs.Laws.{SealsInTurn, SealedAreFull}
+use Rattle.member_rules.specs.Laws.{SealsInTurn, HasSealed, SealedAreFull}
+use Rattle.member_rules.proofs.WindowLemmas.{ends-rise, ends-step, ends-monotone, ends-counted, ends-agree, ends-push, last-ends}
+use Rattle.member_rules.proofs.WindowLemmas.{last-within, last-apart, last-only}
 
 -- the archives cut the first operations, each into a run of 1 to 100 operations
 pub record IsCut (ends : ℕ → ℕ) (archives count : ℕ) : Type 0 where
@@ -89,116 +90,146 @@ span-of ends archives count cut number one l =
 
 -- windows
 
-ends-cut : (window archives count : ℕ) → 1 ≤ window → window ≤ 100 → archives * window ≤ count
-    → IsCut (λ number. number * window) archives count
-ends-cut window archives count low high within = record {
-  from_none = omega arith;
-  rises = λ k l. omega arith;
-  narrow = λ k l. omega arith;
+-- windows that end within the operations
+ends-cut : (first : ℕ) (history : List Op) (archives count : ℕ) → IsWindowSize first
+    → window_ends first history archives ≤ count → IsCut (window_ends first history) archives count
+unfolding window_ends
+ends-cut first history archives count is within = record {
+  from_none = refl;
+  rises = λ k l. (ends-rise first history k is).0;
+  narrow = λ k l. (ends-rise first history k is).1;
   within = within;
 }
 
 -- full windows are a cut
 pub full-cut : (head : HeadValue) (history : List Op) (number : ℕ) → (1 ≤ head.window) × (head.window ≤ window_limit)
     → number ≤ (windows_of head history).full → IsCut (windows_of head history).ends number (length history)
-unfolding windows_of
+unfolding windows_of windows_from
 full-cut head history number limits l =
-    ends-cut head.window number (length history) limits.0 limits.1
-    (omega (arith, mul-le-mul_right head.window l, div-mul-le_self (length history) head.window))
+    let full = (windows_of head history).full in
+    ends-cut head.window history number (length history) limits
+    (omega (
+      arith,
+      ends-monotone head.window history number full l,
+      last-ends head.window history (length history),
+    ))
 
-sealed-ends : (window count : ℕ) → 1 ≤ window
-    → ((count - 1) / window * window ≤ count - 1) × (count ≤ (count - 1) / window * window + window)
-sealed-ends window count h = (omega arith, omega arith)
-
-none_sealed : (sealed window : ℕ) → 1 ≤ window → sealed * window ≤ 0 → sealed ≡ 0
-none_sealed zero window h l = refl
-none_sealed (suc sealed) window h l = absurd (omega arith)
-
-open-cut : (window count : ℕ) → 1 ≤ window → window ≤ 100
-    → IsOpenCut (λ number. number * window) ((count - 1) / window) count
-open-cut window count low high =
-    let ends = sealed-ends window count low in
+-- sealed windows, with the operations after them
+open-cut : (first : ℕ) (history : List Op) (count : ℕ) → IsWindowSize first
+    → IsOpenCut (window_ends first history) (last_within (window_ends first history) (count - 1) (count - 1)) count
+unfolding window_ends
+open-cut first history count is =
+    let sealed = last_within (window_ends first history) (count - 1) (count - 1) in
+    let at = last-within first history (count - 1) is in
     record {
-      from_none = omega arith;
-      rising = λ k l. omega arith;
-      narrow = λ k l. omega arith;
+      from_none = refl;
+      rising = λ k l. (ends-step first history k is).0;
+      narrow = λ k l. (ends-step first history k is).1;
       some_open = elim (cases_lt 0 count) [
-        | inl some ↦ inl (omega (arith, ends.0))
-        | inr none ↦ inr (omega arith, none_sealed ((count - 1) / window) window low (omega (arith, ends.0)))
+        | inl some ↦ inl (omega (arith, at.0))
+        | inr none ↦ inr (omega arith, omega (arith, at.0, ends-counted first history sealed is))
       ];
-      few_open = omega (arith, ends.1);
+      few_open = omega (arith, at.1, (ends-step first history sealed is).1);
     }
 
 pub windows-cut : (head : HeadValue) (history : List Op) → (1 ≤ head.window) × (head.window ≤ window_limit)
     → IsOpenCut (windows_of head history).ends (windows_of head history).sealed (length history)
-unfolding windows_of
-windows-cut head history limits =
-    open-cut head.window (length history) limits.0 limits.1
+unfolding windows_of windows_from
+windows-cut head history limits = open-cut head.window history (length history) limits
 
 -- an operation after a full window seals it
 
-exact-div : (sealed window count : ℕ) → 1 ≤ window → (sealed + 1) * window ≡ count → count / window ≡ sealed + 1
-exact-div sealed window count h e = div-eq_of_lt-le window (omega (arith, e)) (omega (arith, e))
-
-short-div : (window count : ℕ) → 1 ≤ window → ((count - 1) / window + 1) * window ≢ count
-    → count / window ≡ (count - 1) / window
-short-div window count h n =
-    let ends = sealed-ends window count h in
-    div-eq_of_lt-le window (omega (arith, ends.0)) (omega (arith, ends.0, ends.1))
+seals_in-turn : (first : ℕ) (history : List Op) (operation : Op) → IsWindowSize first
+    → SealsInTurn (windows_from first history) (windows_from first (history ++ operation ∷ [])) (length history)
+unfolding windows_from
+seals_in-turn first history operation is =
+    let count = length history in
+    let more = history ++ operation ∷ [] in
+    let size : length more - 1 ≡ count = omega (arith, length-append history (operation ∷ [])) in
+    let sealed = (windows_from first history).sealed in
+    let full = (windows_from first history).full in
+    let before = last-within first history (count - 1) is in
+    let filled = last-within first history count is in
+    let past = ends-push first history operation full filled.0 in
+    rw size record {
+      within = omega (arith, before.1);
+      rises = λ e.
+          let next = ends-push first history operation (sealed + 1) (omega arith) in
+          let up = (ends-step first more (sealed + 1) is).0 in
+          last-only first more count (sealed + 1) is (omega (arith, next.0)) (omega (arith, next.0, up));
+      stays = λ n.
+          let same = ends-push first history operation sealed (omega (arith, before.0)) in
+          last-only first more count sealed is (omega (arith, same.0, before.0)) (omega (arith, same.1, before.1));
+      full = last-only first more count full is (omega (arith, past.0)) (omega (arith, past.1));
+    }
 
 pub windows-in_turn : (head : HeadValue) (history : List Op) (operation : Op) → IsHead head
     → SealsInTurn (windows_of head history) (windows_of head (history ++ operation ∷ [])) (length history)
 unfolding windows_of
 windows-in_turn head history operation is_head =
-    let low = is_head.limits.window.0 in
-    let count = length history in
-    let size : length (history ++ operation ∷ []) - 1 ≡ count = omega (arith, length-append history (operation ∷ [])) in
-    let ends = sealed-ends head.window count low in
-    record {
-      within = omega (arith, ends.1);
-      rises = λ e. rw size (exact-div ((count - 1) / head.window) head.window count low e);
-      stays = λ n. rw size (short-div head.window count low n);
-      full = rw size refl;
-    }
+    seals_in-turn head.window history operation is_head.limits.window
 
 -- the full windows of the first operations stay where they are
 
 pub full-ends : (head : HeadValue) (history : List Op) (version number : ℕ) → version ≤ length history
-    → number ≤ (windows_of head (take version history)).full → (windows_of head history).ends number ≤ version
-unfolding windows_of
+    → number ≤ (windows_of head (take version history)).full
+    → ((windows_of head history).ends number ≡ (windows_of head (take version history)).ends number)
+    × ((windows_of head history).ends number ≤ version)
+unfolding windows_of windows_from
 full-ends head history version number past l =
+    let some = take version history in
     let size = length-take-le version history past in
-    let within : number * head.window ≤ length (take version history) =
-    omega (arith, mul-le-mul_right head.window l, div-mul-le_self (length (take version history)) head.window) in
-    omega (arith, within, size)
+    let within : window_ends head.window some number ≤ version = omega (
+      arith,
+      ends-monotone head.window some number (windows_of head some).full l,
+      last-ends head.window some (length some),
+    ) in
+    let agree = take-take version version history (omega arith) in
+    let same = (ends-agree head.window some history version number agree within).0 in
+    (same, omega arith)
 
-fewer-sealed : (window before count : ℕ) → 1 ≤ window → before ≤ count → (before - 1) / window ≤ (count - 1) / window
-fewer-sealed window before count h l =
-    le-div ((before - 1) / window) (count - 1) window h (omega (arith, div-mul-le_self (before - 1) window))
-
-sealed-full : (window count : ℕ) → 1 ≤ window → (count - 1) / window ≤ count / window
-sealed-full window count h =
-    le-div ((count - 1) / window) count window h (omega (arith, div-mul-le_self (count - 1) window))
+sealed-full : (first : ℕ) (history : List Op) → IsWindowSize first
+    → (windows_from first history).sealed ≤ (windows_from first history).full
+unfolding windows_from
+sealed-full first history is =
+    let count = length history in
+    let windows = windows_from first history in
+    last-apart first history count windows.full windows.sealed
+    (omega (arith, last-ends first history (count - 1))) (last-within first history count is).1
 
 pub sealed-are_full : (head : HeadValue) (history : List Op) → IsHead head
     → (windows_of head history).sealed ≤ (windows_of head history).full
 unfolding windows_of
-sealed-are_full head history is_head = sealed-full head.window (length history) is_head.limits.window.0
+sealed-are_full head history is_head = sealed-full head.window history is_head.limits.window
+
+has_sealed : (first : ℕ) (history : List Op) → IsWindowSize first
+    → HasSealed (windows_from first history) (length history)
+unfolding windows_from
+has_sealed first history is =
+    let count = length history in
+    let windows = windows_from first history in
+    let at = last-within first history (count - 1) is in
+    let up = (ends-step first history (windows.sealed + 1) is).0 in
+    record {
+      full = sealed-full first history is;
+      all_but_one = last-apart first history count (windows.sealed + 1) windows.full
+          (last-ends first history count) (omega (arith, at.1, up));
+      few = omega (arith, ends-counted first history windows.full is, last-ends first history count);
+    }
 
 pub windows-sealed : SealedAreFull
 unfolding windows_of
-windows-sealed head history is_head =
-    let low = is_head.limits.window.0 in
-    let ends = sealed-ends head.window (length history) low in
-    record {
-      full = sealed-full head.window (length history) low;
-      all_but_one = div-le_of_le-mul head.window (omega (arith, ends.1));
-      few = div-le_self (length history) head.window;
-    }
+windows-sealed head history is_head = has_sealed head.window history is_head.limits.window
 
 pub sealed-stay : (head : HeadValue) (history : List Op) (version : ℕ) → IsHead head → version ≤ length history
     → (windows_of head (take version history)).sealed ≤ (windows_of head history).sealed
-unfolding windows_of
+unfolding windows_of windows_from
 sealed-stay head history version is_head past =
+    let some = take version history in
+    let sealed = (windows_of head some).sealed in
+    let full = sealed-are_full head some is_head in
+    let ends = full-ends head history version sealed past full in
     let size = length-take-le version history past in
-    rw size (fewer-sealed head.window version (length history) is_head.limits.window.0 past)
+    last-apart head.window history (length history - 1) (windows_of head history).sealed sealed
+    (omega (arith, ends.0, last-ends head.window some (length some - 1)))
+    (last-within head.window history (length history - 1) is_head.limits.window).1

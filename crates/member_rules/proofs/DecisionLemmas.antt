@@ -11,10 +11,11 @@ use Rattle.atom_values.specs.Entry.{DraftValue, EntryValue, normal}
 use Rattle.atom_writer.specs.declared.doc.FeedName.{FeedName}
 use Rattle.atom_writer.specs.Pieces.{entry_piece}
 use Rattle.member_rules.specs.declared.operation.Op.{Op}
-use Rattle.member_rules.specs.declared.operation.Op.TheVariants.{Add, Change, Remove}
-use Rattle.member_rules.specs.declared.ask.Ask.TheVariants.{Create, Replace, Delete}
+use Rattle.member_rules.specs.declared.operation.Op.TheVariants.{Add, Change, Remove, Set}
+use Rattle.member_rules.specs.declared.ask.Ask.TheVariants.{Create, Replace, Delete, Change as ChangeSetting}
 use Rattle.member_rules.specs.declared.fault.RuleFault.{RuleFault}
 use Rattle.member_rules.specs.declared.fault.RuleFault.TheVariants.{NotFound, Deleted, ClockSpent, TooLarge}
+use Rattle.member_rules.specs.declared.setting.Setting.{Setting}
 use Rattle.member_rules.specs.declared.state.State.TheVariants.{Never, Live, Gone}
 use Rattle.member_rules.specs.Fold.{fold_of, made, last_moment, last_naming, state_by, state_of}
 use Rattle.member_rules.specs.History.{AreFollowing, entry_limit, later_of}
@@ -201,6 +202,13 @@ pub decide-delete : (name : FeedName) (created : ℤ) (history : List Op) (numbe
     { tombstone = record { number = number; when = later_of m stored.updated }; moment = m }))
 unfolding decide
 decide-delete name created history number now live moment l m = rw (l, m) refl
+
+-- the decision of a change of a setting, by its moment
+pub decide-change : (name : FeedName) (created : ℤ) (history : List Op) (setting : Setting) (now : ℕ)
+    (moment : Result ℤ RuleFault) → moment ≡ next_moment created history now
+    → decide name created history (ChangeSetting setting) now ≡ (moment >>= λ m. Ok (Set setting m))
+unfolding decide
+decide-change name created history setting now moment e = rw e refl
 
 pub ok_at : {A E : Type 0} (r : Result A E) (P : A → Type 0) → IsOkAnd r P → (x : A) × (r ≡ Ok x) × P x
 ok_at (Ok x) P h = (x, refl, h)

@@ -1,11 +1,12 @@
 -- The documents of a cut of a history keep the rules of documents.
 use Rattle.std.proofs.Common.{◌≡◌, ◌≢◌, ℕ, ◌+◌, ◌-◌, ◌<◌, ◌≤◌, true, List, length, take, drop, subst, sym, ap, ◌∙◌}
 use Rattle.std.proofs.Common.{arith, length-drop}
+use Rattle.std.specs.Prelude.{All}
 use Rattle.std.proofs.lemmas.List.{length-take-le}
 use Rattle.std.proofs.lemmas.List.Elements.{All-take, All-drop}
 use Rattle.std.proofs.lemmas.Bool.Decides.{nat_tests}
 use Rattle.atom_writer.specs.declared.doc.Kind.TheVariants.{Subscription, Archive}
-use Rattle.atom_writer.specs.Doc.{KeepsRules, IsDoc, is_placed}
+use Rattle.atom_writer.specs.Doc.{KeepsRules, IsDoc, IsFeedName, is_placed}
 use Rattle.member_rules.specs.declared.operation.Op.{Op}
 use Rattle.member_rules.specs.Operation.{IsOperation}
 use Rattle.member_rules.specs.Head.{HeadValue, IsHead, window_limit}
@@ -15,7 +16,16 @@ use Rattle.member_rules.specs.Windows.{windows_of}
 use Rattle.member_rules.specs.Chain.{IsOpenCut}
 use Rattle.member_rules.proofs.CutLemmas.{IsCut, IsCut-open, IsSpan, span-of, some-open, ends-at_least, full-cut}
 use Rattle.member_rules.proofs.CutLemmas.{windows-cut}
+use Rattle.member_rules.proofs.WindowLemmas.{title_after-keeps}
 use Rattle.member_rules.proofs.ItemsKeptLemmas.{items-length, items-distinct, items-keep, last_moment-keeps}
+
+-- a name keeps its rules, whatever title the operations set
+pub name_of-keeps : (head : HeadValue) (operations : List Op) → IsHead head → All IsOperation operations
+    → IsFeedName (name_of head operations)
+unfolding name_of
+name_of-keeps head operations is_head are =
+    let title = title_after-keeps head.name.title operations (is_head.name.title, is_head.limits.title) are in
+    record { base = is_head.name.base; id = is_head.name.id; title = title.0; author = is_head.name.author }
 
 archive-placed : (number before end : ℕ) → 1 ≤ number → number < 4_294_967_295 → before < end → number - 1 ≤ before
     → (number ≡ 1 → before ≡ 0) → is_placed (Archive number) record { first = before + 1; last = end } (number - 1)
@@ -72,33 +82,32 @@ subscription-rules ends archives head history cut =
 pub archive-is_doc : (ends : ℕ → ℕ) (archives : ℕ) (head : HeadValue) (history : List Op) (number : ℕ) → IsHead head
     → IsLawful head history → IsCut ends archives (length history) → 1 ≤ number → number ≤ archives
     → IsDoc (archive_of ends head history number)
-unfolding archive_of document_of name_of
+unfolding archive_of document_of
 archive-is_doc ends archives head history number is_head lawful cut one l =
+    let covered = take (ends number) history in
+    let are = All-take IsOperation (ends number) history lawful.operations in
     let at = covered-span ends archives history number cut one l in
     let rules = archive-rules ends archives head history number cut lawful.few one l in
     record {
-      name = is_head.name;
+      name = name_of-keeps head covered is_head are;
       first = omega (arith, at.rises, at.within, lawful.few);
       last = omega (arith, at.within, lawful.few);
       prev = omega (arith, at.counted, at.within, lawful.few);
-      updated = last_moment-keeps head.created (take (ends number) history) is_head.created
-          (All-take IsOperation (ends number) history lawful.operations);
-      items = items-keep (drop (ends (number - 1)) (take (ends number) history))
-          (All-drop IsOperation (ends (number - 1)) (take (ends number) history)
-          (All-take IsOperation (ends number) history lawful.operations));
+      updated = last_moment-keeps head.created covered is_head.created are;
+      items = items-keep (drop (ends (number - 1)) covered) (All-drop IsOperation (ends (number - 1)) covered are);
       rules = rules;
     }
 
 pub subscription-is_doc : (ends : ℕ → ℕ) (archives : ℕ) (head : HeadValue) (history : List Op) → IsHead head
     → IsLawful head history → IsOpenCut ends archives (length history)
     → IsDoc (subscription_of ends archives head history)
-unfolding subscription_of document_of name_of
+unfolding subscription_of document_of
 subscription-is_doc ends archives head history is_head lawful cut =
     let rules = subscription-rules ends archives head history cut in
     let closed = IsCut-open ends archives (length history) cut in
     let least = ends-at_least ends archives (length history) closed archives (omega arith) in
     record {
-      name = is_head.name;
+      name = name_of-keeps head history is_head lawful.operations;
       first = omega (arith, closed.within, lawful.few);
       last = omega (arith, lawful.few);
       prev = omega (arith, closed.within, lawful.few, least);

@@ -1,5 +1,5 @@
 -- The lists of fields of a head.
-use Rattle.std.proofs.Common.{◌≡◌, ◌≢◌, ℕ, zero, suc, ◌<◌, pos, List, [], ◌∷◌, ◌++◌, None, All, replicate, refl, sym, ap, ◌∙◌, append-nil, append_assoc, IsTrue, codes, arith}
+use Rattle.std.proofs.Common.{◌≡◌, ℕ, zero, suc, ◌<◌, pos, List, [], ◌∷◌, ◌++◌, None, All, replicate, refl, sym, append-nil, append_assoc, IsTrue, codes, arith}
 use Rattle.std.proofs.lemmas.Int.{ints}
 use Rattle.std.proofs.lemmas.List.Elements.{All-nil, All-cons}
 use Rattle.atom_values.proofs.XmlTextLemmas.{IsXmlText-nil}
@@ -7,16 +7,18 @@ use Rattle.atom_writer.specs.Pieced.{text_of}
 use Rattle.atom_writer.specs.Pieces.{joined}
 use Rattle.atom_writer.proofs.PieceLemmas.{joined-cons, joined-none}
 use Rattle.atom_writer.proofs.PiecedLemmas.{AreCompared}
-use Rattle.atom_writer.proofs.SameLemmas.{Same-fixed}
 use Rattle.chain_links.specs.Base.{base_text, is_label_char, is_segment_char, IsWord}
-use Rattle.member_rules.specs.Coding.{head_tag, head_fields, heads, number_field, size_field, stamp_field, text_field}
+use Rattle.member_rules.specs.Coding.{head_fields, heads, number_field, size_field, stamp_field, text_field}
 use Rattle.member_rules.specs.FieldLists.{one, both, StopsAt}
 use Rattle.member_rules.specs.Fields.{IsAbsent, stamp, text}
 use Rattle.member_rules.specs.Head.{HeadValue, IsHead}
-use Rattle.member_rules.specs.HeadFields.{base, feed_id, title, window, capacity, created, titles, NameValue, name_parts, settings, SettingsValue, head_parts, head_of, first_format}
-use Rattle.member_rules.proofs.KindLemmas.{IsKind}
-use Rattle.member_rules.proofs.RuledLemmas.{base_one, feed_id_one, title_one, window_one, capacity_one, created_one}
+use Rattle.member_rules.specs.HeadFields.{format, base, feed_id, title, window, capacity, created, titles, NameValue, name_parts, settings, SettingsValue, HeadParts, head_parts, head_of}
+use Rattle.member_rules.proofs.RuledLemmas.{format_one, base_one, feed_id_one, title_one, window_one, capacity_one, created_one}
 use Rattle.member_rules.proofs.SequenceLemmas.{IsSequence, Continues, Renames, sequence_one, sequence_both, sequence_compared, stops_one, renamed, renamed_compared}
+
+format_is : format.Is 1
+unfolding format
+format_is = (omega arith, omega arith)
 
 example_base : List ℕ
 example_base = codes "http://a/"
@@ -62,6 +64,12 @@ capacity_is = (omega arith, omega arith)
 created_is : created.Is (pos 0)
 unfolding created
 created_is = ((omega (arith, ints), omega (arith, ints)), omega (arith, ints))
+
+pub format_sequence : IsSequence (one format)
+format_sequence = sequence_one format format_one 1 format_is
+
+pub format_stops : (input : List ℕ) → IsAbsent format input → StopsAt (one format) input input
+format_stops input none = stops_one format 1 format_is input none
 
 pub base_sequence : IsSequence (one base)
 base_sequence = sequence_one base base_one example_base base_is
@@ -116,90 +124,58 @@ pub settings_sequence : IsSequence settings
 settings_sequence =
     sequence_both (one window) (λ _. both (one capacity) (λ _. one created)) window_sequence (λ _ _. limits_sequence)
 
+pub name_settings_sequence : IsSequence (both name_parts (λ _. settings))
+name_settings_sequence = sequence_both name_parts (λ _. settings) name_sequence (λ _ _. settings_sequence)
+
 parts_sequence : IsSequence head_parts
-parts_sequence = sequence_both name_parts (λ _. settings) name_sequence (λ _ _. settings_sequence)
+parts_sequence =
+    sequence_both (one format) (λ _. both name_parts (λ _. settings)) format_sequence
+    (λ _ _. name_settings_sequence)
 
-parts_of : HeadValue → NameValue × SettingsValue
-parts_of h =
-    ((h.name.base, (h.name.id, (h.name.title, h.name.author))), (h.window, (h.capacity, h.created)))
+parts_of : HeadValue → HeadParts
+parts_of h = (
+  h.format,
+  ((h.name.base, (h.name.id, (h.name.title, h.name.author))), (h.window, (h.capacity, h.created))),
+)
 
-head_renames : Renames head_parts first_format head_of parts_of
-unfolding one both base feed_id title window capacity created first_format parts_of
+head_renames : Renames head_parts heads head_of parts_of
+unfolding one both format base feed_id title window capacity created head_fields parts_of
 head_renames = record {
   is = λ b is. record {
-    name = record { base = is.0.0; id = is.0.1.0; title = is.0.1.1.0.0; author = is.0.1.1.1.0 };
-    created = is.1.1.1.0;
+    name = record { base = is.1.0.0; id = is.1.0.1.0; title = is.1.0.1.1.0.0; author = is.1.0.1.1.1.0 };
+    created = is.1.1.1.1.0;
     limits = record {
-      window = is.1.0;
-      capacity = is.1.1.0;
-      title = is.0.1.1.0.1;
-      author = is.0.1.1.1.1;
-      created = is.1.1.1.1;
+      format = is.0;
+      window = is.1.1.0;
+      capacity = is.1.1.1.0;
+      title = is.1.0.1.1.0.1;
+      author = is.1.0.1.1.1.1;
+      created = is.1.1.1.1.1;
     };
   };
   pieces = λ b. refl;
   was = λ h is. (
-    (is.name.base, (is.name.id, ((is.name.title, is.limits.title), (is.name.author, is.limits.author)))),
-    (is.limits.window, (is.limits.capacity, (is.created, is.limits.created))),
+    is.limits.format,
+    (
+      (is.name.base, (is.name.id, ((is.name.title, is.limits.title), (is.name.author, is.limits.author)))),
+      (is.limits.window, (is.limits.capacity, (is.created, is.limits.created))),
+    ),
   );
   again = λ h. refl;
 }
 
-pub head_begun : (input : List ℕ) → Continues first_format input head_parts input head_of
-head_begun input = renamed head_parts first_format head_of parts_of head_renames input
+pub head_begun : (input : List ℕ) → Continues heads input head_parts input head_of
+head_begun input = renamed head_parts heads head_of parts_of head_renames input
 
 -- the rules of the fields together
-pub head_rules : (n : NameValue) (s : SettingsValue) → name_parts.Is n → settings.Is s → IsHead (head_of (n, s))
-unfolding both first_format
-head_rules n s is_name is_settings = head_renames.is (n, s) (is_name, is_settings)
-
-format_compared : AreCompared first_format
-format_compared =
-    renamed_compared head_parts first_format head_of parts_of head_renames (sequence_compared head_parts parts_sequence)
-
-pub formats : IsKind heads head_tag first_format (λ h. h)
-unfolding head_fields first_format
-formats = record {
-  is = λ h is. is;
-  was = λ h is. is;
-  pieces = λ h. refl;
-  only = λ h behind more e. (h, refl);
-}
+pub head_rules : (f : ℕ) (n : NameValue) (s : SettingsValue) → format.Is f → name_parts.Is n → settings.Is s
+    → IsHead (head_of (f, (n, s)))
+unfolding one both
+head_rules f n s is_format is_name is_settings = head_renames.is (f, (n, s)) (is_format, (is_name, is_settings))
 
 pub heads_compared : AreCompared heads
-unfolding head_fields first_format
-heads_compared a b is_a is_b =
-    Same-fixed (head_tag ∷ []) (first_format.pieces a) (first_format.pieces b) (format_compared a b is_a is_b)
-
-example : HeadValue
-example = record {
-  name = record { base = example_base; id = replicate 16 0; title = []; author = [] };
-  window = 1;
-  capacity = 4_096;
-  created = pos 0;
-}
-
-example_is : IsHead example
-unfolding one both title example base feed_id window capacity created
-example_is =
-    head_rules (example_base, (replicate 16 0, ([], []))) (1, (4_096, pos 0))
-    (base_is, (id_is, (title_is, title_is))) (window_is, (capacity_is, created_is))
-
--- the first byte is that of no format
-pub no_format : (input : List ℕ) → ((after : List ℕ) → input ≢ head_tag ∷ after) → StopsAt heads input input
-unfolding head_fields first_format
-no_format input no_head = record {
-  read = [];
-  split = ap (λ (z : List ℕ). z ++ input) (sym joined-none);
-  value = example;
-  lawful = example_is;
-  next = head_tag ∷ [];
-  later = first_format.pieces example;
-  begins = refl;
-  stuck = λ other lawful behind p after left e f.
-      let first : head_tag ∷ [] ≡ p = cc in
-      no_head after (f ∙ ap (λ z. z ++ after) (sym first));
-}
+heads_compared =
+    renamed_compared head_parts heads head_of parts_of head_renames (sequence_compared head_parts parts_sequence)
 
 eight : (a b c d e f g h : List ℕ)
     → a ++ b ++ c ++ d ++ e ++ f ++ g ++ h ≡ joined (a ∷ b ∷ c ∷ d ∷ e ∷ f ∷ g ∷ h ∷ [])
@@ -207,9 +183,9 @@ eight a b c d e f g h = sym (simp (joined-cons, joined-none, append-nil, append_
 
 -- the fields that are written one after another
 pub head_written : (h : HeadValue)
-    → (head_tag ∷ []) ++ text_field h.name.base ++ h.name.id ++ text.bytes h.name.title ++ text.bytes h.name.author
+    → (h.format ∷ []) ++ text_field h.name.base ++ h.name.id ++ text.bytes h.name.title ++ text.bytes h.name.author
     ++ number_field h.window ++ size_field h.capacity ++ stamp.bytes h.created ≡ text_of heads h
 unfolding text stamp head_fields
 head_written h =
-    eight (head_tag ∷ []) (text_field h.name.base) h.name.id (text_field h.name.title) (text_field h.name.author)
+    eight (h.format ∷ []) (text_field h.name.base) h.name.id (text_field h.name.title) (text_field h.name.author)
     (number_field h.window) (size_field h.capacity) (stamp_field h.created)

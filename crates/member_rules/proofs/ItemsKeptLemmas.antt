@@ -12,7 +12,7 @@ use Rattle.atom_values.specs.Stamp.{IsStamp}
 use Rattle.deleted_entries.specs.Item.{item_number, IsItem}
 use Rattle.deleted_entries.specs.declared.item.Item.{Item}
 use Rattle.member_rules.specs.declared.operation.Op.{Op}
-use Rattle.member_rules.specs.declared.operation.Op.TheVariants.{Add, Change, Remove}
+use Rattle.member_rules.specs.declared.operation.Op.TheVariants.{Add, Change, Remove, Set}
 use Rattle.member_rules.specs.Operation.{item_of, moment_of, IsOperation}
 use Rattle.member_rules.specs.Fold.{last_moment}
 use Rattle.member_rules.specs.Items.{items_of}
@@ -107,6 +107,7 @@ item_of-keeps : (operation : Op) → IsOperation operation → IfSome (item_of o
 item_of-keeps (Add entry) h = h
 item_of-keeps (Change entry) h = h
 item_of-keeps (Remove removal) h = h.tombstone
+item_of-keeps (Set setting moment) h = tt
 
 in_place-each : (Q : Item → Type 0) (item : Option Item) (older : List Item) → IfSome item Q → All Q older
     → All Q (in_place item older)
@@ -142,6 +143,7 @@ moment-keeps : (operation : Op) → IsOperation operation → IsStamp (moment_of
 moment-keeps (Add entry) h = h.edited
 moment-keeps (Change entry) h = h.edited
 moment-keeps (Remove removal) h = h.moment
+moment-keeps (Set setting moment) h = h.1
 
 pub last_moment-keeps : (created : ℤ) (operations : List Op) → IsStamp created → All IsOperation operations
     → IsStamp (last_moment created operations)

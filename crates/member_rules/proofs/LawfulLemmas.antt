@@ -11,11 +11,12 @@ use Rattle.atom_values.specs.Stamp.{IsStamp}
 use Rattle.atom_writer.specs.declared.doc.FeedName.{FeedName}
 use Rattle.atom_writer.specs.Pieces.{entry_piece}
 use Rattle.member_rules.specs.declared.operation.Op.{Op}
-use Rattle.member_rules.specs.declared.operation.Op.TheVariants.{Add, Change, Remove}
+use Rattle.member_rules.specs.declared.operation.Op.TheVariants.{Add, Change, Remove, Set}
 use Rattle.member_rules.specs.declared.ask.Ask.{Ask}
-use Rattle.member_rules.specs.declared.ask.Ask.TheVariants.{Create, Replace, Delete}
+use Rattle.member_rules.specs.declared.ask.Ask.TheVariants.{Create, Replace, Delete, Change as ChangeSetting}
 use Rattle.member_rules.specs.declared.fault.RuleFault.{RuleFault}
 use Rattle.member_rules.specs.declared.fault.RuleFault.TheVariants.{NotFound, ClockSpent, TooLarge}
+use Rattle.member_rules.specs.declared.setting.Setting.{Setting}
 use Rattle.member_rules.specs.Head.{HeadValue}
 use Rattle.member_rules.specs.Operation.{IsOperation, KeepsEntry}
 use Rattle.member_rules.specs.Fold.{Fold, set, no_members, after_operation, fold_of, made, last_moment}
@@ -137,6 +138,10 @@ replace-gives name created history number draft now operation e =
       is = l.1;
     }
 
+-- an operation that is answered is the only one
+same_ok : (a b : Op) → (let r : Result Op RuleFault = Ok a in r ≡ Ok b) → a ≡ b
+same_ok a b e = cc
+
 record DeleteGives (created : ℤ) (history : List Op) (number : ℕ) (operation : Op) : Type 0 where
   stored : EntryValue
   live : (1 ≤ number) × ((fold_of history).live number ≡ Some stored)
@@ -162,12 +167,26 @@ delete-gives name created history number now operation e =
       later =
           next_moment-ok created history now m.0 m.1;
       is =
-          same (Remove record { tombstone = record { number = number; when = later_of m.0 s.0.updated }; moment = m.0 })
+          same_ok (Remove record { tombstone = record { number = number; when = later_of m.0 s.0.updated }; moment = m.0 })
           operation m.2;
     }
-  where
-    same : (a b : Op) → (let r : Result Op RuleFault = Ok a in r ≡ Ok b) → a ≡ b
-    same a b e = cc
+
+record ChangeGives (created : ℤ) (history : List Op) (setting : Setting) (operation : Op) : Type 0 where
+  moment : ℤ
+  later : (last_moment created history <ℤ moment) × IsStamp moment
+  is : Set setting moment ≡ operation
+
+change-gives : (name : FeedName) (created : ℤ) (history : List Op) (setting : Setting) (now : ℕ) (operation : Op)
+    → decide name created history (ChangeSetting setting) now ≡ Ok operation
+    → ChangeGives created history setting operation
+unfolding decide
+change-gives name created history setting now operation e =
+    let m = split_ok (next_moment created history now) (λ m. Ok (Set setting m)) operation e in
+    record {
+      moment = m.0;
+      later = next_moment-ok created history now m.0 m.1;
+      is = same_ok (Set setting m.0) operation m.2;
+    }
 
 -- an entry made of a draft is no older than the stored one
 not_before-stored : (moment stored : ℤ) → stored ≤ℤ not_before moment (Some stored)
@@ -214,6 +233,9 @@ decide-follows name created history (Delete number) now operation e =
       later = g.later.0;
       fits = some_and ((fold_of history).live number) g.stored _ g.live.1 refl;
     })
+decide-follows name created history (ChangeSetting setting) now operation e =
+    let g = change-gives name created history setting now operation e in
+    subst (MayFollow created history) g.is (record { later = g.later.0; fits = tt })
 
 -- live entries keep what the operations do
 abbrev AllEntries : Fold → Type 0
@@ -235,6 +257,7 @@ after-entries : (members : Fold) (operation : Op) → AllEntries members → IsO
 after-entries members (Add made) all new = set-entries members.live made.number (Some made) all new
 after-entries members (Change made) all new = set-entries members.live made.number (Some made) all new
 after-entries members (Remove removal) all new = set-entries members.live removal.tombstone.number None all tt
+after-entries members (Set setting moment) all new = all
 
 fold-entries : (operations : List Op) (members : Fold) → AllEntries members → All IsOperation operations
     → AllEntries (fold after_operation members operations)
@@ -280,6 +303,9 @@ decide-keeps name created history (Delete number) now operation e following all 
       },
       tt,
     )
+decide-keeps name created history (ChangeSetting setting) now operation e following all few entry =
+    let g = change-gives name created history setting now operation e in
+    subst (λ (o : Op). IsOperation o × IsSmall name o) g.is ((subst KeepsEntry (sym g.is) entry, g.later.1), tt)
 
 pub decide-lawful : (head : HeadValue) (history : List Op) (ask : Ask) (now : ℕ) (operation : Op)
     → decide head.name head.created history ask now ≡ Ok operation

@@ -26,6 +26,8 @@ pub mod RecentLemmas
 pub mod ItemsLemmas
 -- serves `chain_shows_the_fold`, `cuts`: what the items of a list of operations keep
 pub mod ItemsKeptLemmas
+-- for the windows and the title: where windows end, and what operations have set
+pub mod WindowLemmas
 -- serves `chain_shows_the_fold`, `windows`, `windows_seal_in_turn` and `sealed_windows_are_full`
 pub mod CutLemmas
 -- serves `chain_shows_the_fold`, `cuts`: the rules of documents
@@ -52,8 +54,10 @@ pub mod RuledLemmas
 pub mod SequenceLemmas
 -- serves `read_op`: the fields of an entry, one after another
 pub mod EntrySequences
--- serves `read_op` and `read_head`: the first byte tells what follows
+-- serves `read_op`: the first byte tells what follows
 pub mod KindLemmas
+-- serves `read_op`: the kinds of settings
+pub mod SettingLemmas
 -- serves `read_op`: the kinds of operations
 pub mod OperationLemmas
 -- serves `op_bytes` and `head_bytes`, `bound`, and `operations_are_long`

@@ -7,19 +7,22 @@ use Rattle.atom_writer.specs.Pieces.{joined}
 use Rattle.atom_writer.proofs.PieceLemmas.{joined-cons, joined-none}
 use Rattle.atom_writer.proofs.PiecedLemmas.{AreCompared}
 use Rattle.atom_writer.proofs.SameLemmas.{Same, Same-cons}
-use Rattle.member_rules.specs.Coding.{add_tag, change_tag, remove_tag, number_field, stamp_field, operation_fields, operations}
+use Rattle.member_rules.specs.Coding.{add_tag, change_tag, remove_tag, set_tag, number_field, stamp_field, setting_fields, operation_fields, operations}
 use Rattle.member_rules.specs.EntryFields.{entries}
 use Rattle.member_rules.specs.FieldLists.{one, both, StopsAt}
 use Rattle.member_rules.specs.Fields.{byte, counted, stamp, IsAbsent}
 use Rattle.member_rules.specs.Operation.{IsOperation}
 use Rattle.member_rules.specs.Removal.{RemovalValue, IsRemoval}
 use Rattle.member_rules.specs.RemovalFields.{parts, removal_of, removals, stamp_from}
+use Rattle.member_rules.specs.SettingFields.{settings, sets, set_of}
 use Rattle.member_rules.specs.declared.operation.Op.{Op}
-use Rattle.member_rules.specs.declared.operation.Op.TheVariants.{Add, Change, Remove}
+use Rattle.member_rules.specs.declared.operation.Op.TheVariants.{Add, Change, Remove, Set}
+use Rattle.member_rules.specs.declared.setting.Setting.{Setting}
 use Rattle.member_rules.proofs.EntrySequences.{counted_sequence, stamp_sequence, entries_compared}
 use Rattle.member_rules.proofs.FieldLemmas.{byte_one}
 use Rattle.member_rules.proofs.KindLemmas.{IsKind, same_map}
 use Rattle.member_rules.proofs.RuledLemmas.{from_one}
+use Rattle.member_rules.proofs.SettingLemmas.{sets_compared}
 use Rattle.member_rules.proofs.SequenceLemmas.{IsSequence, Continues, Renames, sequence_one, sequence_both, sequence_compared, stops_one, renamed, renamed_compared}
 
 from_is : (moment : ℤ) → stamp.Is moment → (stamp_from moment).Is moment
@@ -78,18 +81,21 @@ tag_of : Op → ℕ
 tag_of (Add entry) = add_tag
 tag_of (Change entry) = change_tag
 tag_of (Remove removal) = remove_tag
+tag_of (Set setting moment) = set_tag
 
 -- the fields after it
 body_of : Op → List (List ℕ)
 body_of (Add entry) = entries.pieces entry
 body_of (Change entry) = entries.pieces entry
 body_of (Remove removal) = removals.pieces removal
+body_of (Set setting moment) = sets.pieces (moment, setting)
 
 fields-is : (o : Op) → operation_fields o ≡ (tag_of o ∷ []) ∷ body_of o
-unfolding tag_of body_of entries removals
+unfolding tag_of body_of entries removals one both stamp settings
 fields-is (Add entry) = refl
 fields-is (Change entry) = refl
 fields-is (Remove removal) = refl
+fields-is (Set setting moment) = refl
 
 tag_in : (o : Op) (behind : List (List ℕ)) (p : List ℕ) (more : List (List ℕ))
     → operation_fields o ++ behind ≡ p ∷ more → tag_of o ∷ [] ≡ p
@@ -111,6 +117,11 @@ remove_only : (o : Op) → tag_of o ≡ remove_tag → (removal : RemovalValue) 
 unfolding tag_of
 remove_only (Remove removal) e = (removal, refl)
 remove_only _ e = absurd (omega (arith, e))
+
+set_only : (o : Op) → tag_of o ≡ set_tag → (s : ℤ × Setting) × (o ≡ set_of s)
+unfolding tag_of
+set_only (Set setting moment) e = ((moment, setting), refl)
+set_only _ e = absurd (omega (arith, e))
 
 tagged : (o : Op) (behind : List (List ℕ)) (tag : ℕ) (more : List (List ℕ))
     → operation_fields o ++ behind ≡ (tag ∷ []) ∷ more → tag_of o ≡ tag
@@ -145,14 +156,26 @@ removes = record {
   only = λ o behind more e. remove_only o (tagged o behind remove_tag more e);
 }
 
+pub set_kind : IsKind operations set_tag sets set_of
+unfolding one both stamp settings
+set_kind = record {
+  is = λ a is. (is.1, is.0);
+  was = λ a is. (is.1, is.0);
+  pieces = λ a. refl;
+  only = λ o behind more e. set_only o (tagged o behind set_tag more e);
+}
+
 bodies : (a b : Op) → IsOperation a → IsOperation b → tag_of a ≡ tag_of b → Same (body_of a) (body_of b) (a ≡ b)
-unfolding tag_of body_of entries removals
+unfolding tag_of body_of entries removals one both stamp settings
 bodies (Add x) (Add y) is_a is_b same =
     same_map (entries.pieces x) (entries.pieces y) (λ e. ap (λ z. Add z) e) (entries_compared x y is_a is_b)
 bodies (Change x) (Change y) is_a is_b same =
     same_map (entries.pieces x) (entries.pieces y) (λ e. ap (λ z. Change z) e) (entries_compared x y is_a is_b)
 bodies (Remove x) (Remove y) is_a is_b same =
     same_map (removals.pieces x) (removals.pieces y) (λ e. ap (λ z. Remove z) e) (removals_compared x y is_a is_b)
+bodies (Set x m) (Set y n) is_a is_b same =
+    same_map (sets.pieces (m, x)) (sets.pieces (n, y)) (λ e. ap set_of e)
+    (sets_compared (m, x) (n, y) (is_a.1, is_a.0) (is_b.1, is_b.0))
 bodies _ _ is_a is_b same = absurd (omega (arith, same))
 
 tag_small : (o : Op) → byte.Is (tag_of o)
@@ -160,6 +183,7 @@ unfolding byte tag_of
 tag_small (Add entry) = omega arith
 tag_small (Change entry) = omega arith
 tag_small (Remove removal) = omega arith
+tag_small (Set setting moment) = omega arith
 
 pub operations_compared : AreCompared operations
 unfolding byte
@@ -173,11 +197,12 @@ operations_compared a b is_a is_b =
 -- the first byte is that of no kind
 none_there : (input : List ℕ) → ((after : List ℕ) → input ≢ add_tag ∷ after)
     → ((after : List ℕ) → input ≢ change_tag ∷ after) → ((after : List ℕ) → input ≢ remove_tag ∷ after)
-    → (o : Op) (after : List ℕ) → input ≢ tag_of o ∷ after
+    → ((after : List ℕ) → input ≢ set_tag ∷ after) → (o : Op) (after : List ℕ) → input ≢ tag_of o ∷ after
 unfolding tag_of
-none_there input no_add no_change no_remove (Add entry) after e = no_add after e
-none_there input no_add no_change no_remove (Change entry) after e = no_change after e
-none_there input no_add no_change no_remove (Remove removal) after e = no_remove after e
+none_there input no_add no_change no_remove no_set (Add entry) after e = no_add after e
+none_there input no_add no_change no_remove no_set (Change entry) after e = no_change after e
+none_there input no_add no_change no_remove no_set (Remove removal) after e = no_remove after e
+none_there input no_add no_change no_remove no_set (Set setting moment) after e = no_set after e
 
 example : RemovalValue
 example = record { tombstone = record { number = 1; when = pos 0 }; moment = pos 0 }
@@ -192,8 +217,8 @@ example_is = record {
 
 pub no_kind : (input : List ℕ) → ((after : List ℕ) → input ≢ add_tag ∷ after)
     → ((after : List ℕ) → input ≢ change_tag ∷ after) → ((after : List ℕ) → input ≢ remove_tag ∷ after)
-    → StopsAt operations input input
-no_kind input no_add no_change no_remove = record {
+    → ((after : List ℕ) → input ≢ set_tag ∷ after) → StopsAt operations input input
+no_kind input no_add no_change no_remove no_set = record {
   read = [];
   split = ap (λ (z : List ℕ). z ++ input) (sym joined-none);
   value = Remove example;
@@ -203,7 +228,7 @@ no_kind input no_add no_change no_remove = record {
       number_field example.tombstone.number ∷ stamp_field example.moment ∷ stamp_field example.tombstone.when ∷ [];
   begins = refl;
   stuck = λ other lawful behind p after left e f.
-      none_there input no_add no_change no_remove other after
+      none_there input no_add no_change no_remove no_set other after
       (f ∙ ap (λ z. z ++ after) (sym (tag_in other behind p left e)));
 }
 
@@ -216,3 +241,11 @@ removal_written r = sym (simp (joined-cons, joined-none, append-nil, append_asso
 pub tagged_written : (o : Op) (tag : ℕ) (later : List (List ℕ)) → operation_fields o ≡ (tag ∷ []) ∷ later
     → tag ∷ joined later ≡ text_of operations o
 tagged_written o tag later is = sym (ap joined is ∙ joined-cons (tag ∷ []) later)
+
+-- the same of a change of a setting
+pub set_written : (setting : Setting) (moment : ℤ)
+    → (set_tag ∷ []) ++ stamp.bytes moment ++ text_of settings setting ≡ text_of operations (Set setting moment)
+unfolding stamp settings
+set_written setting moment =
+    sym (joined-cons (set_tag ∷ []) (stamp_field moment ∷ setting_fields setting)
+    ∙ ap (λ z. set_tag ∷ z) (joined-cons (stamp_field moment) (setting_fields setting)))

@@ -20,7 +20,8 @@ use Rattle.member_rules.specs.Head.{HeadValue, IsHead}
 use Rattle.member_rules.specs.Laws.{OperationsAreLong}
 use Rattle.member_rules.specs.Operation.{IsOperation}
 use Rattle.member_rules.specs.declared.operation.Op.{Op}
-use Rattle.member_rules.specs.declared.operation.Op.TheVariants.{Add, Change, Remove}
+use Rattle.member_rules.specs.declared.operation.Op.TheVariants.{Add, Change, Remove, Set}
+use Rattle.member_rules.specs.declared.setting.Setting.TheVariants.{Title, Window}
 
 -- the sum of the fields' lengths
 total : List (List ℕ) → ℕ
@@ -111,12 +112,16 @@ unfolding total
 operation-short (Add e) is = simp joined-cons (omega (arith, entry_fields-short e is))
 operation-short (Change e) is = simp joined-cons (omega (arith, entry_fields-short e is))
 operation-short (Remove r) is = omega (arith, total-joined (operation_fields (Remove r)))
+operation-short (Set (Title t) m) is = omega (arith, total-joined (operation_fields (Set (Title t) m)), is.0.1)
+operation-short (Set (Window n) m) is = omega (arith, total-joined (operation_fields (Set (Window n) m)))
 
 pub operation-long : OperationsAreLong
 unfolding entry_fields total
 operation-long (Add e) is = omega (arith, total-joined (operation_fields (Add e)))
 operation-long (Change e) is = omega (arith, total-joined (operation_fields (Change e)))
 operation-long (Remove r) is = omega (arith, total-joined (operation_fields (Remove r)))
+operation-long (Set (Title t) m) is = omega (arith, total-joined (operation_fields (Set (Title t) m)))
+operation-long (Set (Window n) m) is = omega (arith, total-joined (operation_fields (Set (Window n) m)))
 
 pub head-short : (h : HeadValue) → IsHead h → length (text_of heads h) ≤ payload_limit
 unfolding head_fields total

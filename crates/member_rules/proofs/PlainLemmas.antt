@@ -1,11 +1,10 @@
 -- The effect of one more operation on a walk over a list of operations.
-use Rattle.std.proofs.Common.{◌≡◌, ◌≢◌, ℕ, ◌+◌, ◌<◌, true, false, if◌then◌else◌, ◌==◌, List, ◌∷◌, ◌++◌, [], length}
-use Rattle.std.proofs.Common.{get_or, take, refl, sym, ap, ◌∙◌, arith, length-take}
-use Rattle.std.proofs.lemmas.Bool.Decides.{nat_tests}
+use Rattle.std.proofs.Common.{◌≡◌, ℕ, ◌+◌, ◌<◌, Bool, false, if◌then◌else◌, ◌==◌, eqb, Option, Some, None, List, ◌∷◌}
+use Rattle.std.proofs.Common.{◌++◌, [], length, get_or, take, refl, sym, ap, ◌∙◌, arith, length-take}
+use Rattle.std.specs.Option.{option_eq}
 use Rattle.std.proofs.lemmas.List.{take_more}
 use Rattle.member_rules.specs.declared.operation.Op.{Op}
-use Rattle.member_rules.specs.declared.operation.Op.TheVariants.{Add, Change, Remove}
-use Rattle.member_rules.specs.Operation.{number_of, names}
+use Rattle.member_rules.specs.Operation.{member_of, names}
 use Rattle.member_rules.specs.Fold.{after_operation, fold_of, last_naming}
 use Rattle.member_rules.proofs.FoldLemmas.{fold_of-push, last_naming-push}
 
@@ -29,22 +28,14 @@ last_naming-more number history i operation inside is =
     ∙ last_naming-push number (take i history) operation
     ∙ ap (λ n. if names number operation then n + 1 else last_naming number (take i history)) size
 
--- whether an operation names a member, by its number
-names-is : (number : ℕ) (operation : Op) → names number operation ≡ (number_of operation == number)
-names-is number (Add entry) = refl
-names-is number (Change entry) = refl
-names-is number (Remove removal) = refl
-
-same_number : (n : ℕ) → (n == n) ≡ true
-same_number n = grind (arith, nat_tests)
-
-other_number : (a b : ℕ) → a ≢ b → (a == b) ≡ false
-other_number a b h = grind (arith, nat_tests)
-
-pub names-same : (number : ℕ) (operation : Op) (other : ℕ) → other ≡ number_of operation → other ≡ number
-    → names number operation ≡ true
-names-same number operation other is same = names-is number operation ∙ rw (← is, same) (same_number number)
-
-pub names-other : (number : ℕ) (operation : Op) (other : ℕ) → other ≡ number_of operation → other ≢ number
-    → names number operation ≡ false
-names-other number operation other is apart = names-is number operation ∙ rw (← is) (other_number other number apart)
+-- whether an operation names a member, by the test of the code
+pub names-is : (number : ℕ) (operation : Op) (member : Option ℕ) (same : Bool) → member ≡ member_of operation
+    → same ≡ option_eq eqb member (Some number) → names number operation ≡ same
+names-is number operation member same is test =
+    by_member (member_of operation) ∙ ap (λ (o : Option ℕ). option_eq eqb o (Some number)) (sym is) ∙ sym test
+  where
+    by_member : (named : Option ℕ)
+        → (elim named as (λ _. Bool) [ None ↦ false | Some other ↦ other == number ])
+        ≡ option_eq eqb named (Some number)
+    by_member None = refl
+    by_member (Some other) = refl

@@ -11,11 +11,11 @@ use Rattle.deleted_entries.specs.FeedId.{IsFeedId}
 use Rattle.atom_writer.specs.Reading.{BeginsWith}
 use Rattle.member_rules.specs.EntryFields.{linked, contents}
 use Rattle.member_rules.specs.FieldFaults.{IsOfBase}
-use Rattle.member_rules.specs.Fields.{Field, HasOneValue, IsAbsent, IsFault, ReadsAs, number, size, bytes_of_text, counted, stamp, text, construct, optional, listed, link}
-use Rattle.member_rules.specs.HeadFields.{base, feed_id, title, window, capacity, created}
+use Rattle.member_rules.specs.Fields.{Field, HasOneValue, IsAbsent, IsFault, ReadsAs, byte, number, size, bytes_of_text, counted, stamp, text, construct, optional, listed, link}
+use Rattle.member_rules.specs.HeadFields.{format, base, feed_id, title, window, capacity, created}
 use Rattle.member_rules.specs.RemovalFields.{stamp_from}
 use Rattle.member_rules.specs.declared.codec.fault.FieldFault.{FieldFault}
-use Rattle.member_rules.proofs.FieldLemmas.{Narrows, narrow_one, narrow_broken, counted_narrows, number_one, size_one, bytes_of_text_one, stamp_one, text_one, construct_one, optional_one, listed_one, one_value, same_size, cut}
+use Rattle.member_rules.proofs.FieldLemmas.{Narrows, narrow_one, narrow_broken, counted_narrows, byte_one, number_one, size_one, bytes_of_text_one, stamp_one, text_one, construct_one, optional_one, listed_one, one_value, same_size, cut}
 use Rattle.member_rules.proofs.PartLemmas.{link_one}
 
 pub counted_one : HasOneValue counted
@@ -50,6 +50,13 @@ from_narrows moment = record { is = λ v is. is.0; bytes = λ v. refl }
 
 pub from_one : (moment : ℤ) → HasOneValue (stamp_from moment)
 from_one moment = narrow_one stamp (stamp_from moment) (from_narrows moment) stamp_one
+
+pub format_narrows : Narrows byte format
+unfolding byte format
+format_narrows = record { is = λ v is. omega (arith, is.1); bytes = λ v. refl }
+
+pub format_one : HasOneValue format
+format_one = narrow_one byte format format_narrows byte_one
 
 pub title_narrows : Narrows text title
 unfolding text title

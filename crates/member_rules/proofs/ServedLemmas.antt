@@ -1,5 +1,5 @@
 -- Laws of the documents that a feed serves: they keep the rules, and after more operations the feed still serves them.
-use Rattle.std.proofs.Common.{◌≡◌, inl, inr, ℕ, ◌-◌, ◌≤◌, List, length, take, refl, ap, ◌∙◌, length-take, arith}
+use Rattle.std.proofs.Common.{◌≡◌, inl, inr, ℕ, ◌-◌, ◌≤◌, List, length, take, refl, ap, sym, ◌∙◌, length-take, arith}
 use Rattle.std.proofs.lemmas.List.{take-take, length-take-le}
 use Rattle.std.proofs.lemmas.List.Elements.{All-take}
 use Rattle.atom_writer.specs.Pieces.{text}
@@ -33,10 +33,12 @@ archive_of-stays ends ends' head history version number last first l =
     rw (last, first, take-take (ends number) version history l) refl
 
 pub archive-stays : ArchivesStay
-unfolding archive windows_of
+unfolding archive
 archive-stays head history version number past within =
+    let last = full-ends head history version number past within in
+    let first = full-ends head history version (number - 1) past (omega arith) in
     archive_of-stays (windows_of head history).ends (windows_of head (take version history)).ends head history version
-    number refl refl (full-ends head history version number past within)
+    number (sym last.0) (sym first.0) last.1
 
 feed-stays : (head : HeadValue) (history : List Op) (version : ℕ) → version ≤ length history → (address bytes : List ℕ)
     → ServesFeed head (take version history) address bytes → ServesFeed head history address bytes

@@ -10,7 +10,7 @@ use Rattle.deleted_entries.specs.Item.{item_number}
 use Rattle.deleted_entries.specs.declared.item.Item.{Item}
 use Rattle.deleted_entries.specs.declared.item.Item.TheVariants.{Kept, Gone}
 use Rattle.member_rules.specs.declared.operation.Op.{Op}
-use Rattle.member_rules.specs.declared.operation.Op.TheVariants.{Add, Change, Remove}
+use Rattle.member_rules.specs.declared.operation.Op.TheVariants.{Add, Change, Remove, Set}
 use Rattle.member_rules.specs.declared.state.State.{State}
 use Rattle.member_rules.specs.declared.state.State.TheVariants.{Never, Live, Gone as Deleted}
 use Rattle.member_rules.specs.Operation.{item_of, makes, names}
@@ -224,6 +224,8 @@ AreMembers-step history (Remove removal) are fits =
     let same : made history + 0 ≡ made history = omega arith in
     rw same (one_same (fold_of history) (made history) (Gone removal.tombstone) are
     (is_there ((fold_of history).live removal.tombstone.number) _ fits))
+AreMembers-step history (Set setting moment) are fits =
+    let same : made history + 0 ≡ made history = omega arith in rw same are
 
 pub AreMembers-push : (history : List Op) (operation : Op) → AreMembers (fold_of history) (made history)
     → Fits history operation

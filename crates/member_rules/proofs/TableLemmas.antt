@@ -3,19 +3,20 @@ use Rattle.std.proofs.Common.{◌≡◌, ◌≢◌, inl, inr, ℕ, zero, suc, �
 use Rattle.std.proofs.Common.{if◌then◌else◌, ◌==◌, Option, Some, None, option_map, List, [], ◌∷◌, ◌++◌, length}
 use Rattle.std.proofs.Common.{slice_get, slice_set, IsSomeAnd, length-append, length-set, refl, sym, ap, ap₂, subst}
 use Rattle.std.proofs.Common.{◌∙◌, arith}
-use Rattle.std.specs.Prelude.{is_some, unwrap_or}
+use Rattle.std.specs.Prelude.{is_some, unwrap_or, IfSome}
 use Rattle.std.proofs.lemmas.Bool.{cases_eq, cases_lt}
+use Rattle.std.proofs.lemmas.Option.{IfSome_then}
 use Rattle.atom_values.specs.Entry.{EntryValue}
 use Rattle.deleted_entries.specs.Item.{item_number}
 use Rattle.deleted_entries.specs.declared.item.Item.{Item}
 use Rattle.deleted_entries.specs.declared.item.Item.TheVariants.{Kept, Gone}
-use Rattle.recency_list.specs.Recency.{touched}
 use Rattle.member_rules.specs.declared.operation.Op.{Op}
-use Rattle.member_rules.specs.declared.operation.Op.TheVariants.{Add, Change, Remove}
+use Rattle.member_rules.specs.declared.operation.Op.TheVariants.{Add, Change, Remove, Set}
 use Rattle.member_rules.specs.declared.state.State.{State}
 use Rattle.member_rules.specs.declared.state.State.TheVariants.{Live, Gone as Deleted}
+use Rattle.member_rules.specs.declared.setting.Setting.{Setting}
 use Rattle.member_rules.specs.Removal.{RemovalValue}
-use Rattle.member_rules.specs.Operation.{item_of, names, moment_of, number_of}
+use Rattle.member_rules.specs.Operation.{item_of, member_of, names, moment_of}
 use Rattle.member_rules.specs.Fold.{Fold, with_item, fold_of, made, last_moment, last_naming, live_count, state_by}
 use Rattle.member_rules.specs.Fold.{state_of, count_up_to}
 use Rattle.member_rules.specs.History.{AreFollowing, MayFollow, Fits, later_of}
@@ -25,7 +26,7 @@ use Rattle.member_rules.proofs.FoldLemmas.{AreFollowing-push, get-push-other}
 use Rattle.member_rules.proofs.StateLemmas.{AreMembers-of, live_within, state_with, state_of-push-item}
 use Rattle.member_rules.proofs.StateLemmas.{state_of-push-other, unnamed, is_there, differ, set-same, set-other}
 use Rattle.member_rules.proofs.LiveCountLemmas.{count-same, count-more, count-less}
-use Rattle.member_rules.proofs.RecentLemmas.{named_made, recent_members-push}
+use Rattle.member_rules.proofs.RecentLemmas.{named_made, recent_members-push, touched_by}
 
 -- a live state of a member comes from its live entry
 state_live : (gone : Option ℤ) (live : Option EntryValue) (version version' : ℕ) (updated : ℤ)
@@ -88,6 +89,7 @@ fits_along table created other history past (Change entry) of also fits =
 fits_along table created other history past (Remove removal) of also fits =
     same_live table created other history past removal.tombstone.number
     (λ u. removal.tombstone.when ≡ later_of removal.moment u) of also fits
+fits_along table created other history past (Set setting moment) of also fits = tt
 
 -- an operation that may follow one history of a table may follow each
 pub MayFollow-along : (table : Table) (created other : ℤ) (history past : List Op) (operation : Op)
@@ -248,25 +250,24 @@ edited_less created history removal edited new following from others are number 
 -- the facts of a new table that don't follow from its states and their `edited`
 pub record Commits (table new : Table) (operation : Op) : Type 0 where
   pub sizes : length table.edited ≡ length table.states
-  pub recent : new.recent ≡ touched (number_of operation) table.recent
+  pub recent : new.recent ≡ touched_by (member_of operation) table.recent
   pub last : new.last ≡ moment_of operation
   pub operations : new.operations ≡ table.operations + 1
 
 -- a table after any operation that fits
-after_any : (created : ℤ) (history : List Op) (operation : Op) (item : Item) (table new : Table)
-    → item_of operation ≡ Some item → IsTableOf table created history
+after_any : (created : ℤ) (history : List Op) (operation : Op) (table new : Table) → IsTableOf table created history
     → MayFollow created history operation → Commits table new operation
     → length new.states ≡ made (history ++ operation ∷ []) → AreStates new.states (history ++ operation ∷ [])
     → AreEdited new.edited (history ++ operation ∷ [])
     → new.live ≡ live_count (history ++ operation ∷ []) → IsTableOf new created (history ++ operation ∷ [])
-after_any created history operation item table new is of follows commits count states edited live = record {
+after_any created history operation table new of follows commits count states edited live = record {
   following = AreFollowing-push created history operation of.following follows;
   count = count;
   states = states;
   edited = edited;
   recent = commits.recent
-      ∙ ap₂ touched (ap (λ (o : Option Item). unwrap_or (option_map item_number o) 0) is) of.recent
-      ∙ sym (recent_members-push history operation item is);
+      ∙ ap (touched_by (member_of operation)) of.recent
+      ∙ sym (recent_members-push history operation);
   last = commits.last ∙ sym (last_moment-push created history operation);
   live = live;
   operations = omega (arith, commits.operations, of.operations, length-append history (operation ∷ []));
@@ -295,7 +296,7 @@ IsTableOf-add created history entry table new of follows commits states edited l
     (λ k ne. others_live history (Add entry) (Kept entry) k refl (omega arith)) here in
     let size : length table.edited ≡ made history = commits.sizes ∙ of.count in
     let at : entry.number - 1 ≡ length table.edited = omega (arith, size) in
-    after_any created history (Add entry) (Kept entry) table new refl of follows commits
+    after_any created history (Add entry) table new of follows commits
     (omega (
       arith,
       more,
@@ -337,7 +338,7 @@ IsTableOf-change created history entry table new of follows commits states edite
     let counted : live_count (history ++ Change entry ∷ []) ≡ live_count history =
     ap (count_up_to after) (more ∙ none) ∙ sym (count-same before after (made history) (λ k low high. each k)) in
     let size : length table.edited ≡ made history = commits.sizes ∙ of.count in
-    after_any created history (Change entry) (Kept entry) table new refl of follows commits
+    after_any created history (Change entry) table new of follows commits
     (omega (
       arith,
       more,
@@ -386,7 +387,7 @@ IsTableOf-remove created history removal table new of follows commits states edi
     count-less before after (made history) number within.0 within.1 was here
     (λ k ne. others_live history (Remove removal) (Gone removal.tombstone) k refl (omega arith))
     ∙ ap (λ m. count_up_to after m + 1) (sym (more ∙ none)) in
-    after_any created history (Remove removal) (Gone removal.tombstone) table new refl of follows commits
+    after_any created history (Remove removal) table new of follows commits
     (omega (
       arith,
       more,
@@ -401,6 +402,26 @@ IsTableOf-remove created history removal table new of follows commits states edi
     (edited_less created history removal table.edited (slice_set table.edited (number - 1) None) of.following within.0
     (λ k ne. get-set-other table.edited (number - 1) k None ne) of.edited))
     (omega (arith, counted, live, of.live))
+
+-- a setting changes no member
+pub IsTableOf-set : (created : ℤ) (history : List Op) (setting : Setting) (moment : ℤ) (table new : Table)
+    → IsTableOf table created history → MayFollow created history (Set setting moment)
+    → Commits table new (Set setting moment) → new.states ≡ table.states → new.edited ≡ table.edited
+    → new.live ≡ table.live → IsTableOf new created (history ++ Set setting moment ∷ [])
+IsTableOf-set created history setting moment table new of follows commits states edited live =
+    let maps : fold_of (history ++ Set setting moment ∷ []) ≡ fold_of history =
+    fold_of-push history (Set setting moment) in
+    let none : made history + 0 ≡ made history = omega arith in
+    let count : made (history ++ Set setting moment ∷ []) ≡ made history =
+    made-push history (Set setting moment) ∙ none in
+    after_any created history (Set setting moment) table new of follows commits
+    (ap length states ∙ of.count ∙ sym count)
+    (subst (λ (s : List State). AreStates s (history ++ Set setting moment ∷ [])) (sym states)
+    (λ k inside. of.states k inside
+    ∙ ap Some (sym (state_of-push-other history (Set setting moment) (k + 1) refl))))
+    (subst (λ (e : List (Option ℤ)). AreEdited e (history ++ Set setting moment ∷ [])) (sym edited)
+    (λ number entry stored. of.edited number entry (ap (λ (m : Fold). m.live number) (sym maps) ∙ stored)))
+    (live ∙ of.live ∙ sym (ap₂ (λ (m : Fold) (n : ℕ). count_up_to m.live n) maps count))
 
 -- the same where the operation is known by an equation
 along : (table : Table) (operation is : Op) (created : ℤ) (history : List Op) → operation ≡ is
@@ -444,20 +465,30 @@ commit-remove table new operation removal created history is may of commits stat
     (along table operation (Remove removal) created history is may of)
     (subst (Commits table new) is commits) states edited live)
 
+pub commit-set : (table new : Table) (operation : Op) (setting : Setting) (moment created : ℤ) (history : List Op)
+    → operation ≡ Set setting moment → MayCommit table operation → IsTableOf table created history
+    → Commits table new operation → new.states ≡ table.states → new.edited ≡ table.edited → new.live ≡ table.live
+    → IsTableOf new created (history ++ operation ∷ [])
+commit-set table new operation setting moment created history is may of commits states edited live =
+    subst (λ (o : Op). IsTableOf new created (history ++ o ∷ [])) (sym is)
+    (IsTableOf-set created history setting moment table new of
+    (along table operation (Set setting moment) created history is may of)
+    (subst (Commits table new) is commits) states edited live)
+
 -- there is a slot for the operation's member, which is one of those made or the next one
 pub number-place : (table : Table) (operation : Op) → MayCommit table operation
-    → number_of operation ≤ length table.states + 1
+    → IfSome (member_of operation) (λ number. number ≤ length table.states + 1)
 number-place table operation may =
     let named = named_made may.created may.history operation may.table_of.following may.follows.fits in
-    let number = ap (λ (o : Option Item). unwrap_or (option_map item_number o) 0) named.1 in
-    omega (arith, number, named.3, made-push-le may.history operation, may.table_of.count)
+    IfSome_then (member_of operation) named.0 (λ number within.
+    omega (arith, within.1, made-push-le may.history operation, may.table_of.count))
 
 -- a new member has the next number
 pub add-number : (table : Table) (operation : Op) (entry : EntryValue) → operation ≡ Add entry
-    → MayCommit table operation → number_of operation ≡ length table.states + 1
+    → MayCommit table operation → member_of operation ≡ Some (length table.states + 1)
 add-number table operation entry is may =
     let fits : Fits may.history (Add entry) = subst (λ (o : Op). Fits may.history o) is may.follows.fits in
-    ap number_of is ∙ fits ∙ ap (λ n. n + 1) (sym may.table_of.count)
+    ap member_of is ∙ ap Some (fits ∙ ap (λ n. n + 1) (sym may.table_of.count))
 
 -- a change has its member's place in the table, and a removal too
 pub change-place : (table : Table) (operation : Op) (entry : EntryValue) → operation ≡ Change entry

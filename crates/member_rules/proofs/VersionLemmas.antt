@@ -10,7 +10,7 @@ use Rattle.deleted_entries.specs.Item.{item_number}
 use Rattle.deleted_entries.specs.declared.item.Item.{Item}
 use Rattle.deleted_entries.specs.declared.item.Item.TheVariants.{Kept}
 use Rattle.member_rules.specs.declared.operation.Op.{Op}
-use Rattle.member_rules.specs.declared.operation.Op.TheVariants.{Add, Change, Remove}
+use Rattle.member_rules.specs.declared.operation.Op.TheVariants.{Add, Change, Remove, Set}
 use Rattle.member_rules.specs.declared.state.State.TheVariants.{Live}
 use Rattle.member_rules.specs.Operation.{item_of, names}
 use Rattle.member_rules.specs.Fold.{fold_of, last_naming, state_by, state_of}
@@ -96,6 +96,7 @@ set-of : (operation : Op) (entry : EntryValue) → item_of operation ≡ Some (K
 set-of (Add other) entry e = let same : other ≡ entry = cc in inl (ap Add same)
 set-of (Change other) entry e = let same : other ≡ entry = cc in inr (ap Change same)
 set-of (Remove removal) entry e = absurd (cc)
+set-of (Set setting moment) entry e = absurd (cc)
 
 live_parts : (gone : Option ℤ) (live : Option EntryValue) (naming version : ℕ) (updated : ℤ)
     → state_by gone live naming ≡ Live updated version

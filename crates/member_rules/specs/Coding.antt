@@ -13,15 +13,13 @@ use Rattle.atom_writer.specs.Pieced.{Pieced}
 use Rattle.member_rules.specs.Head.{HeadValue, IsHead}
 use Rattle.member_rules.specs.Operation.{IsOperation}
 use Rattle.member_rules.specs.declared.operation.Op.{Op}
-use Rattle.member_rules.specs.declared.operation.Op.TheVariants.{Add, Change, Remove}
+use Rattle.member_rules.specs.declared.operation.Op.TheVariants.{Add, Change, Remove, Set}
+use Rattle.member_rules.specs.declared.setting.Setting.{Setting}
+use Rattle.member_rules.specs.declared.setting.Setting.TheVariants.{Title, Window}
 
 -- the most bytes of an operation, and of a head
 abbrev pub payload_limit : ℕ
 payload_limit = 67_108_864
-
--- the first byte of a head's bytes
-abbrev pub head_tag : ℕ
-head_tag = 1
 
 -- the first byte of an operation's bytes, for each kind of operation
 abbrev pub add_tag : ℕ
@@ -32,6 +30,16 @@ change_tag = 2
 
 abbrev pub remove_tag : ℕ
 remove_tag = 3
+
+abbrev pub set_tag : ℕ
+set_tag = 4
+
+-- the byte that tells which setting an operation sets
+abbrev pub title_tag : ℕ
+title_tag = 1
+
+abbrev pub window_tag : ℕ
+window_tag = 2
 
 abbrev pub number_field : ℕ → List ℕ
 number_field number = to_be_bytes w32 number
@@ -86,16 +94,21 @@ entry_fields entry =
     ∷ option_field construct_field entry.rights ∷ option_field construct_field entry.summary
     ∷ option_field construct_field entry.content ∷ []
 
+abbrev pub setting_fields : Setting → List (List ℕ)
+setting_fields (Title title) = (title_tag ∷ []) ∷ text_field title ∷ []
+setting_fields (Window size) = (window_tag ∷ []) ∷ number_field size ∷ []
+
 abbrev pub operation_fields : Op → List (List ℕ)
 operation_fields (Add entry) = (add_tag ∷ []) ∷ entry_fields entry
 operation_fields (Change entry) = (change_tag ∷ []) ∷ entry_fields entry
 operation_fields (Remove removal) =
     (remove_tag ∷ []) ∷ number_field removal.tombstone.number ∷ stamp_field removal.moment
     ∷ stamp_field removal.tombstone.when ∷ []
+operation_fields (Set setting moment) = (set_tag ∷ []) ∷ stamp_field moment ∷ setting_fields setting
 
 unfoldable pub head_fields : HeadValue → List (List ℕ)
 head_fields head =
-    (head_tag ∷ []) ∷ text_field head.name.base ∷ head.name.id ∷ text_field head.name.title
+    (head.format ∷ []) ∷ text_field head.name.base ∷ head.name.id ∷ text_field head.name.title
     ∷ text_field head.name.author ∷ number_field head.window ∷ size_field head.capacity
     ∷ stamp_field head.created ∷ []
 

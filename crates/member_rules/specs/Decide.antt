@@ -1,4 +1,4 @@
--- The decision on a client's ask after a history: the operation that the ask becomes, or the first refusal that fits
+-- The decision on an ask after a history: the operation that the ask becomes, or the first refusal that fits
 -- (RFC 5023 sections 9.2 to 9.4).
 use Rattle.std.specs.Prelude.{ℕ, ◌+◌, List, ℤ, pos, ◌+ℤ◌, int_lt, nat_lt, nat_le, ◌&&◌, if◌then◌else◌, Option, Some}
 use Rattle.std.specs.Prelude.{None, Result, Ok, Err, length}
@@ -8,9 +8,9 @@ use Rattle.atom_writer.specs.declared.doc.FeedName.{FeedName}
 use Rattle.atom_writer.specs.Pieces.{entry_piece}
 use Rattle.deleted_entries.specs.FeedId.{member_id}
 use Rattle.member_rules.specs.declared.operation.Op.{Op}
-use Rattle.member_rules.specs.declared.operation.Op.TheVariants.{Add, Change, Remove}
+use Rattle.member_rules.specs.declared.operation.Op.TheVariants.{Add, Change, Remove, Set}
 use Rattle.member_rules.specs.declared.ask.Ask.{Ask}
-use Rattle.member_rules.specs.declared.ask.Ask.TheVariants.{Create, Replace, Delete}
+use Rattle.member_rules.specs.declared.ask.Ask.TheVariants.{Create, Replace, Delete, Change as ChangeSetting}
 use Rattle.member_rules.specs.declared.fault.RuleFault.{RuleFault}
 use Rattle.member_rules.specs.declared.fault.RuleFault.TheVariants.{NotFound, Deleted, OtherId, ClockSpent, TooLarge}
 use Rattle.member_rules.specs.Fold.{fold_of, made, last_moment}
@@ -87,3 +87,6 @@ decide name created history (Delete number) now =
       tombstone = record { number = number; when = later_of moment stored.updated };
       moment = moment;
     })
+decide name created history (ChangeSetting setting) now =
+    next_moment created history now
+    >>= λ moment. Ok (Set setting moment)

@@ -4,12 +4,18 @@ use Rattle.atom_values.specs.Stamp.{IsStamp}
 use Rattle.atom_writer.specs.declared.doc.FeedName.{FeedName}
 use Rattle.atom_writer.specs.Doc.{IsFeedName}
 
--- the feed's name, how many operations a window has, how many bytes an area may have, and when the feed was made
+-- the format of its bytes, the feed's first name, how many operations the first window has, how many bytes an area may
+-- have, and when the feed was made
 pub record HeadValue : Type 0 where
+  pub format : ℕ
   pub name : FeedName
   pub window : ℕ
   pub capacity : ℕ
   pub created : ℤ
+
+-- the newest format of a head's bytes
+abbrev pub newest_format : ℕ
+newest_format = 3
 
 -- the most operations of a window
 abbrev pub window_limit : ℕ
@@ -29,6 +35,7 @@ capacity_limit = 2 ^ 36
 
 -- the limits of a head
 pub record KeepsLimits (h : HeadValue) : Type 0 where
+  pub format : (1 ≤ h.format) × (h.format ≤ newest_format)
   pub window : (1 ≤ h.window) × (h.window ≤ window_limit)
   pub capacity : (capacity_floor ≤ h.capacity) × (h.capacity ≤ capacity_limit)
   pub title : length h.name.title ≤ title_limit

@@ -1,7 +1,6 @@
 -- The fields of a head in the steps in which they are read. Contracts see each step as nested pairs.
-use Rattle.std.specs.Prelude.{ℕ, ◌≤◌, ℤ, pos, ◌≤ℤ◌, List, [], ◌∷◌, length}
+use Rattle.std.specs.Prelude.{ℕ, ◌≤◌, ℤ, pos, ◌≤ℤ◌, List, [], ◌∷◌}
 use Rattle.atom_values.specs.Stamp.{IsStamp}
-use Rattle.atom_values.specs.XmlText.{IsAtomText}
 use Rattle.atom_writer.specs.declared.doc.FeedName.{FeedName}
 use Rattle.atom_writer.specs.Pieced.{Pieced}
 use Rattle.chain_links.specs.Base.{IsBase}
@@ -9,9 +8,14 @@ use Rattle.deleted_entries.specs.FeedId.{IsFeedId}
 use Rattle.member_rules.specs.Coding.{number_field, size_field, stamp_field, text_field}
 use Rattle.member_rules.specs.FieldLists.{one, both}
 use Rattle.member_rules.specs.Fields.{Field}
-use Rattle.member_rules.specs.Head.{HeadValue, IsHead, window_limit, title_limit, capacity_floor, capacity_limit}
+use Rattle.member_rules.specs.Head.{HeadValue, newest_format, capacity_floor, capacity_limit}
+use Rattle.member_rules.specs.Setting.{IsTitle, IsWindowSize}
 use Rattle.member_rules.specs.declared.codec.head_fields.Settings.{Settings}
 use Rattle.member_rules.specs.declared.codec.head_fields.Titles.{Titles}
+
+-- the first byte, which tells the format
+unfoldable pub format : Field ℕ
+format = record { Is = λ n. (1 ≤ n) × (n ≤ newest_format); bytes = λ n. n ∷ [] }
 
 unfoldable pub base : Field (List ℕ)
 base = record { Is = IsBase; bytes = text_field }
@@ -21,10 +25,10 @@ feed_id = record { Is = IsFeedId; bytes = λ id. id }
 
 -- a text with the limit of a feed's title
 unfoldable pub title : Field (List ℕ)
-title = record { Is = λ text. IsAtomText text × (length text ≤ title_limit); bytes = text_field }
+title = record { Is = IsTitle; bytes = text_field }
 
 unfoldable pub window : Field ℕ
-window = record { Is = λ n. (1 ≤ n) × (n ≤ window_limit); bytes = number_field }
+window = record { Is = IsWindowSize; bytes = number_field }
 
 unfoldable pub capacity : Field ℕ
 capacity = record { Is = λ n. (capacity_floor ≤ n) × (n ≤ capacity_limit); bytes = size_field }
@@ -63,17 +67,18 @@ settings_value s = (s.window, (s.capacity, s.created))
 abbrev pub settings : Pieced SettingsValue
 settings = both (one window) (λ _. both (one capacity) (λ _. one created))
 
--- the name and the settings
-abbrev pub head_parts : Pieced (NameValue × SettingsValue)
-head_parts = both name_parts (λ _. settings)
+-- the format, the name and the settings
+abbrev pub HeadParts : Type 0
+HeadParts = ℕ × (NameValue × SettingsValue)
 
-abbrev pub head_of : NameValue × SettingsValue → HeadValue
-head_of h = record { name = name_of h.0; window = h.1.0; capacity = h.1.1.0; created = h.1.1.1 }
+abbrev pub head_parts : Pieced HeadParts
+head_parts = both (one format) (λ _. both name_parts (λ _. settings))
 
--- the fields of a head after its first
-unfoldable pub first_format : Pieced HeadValue
-first_format = record {
-  Is = IsHead;
-  pieces = λ h. text_field h.name.base ∷ h.name.id ∷ text_field h.name.title ∷ text_field h.name.author
-      ∷ number_field h.window ∷ size_field h.capacity ∷ stamp_field h.created ∷ [];
+abbrev pub head_of : HeadParts → HeadValue
+head_of h = record {
+  format = h.0;
+  name = name_of h.1.0;
+  window = h.1.1.0;
+  capacity = h.1.1.1.0;
+  created = h.1.1.1.1;
 }

@@ -4,7 +4,7 @@ use Rattle.std.specs.Prelude.{slice_get, All, IsSomeAnd}
 use Rattle.atom_writer.specs.declared.doc.FeedName.{FeedName}
 use Rattle.atom_writer.specs.Pieces.{entry_piece}
 use Rattle.member_rules.specs.declared.operation.Op.{Op}
-use Rattle.member_rules.specs.declared.operation.Op.TheVariants.{Add, Change, Remove}
+use Rattle.member_rules.specs.declared.operation.Op.TheVariants.{Add, Change, Remove, Set}
 use Rattle.member_rules.specs.Head.{HeadValue}
 use Rattle.member_rules.specs.Operation.{IsOperation, moment_of}
 use Rattle.member_rules.specs.Fold.{fold_of, made, last_moment}
@@ -14,7 +14,8 @@ abbrev pub later_of : ℤ → ℤ → ℤ
 later_of a b = if int_lt a b then b else a
 
 -- a new member has the next number; a change names a live member, whose `updated` doesn't go back; a removal names a
--- live member, and its tombstone has the later of the moment and the member's `updated`
+-- live member, and its tombstone has the later of the moment and the member's `updated`; a setting may change at any
+-- time
 abbrev pub Fits : List Op → Op → Type 0
 Fits history (Add entry) = entry.number ≡ made history + 1
 Fits history (Change entry) =
@@ -22,6 +23,7 @@ Fits history (Change entry) =
 Fits history (Remove removal) =
     IsSomeAnd ((fold_of history).live removal.tombstone.number) (λ stored.
     removal.tombstone.when ≡ later_of removal.moment stored.updated)
+Fits history (Set setting moment) = Unit {0}
 
 -- the operation may follow the history of a feed that was made at this moment: it is later than all before it, and fits
 pub record MayFollow (created : ℤ) (history : List Op) (operation : Op) : Type 0 where
@@ -46,6 +48,7 @@ abbrev pub IsSmall : FeedName → Op → Type 0
 IsSmall name (Add entry) = length (entry_piece name entry) ≤ entry_limit
 IsSmall name (Change entry) = length (entry_piece name entry) ≤ entry_limit
 IsSmall name (Remove removal) = Unit {0}
+IsSmall name (Set setting moment) = Unit {0}
 
 -- a lawful history of the feed with this head
 pub record IsLawful (head : HeadValue) (history : List Op) : Type 0 where

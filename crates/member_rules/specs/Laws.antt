@@ -86,9 +86,9 @@ DocumentsAreShort = (head : HeadValue) (history : List Op) → IsHead head → I
     × ((number : ℕ) → 1 ≤ number → number ≤ (windows_of head history).full
     → length (text (archive head history number)) ≤ payload_limit)
 
--- the fewest bytes of an operation, those of a removal
+-- the fewest bytes of an operation, those of an empty title and of a window's size
 abbrev pub least_operation : ℕ
-least_operation = 21
+least_operation = 14
 
 abbrev pub OperationsAreLong : Type 0
 OperationsAreLong = (operation : Op) → IsOperation operation → least_operation ≤ length (text_of operations operation)

@@ -1,5 +1,6 @@
 pub mod Removal
 pub mod Head
+pub mod Setting
 pub mod Operation
 pub mod Ask
 pub mod Fold
@@ -9,6 +10,7 @@ pub mod Member
 pub mod Table
 pub mod Items
 pub mod Recent
+pub mod Latest
 pub mod Windows
 pub mod Documents
 pub mod Shows
@@ -20,5 +22,6 @@ pub mod FieldFaults
 pub mod FieldLists
 pub mod EntryFields
 pub mod RemovalFields
+pub mod SettingFields
 pub mod HeadFields
 pub mod Laws

@@ -1,7 +1,9 @@
+use crate::setting::Setting;
 use atom_values::{Copies, Draft, NoMemory};
 use std::alloc::Global;
 
-/// A client's request to change the feed (RFC 5023 section 9). [`crate::decide`] turns it into an operation.
+/// A request to change the feed: of a client (RFC 5023 section 9), or of the operator. [`crate::decide`] turns it into
+/// an operation.
 #[derive(Debug, Drop)]
 pub enum Ask {
     /// Make a member of this draft.
@@ -10,6 +12,8 @@ pub enum Ask {
     Replace { number: u32, draft: Draft },
     /// Remove the member with this number.
     Delete { number: u32 },
+    /// Change this setting of the feed.
+    Change(Setting),
 }
 
 impl Copies for Ask {
@@ -27,6 +31,7 @@ impl Copies for Ask {
             Ask::Delete { number } => Ok(Ask::Delete {
                 number: number.copy(alloc)?,
             }),
+            Ask::Change(setting) => Ok(Ask::Change(setting.copy(alloc)?)),
         }
     }
 }

@@ -6,6 +6,7 @@ ghost use Rattle.atom_writer.specs.Pieces.{entry_piece};
 ghost use Rattle.member_rules.specs.declared.operation.Op.{Op};
 ghost use Rattle.member_rules.specs.Head.{HeadValue};
 ghost use Rattle.member_rules.specs.Operation.{KeepsEntry};
+ghost use Rattle.member_rules.specs.Setting.{IsSetting};
 ghost use Rattle.member_rules.specs.History.{IsLawful, MayFollow, entry_limit, history_limit};
 ghost use Rattle.member_rules.specs.Decide as decision;
 ghost use Rattle.member_rules.specs.Table.{IsTableOf};
@@ -14,6 +15,7 @@ use crate::ask::Ask;
 use crate::fault::RuleFault;
 use crate::members::Members;
 use crate::operation::{Op, Removal};
+use crate::setting::Setting;
 use crate::state::State;
 use atom_values::{AtomText, Draft, Entry, Stamp};
 use atom_writer::{FeedName, entry_len};
@@ -23,7 +25,8 @@ use deleted_entries::{Tombstone, id_of};
 pub const ENTRY_LIMIT: u64 = 394_240;
 
 /// The operation that the ask becomes, with the clock at `now` milliseconds since 1970 (RFC 5023 sections 9.2 to 9.4).
-/// Its moment is the clock's, but always later than the last operation's. It takes no memory.
+/// Its moment is the clock's, but always later than the last operation's. It takes no memory. A change of a setting is
+/// refused by `ClockSpent` alone.
 ///
 /// The error is the first of these that fits:
 ///
@@ -48,6 +51,7 @@ pub fn decide(members: &Members, name: &FeedName, ask: Ask, now: u64) -> Result<
         Ask::Create(draft) => create(members, name, draft, now),
         Ask::Replace { number, draft } => replace(members, name, number, draft, now),
         Ask::Delete { number } => delete(members, number, now),
+        Ask::Change(setting) => change(members, setting, now),
     }
 }
 
@@ -111,6 +115,32 @@ fn delete(members: &Members, number: u32, now: u64) -> Result<Op, RuleFault>
     let when = moment.max(stored);
     let tombstone = Tombstone { number, when };
     Ok(Op::Remove(Removal { tombstone, moment }))
+}
+
+/// The operation that changes the setting.
+fn change(members: &Members, setting: Setting, now: u64) -> Result<Op, RuleFault>
+    ensures decision { (name : FeedName) (created : ℤ) (history : List Op)
+        → IsTableOf members.now created history
+        → result ≡ decision.decide name created history (Ask.Change setting) now }
+    ensures entry { IfOk result KeepsEntry }
+{
+    show_rules(&setting);
+    let moment = next_moment(members.last_moment(), now)?;
+    Ok(Op::Set { setting, moment })
+}
+
+/// Shows that the setting keeps the rules of its types, which the calls here state. It changes nothing.
+fn show_rules(setting: &Setting)
+    ensures { IsSetting setting.now }
+{
+    match setting {
+        Setting::Title(title) => {
+            let _text = title.text();
+        }
+        Setting::Window(size) => {
+            let _operations = size.get();
+        }
+    }
 }
 
 /// The `updated` of the member's entry. It refuses by `NotFound` a member that was never made, and by `Deleted` one

@@ -54,7 +54,7 @@ pub fn documents_are_short()
     ensures { DocumentsAreShort }
 {}
 
-/// An operation has at least the bytes of a removal.
+/// An operation has at least 14 bytes, those of an empty title.
 pub fn operations_are_long()
     ensures { OperationsAreLong }
 {}

@@ -27,13 +27,14 @@ mod laws;
 mod members;
 mod operation;
 mod plain;
+mod setting;
 mod state;
 
 pub use ask::Ask;
 pub use codec::{CodecFault, head_bytes, op_bytes, read_head, read_op};
 pub use decision::{ENTRY_LIMIT, decide};
 pub use fault::RuleFault;
-pub use head::{CAPACITY_FLOOR, CAPACITY_LIMIT, Head, TITLE_LIMIT, WINDOW_LIMIT};
+pub use head::{CAPACITY_FLOOR, CAPACITY_LIMIT, Head, NEWEST_FORMAT, TITLE_LIMIT, WINDOW_LIMIT};
 pub use laws::{
     archives_stay, bytes_have_one_reading, chain_shows_the_fold, documents_are_short,
     live_members_are_made, live_of_is_shown, operations_are_long, prefixes_are_lawful,
@@ -43,4 +44,5 @@ pub use laws::{
 pub use members::{HISTORY_LIMIT, Members};
 pub use operation::{Op, Removal};
 pub use plain::{plain_count, plain_last_moment, plain_live_count, plain_state};
+pub use setting::{Setting, ShortText, WindowSize};
 pub use state::State;

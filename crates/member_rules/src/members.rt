@@ -1,9 +1,9 @@
 ghost use Rattle.std.specs.Prelude.{◌≡◌, ◌≢◌, ◌↔◌, ◌⊎◌, ℕ, ◌+◌, ◌<◌, ◌≤◌, [], ◌∷◌, ◌++◌, List, ℤ, IsTrue, OnOk};
-ghost use Rattle.std.specs.Prelude.{MatchOption, length, option_map};
+ghost use Rattle.std.specs.Prelude.{IfSome, MatchOption, length, option_map};
 ghost use Rattle.member_rules.specs.declared.members.Member.TheVariants.{Live};
 ghost use Rattle.member_rules.specs.declared.operation.Op.{Op};
 ghost use Rattle.atom_values.specs.Entry.{EntryValue};
-ghost use Rattle.recency_list.specs.Recency.{first_of, older_than};
+ghost use Rattle.recency_list.specs.Recency.{first_of, older_than, touched};
 ghost use Rattle.member_rules.specs.Fold.{fold_of, made, last_moment, live_count, state_of};
 ghost use Rattle.member_rules.specs.History.{Fits, MayFollow, history_limit};
 ghost use Rattle.member_rules.specs.Member.{state_kept, edited_kept};
@@ -201,7 +201,7 @@ impl Members {
     /// Whether the operation may follow the history, which `commit` requires. It may where it is later than the last
     /// operation and its member is as it has to be: a new member has the next number, a changed one is live and its
     /// `updated` doesn't go back, and a removed one is live and its tombstone has the later of the moment and its
-    /// `updated`.
+    /// `updated`. A change of a setting names no member.
     pub fn may_follow(&self, operation: &Op) -> bool
         ensures exact { (created : ℤ) (history : List Op) → IsTableOf self.now created history
             → (IsTrue result ↔ MayFollow created history operation.now) }
@@ -227,6 +227,7 @@ impl Members {
                     == removal.moment.max(updated),
                 State::Never | State::Gone { .. } => false,
             },
+            Op::Set { .. } => true,
         }
     }
 
@@ -253,8 +254,7 @@ impl Members {
     {
         self.last = operation.moment();
         self.operations += 1;
-        let mut steps = Steps::<Brand>::new();
-        self.order.touch(operation.number(), &mut steps);
+        move_to_front(&mut self.order, operation.member());
         let version = self.operations;
         match operation {
             Op::Add(entry) => {
@@ -269,6 +269,19 @@ impl Members {
                 let when = removal.tombstone.when;
                 self.members[removal.tombstone.number as usize - 1] = Member::Gone { when };
             }
+            Op::Set { .. } => {}
         }
+    }
+}
+
+/// Moves the member to the front of the order, if there is one.
+fn move_to_front(order: &mut Recency, member: Option<u32>)
+    requires { IfSome member (λ number. number < order.old.slots) }
+    ensures { MatchOption member (order.new ≡ order.old)
+        (λ number. order.new ≡ record order.old { list = touched number order.old.list }) }
+{
+    if let Some(number) = member {
+        let mut steps = Steps::<Brand>::new();
+        order.touch(number, &mut steps);
     }
 }

@@ -1,3 +1,4 @@
+use crate::setting::Setting;
 use atom_values::{Copies, Entry, NoMemory, Stamp};
 use deleted_entries::Tombstone;
 use std::alloc::Global;
@@ -37,7 +38,8 @@ impl Copies for Removal {
     }
 }
 
-/// An accepted operation on a member (RFC 5023 sections 9.2 to 9.4). A history is a list of operations.
+/// An accepted operation: on a member (RFC 5023 sections 9.2 to 9.4), or on a setting of the feed. A history is a list
+/// of operations.
 #[derive(Debug, Drop)]
 pub enum Op {
     /// Makes a member with this entry.
@@ -46,20 +48,29 @@ pub enum Op {
     Change(Entry),
     /// Removes a member.
     Remove(Removal),
+    /// Changes a setting, and names no member.
+    Set { setting: Setting, moment: Stamp },
 }
 
 impl Op {
     ghost use Rattle.std.specs.Prelude.{◌≡◌};
-    ghost use Rattle.member_rules.specs.Operation.{moment_of, number_of};
+    ghost use Rattle.member_rules.specs.Operation.{member_of, moment_of, number_of};
 
-    /// The number of the member that the operation names. An operation that names none would have 0, but each of
-    /// today's names one.
+    /// The number of the member that the operation names, or 0 if it changes a setting.
     pub fn number(&self) -> u32
         ensures { result ≡ number_of self.now }
     {
+        self.member().unwrap_or(0)
+    }
+
+    /// The number of the member that the operation names, or `None` if it changes a setting.
+    pub fn member(&self) -> Option<u32>
+        ensures { result ≡ member_of self.now }
+    {
         match self {
-            Op::Add(entry) | Op::Change(entry) => entry.number,
-            Op::Remove(removal) => removal.tombstone.number,
+            Op::Add(entry) | Op::Change(entry) => Some(entry.number),
+            Op::Remove(removal) => Some(removal.tombstone.number),
+            Op::Set { .. } => None,
         }
     }
 
@@ -70,6 +81,7 @@ impl Op {
         match self {
             Op::Add(entry) | Op::Change(entry) => entry.edited,
             Op::Remove(removal) => removal.moment,
+            Op::Set { moment, .. } => *moment,
         }
     }
 }
@@ -84,6 +96,10 @@ impl Copies for Op {
             Op::Add(entry) => Ok(Op::Add(entry.copy(alloc)?)),
             Op::Change(entry) => Ok(Op::Change(entry.copy(alloc)?)),
             Op::Remove(removal) => Ok(Op::Remove(removal.copy(alloc)?)),
+            Op::Set { setting, moment } => Ok(Op::Set {
+                setting: setting.copy(alloc)?,
+                moment: moment.copy(alloc)?,
+            }),
         }
     }
 }

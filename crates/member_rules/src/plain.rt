@@ -40,12 +40,13 @@ fn live_after(live: Option<Stamp>, operation: &Op, number: u32) -> Option<Stamp>
     ensures { (members : Fold) → live ≡ updated_of (members.live number)
         → result ≡ updated_of ((after_operation members operation.now).live number) }
 {
-    if operation.number() != number {
+    if operation.member() != Some(number) {
         return live;
     }
     match operation {
         Op::Add(entry) | Op::Change(entry) => Some(entry.updated),
         Op::Remove(_) => None,
+        Op::Set { .. } => live,
     }
 }
 
@@ -66,9 +67,8 @@ fn gone_after(gone: Option<Stamp>, operation: &Op, number: u32) -> Option<Stamp>
         → result ≡ (after_operation members operation.now).gone number }
 {
     match operation {
-        Op::Add(_) | Op::Change(_) => gone,
         Op::Remove(removal) if removal.tombstone.number == number => Some(removal.tombstone.when),
-        Op::Remove(_) => gone,
+        Op::Add(_) | Op::Change(_) | Op::Remove(_) | Op::Set { .. } => gone,
     }
 }
 
@@ -79,7 +79,7 @@ fn plain_version(history: &[Op], number: u32) -> u32
 {
     let mut version = 0;
     for (at, operation) in history.iter().enumerate() {
-        if operation.number() == number {
+        if operation.member() == Some(number) {
             version = at as u32 + 1;
         }
     }

@@ -11,7 +11,7 @@ use atom_writer::{Doc, FeedName, write_doc};
 use chain_links::Base;
 use deleted_entries::FeedId;
 use doc_source::Offer;
-use member_rules::{Head, Op};
+use member_rules::{Head, NEWEST_FORMAT, Op};
 use std::alloc::Global;
 use std::process::Abort;
 
@@ -58,6 +58,7 @@ pub const OTHER_ID: &str = "7e2f0c5a-93be-4c27-8d10-2b7f9e4a5c36";
 pub fn head(rt: &impl Abort, alloc: Global, id: &str, window: u32) -> Head {
     assert!(rt; (1..=100).contains(&window));
     Head {
+        format: NEWEST_FORMAT,
         name: name(rt, alloc, "http://feed.example/", id),
         window,
         capacity: 4_096,

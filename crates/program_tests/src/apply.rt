@@ -19,6 +19,8 @@ const FOURTH: &str = "2023-11-14T22:13:20.003Z";
 
 const FIFTH: &str = "2023-11-14T22:13:20.004Z";
 
+const SIXTH: &str = "2023-11-14T22:13:20.005Z";
+
 /// Five lines, and the items that they make.
 const LETTERS: Run<'static> = Run {
     input: b"add a\nadd b\nadd c\nadd d\nadd e\n",
@@ -60,6 +62,7 @@ static DOCUMENTS: [(Run, Expected); 7] = [
     (
         APPLY,
         Expected {
+            title: "Feed",
             updated: "1970-01-01T00:00:00Z",
             prev: 0,
             first: 1,
@@ -73,6 +76,7 @@ static DOCUMENTS: [(Run, Expected); 7] = [
             ..APPLY
         },
         Expected {
+            title: "Feed",
             updated: FIRST,
             prev: 0,
             first: 1,
@@ -90,6 +94,7 @@ static DOCUMENTS: [(Run, Expected); 7] = [
             ..APPLY
         },
         Expected {
+            title: "Feed",
             updated: FIRST,
             prev: 0,
             first: 1,
@@ -107,6 +112,7 @@ static DOCUMENTS: [(Run, Expected); 7] = [
             ..APPLY
         },
         Expected {
+            title: "Feed",
             updated: FIRST,
             prev: 0,
             first: 1,
@@ -126,6 +132,7 @@ static DOCUMENTS: [(Run, Expected); 7] = [
             ..APPLY
         },
         Expected {
+            title: "Feed",
             updated: FOURTH,
             prev: 0,
             first: 1,
@@ -142,6 +149,7 @@ static DOCUMENTS: [(Run, Expected); 7] = [
             ..APPLY
         },
         Expected {
+            title: "Feed",
             updated: THIRD,
             prev: 0,
             first: 1,
@@ -162,6 +170,7 @@ static DOCUMENTS: [(Run, Expected); 7] = [
             ..APPLY
         },
         Expected {
+            title: "Feed",
             updated: FOURTH,
             prev: 0,
             first: 1,
@@ -180,6 +189,233 @@ static DOCUMENTS: [(Run, Expected); 7] = [
         },
     ),
 ];
+
+/// Words, inputs with settings, and their documents.
+static SETTINGS: [(&str, &[u8], Expected); 12] = [
+    (
+        "4",
+        b"title \n",
+        Expected {
+            title: "",
+            updated: FIRST,
+            prev: 0,
+            first: 1,
+            last: 1,
+            items: &[],
+        },
+    ),
+    (
+        "4",
+        b"add a\ntitle a&b<c>d\"e\r\xF4\x8F\xBF\xBF",
+        Expected {
+            title: "a&amp;b&lt;c&gt;d\"e&#13;\u{10FFFF}",
+            updated: SECOND,
+            prev: 0,
+            first: 1,
+            last: 2,
+            items: &[A],
+        },
+    ),
+    (
+        "1",
+        b"title x\ntitle y\n",
+        Expected {
+            title: "y",
+            updated: SECOND,
+            prev: 1,
+            first: 2,
+            last: 2,
+            items: &[],
+        },
+    ),
+    (
+        "4",
+        b"add a\nadd b\ntitle New\nadd c\nadd d\n",
+        Expected {
+            title: "New",
+            updated: FIFTH,
+            prev: 1,
+            first: 5,
+            last: 5,
+            items: &[Shown::Entry {
+                number: 4,
+                title: "d",
+                updated: FIFTH,
+            }],
+        },
+    ),
+    (
+        "4",
+        b"add a\nadd b\ntitle New\nadd c\nadd d\ntitle Next\n",
+        Expected {
+            title: "Next",
+            updated: SIXTH,
+            prev: 1,
+            first: 5,
+            last: 6,
+            items: &[Shown::Entry {
+                number: 4,
+                title: "d",
+                updated: FIFTH,
+            }],
+        },
+    ),
+    // A member that was made before the title is changed after it.
+    (
+        "100",
+        b"add a\ntitle New\nwindow 3\nremove 1\n",
+        Expected {
+            title: "New",
+            updated: FOURTH,
+            prev: 0,
+            first: 1,
+            last: 4,
+            items: &[Shown::Gone {
+                number: 1,
+                when: FOURTH,
+            }],
+        },
+    ),
+    (
+        "2",
+        b"add a\nwindow 3\nadd b\nadd c\nadd d\nadd e\n",
+        Expected {
+            title: "Feed",
+            updated: SIXTH,
+            prev: 2,
+            first: 6,
+            last: 6,
+            items: &[Shown::Entry {
+                number: 5,
+                title: "e",
+                updated: SIXTH,
+            }],
+        },
+    ),
+    // A size doesn't end the open window.
+    (
+        "4",
+        b"add a\nwindow 1\nadd b\n",
+        Expected {
+            title: "Feed",
+            updated: THIRD,
+            prev: 0,
+            first: 1,
+            last: 3,
+            items: &[
+                Shown::Entry {
+                    number: 2,
+                    title: "b",
+                    updated: THIRD,
+                },
+                A,
+            ],
+        },
+    ),
+    (
+        "4",
+        b"add a\nwindow 1\nadd b\nadd c\nadd d\nadd e\n",
+        Expected {
+            title: "Feed",
+            updated: SIXTH,
+            prev: 2,
+            first: 6,
+            last: 6,
+            items: &[Shown::Entry {
+                number: 5,
+                title: "e",
+                updated: SIXTH,
+            }],
+        },
+    ),
+    // The last size of a window counts.
+    (
+        "2",
+        b"window 1\nwindow 100\nadd a\nadd b\nadd c\nadd d\n",
+        Expected {
+            title: "Feed",
+            updated: SIXTH,
+            prev: 1,
+            first: 3,
+            last: 6,
+            items: &[
+                Shown::Entry {
+                    number: 4,
+                    title: "d",
+                    updated: SIXTH,
+                },
+                Shown::Entry {
+                    number: 3,
+                    title: "c",
+                    updated: FIFTH,
+                },
+                Shown::Entry {
+                    number: 2,
+                    title: "b",
+                    updated: FOURTH,
+                },
+                Shown::Entry {
+                    number: 1,
+                    title: "a",
+                    updated: THIRD,
+                },
+            ],
+        },
+    ),
+    // A size in a window of one operation holds from the next one on.
+    (
+        "1",
+        b"window 2\nadd a\nadd b\n",
+        Expected {
+            title: "Feed",
+            updated: THIRD,
+            prev: 1,
+            first: 2,
+            last: 3,
+            items: &[
+                Shown::Entry {
+                    number: 2,
+                    title: "b",
+                    updated: THIRD,
+                },
+                Shown::Entry {
+                    number: 1,
+                    title: "a",
+                    updated: SECOND,
+                },
+            ],
+        },
+    ),
+    (
+        "1",
+        b"window 2\nadd a\nwindow 1\nadd b\nadd c\n",
+        Expected {
+            title: "Feed",
+            updated: FIFTH,
+            prev: 3,
+            first: 5,
+            last: 5,
+            items: &[Shown::Entry {
+                number: 3,
+                title: "c",
+                updated: FIFTH,
+            }],
+        },
+    ),
+];
+
+#[test]
+fn settings_hold_from_their_lines_on(rt: HostRuntime) {
+    for &(window, input, document) in &SETTINGS {
+        let text = text_of(&rt, rt.alloc(), &document);
+        let given = Run {
+            words: &["apply", window],
+            input,
+            ..APPLY
+        };
+        expect_end(&rt, rt.alloc(), &given, 0, text.as_bytes());
+    }
+}
 
 #[test]
 fn prints_the_document_of_the_lines(rt: HostRuntime) {
@@ -204,6 +440,7 @@ static WINDOWS: [(&[&str], u32, u32, &[Shown]); 7] = [
 fn cuts_the_history_into_windows(rt: HostRuntime) {
     for &(words, prev, first, items) in &WINDOWS {
         let document = Expected {
+            title: "Feed",
             updated: FIFTH,
             prev,
             first,
@@ -233,6 +470,7 @@ fn moments_rise(rt: HostRuntime) {
             updated: second,
         };
         let document = Expected {
+            title: "Feed",
             updated: second,
             prev: 0,
             first: 1,
@@ -250,11 +488,14 @@ fn moments_rise(rt: HostRuntime) {
 }
 
 /// Moments of the clock, inputs, and the status and the line that refuse them.
-static LATE: [((u64, u64), &[u8], u8, &[u8]); 4] = [
+static LATE: [((u64, u64), &[u8], u8, &[u8]); 7] = [
     ((LAST, LAST), b"add a\nadd b\n", 12, b"line 2 clock\n"),
     ((LAST + 1, NOW), b"add a\n", 12, b"line 1 clock\n"),
     ((NOW, u64::MAX), b"add a\nadd b\n", 12, b"line 2 clock\n"),
     ((LAST, LAST), b"add a\nadd\n", 10, b"bad line 2\n"),
+    ((LAST, LAST), b"add a\ntitle b\n", 12, b"line 2 clock\n"),
+    ((LAST, LAST), b"title b\nwindow 4\n", 12, b"line 2 clock\n"),
+    ((LAST + 1, NOW), b"window 4\n", 12, b"line 1 clock\n"),
 ];
 
 #[test]
@@ -270,7 +511,7 @@ fn refuses_a_moment_after_the_last(rt: HostRuntime) {
 }
 
 /// Inputs, and the status and the line that refuse them.
-static REFUSED: [(&[u8], u8, &[u8]); 31] = [
+static REFUSED: [(&[u8], u8, &[u8]); 52] = [
     (b"\n", 10, b"bad line 1\n"),
     (b"add\n", 10, b"bad line 1\n"),
     (b"Add a\n", 10, b"bad line 1\n"),
@@ -294,6 +535,31 @@ static REFUSED: [(&[u8], u8, &[u8]); 31] = [
     (b"add a\nremove 1 ", 10, b"bad line 2\n"),
     (b"add a\nremove 01\n", 10, b"bad line 2\n"),
     (b"add a\nRemove 1\n", 10, b"bad line 2\n"),
+    (b"add a\nwindow\n", 10, b"bad line 2\n"),
+    (b"add a\nwindow \n", 10, b"bad line 2\n"),
+    (b"add a\nwindow 0\n", 10, b"bad line 2\n"),
+    (b"add a\nwindow 101\n", 10, b"bad line 2\n"),
+    (b"add a\nwindow 01\n", 10, b"bad line 2\n"),
+    (b"add a\nwindow +4\n", 10, b"bad line 2\n"),
+    (b"add a\nwindow 4 \n", 10, b"bad line 2\n"),
+    (b"add a\nwindow  4\n", 10, b"bad line 2\n"),
+    (b"add a\nwindow 4294967297\n", 10, b"bad line 2\n"),
+    (b"add a\nwindow 4 x\n", 10, b"bad line 2\n"),
+    (b"add a\nwindow x\n", 10, b"bad line 2\n"),
+    (b"add a\nWindow 4\n", 10, b"bad line 2\n"),
+    (b"add a\ntitle\n", 10, b"bad line 2\n"),
+    (b"add a\nTitle x\n", 10, b"bad line 2\n"),
+    (b"add a\ntitlex\n", 10, b"bad line 2\n"),
+    (b"add a\ntitle\tx\n", 10, b"bad line 2\n"),
+    (b"add a\ntitle \x0B\n", 10, b"bad line 2\n"),
+    (b"add a\ntitle a\xC3\n", 10, b"bad line 2\n"),
+    (b"title x\nwindow 100\nwindow 0", 10, b"bad line 3\n"),
+    (b"title x\nremove 1\n", 12, b"line 2 not found 1\n"),
+    (
+        b"add a\nremove 1\nwindow 1\nremove 1\n",
+        12,
+        b"line 4 deleted 1\n",
+    ),
     (b"remove 1\n", 12, b"line 1 not found 1\n"),
     (b"change 1 x", 12, b"line 1 not found 1\n"),
     (
@@ -372,6 +638,7 @@ fn prints_a_title_of_1024_bytes(rt: HostRuntime) {
         updated: FIRST,
     };
     let document = Expected {
+        title: "Feed",
         updated: FIRST,
         prev: 0,
         first: 1,
@@ -385,6 +652,30 @@ fn prints_a_title_of_1024_bytes(rt: HostRuntime) {
         ..APPLY
     };
     expect_end(&rt, alloc, &given, 0, text.as_bytes());
+}
+
+#[test]
+fn prints_a_feed_title_of_1024_bytes(rt: HostRuntime) {
+    let alloc = rt.alloc();
+    let letters = repeated(&rt, alloc, b"", (b"a", 1_024), b"");
+    let title = String::from_utf8(letters).expect(&rt, "a text");
+    let document = Expected {
+        title: title.as_str(),
+        updated: FIRST,
+        prev: 0,
+        first: 1,
+        last: 1,
+        items: &[],
+    };
+    let text = text_of(&rt, alloc, &document);
+    for (count, status, printed) in [(1_024, 0, text.as_bytes()), (1_025, BAD.0, BAD.1)] {
+        let line = repeated(&rt, alloc, b"title ", (b"a", count), b"\n");
+        let given = Run {
+            input: line.as_slice(),
+            ..APPLY
+        };
+        expect_end(&rt, alloc, &given, status, printed);
+    }
 }
 
 #[test]

@@ -20,6 +20,8 @@ pub enum Shown<'a> {
 /// An expected subscription document, whose feed is that of `apply W`.
 #[derive(Clone, Copy)]
 pub struct Expected<'a> {
+    /// The feed's title, with its escapes.
+    pub title: &'a str,
     pub updated: &'a str,
     /// The newest archive, or 0.
     pub prev: u32,
@@ -28,12 +30,12 @@ pub struct Expected<'a> {
     pub items: &'a [Shown<'a>],
 }
 
-/// The first lines of each document of the feed that `apply W` makes.
+/// The first lines of each document of the feed that `apply W` makes, up to its title.
 pub const OPENING: &str =
-    "<?xml version=\"1.0\" encoding=\"utf-8\"?>\n<feed xmlns=\"http://www.w3.org/2005/Atom\" xmlns:fh=\"http://purl.org/syndication/history/1.0\" xmlns:at=\"http://purl.org/atompub/tombstones/1.0\" xmlns:app=\"http://www.w3.org/2007/app\" xmlns:sp=\"urn:archived-feed:span:1\">\n<id>urn:uuid:6d1f0c5a-93be-4c27-8d10-2b7f9e4a5c36</id>\n<title>Feed</title>\n";
+    "<?xml version=\"1.0\" encoding=\"utf-8\"?>\n<feed xmlns=\"http://www.w3.org/2005/Atom\" xmlns:fh=\"http://purl.org/syndication/history/1.0\" xmlns:at=\"http://purl.org/atompub/tombstones/1.0\" xmlns:app=\"http://www.w3.org/2007/app\" xmlns:sp=\"urn:archived-feed:span:1\">\n<id>urn:uuid:6d1f0c5a-93be-4c27-8d10-2b7f9e4a5c36</id>\n";
 
 /// The line of an item.
-fn item_line(rt: &impl Abort, alloc: Global, item: &Shown) -> String {
+pub fn item_line(rt: &impl Abort, alloc: Global, item: &Shown) -> String {
     let line = match item {
         Shown::Entry {
             number,
@@ -62,6 +64,7 @@ fn link_line(rt: &impl Abort, alloc: Global, prev: u32) -> String {
 /// The text of an expected document.
 pub fn text_of(rt: &impl Abort, alloc: Global, document: &Expected) -> String {
     let Expected {
+        title,
         updated,
         prev,
         first,
@@ -70,7 +73,7 @@ pub fn text_of(rt: &impl Abort, alloc: Global, document: &Expected) -> String {
     } = document;
     let link = link_line(rt, alloc, *prev);
     let mut text = format!(in alloc;
-        "{OPENING}<updated>{updated}</updated>\n<author><name>Editor</name></author>\n<link rel=\"self\" href=\"http://feed.example/feed\"/>\n{link}<sp:span first=\"{first}\" last=\"{last}\"/>\n"
+        "{OPENING}<title>{title}</title>\n<updated>{updated}</updated>\n<author><name>Editor</name></author>\n<link rel=\"self\" href=\"http://feed.example/feed\"/>\n{link}<sp:span first=\"{first}\" last=\"{last}\"/>\n"
     ).expect(rt, "memory");
     for item in *items {
         let line = item_line(rt, alloc, item);

@@ -23,6 +23,8 @@ mod faults;
 #[cfg(test)]
 mod fetches;
 #[cfg(test)]
+mod generated;
+#[cfg(test)]
 mod mirror;
 #[cfg(test)]
 mod pile;

@@ -11,13 +11,14 @@ const SUMMARY: &[u8] =
     b"subscription\nfeed 6d1f0c5a-93be-4c27-8d10-2b7f9e4a5c36\nspan 1 1\nprev 0\nupdated 2023-11-14T22:13:20Z\nentry 1 2023-11-14T22:13:20Z Hello\n";
 
 const ARCHIVE: &str =
-    "<updated>2023-11-14T22:13:20Z</updated>\n<author><name>Editor</name></author>\n<link rel=\"self\" href=\"http://feed.example/archive/2\"/>\n<link rel=\"current\" href=\"http://feed.example/feed\"/>\n<link rel=\"prev-archive\" href=\"http://feed.example/archive/1\"/>\n<link rel=\"next-archive\" href=\"http://feed.example/archive/3\"/>\n<fh:archive/>\n<sp:span first=\"5\" last=\"8\"/>\n<at:deleted-entry ref=\"urn:uuid:6d1f0c5a-93be-8c27-8000-000000000001\" when=\"2023-11-14T22:13:20.003Z\"/>\n<entry><id>urn:uuid:6d1f0c5a-93be-8c27-8000-000000000003</id><title type=\"html\">a&amp;b&lt;c&gt;d\"e&#13;\t\n\u{10FFFF}</title><updated>1970-01-01T00:00:00Z</updated><published>1969-12-31T23:59:59.999Z</published><app:edited>1970-01-01T00:00:00.001Z</app:edited><link rel=\"edit\" href=\"http://feed.example/member/3\"/><content>text</content></entry>\n</feed>\n";
+    "<title>Feed</title>\n<updated>2023-11-14T22:13:20Z</updated>\n<author><name>Editor</name></author>\n<link rel=\"self\" href=\"http://feed.example/archive/2\"/>\n<link rel=\"current\" href=\"http://feed.example/feed\"/>\n<link rel=\"prev-archive\" href=\"http://feed.example/archive/1\"/>\n<link rel=\"next-archive\" href=\"http://feed.example/archive/3\"/>\n<fh:archive/>\n<sp:span first=\"5\" last=\"8\"/>\n<at:deleted-entry ref=\"urn:uuid:6d1f0c5a-93be-8c27-8000-000000000001\" when=\"2023-11-14T22:13:20.003Z\"/>\n<entry><id>urn:uuid:6d1f0c5a-93be-8c27-8000-000000000003</id><title type=\"html\">a&amp;b&lt;c&gt;d\"e&#13;\t\n\u{10FFFF}</title><updated>1970-01-01T00:00:00Z</updated><published>1969-12-31T23:59:59.999Z</published><app:edited>1970-01-01T00:00:00.001Z</app:edited><link rel=\"edit\" href=\"http://feed.example/member/3\"/><content>text</content></entry>\n</feed>\n";
 
 const ARCHIVE_SUMMARY: &[u8] =
     b"archive 2\nfeed 6d1f0c5a-93be-4c27-8d10-2b7f9e4a5c36\nspan 5 8\nprev 1\nupdated 2023-11-14T22:13:20Z\ngone 1 2023-11-14T22:13:20.003Z\nentry 3 1970-01-01T00:00:00Z a&amp;b&lt;c&gt;d&quot;e&#13;&#9;&#10;\xF4\x8F\xBF\xBF\n";
 
 /// A subscription document of one entry.
 static SUBSCRIPTION: Expected = Expected {
+    title: "Feed",
     updated: DAY,
     prev: 0,
     first: 1,
@@ -72,15 +73,15 @@ fn names_the_offset_that_it_refuses(rt: HostRuntime) {
     }
 }
 
-/// The lines after the opening. The two lines before the link have 77 bytes.
+/// The lines after the opening. The three lines before the link have 97 bytes.
 const QUOTED: &str =
-    "<updated>2023-11-14T22:13:20Z</updated>\n<author><name>Editor</name></author>\n<link rel='self' href='http://feed.example/feed'/>\n";
+    "<title>Feed</title>\n<updated>2023-11-14T22:13:20Z</updated>\n<author><name>Editor</name></author>\n<link rel='self' href='http://feed.example/feed'/>\n";
 
 #[test]
 fn refuses_another_quote(rt: HostRuntime) {
     let alloc = rt.alloc();
     let quoted = format!(in alloc; "{OPENING}{QUOTED}").expect(&rt, "memory");
-    expect_refused(&rt, alloc, quoted.as_bytes(), OPENING.len() + 77);
+    expect_refused(&rt, alloc, quoted.as_bytes(), OPENING.len() + 97);
 }
 
 #[test]

@@ -196,7 +196,7 @@ fn a_store_keeps_its_operations(rt: HostRuntime) {
 }
 
 const ARCHIVE: &str =
-    "<updated>2023-11-14T22:13:20.002Z</updated>\n<author><name>Editor</name></author>\n<link rel=\"self\" href=\"http://feed.example/archive/2\"/>\n<link rel=\"current\" href=\"http://feed.example/feed\"/>\n<link rel=\"prev-archive\" href=\"http://feed.example/archive/1\"/>\n<link rel=\"next-archive\" href=\"http://feed.example/archive/3\"/>\n<fh:archive/>\n<sp:span first=\"2\" last=\"2\"/>\n<entry><id>urn:uuid:6d1f0c5a-93be-8c27-8000-000000000002</id><title>b</title><updated>2023-11-14T22:13:20.002Z</updated><app:edited>2023-11-14T22:13:20.002Z</app:edited><link rel=\"edit\" href=\"http://feed.example/member/2\"/><content></content></entry>\n</feed>\n";
+    "<title>Feed</title>\n<updated>2023-11-14T22:13:20.002Z</updated>\n<author><name>Editor</name></author>\n<link rel=\"self\" href=\"http://feed.example/archive/2\"/>\n<link rel=\"current\" href=\"http://feed.example/feed\"/>\n<link rel=\"prev-archive\" href=\"http://feed.example/archive/1\"/>\n<link rel=\"next-archive\" href=\"http://feed.example/archive/3\"/>\n<fh:archive/>\n<sp:span first=\"2\" last=\"2\"/>\n<entry><id>urn:uuid:6d1f0c5a-93be-8c27-8000-000000000002</id><title>b</title><updated>2023-11-14T22:13:20.002Z</updated><app:edited>2023-11-14T22:13:20.002Z</app:edited><link rel=\"edit\" href=\"http://feed.example/member/2\"/><content></content></entry>\n</feed>\n";
 
 const MEMBER: &str =
     "<?xml version=\"1.0\" encoding=\"utf-8\"?>\n<entry xmlns=\"http://www.w3.org/2005/Atom\" xmlns:app=\"http://www.w3.org/2007/app\"><id>urn:uuid:6d1f0c5a-93be-8c27-8000-000000000002</id><title>b</title><updated>2023-11-14T22:13:20.002Z</updated><app:edited>2023-11-14T22:13:20.002Z</app:edited><author><name>Editor</name></author><link rel=\"edit\" href=\"http://feed.example/member/2\"/><content></content></entry>\n";
@@ -220,6 +220,144 @@ fn documents_of_a_store_have_one_text(rt: HostRuntime) {
     follow(&rt, rt.alloc(), &["--window", "1"], &ONE);
 }
 
+/// Archive 1 of the store with the titles `New` and `Next`.
+const NEW_ARCHIVE: &str =
+    "<title>New</title>\n<updated>2023-11-14T22:13:20.004Z</updated>\n<author><name>Editor</name></author>\n<link rel=\"self\" href=\"http://feed.example/archive/1\"/>\n<link rel=\"current\" href=\"http://feed.example/feed\"/>\n<link rel=\"next-archive\" href=\"http://feed.example/archive/2\"/>\n<fh:archive/>\n<sp:span first=\"1\" last=\"4\"/>\n<entry><id>urn:uuid:6d1f0c5a-93be-8c27-8000-000000000003</id><title>c</title><updated>2023-11-14T22:13:20.004Z</updated><app:edited>2023-11-14T22:13:20.004Z</app:edited><link rel=\"edit\" href=\"http://feed.example/member/3\"/><content></content></entry>\n<entry><id>urn:uuid:6d1f0c5a-93be-8c27-8000-000000000002</id><title>b</title><updated>2023-11-14T22:13:20.002Z</updated><app:edited>2023-11-14T22:13:20.002Z</app:edited><link rel=\"edit\" href=\"http://feed.example/member/2\"/><content></content></entry>\n<entry><id>urn:uuid:6d1f0c5a-93be-8c27-8000-000000000001</id><title>a</title><updated>2023-11-14T22:13:20.001Z</updated><app:edited>2023-11-14T22:13:20.001Z</app:edited><link rel=\"edit\" href=\"http://feed.example/member/1\"/><content></content></entry>\n</feed>\n";
+
+/// Archive 1 of the stores whose windows get another size.
+const PAIR_ARCHIVE: &str =
+    "<title>Feed</title>\n<updated>2023-11-14T22:13:20.002Z</updated>\n<author><name>Editor</name></author>\n<link rel=\"self\" href=\"http://feed.example/archive/1\"/>\n<link rel=\"current\" href=\"http://feed.example/feed\"/>\n<link rel=\"next-archive\" href=\"http://feed.example/archive/2\"/>\n<fh:archive/>\n<sp:span first=\"1\" last=\"2\"/>\n<entry><id>urn:uuid:6d1f0c5a-93be-8c27-8000-000000000001</id><title>a</title><updated>2023-11-14T22:13:20.001Z</updated><app:edited>2023-11-14T22:13:20.001Z</app:edited><link rel=\"edit\" href=\"http://feed.example/member/1\"/><content></content></entry>\n</feed>\n";
+
+const FOUR_ARCHIVE: &str =
+    "<title>Feed</title>\n<updated>2023-11-14T22:13:20.004Z</updated>\n<author><name>Editor</name></author>\n<link rel=\"self\" href=\"http://feed.example/archive/1\"/>\n<link rel=\"current\" href=\"http://feed.example/feed\"/>\n<link rel=\"next-archive\" href=\"http://feed.example/archive/2\"/>\n<fh:archive/>\n<sp:span first=\"1\" last=\"4\"/>\n<entry><id>urn:uuid:6d1f0c5a-93be-8c27-8000-000000000003</id><title>c</title><updated>2023-11-14T22:13:20.004Z</updated><app:edited>2023-11-14T22:13:20.004Z</app:edited><link rel=\"edit\" href=\"http://feed.example/member/3\"/><content></content></entry>\n<entry><id>urn:uuid:6d1f0c5a-93be-8c27-8000-000000000002</id><title>b</title><updated>2023-11-14T22:13:20.003Z</updated><app:edited>2023-11-14T22:13:20.003Z</app:edited><link rel=\"edit\" href=\"http://feed.example/member/2\"/><content></content></entry>\n<entry><id>urn:uuid:6d1f0c5a-93be-8c27-8000-000000000001</id><title>a</title><updated>2023-11-14T22:13:20.001Z</updated><app:edited>2023-11-14T22:13:20.001Z</app:edited><link rel=\"edit\" href=\"http://feed.example/member/1\"/><content></content></entry>\n</feed>\n";
+
+/// The words that show archive 1.
+const SHOW_FIRST: &[&str] = &["show", "archive", "1"];
+
+/// The commands on a store with windows of 4 operations. An archive keeps its title.
+static TITLES: [Step; 4] = [
+    (
+        APPLY,
+        b"add a\nadd b\ntitle New\nadd c\nadd d\n",
+        0,
+        Feed(
+            "<title>New</title>\n<updated>2023-11-14T22:13:20.005Z</updated>\n<author><name>Editor</name></author>\n<link rel=\"self\" href=\"http://feed.example/feed\"/>\n<link rel=\"prev-archive\" href=\"http://feed.example/archive/1\"/>\n<sp:span first=\"5\" last=\"5\"/>\n<entry><id>urn:uuid:6d1f0c5a-93be-8c27-8000-000000000004</id><title>d</title><updated>2023-11-14T22:13:20.005Z</updated><app:edited>2023-11-14T22:13:20.005Z</app:edited><link rel=\"edit\" href=\"http://feed.example/member/4\"/><content></content></entry>\n</feed>\n",
+        ),
+    ),
+    (SHOW_FIRST, b"", 0, Feed(NEW_ARCHIVE)),
+    (
+        APPLY,
+        b"title Next\n",
+        0,
+        Feed(
+            "<title>Next</title>\n<updated>2023-11-14T22:13:20.006Z</updated>\n<author><name>Editor</name></author>\n<link rel=\"self\" href=\"http://feed.example/feed\"/>\n<link rel=\"prev-archive\" href=\"http://feed.example/archive/1\"/>\n<sp:span first=\"5\" last=\"6\"/>\n<entry><id>urn:uuid:6d1f0c5a-93be-8c27-8000-000000000004</id><title>d</title><updated>2023-11-14T22:13:20.005Z</updated><app:edited>2023-11-14T22:13:20.005Z</app:edited><link rel=\"edit\" href=\"http://feed.example/member/4\"/><content></content></entry>\n</feed>\n",
+        ),
+    ),
+    (SHOW_FIRST, b"", 0, Feed(NEW_ARCHIVE)),
+];
+
+/// The commands on a store with windows of 2 operations.
+static PAIRS: [Step; 5] = [
+    (
+        APPLY,
+        b"add a\nwindow 3\nadd b\nadd c\nadd d\nadd e\n",
+        0,
+        Summary(
+            "subscription\nfeed 6d1f0c5a-93be-4c27-8d10-2b7f9e4a5c36\nspan 6 6\nprev 2\nupdated 2023-11-14T22:13:20.006Z\nentry 5 2023-11-14T22:13:20.006Z e\n",
+        ),
+    ),
+    (SHOW_FIRST, b"", 0, Feed(PAIR_ARCHIVE)),
+    (
+        &["show", "archive", "2"],
+        b"",
+        0,
+        Summary(
+            "archive 2\nfeed 6d1f0c5a-93be-4c27-8d10-2b7f9e4a5c36\nspan 3 5\nprev 1\nupdated 2023-11-14T22:13:20.005Z\nentry 4 2023-11-14T22:13:20.005Z d\nentry 3 2023-11-14T22:13:20.004Z c\nentry 2 2023-11-14T22:13:20.003Z b\n",
+        ),
+    ),
+    (
+        APPLY,
+        b"window 1\nadd f\n",
+        0,
+        Summary(
+            "subscription\nfeed 6d1f0c5a-93be-4c27-8d10-2b7f9e4a5c36\nspan 6 8\nprev 2\nupdated 2023-11-14T22:13:20.008Z\nentry 6 2023-11-14T22:13:20.008Z f\nentry 5 2023-11-14T22:13:20.006Z e\n",
+        ),
+    ),
+    (SHOW_FIRST, b"", 0, Feed(PAIR_ARCHIVE)),
+];
+
+/// The commands on a store with windows of 4 operations. A size doesn't end the open window.
+static SIZES: [Step; 8] = [
+    (
+        APPLY,
+        b"add a\nwindow 1\nadd b\n",
+        0,
+        Summary(
+            "subscription\nfeed 6d1f0c5a-93be-4c27-8d10-2b7f9e4a5c36\nspan 1 3\nprev 0\nupdated 2023-11-14T22:13:20.003Z\nentry 2 2023-11-14T22:13:20.003Z b\nentry 1 2023-11-14T22:13:20.001Z a\n",
+        ),
+    ),
+    (SHOW_FIRST, b"", 12, Text("archive 1 not sealed 0\n")),
+    (
+        APPLY,
+        b"add c\nadd d\nadd e\n",
+        0,
+        Summary(
+            "subscription\nfeed 6d1f0c5a-93be-4c27-8d10-2b7f9e4a5c36\nspan 6 6\nprev 2\nupdated 2023-11-14T22:13:20.006Z\nentry 5 2023-11-14T22:13:20.006Z e\n",
+        ),
+    ),
+    (SHOW_FIRST, b"", 0, Feed(FOUR_ARCHIVE)),
+    (
+        &["show", "archive", "2"],
+        b"",
+        0,
+        Summary(
+            "archive 2\nfeed 6d1f0c5a-93be-4c27-8d10-2b7f9e4a5c36\nspan 5 5\nprev 1\nupdated 2023-11-14T22:13:20.005Z\nentry 4 2023-11-14T22:13:20.005Z d\n",
+        ),
+    ),
+    (APPLY, b"window 0\n", 10, Text("bad line 1\n")),
+    (APPLY, b"window 101\n", 10, Text("bad line 1\n")),
+    (SHOW_FIRST, b"", 0, Feed(FOUR_ARCHIVE)),
+];
+
+#[test]
+fn settings_leave_the_archives(rt: HostRuntime) {
+    follow(&rt, rt.alloc(), &["--window", "4"], &TITLES);
+    follow(&rt, rt.alloc(), &["--window", "2"], &PAIRS);
+    follow(&rt, rt.alloc(), &["--window", "4"], &SIZES);
+}
+
+/// The commands on an empty store of any format.
+static FORMATS: [Step; 2] = [
+    (
+        APPLY,
+        b"title New\n",
+        0,
+        Feed(
+            "<title>New</title>\n<updated>2023-11-14T22:13:20.001Z</updated>\n<author><name>Editor</name></author>\n<link rel=\"self\" href=\"http://feed.example/feed\"/>\n<sp:span first=\"1\" last=\"1\"/>\n</feed>\n",
+        ),
+    ),
+    (
+        APPLY,
+        b"window 1\n",
+        0,
+        Feed(
+            "<title>New</title>\n<updated>2023-11-14T22:13:20.002Z</updated>\n<author><name>Editor</name></author>\n<link rel=\"self\" href=\"http://feed.example/feed\"/>\n<sp:span first=\"1\" last=\"2\"/>\n</feed>\n",
+        ),
+    ),
+];
+
+#[test]
+fn a_store_of_each_format_takes_settings(rt: HostRuntime) {
+    let alloc = rt.alloc();
+    for format in 1..=3 {
+        let mut disk = made(&rt, alloc, &["--window", "4"], 0);
+        // The head's first byte comes after a gate and a length.
+        spoil(&rt, &mut disk, (Area::Journal, 5, format));
+        expect_steps(&rt, alloc, &mut disk, &FORMATS);
+        drop(disk);
+    }
+}
+
 /// The commands on a store that has no room for a sixth operation's seal.
 static FULL_OF_SEALS: [Step; 2] = [
     (
@@ -236,11 +374,12 @@ static FULL_OF_SEALS: [Step; 2] = [
     ),
 ];
 
-/// Four lines with the longest title.
-fn long_lines(rt: &impl Abort, alloc: Global) -> Vec<u8> {
+/// Four lines of this kind with the longest title.
+fn long_lines(rt: &impl Abort, alloc: Global, kind: &[u8]) -> Vec<u8> {
     let mut lines = Vec::new(alloc);
     for _ in 0..4 {
-        lines.extend_from_slice(b"add ").expect(rt, "memory");
+        lines.extend_from_slice(kind).expect(rt, "memory");
+        lines.push(b' ').expect(rt, "memory");
         lines.resize(lines.len() + 1_024, b'a').expect(rt, "memory");
         lines.push(b'\n').expect(rt, "memory");
     }
@@ -253,11 +392,15 @@ fn a_full_store_names_its_sizes(rt: HostRuntime) {
     let options = ["--capacity", "4096", "--window=1"];
     let sealed = version_after(&rt, alloc, &options, &FULL_OF_SEALS);
     assert!(rt; sealed == Some(5));
-    let lines = long_lines(&rt, alloc);
-    let full = Text("full journal 3289 1068 4096\n");
-    let steps: [Step; 1] = [(APPLY, lines.as_slice(), 11, full)];
-    let applied = version_after(&rt, alloc, &["--capacity=4096"], &steps);
-    assert!(rt; applied == Some(3));
+    for (kind, line) in [
+        (b"add".as_slice(), "full journal 3289 1068 4096\n"),
+        (b"title".as_slice(), "full journal 3214 1043 4096\n"),
+    ] {
+        let lines = long_lines(&rt, alloc, kind);
+        let steps: [Step; 1] = [(APPLY, lines.as_slice(), 11, Text(line))];
+        let applied = version_after(&rt, alloc, &["--capacity=4096"], &steps);
+        assert!(rt; applied == Some(3), "{line}");
+    }
 }
 
 /// The words of `serve`.
@@ -313,9 +456,11 @@ fn a_bad_store_is_refused(rt: HostRuntime) {
 
 /// A byte of a store with two operations and one seal, and the line that refuses the store. Byte 0 of an area is the
 /// gate of its first payload, and byte 5 the payload's first byte.
-static BAD_BYTES: [((Area, u64, u8), &str); 4] = [
+static BAD_BYTES: [((Area, u64, u8), &str); 6] = [
     ((Area::Sealed, 0, 0), "seal count 2 0\n"),
     ((Area::Sealed, 5 + 2, b'X'), "bad seal 1\n"),
+    ((Area::Journal, 5, 0), "bad store journal 0 0\n"),
+    ((Area::Journal, 5, 4), "bad store journal 0 0\n"),
     ((Area::Journal, 5, 9), "bad store journal 0 0\n"),
     ((Area::Journal, 0, 0), "not init\n"),
 ];

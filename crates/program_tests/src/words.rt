@@ -352,7 +352,7 @@ static LENGTHS: [(&str, &str, usize, bool); 9] = [
 ];
 
 /// Each row has a line of `apply` and what it is read as. In both, `%` means 1,024 letters `x`.
-static LINES: [(&str, &str); 42] = [
+static LINES: [(&str, &str); 62] = [
     ("add ", "add "),
     ("add a", "add a"),
     ("add  a ", "add  a "),
@@ -393,6 +393,26 @@ static LINES: [(&str, &str); 42] = [
     ("remove 1 b", "bad"),
     ("remove ", "bad"),
     ("remove", "bad"),
+    ("title New", "title New"),
+    ("title ", "title "),
+    ("title  a ", "title  a "),
+    ("title %", "title %"),
+    ("title %x", "bad"),
+    ("title \u{B}", "bad"),
+    ("title", "bad"),
+    ("titleX", "bad"),
+    ("window 1", "window 1"),
+    ("window 100", "window 100"),
+    ("window 0", "bad"),
+    ("window 101", "bad"),
+    ("window 007", "bad"),
+    ("window 4294967297", "bad"),
+    ("window +1", "bad"),
+    ("window  1", "bad"),
+    ("window 1 ", "bad"),
+    ("window 1 2", "bad"),
+    ("window ", "bad"),
+    ("window", "bad"),
     ("delete 1", "bad"),
     ("", "bad"),
 ];
@@ -594,6 +614,8 @@ fn asked(rt: &impl Abort, alloc: Global, ask: &LineAsk) -> String {
             titled(rt, alloc, words.as_str(), title.bytes())
         }
         LineAsk::Remove { number } => numbered(rt, alloc, "remove", u64::from(*number)),
+        LineAsk::Title(title) => titled(rt, alloc, "title", title.bytes()),
+        LineAsk::Window(size) => numbered(rt, alloc, "window", u64::from(*size)),
     }
 }
 

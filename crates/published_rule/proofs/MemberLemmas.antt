@@ -10,7 +10,7 @@ use Rattle.deleted_entries.specs.Tombstone.{TombstoneValue}
 use Rattle.deleted_entries.specs.declared.item.Item.{Item}
 use Rattle.deleted_entries.specs.declared.item.Item.TheVariants.{Kept, Gone}
 use Rattle.member_rules.specs.declared.operation.Op.{Op}
-use Rattle.member_rules.specs.declared.operation.Op.TheVariants.{Add, Change, Remove}
+use Rattle.member_rules.specs.declared.operation.Op.TheVariants.{Add, Change, Remove, Set}
 use Rattle.member_rules.specs.Operation.{item_of}
 use Rattle.member_rules.specs.Fold.{Fold, with_item, after_operation, fold_of, made}
 use Rattle.member_rules.specs.History.{AreFollowing, Fits, later_of}
@@ -76,6 +76,7 @@ precedes-next history (Remove removal) item later leaves fits is named =
     (remove-after item ((fold_of history).live (item_number item)) removal.tombstone removal.moment leaves.live
     (subst (λ (n : ℕ). IsSomeAnd ((fold_of history).live n)
     (λ stored. removal.tombstone.when ≡ later_of removal.moment stored.updated)) number fits))
+precedes-next history (Set setting moment) item later leaves fits is named = absurd (cc)
 
 -- an item and one more operation
 
@@ -109,6 +110,7 @@ leaves-after item members (Change entry) leaves precedes =
     leaves-with item (Kept entry) members leaves (precedes (Kept entry) refl)
 leaves-after item members (Remove removal) leaves precedes =
     leaves-with item (Gone removal.tombstone) members leaves (precedes (Gone removal.tombstone) refl)
+leaves-after item members (Set setting moment) leaves precedes = leaves
 
 leaves-more : (history : List Op) (operation : Op) (item : Item) → Leaves item (fold_of history) (made history)
     → Fits history operation
@@ -157,6 +159,7 @@ leaves-own history (Remove removal) item are fits is =
       within = omega (arith, within.1, made-push history (Remove removal));
       live = own-live (fold_of history) (Gone removal.tombstone);
     }
+leaves-own history (Set setting moment) item are fits is = absurd (cc)
 
 -- the first operations of a history, one by one
 

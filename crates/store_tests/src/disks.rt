@@ -23,6 +23,17 @@ pub fn disk_of(rt: &impl Abort, alloc: Global, journal: &[u8], failing: [u64; 2]
     )
 }
 
+/// Returns a disk with these areas, of which no device call fails.
+pub fn disk_with(rt: &impl Abort, alloc: Global, journal: &[u8], sealed: &[u8]) -> MemoryDisk {
+    MemoryDisk::new(
+        alloc,
+        Bytes::of(alloc, journal).expect(rt, "memory"),
+        Bytes::of(alloc, sealed).expect(rt, "memory"),
+        Bytes::of(alloc, b"").expect(rt, "memory"),
+        Many::new(alloc),
+    )
+}
+
 /// Appends the bytes of an area of up to 192 bytes, and `/`.
 pub fn append_area<D: Disk>(rt: &impl Abort, all: &mut Vec<u8>, disk: &mut D, area: Area) {
     let mut bytes = [0u8; 192];

@@ -5,7 +5,7 @@ ghost use Rattle.feed_recovery.specs.Store.{StandsFor, is_spent};
 ghost use Rattle.member_rules.specs.Table.{IsTableOf};
 
 use crate::disks::disk_of;
-use crate::stores::{NOW, change, head};
+use crate::stores::{NOW, change, head, set_size, set_title};
 use archive_sealer::{archive, full_windows, sealed_windows, subscription};
 use atom_values::{AtomText, Copies, Draft};
 use atom_writer::{write_doc, write_member};
@@ -32,10 +32,25 @@ fn next(seed: u64) -> u64 {
         .wrapping_add(1_442_695_040_888_963_407)
 }
 
-/// An ask that the rules allow: to change or to delete a live member, or to make one.
+/// A size of windows. Most are small.
+fn some_size(seed: u64) -> u32 {
+    if (seed >> 60) % 4 == 0 {
+        ((seed >> 40) % 100) as u32 + 1
+    } else {
+        ((seed >> 40) % 6) as u32 + 1
+    }
+}
+
+/// An ask that the rules allow: to change or to delete a live member, to make one, or to set the title or the size of
+/// windows.
 fn some_ask(rt: &impl Abort, alloc: Global, seed: u64, members: &Members) -> Ask {
     let number = ((seed >> 33) % (u64::from(members.count()) + 1)) as u32;
     let letter = b'a' + ((seed >> 50) % 26) as u8;
+    match (seed >> 24) % 16 {
+        0 => return set_title(rt, alloc, &[letter]),
+        1 => return set_size(rt, some_size(seed)),
+        _ => {}
+    }
     let title = AtomText::of(alloc, &[letter]).expect(rt, "a title");
     let draft = Draft::titled(alloc, title);
     let State::Live { .. } = members.state(number) else {
@@ -158,14 +173,14 @@ fn append_plain_member(
     number: u32,
 ) {
     for operation in feed.history.iter().rev() {
-        if operation.number() == number {
+        if operation.member() == Some(number) {
             match operation {
                 Op::Add(entry) | Op::Change(entry) => {
                     let document = write_member(alloc, &feed.head.name, entry).expect(rt, "memory");
                     all.extend_from_slice(document.as_slice())
                         .expect(rt, "memory");
                 }
-                Op::Remove(_) => all.push(b'-').expect(rt, "memory"),
+                Op::Remove(_) | Op::Set { .. } => all.push(b'-').expect(rt, "memory"),
             }
             return;
         }

@@ -11,7 +11,7 @@ use chain_links::Base;
 use deleted_entries::FeedId;
 use feed_disk::Disk;
 use feed_recovery::{ArchiveFault, MemberFault, Store};
-use member_rules::{Ask, Head, State};
+use member_rules::{Ask, Head, NEWEST_FORMAT, Setting, ShortText, State, WindowSize};
 use std::alloc::Global;
 use std::process::Abort;
 
@@ -53,6 +53,7 @@ pub fn head(rt: &impl Abort, alloc: Global, window: u32, capacity: u64) -> Head
     requires capacity { (4_096 ≤ capacity) × (capacity ≤ 68_719_476_736) }
 {
     Head {
+        format: NEWEST_FORMAT,
         name: FeedName {
             base: Base::parse(alloc, b"http://feed.example/").expect(rt, "a base"),
             id: FeedId::parse(b"6d1f0c5a-93be-4c27-8d10-2b7f9e4a5c36").expect(rt, "an identifier"),
@@ -98,6 +99,17 @@ pub fn add<D: Disk>(
 {
     let title = AtomText::of(alloc, title).expect(rt, "a title");
     change(rt, store, disk, Ask::Create(Draft::titled(alloc, title)))
+}
+
+/// The ask to set this title.
+pub fn set_title(rt: &impl Abort, alloc: Global, title: &[u8]) -> Ask {
+    let text = AtomText::of(alloc, title).expect(rt, "a title");
+    Ask::Change(Setting::Title(ShortText::of(text).expect(rt, "a short title")))
+}
+
+/// The ask to set this size of windows.
+pub fn set_size(rt: &impl Abort, operations: u32) -> Ask {
+    Ask::Change(Setting::Window(WindowSize::new(operations).expect(rt, "a size")))
 }
 
 /// Makes a store, loads it and makes two members. Returns what the store shows after each step, and what was made.
@@ -168,7 +180,7 @@ fn fill<D: Disk>(rt: &impl Abort, alloc: Global, disk: &mut D) {
 }
 
 /// Loads the store, and returns its subscription document.
-fn subscription<D: Disk>(rt: &impl Abort, alloc: Global, disk: &mut D) -> Vec<u8> {
+pub fn subscription<D: Disk>(rt: &impl Abort, alloc: Global, disk: &mut D) -> Vec<u8> {
     let mut store = Store::load(alloc, disk).expect(rt, "a store");
     let document = store.subscription().expect(rt, "memory");
     drop(store);
@@ -176,7 +188,7 @@ fn subscription<D: Disk>(rt: &impl Abort, alloc: Global, disk: &mut D) -> Vec<u8
 }
 
 /// Loads the store, and returns an archive.
-fn archive<D: Disk>(
+pub fn archive<D: Disk>(
     rt: &impl Abort,
     alloc: Global,
     disk: &mut D,

@@ -1,9 +1,9 @@
 ghost use Rattle.std.specs.Prelude.{◌≡◌, ◌⊎◌, None, Some, Ok, Err, IfOk, MatchOption, MatchResult, option_map};
 ghost use Rattle.atom_values.specs.Ascii.{space};
 ghost use Rattle.tool_words.specs.Line as lines;
-ghost use Rattle.tool_words.specs.Line.{HasNo, IsFirst};
+ghost use Rattle.tool_words.specs.Line.{HasNo, IsFirst, IsLineAsk};
 ghost use Rattle.tool_words.specs.declared.line.LineAsk.{LineAsk as AskValue};
-ghost use Rattle.tool_words.specs.declared.line.LineAsk.TheVariants.{Add, Remove};
+ghost use Rattle.tool_words.specs.declared.line.LineAsk.TheVariants.{Add, Remove, Title, Window};
 
 use crate::fault::LineFault;
 use atom_values::{AtomText, TextFault};
@@ -12,6 +12,9 @@ use std::alloc::Global;
 
 /// The most bytes of a line's title.
 const LINE_TITLE_LIMIT: usize = 1_024;
+
+/// The most operations of a line's window.
+const LINE_WINDOW_LIMIT: u32 = 100;
 
 /// The ask of a line of `apply`.
 #[derive(Debug, Drop)]
@@ -22,12 +25,17 @@ pub enum LineAsk {
     Change { number: u32, title: AtomText },
     /// `remove N`: the removal of the member of this number.
     Remove { number: u32 },
+    /// `title TITLE`: this title for the feed.
+    Title(AtomText),
+    /// `window W`: this size for each later window.
+    Window(u32),
 }
 
 /// Reads a line of `apply`, given without its LF.
 ///
-/// A line is `add TITLE`, `change N TITLE` or `remove N`, with one space between. N is a decimal number from 1 to
-/// 4294967295 without leading zeros. A title has from 0 to 1,024 bytes of XML characters.
+/// A line is `add TITLE`, `change N TITLE`, `remove N`, `title TITLE` or `window W`, with one space between. N is a
+/// decimal number from 1 to 4294967295 and W one from 1 to 100, both without leading zeros. A title has from 0 to 1,024
+/// bytes of XML characters.
 ///
 /// `BadLine` for any other line. `NoMemory` if there is no memory for the title.
 pub fn read_line(alloc: Global, line: &[u8]) -> Result<LineAsk, LineFault>
@@ -37,6 +45,8 @@ pub fn read_line(alloc: Global, line: &[u8]) -> Result<LineAsk, LineFault>
     ensures only { (ask : AskValue) → lines.line_ask line.now ≡ Some ask
         → (result ≡ Ok ask) ⊎ (result ≡ Err LineFault.NoMemory) }
     ensures bad { result ≡ Err LineFault.BadLine → lines.line_ask line.now ≡ None }
+    // A new title and a new size are within their limits.
+    ensures limits { IfOk result IsLineAsk }
 {
     if let Some(title) = line.strip_prefix(b"add ") {
         return addition_of(alloc, title);
@@ -44,8 +54,14 @@ pub fn read_line(alloc: Global, line: &[u8]) -> Result<LineAsk, LineFault>
     if let Some(words) = line.strip_prefix(b"change ") {
         return change_of(alloc, words);
     }
-    match line.strip_prefix(b"remove ") {
-        Some(digits) => removal_of(digits),
+    if let Some(digits) = line.strip_prefix(b"remove ") {
+        return removal_of(digits);
+    }
+    if let Some(title) = line.strip_prefix(b"title ") {
+        return feed_title_of(alloc, title);
+    }
+    match line.strip_prefix(b"window ") {
+        Some(digits) => window_of(digits),
         None => Err(LineFault::BadLine),
     }
 }
@@ -66,6 +82,26 @@ fn removal_of(digits: &[u8]) -> Result<LineAsk, LineFault>
 {
     let number = number_of(digits)?;
     Ok(LineAsk::Remove { number })
+}
+
+/// The change of the feed's title to this one.
+fn feed_title_of(alloc: Global, title: &[u8]) -> Result<LineAsk, LineFault>
+    ensures found { IfOk result (λ ask. option_map Title (lines.title_of title.now) ≡ Some ask) }
+    ensures bad { result ≡ Err LineFault.BadLine → option_map Title (lines.title_of title.now) ≡ None }
+{
+    let title = title_of(alloc, title)?;
+    Ok(LineAsk::Title(title))
+}
+
+/// The change of the size of windows to the number that these digits are.
+fn window_of(digits: &[u8]) -> Result<LineAsk, LineFault>
+    ensures found { IfOk result (λ ask. option_map Window (lines.window_number digits.now) ≡ Some ask) }
+    ensures bad { result ≡ Err LineFault.BadLine → option_map Window (lines.window_number digits.now) ≡ None }
+{
+    match whole_number(digits) {
+        Some(size) if size <= LINE_WINDOW_LIMIT => Ok(LineAsk::Window(size)),
+        _ => Err(LineFault::BadLine),
+    }
 }
 
 /// The change that the words ask for: a member's number and a title, with one space between them.

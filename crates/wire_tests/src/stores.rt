@@ -14,7 +14,7 @@ use document_server::answer;
 use feed_disk::{Disk, MemoryDisk};
 use feed_recovery::Store;
 use http_face::{Conn, read_request, write_reply};
-use member_rules::Head;
+use member_rules::{Head, NEWEST_FORMAT};
 use std::alloc::Global;
 use std::process::Abort;
 
@@ -30,6 +30,7 @@ fn head_of(rt: &impl Abort, alloc: Global, window: u32, capacity: u64) -> Head
     requires capacity { (4_096 ≤ capacity) × (capacity ≤ 68_719_476_736) }
 {
     Head {
+        format: NEWEST_FORMAT,
         name: FeedName {
             base: Base::parse(alloc, b"http://feed.example/").expect(rt, "a base"),
             id: FeedId::parse(b"6d1f0c5a-93be-4c27-8d10-2b7f9e4a5c36").expect(rt, "an identifier"),

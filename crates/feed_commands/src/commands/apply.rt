@@ -1,6 +1,7 @@
 ghost use Rattle.std.specs.Prelude.{◌≡◌, ◌≢◌, ℕ, ◌≤◌, ◌<◌, ◌+◌, ◌∷◌, [], ◌++◌, List, Some, None, Ok, Err, IfOk, IfErr, OnOk};
 ghost use Rattle.atom_values.specs.Counts.{CountsFault};
 ghost use Rattle.member_rules.specs.declared.operation.Op.{Op};
+ghost use Rattle.archive_sealer.specs.Window.{IsOfFeed};
 ghost use Rattle.member_rules.specs.Head.{window_limit};
 ghost use Rattle.member_rules.specs.History.{IsLawful, MayFollow, history_limit};
 ghost use Rattle.member_rules.specs.Table.{IsTableOf};
@@ -13,14 +14,14 @@ ghost use Rattle.feed_commands.specs.Line.{line_ask};
 use crate::commands::line::line_ask;
 use crate::commands::lines::{Lines, LinesFault};
 use archive_sealer::Window;
-use atom_values::{AtomText, NoMemory, Stamp};
+use atom_values::{AtomText, Copies, NoMemory, Stamp};
 use atom_writer::{FeedName, write_doc};
 use chain_links::Base;
 use command_ends::{Fault, Refusal};
 use deleted_entries::FeedId;
 use doc_source::Source;
 use document_server::Clock;
-use member_rules::{Head, Members, Op, decide};
+use member_rules::{Head, Members, NEWEST_FORMAT, Op, decide};
 use std::alloc::Global;
 
 impl From<LinesFault> for Fault {
@@ -65,6 +66,7 @@ pub fn test_head(alloc: Global, window: u32) -> Result<Head, NoMemory>
     // 0 is the moment of a stamp.
     let created = Stamp::new(0).unwrap();
     Ok(Head {
+        format: NEWEST_FORMAT,
         name,
         window,
         capacity: CAPACITY,
@@ -89,7 +91,7 @@ pub fn window_of<C: Clock, I: Source>(
         → applied_history head.now (C.coming clock.old) (I.state input.old).left
         ≡ record { feed = window.history; fault = None }) }
     ensures lawful { IfOk result (λ window. IsLawful head.now window.history) }
-    ensures size { IfOk result (λ window. window.size ≡ head.now.window) }
+    ensures feed { IfOk result (λ window. IsOfFeed window head.now) }
     ensures refused { IfErr result (λ fault. IsRefusal fault → I.observable → C.observable
         → (applied_history head.now (C.coming clock.old) (I.state input.old).left).fault ≡ Some fault) }
     ensures input_faults { CountsFault (I.state input.old).faults (I.state input.new).faults
@@ -101,7 +103,8 @@ pub fn window_of<C: Clock, I: Source>(
 {
     let mut lines = Lines::new(alloc)?;
     let mut members = Members::new(alloc, head.created);
-    let mut window = Window::new(alloc, head.window)?;
+    let title = head.name.title.copy(alloc)?;
+    let mut window = Window::new(alloc, head.window, title)?;
     while lines.next(input)? {
         members.prepare()?;
         window.prepare()?;

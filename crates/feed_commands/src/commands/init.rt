@@ -14,7 +14,7 @@ use command_ends::Fault;
 use document_server::Clock;
 use feed_disk::Disk;
 use feed_recovery::Store;
-use member_rules::Head;
+use member_rules::{Head, NEWEST_FORMAT};
 use std::alloc::Global;
 
 /// The greatest moment of a stamp: 9999-12-31T23:59:59.999Z.
@@ -47,6 +47,7 @@ pub fn init<D: Disk, C: Clock>(
 {
     let printed = Vec::from_slice(alloc, b"ready\n")?;
     let head = Head {
+        format: NEWEST_FORMAT,
         name,
         window,
         capacity,

@@ -1,8 +1,9 @@
 ghost use Rattle.std.specs.Prelude.{◌≡◌, IfOk};
 ghost use Rattle.feed_commands.specs.Line as lines;
+ghost use Rattle.tool_words.specs.Line.{IsLineAsk};
 
 use atom_values::{Draft, NoMemory};
-use member_rules::Ask;
+use member_rules::{Ask, Setting, ShortText, WindowSize};
 use std::alloc::Global;
 use tool_words::{LineAsk, LineFault, read_line};
 
@@ -21,8 +22,9 @@ pub fn line_ask(alloc: Global, line: &[u8]) -> Result<Option<Ask>, NoMemory>
     }
 }
 
-/// The ask of a good line. Its draft has the line's title alone.
+/// The ask of a good line. Its draft, if it has one, has the line's title alone.
 fn ask_of(alloc: Global, ask: LineAsk) -> Ask
+    requires { IsLineAsk ask }
     ensures { result ≡ lines.ask_of ask }
 {
     match ask {
@@ -32,5 +34,7 @@ fn ask_of(alloc: Global, ask: LineAsk) -> Ask
             draft: Draft::titled(alloc, title),
         },
         LineAsk::Remove { number } => Ask::Delete { number },
+        LineAsk::Title(title) => Ask::Change(Setting::Title(ShortText::of(title).unwrap())),
+        LineAsk::Window(size) => Ask::Change(Setting::Window(WindowSize::new(size).unwrap())),
     }
 }

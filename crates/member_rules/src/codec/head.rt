@@ -4,22 +4,20 @@ ghost use Rattle.member_rules.specs.Coding.{heads};
 ghost use Rattle.member_rules.specs.FieldLists.{ReadsAll, ReadsWhole};
 ghost use Rattle.member_rules.specs.Fields.{Reads};
 ghost use Rattle.member_rules.specs.Head.{IsHead};
-ghost use Rattle.member_rules.specs.HeadFields.{base, capacity, created, feed_id, first_format, name_parts, name_value, settings, settings_value, title, titles, titles_value, window};
+ghost use Rattle.member_rules.specs.HeadFields.{base, capacity, created, feed_id, format, name_parts, name_value, settings, settings_value, title, titles, titles_value, window};
 
 use crate::codec::bytes::{push_bytes, push_number, push_size};
 use crate::codec::coded::Coded;
 use crate::codec::fault::FieldFault;
 use crate::codec::head_fields::{Settings, Titles};
 use crate::codec::unread::Unread;
-use crate::head::{CAPACITY_FLOOR, CAPACITY_LIMIT, Head, TITLE_LIMIT, WINDOW_LIMIT};
+use crate::head::{CAPACITY_FLOOR, CAPACITY_LIMIT, Head, NEWEST_FORMAT};
+use crate::setting::{ShortText, WindowSize};
 use atom_values::{AtomText, NoMemory, Stamp};
 use atom_writer::{FeedName, Out};
 use chain_links::Base;
 use deleted_entries::FeedId;
 use std::alloc::Global;
-
-/// The first byte of a head, for its one format.
-const HEAD: u8 = 1;
 
 /// Adds the fields of the head.
 pub(crate) fn push_head<W: Out>(out: &mut W, head: &Head) -> Result<(), NoMemory>
@@ -27,7 +25,7 @@ pub(crate) fn push_head<W: Out>(out: &mut W, head: &Head) -> Result<(), NoMemory
     ensures failed { OnErr result W.can_fail }
     ensures rules { OnOk result (IsHead head.now) }
 {
-    out.push(&[HEAD])?;
+    out.push(&[head.format])?;
     push_bytes(out, head.name.base.text())?;
     out.push(&head.name.id.bytes())?;
     head.name.title.push(out)?;
@@ -42,7 +40,7 @@ pub(crate) fn push_head<W: Out>(out: &mut W, head: &Head) -> Result<(), NoMemory
 pub(crate) fn read_whole(alloc: Global, unread: &mut Unread) -> Result<Head, FieldFault>
     ensures { ReadsWhole heads unread.old.rest.now result unread.new.rest.now }
 {
-    let head = read_format(alloc, unread)?;
+    let head = read_head(alloc, unread)?;
     unread
         .rest
         .is_empty()
@@ -50,28 +48,33 @@ pub(crate) fn read_whole(alloc: Global, unread: &mut Unread) -> Result<Head, Fie
         .ok_or(FieldFault::Mismatch)
 }
 
-/// Reads the fields of a head, by the format that its first byte names.
-fn read_format(alloc: Global, unread: &mut Unread) -> Result<Head, FieldFault>
+/// Reads the fields of a head.
+fn read_head(alloc: Global, unread: &mut Unread) -> Result<Head, FieldFault>
     ensures { ReadsAll (λ head. head) heads unread.old.rest.now result unread.new.rest.now }
 {
-    if unread.tag(HEAD) {
-        return Ok(read_head(alloc, unread)?);
-    }
-    Err(FieldFault::Mismatch)
-}
-
-/// Reads the fields of a head after its first byte.
-fn read_head(alloc: Global, unread: &mut Unread) -> Result<Head, FieldFault>
-    ensures { ReadsAll (λ head. head) first_format unread.old.rest.now result unread.new.rest.now }
-{
+    let format = read_format(unread)?;
     let name = read_name(alloc, unread)?;
     let settings = read_settings(alloc, unread)?;
     Ok(Head {
+        format,
         name,
-        window: settings.window,
+        window: settings.window.get(),
         capacity: settings.capacity,
         created: settings.created,
     })
+}
+
+/// Reads the format, which is the first byte.
+fn read_format(unread: &mut Unread) -> Result<u8, FieldFault>
+    ensures { Reads format unread.old.rest.now result unread.new.rest.now }
+{
+    let mut left = *unread;
+    let format = left.byte()?;
+    if format < 1 || format > NEWEST_FORMAT {
+        return Err(FieldFault::Mismatch);
+    }
+    *unread = left;
+    Ok(format)
 }
 
 /// Reads the name of the feed.
@@ -84,8 +87,8 @@ fn read_name(alloc: Global, unread: &mut Unread) -> Result<FeedName, FieldFault>
     Ok(FeedName {
         base,
         id,
-        title: titles.title,
-        author: titles.author,
+        title: titles.title.into_text(),
+        author: titles.author.into_text(),
     })
 }
 
@@ -137,23 +140,16 @@ fn read_id(unread: &mut Unread) -> Result<FeedId, FieldFault>
 }
 
 /// Reads a text of at most `TITLE_LIMIT` bytes.
-fn read_title(alloc: Global, unread: &mut Unread) -> Result<AtomText, FieldFault>
+pub(crate) fn read_title(alloc: Global, unread: &mut Unread) -> Result<ShortText, FieldFault>
     ensures { Reads title unread.old.rest.now result unread.new.rest.now }
 {
     let mut left = *unread;
-    let title = AtomText::read(alloc, &mut left)?;
-    if title.bytes().len() > TITLE_LIMIT {
+    let text = AtomText::read(alloc, &mut left)?;
+    let Some(title) = ShortText::of(text) else {
         return Err(FieldFault::Mismatch);
-    }
+    };
     *unread = left;
     Ok(title)
-}
-
-/// Whether a window may have this many operations.
-fn is_window(window: u32) -> bool
-    ensures { IsTrue result ↔ ((1 ≤ window) × (window ≤ WINDOW_LIMIT)) }
-{
-    window >= 1 && window <= WINDOW_LIMIT
 }
 
 /// Whether an area may be limited to this many bytes.
@@ -164,14 +160,13 @@ fn is_capacity(capacity: u64) -> bool
 }
 
 /// Reads the number of operations of a window.
-fn read_window(unread: &mut Unread) -> Result<u32, FieldFault>
+pub(crate) fn read_window(unread: &mut Unread) -> Result<WindowSize, FieldFault>
     ensures { Reads window unread.old.rest.now result unread.new.rest.now }
 {
     let mut left = *unread;
-    let window = left.number()?;
-    if !is_window(window) {
+    let Some(window) = WindowSize::new(left.number()?) else {
         return Err(FieldFault::Mismatch);
-    }
+    };
     *unread = left;
     Ok(window)
 }

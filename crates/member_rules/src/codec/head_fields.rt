@@ -1,16 +1,17 @@
-use atom_values::{AtomText, Stamp};
+use crate::setting::{ShortText, WindowSize};
+use atom_values::Stamp;
 
 /// The two texts of a feed's name.
 #[derive(Drop)]
 pub(crate) struct Titles {
-    pub(crate) title: AtomText,
-    pub(crate) author: AtomText,
+    pub(crate) title: ShortText,
+    pub(crate) author: ShortText,
 }
 
 /// The fields of a head after the feed's name.
 #[derive(Drop)]
 pub(crate) struct Settings {
-    pub(crate) window: u32,
+    pub(crate) window: WindowSize,
     pub(crate) capacity: u64,
     pub(crate) created: Stamp,
 }

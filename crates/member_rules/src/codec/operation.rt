@@ -6,13 +6,17 @@ ghost use Rattle.member_rules.specs.Fields.{Reads};
 ghost use Rattle.member_rules.specs.Operation.{IsOperation};
 ghost use Rattle.member_rules.specs.Removal.{IsRemoval};
 ghost use Rattle.member_rules.specs.RemovalFields.{removals, stamp_from};
+ghost use Rattle.member_rules.specs.Setting.{IsSetting};
+ghost use Rattle.member_rules.specs.SettingFields.{sets, settings};
 
 use crate::codec::bytes::push_number;
 use crate::codec::coded::Coded;
 use crate::codec::entry::{push_entry, read_entry, read_number};
 use crate::codec::fault::FieldFault;
+use crate::codec::head::{read_title, read_window};
 use crate::codec::unread::Unread;
 use crate::operation::{Op, Removal};
+use crate::setting::Setting;
 use atom_values::{NoMemory, Stamp};
 use atom_writer::Out;
 use deleted_entries::Tombstone;
@@ -24,6 +28,13 @@ const ADD: u8 = 1;
 const CHANGE: u8 = 2;
 
 const REMOVE: u8 = 3;
+
+const SET: u8 = 4;
+
+/// The byte that tells which setting an operation changes.
+const TITLE: u8 = 1;
+
+const WINDOW: u8 = 2;
 
 /// Adds the fields of the operation.
 pub(crate) fn push_operation<W: Out>(out: &mut W, operation: &Op) -> Result<(), NoMemory>
@@ -47,6 +58,12 @@ pub(crate) fn push_operation<W: Out>(out: &mut W, operation: &Op) -> Result<(), 
             push_removal(out, removal)?;
             Ok(())
         }
+        Op::Set { setting, moment } => {
+            out.push(&[SET])?;
+            moment.push(out)?;
+            push_setting(out, setting)?;
+            Ok(())
+        }
     }
 }
 
@@ -60,6 +77,26 @@ fn push_removal<W: Out>(out: &mut W, removal: &Removal) -> Result<(), NoMemory>
     removal.moment.push(out)?;
     removal.tombstone.when.push(out)?;
     Ok(())
+}
+
+/// Adds the fields of the setting.
+fn push_setting<W: Out>(out: &mut W, setting: &Setting) -> Result<(), NoMemory>
+    ensures added { OnOk result (W.adds out.old out.new (text_of settings setting.now)) }
+    ensures failed { OnErr result W.can_fail }
+    ensures rules { OnOk result (IsSetting setting.now) }
+{
+    match setting {
+        Setting::Title(title) => {
+            out.push(&[TITLE])?;
+            title.text().push(out)?;
+            Ok(())
+        }
+        Setting::Window(size) => {
+            out.push(&[WINDOW])?;
+            push_number(out, size.get())?;
+            Ok(())
+        }
+    }
 }
 
 /// Reads the fields of an operation, which are all the bytes.
@@ -86,6 +123,32 @@ fn read_operation(alloc: Global, unread: &mut Unread) -> Result<Op, FieldFault>
     }
     if unread.tag(REMOVE) {
         return Ok(Op::Remove(read_removal(alloc, unread)?));
+    }
+    if unread.tag(SET) {
+        let (moment, setting) = read_set(alloc, unread)?;
+        return Ok(Op::Set { setting, moment });
+    }
+    Err(FieldFault::Mismatch)
+}
+
+/// Reads the moment of an operation that changes a setting, and the setting.
+fn read_set(alloc: Global, unread: &mut Unread) -> Result<(Stamp, Setting), FieldFault>
+    ensures { ReadsAll (λ set. set) sets unread.old.rest.now result unread.new.rest.now }
+{
+    let moment = Stamp::read(alloc, unread)?;
+    let setting = read_setting(alloc, unread)?;
+    Ok((moment, setting))
+}
+
+/// Reads the fields of a setting, by the kind that its first byte names.
+fn read_setting(alloc: Global, unread: &mut Unread) -> Result<Setting, FieldFault>
+    ensures { ReadsAll (λ setting. setting) settings unread.old.rest.now result unread.new.rest.now }
+{
+    if unread.tag(TITLE) {
+        return Ok(Setting::Title(read_title(alloc, unread)?));
+    }
+    if unread.tag(WINDOW) {
+        return Ok(Setting::Window(read_window(unread)?));
     }
     Err(FieldFault::Mismatch)
 }

@@ -16,7 +16,7 @@ returns-clause-same g c = λ tells.
     let payload = c.in-Ok.payload.items in
     let sealed = (windows_of c.args.head.now c.args.window.now.history).sealed in
     let index : c.sealed.result ≡ sealed + 1 - 1 =
-    omega (arith, c.sealed.ensures c.args.head.now (sym c.requires.size)) in
+    omega (arith, c.sealed.ensures c.args.head.now c.requires.feed) in
     let written : c.in_ok-text.text.items ≡ seal_of c.args.head.now c.args.window.now.history (sealed + 1) =
     c.in_ok-text.ensures
     ∙ ap text {y = archive c.args.head.now c.args.window.now.history (sealed + 1)} c.in_ok-document.ensures in

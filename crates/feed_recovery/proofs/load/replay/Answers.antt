@@ -35,7 +35,11 @@ frames-init g c =
       replayed = record {
         is_head = c.requires.head;
         lawful = subst (IsLawful head) (sym empty) (none_lawful head);
-        size = c.in_ok-window.ensures.size ∙ ap (λ (h : HeadValue). h.window) c.head.view_is;
+        of_feed = record {
+          first = sym (c.in_ok-window.ensures.first ∙ ap (λ (h : HeadValue). h.window) c.head.view_is);
+          title = sym (c.in_ok-window.ensures.title ∙ c.in_ok-title.ensures.same
+              ∙ ap (λ (h : HeadValue). h.name.title) c.head.view_is);
+        };
         table = subst (IsTableOf c.new-2.result head.created) (sym empty)
             (subst (λ (h : HeadValue). IsTableOf c.new-2.result h.created []) c.head.view_is c.new-2.ensures.table);
       };

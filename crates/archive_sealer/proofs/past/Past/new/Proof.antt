@@ -1,12 +1,16 @@
 use mathlib.Core.Path.{refl}
 use mathlib.Core.List.{[], ◌∷◌}
+use Rattle.std.proofs.Common.{w32, ◌<◌, ◌^◌}
 use seplogic.Ra.Ura.{Ura}
-use mir.Val.{vstruct, vnil}
+use mir.Syntax.{named}
+use mir.Val.{Val, vint, vptr, vstruct, vnil}
 use base.Logic.{SProp, ent, emp, via, fst∗}
+use base.Fml.{Fml}
 use prog.Memory.{Memory}
 use prog.Routine.{Routine}
 use prog.Wp.{Calls, Loops, WpFn, Tables}
 use types.Logic.{Logic}
+use contract.Lifetimes.{Lfts, Shares}
 use contract.Monad.{Fun}
 use contract.Running.{tables, tables_of}
 use sound.WpLaws.{WpFn-mono}
@@ -14,45 +18,63 @@ use types.Kit.{‵, raw, ◌$◌, ◌∵◌, !, qed, move, suffices, done}
 use types.Run.{no_more, returns, enter}
 use types.Part.{agg}
 use types.ByLocal.{alloc_all, pass_all, free_all, look_at, sets}
+use denote.Builtin.{u32}
+use denote.Exit.{yes}
+use denote.Plain.{uint_vals, uint_Tells}
 use denote.RattleType.{owns}
+use denote.Ref.{shr_vals, shr_Tells}
 use denote.Shadow.{pure_i}
-use denote.Triple.Entry.{on_entry, alive}
+use denote.Signature.{plain, types_at}
+use denote.Triple.Entry.{on_entry, alive, Args}
 use denote.Triple.Spec.{Meets, triple_of}
 use denote.Triple.Table.{entered}
-use denote.Triple.Walked.{says, Stays, walk_of, Walks, ends_at, walked, walk_Meets}
+use denote.Triple.Walked.{says, stay_none, stay_none_ref, Stays, walk_of, Walks, ends_at, walked, Goes-none, Goes-none_ref, walk_Meets}
 use Rattle.archive_sealer.specs.contracts.past.Past.new.Key.{name as key}
 use Rattle.archive_sealer.specs.contracts.past.Past.new as f
 use Rattle.archive_sealer.proofs.past.Past.new.Statement as stated
 use Rattle.archive_sealer.proofs.past.Past.new.Code as code
 use Rattle.archive_sealer.specs.contracts.past.Past as made
+use Rattle.atom_values.specs.contracts.text.AtomText as text
 
 abbrev stayed : Stays (f.ended).signature.params (f.ended).kept
-stayed = tt
+stayed = (stay_none (λ _. u32) yes, (stay_none_ref (0 ∷ []) tt (plain (λ _. text.the_row)) yes, tt))
 
 module _ {M : Type 1} {𝓤 : Ura M} (𝓛 : Logic 𝓤) (mem : Memory → SProp 𝓤) (run : Routine → Fun 𝓤) (C : Calls 𝓤 𝓛.H) (Λ : Loops 𝓤 𝓛.H) where
   open 𝓛 use {H}
 
-  abbrev bound : (walk_of 𝓛 f.ended stayed (f.clauses 𝓛 mem run)).Ghost
-  bound = ((tt, tt, tt, tt, tt), tt)
+  module _ (κs : Lfts 1) (qs : Shares 1) (a : Args f.signature κs) (fits : a.0 < 2 ^ 32) where
+    abbrev size : Val
+    size = vint w32 a.0
 
-  walk : ent 𝓤 (on_entry 𝓛 f.signature tt tt tt tt) (WpFn 𝓤 H C Λ code.function [] ((walk_of 𝓛 f.ended stayed (f.clauses 𝓛 mem run)).post bound))
-  walk =
-      qed 𝓛 (raw (alive 𝓛 f.signature tt tt) ∷ ‵ (owns [] tt tt) ∷ []) ∵ enter ! C Λ code.function [] _ $
-      alloc_all ! (λ l. pass_all ! refl tt $ sets ! (agg ! (no_more !)) refl (tt, tt) $
-      returns ! (look_at ! 0 refl) $ free_all ! refl $
-      suffices ! _ (ends_at 𝓛 f.ended stayed (f.clauses 𝓛 mem run) bound (vstruct vnil) (record { operations = [] }) tt tt) $
-      says ! refl $ pure_i ! (made.the_row.own_val (record { operations = [] }) (vstruct vnil ∷ [])) ((λ vss. (tt, tt)), tt) ((tt, (refl, tt)), tt) $
-      move ! (1 ∷ 2 ∷ 0 ∷ []) $ done !)
+    abbrev title : Val
+    title = vptr a.1.0.ref_ptr.0 a.1.0.ref_ptr.1
+
+    abbrev bound : (walk_of 𝓛 f.ended stayed (f.clauses 𝓛 mem run)).Ghost
+    bound = ((κs, qs, tt, a, (size ∷ [], (title ∷ [], tt))), tt)
+
+    abbrev passed : Fml
+    passed = owns (types_at f.signature.params κs) a (size ∷ [], (title ∷ [], tt))
+
+    walk : ent 𝓤 (on_entry 𝓛 f.signature κs qs a (size ∷ [], (title ∷ [], tt)))
+        (WpFn 𝓤 H C Λ code.function (size ∷ title ∷ []) ((walk_of 𝓛 f.ended stayed (f.clauses 𝓛 mem run)).post bound))
+    walk =
+        qed 𝓛 (raw (alive 𝓛 f.signature κs qs) ∷ ‵ passed ∷ []) ∵ enter ! C Λ code.function (size ∷ title ∷ []) _ $
+        alloc_all ! (λ l. pass_all ! refl ((tt, record { fits = fits }), ((tt, tt), tt)) $ sets ! (agg ! (no_more !)) refl (tt, tt) $
+        returns ! (look_at ! 0 refl) $ free_all ! refl $
+        suffices ! _ (ends_at 𝓛 f.ended stayed (f.clauses 𝓛 mem run) bound (vstruct vnil) (record { first = a.0; title = a.1.0.now; operations = [] }) (tt, (tt, tt)) (tt, (tt, tt))) $
+        says ! refl $ pure_i ! (made.the_row.own_val (record { first = a.0; title = a.1.0.now; operations = [] }) (vstruct vnil ∷ [])) ((λ vss. (tt, tt)), tt) ((tt, (refl, tt)), tt) $
+        move ! (1 ∷ 2 ∷ 0 ∷ []) $ done !)
 
   walks : Walks 𝓛 f.ended stayed (WpFn 𝓤 H C Λ code.function) (f.clauses 𝓛 mem run)
   walks =
-      walked 𝓛 f.ended stayed (f.clauses 𝓛 mem run) (WpFn 𝓤 H C Λ code.function) (λ κs. tt) (λ κs. tt)
-      (λ κs qs bounds a g are. via 𝓤 _ (fst∗ 𝓤 _ (emp 𝓤)) walk)
+      walked 𝓛 f.ended stayed (f.clauses 𝓛 mem run) (WpFn 𝓤 H C Λ code.function) (λ κs. (uint_vals w32, (shr_vals, tt)))
+      (λ κs. (uint_Tells w32, (shr_Tells (named 0) κs.0 text.the_row, tt)))
+      (λ κs qs bounds a g are. via 𝓤 _ (fst∗ 𝓤 _ (emp 𝓤)) (walk κs qs a are.0.1))
 
 meets : {M : Type 1} {𝓤 : Ura M} (𝓛 : Logic 𝓤) (mem : Memory → SProp 𝓤) (run : Routine → Fun 𝓤) (𝓣 : Tables 𝓤 𝓛.H)
     → Meets 𝓛 f.signature (WpFn 𝓤 𝓛.H 𝓣.C 𝓣.Λ code.function) (f.spec 𝓛 mem run)
 meets {𝓤 = 𝓤} 𝓛 mem run 𝓣 =
-    walk_Meets 𝓛 f.ended stayed tt (f.clauses 𝓛 mem run) (WpFn 𝓤 𝓛.H 𝓣.C 𝓣.Λ code.function)
+    walk_Meets 𝓛 f.ended stayed (Goes-none 𝓛 1 (λ _. u32) yes (λ κs a g. refl), (Goes-none_ref 𝓛 1 (0 ∷ []) tt (plain (λ _. text.the_row)) yes, tt)) (f.clauses 𝓛 mem run) (WpFn 𝓤 𝓛.H 𝓣.C 𝓣.Λ code.function)
     (WpFn-mono 𝓤 𝓛.H 𝓛.laws 𝓣 code.function) (walks 𝓛 mem run 𝓣.C 𝓣.Λ)
 
 pub new_spec : {M : Type 1} → stated.statement M

@@ -10,7 +10,8 @@ use Rattle.member_rules.specs.Table.{IsTableOf}
 use Rattle.feed_commands.specs.Applied.{Applied, applied}
 use Rattle.feed_commands.specs.Apply.{history_step, lines_fault}
 use Rattle.feed_commands.proofs.FaultLemmas.{refusal-of_lines, input-of_lines}
-use Rattle.feed_commands.proofs.HistoryLemmas.{IsTableOf-with_room, history-with_room, size-with_room, lawful-none}
+use Rattle.archive_sealer.proofs.FeedLemmas.{of_feed-room, of_feed-same}
+use Rattle.feed_commands.proofs.HistoryLemmas.{IsTableOf-with_room, history-with_room, lawful-none}
 use Rattle.feed_commands.proofs.ProgressLemmas.{Progress-start, Progress-end, Progress-step, Progress-refused}
 use Rattle.feed_commands.proofs.ProgressLemmas.{Progress-long, Progress-amid}
 use Rattle.feed_commands.proofs.StepLemmas.{history_step-is, history_step-prefix}
@@ -97,7 +98,11 @@ loop-window-init g c =
       knows = λ source ended. absurd (false≢true (rw c.in_ok-lines.ensures.2 at ended));
       table = rw c.in_ok-window.ensures.empty table;
       lawful = rw c.in_ok-window.ensures.empty (lawful-none head table.following);
-      size = c.in_ok-window.ensures.size ∙ ap (λ (h : HeadValue). h.window) c.head.view_is;
+      feed = record {
+        first = sym (c.in_ok-window.ensures.first ∙ ap (λ (h : HeadValue). h.window) c.head.view_is);
+        title = sym (c.in_ok-window.ensures.title ∙ c.in_ok-title.ensures.same
+            ∙ ap (λ (h : HeadValue). h.name.title) c.head.view_is);
+      };
       few = omega (
         arith,
         ap length c.in_ok-lines.ensures.0,
@@ -140,8 +145,10 @@ loop-window-preserved g c =
       knows = c.in_ok-next.ensures.knows;
       table = rw pushed (c.commit.ensures.table head.created history table);
       lawful = rw pushed (c.in_ok-operation.ensures.lawful history table held.lawful);
-      size = c.commit-in-loop-window.ensures.size ∙ size-with_room c.loop-window.window c.prepare-in-loop-window.new.self
-          c.in_ok-prepare-2.ensures.same ∙ held.size;
+      feed = of_feed-same head c.prepare-in-loop-window.new.self c.commit-in-loop-window.new.self
+          c.commit-in-loop-window.ensures.first c.commit-in-loop-window.ensures.title
+          (of_feed-room head c.loop-window.window c.prepare-in-loop-window.new.self c.in_ok-prepare-2.ensures.same
+          held.feed);
       few = omega (
         arith,
         held.few,

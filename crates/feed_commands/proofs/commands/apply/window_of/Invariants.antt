@@ -1,6 +1,7 @@
 use Rattle.std.proofs.Common.{◌≡◌, ℕ, ◌+◌, ◌≤◌, [], length}
 use Rattle.member_rules.specs.History.{IsLawful}
 use Rattle.member_rules.specs.Table.{IsTableOf}
+use Rattle.archive_sealer.specs.Window.{IsOfFeed}
 use Rattle.feed_commands.specs.Apply.{history_step}
 use Rattle.feed_commands.specs.Lines.{KnowsEnd, allowance, input_limit}
 use Rattle.feed_commands.proofs.ProgressLemmas.{Progress}
@@ -19,7 +20,7 @@ invariant-loop-window g l =
       knows : g.I.Source.observable → KnowsEnd l.lines input;
       table : IsTableOf l.members l.head.created l.window.history;
       lawful : IsLawful l.head l.window.history;
-      size : l.window.size ≡ l.head.window;
+      feed : IsOfFeed l.window l.head;
       few : length l.window.history + allowance l.lines ≤ input_limit;
       faults : (g.I.Source.state l.input).faults ≡ before.faults;
     }

@@ -27,18 +27,18 @@ returns-then-is_some-clause-compared g c = λ tells before operation is compared
     let after = c.args.self.now.window.history in
     let payloads = records ((g.D.Disk.state c.args.disk.now).content Sealed) in
     let wrong = c.args.self.now.wrong in
-    let size = sym c.requires.replayed.size in
+    let of_feed = c.requires.replayed.of_feed in
     let why : (wrong ≢ None) ⊎ ((¬ IsFull head after) ⊎ (length payloads ≤ (windows_of head after).sealed)) = elim c.then-is_some.branch [
       | then-is_some-via-then-is_some w ↦ inl (some-given wrong (sym c.is_some.ensures ∙ w.if-is_some.true))
       | then-is_some-via-else-is_some+then-not-is_full w ↦ inr (inl (λ full.
-          let is_full : w.is_full.result ≡ true = (w.is_full.ensures head size).1 full in
+          let is_full : w.is_full.result ≡ true = (w.is_full.ensures head of_feed).1 full in
           let never = w.if-not-is_full.true in
           cc))
       | then-is_some-via-else-is_some+else-not-is_full+then-sealed-len w ↦ inr (inr (omega (
         arith,
         w.if-sealed-len.true,
         w.len.ensures,
-        c.sealed-sealed.ensures head size,
+        c.sealed-sealed.ensures head of_feed,
         listed-count c.args.seals.now ((g.D.Disk.state c.args.disk.now).content Sealed) (c.requires.seals.listed tells),
       )))
     ] in
@@ -49,13 +49,13 @@ returns-then-not-branch-clause-compared g c = λ tells before operation is compa
     let head = c.args.head.now in
     let after = c.args.self.now.window.history in
     let payloads = records ((g.D.Disk.state c.args.disk.now).content Sealed) in
-    let size = sym c.requires.replayed.size in
+    let of_feed = c.requires.replayed.of_feed in
     let none = none-given c.args.self.now.wrong (sym c.is_some.ensures ∙ c.if-is_some.false) in
     let sealed = (windows_of head after).sealed in
-    let number : sealed + 1 ≡ c.sealed-sealed.result + 1 = ap (λ (n : ℕ). n + 1) (sym (c.sealed-sealed.ensures head size)) in
+    let number : sealed + 1 ≡ c.sealed-sealed.result + 1 = ap (λ (n : ℕ). n + 1) (sym (c.sealed-sealed.ensures head of_feed)) in
     subst (λ (n : ℕ). AreCompared head after payloads (Some n)) number
     (compared-other head before after operation is payloads c.requires.replayed.is_head
-    ((c.is_full.ensures head size).0 c.if-not-is_full.false)
+    ((c.is_full.ensures head of_feed).0 c.if-not-is_full.false)
     (subst (AreCompared head before payloads) none compared)
     (subst (IsSameSeal head after payloads (sealed + 1)) c.if-not-branch.true (c.in_ok-is_sealed.ensures.same tells)))
 
@@ -64,11 +64,11 @@ returns-else-not-branch-clause-compared g c = λ tells before operation is compa
     let head = c.args.head.now in
     let after = c.args.self.now.window.history in
     let payloads = records ((g.D.Disk.state c.args.disk.now).content Sealed) in
-    let size = sym c.requires.replayed.size in
+    let of_feed = c.requires.replayed.of_feed in
     let none = none-given c.args.self.now.wrong (sym c.is_some.ensures ∙ c.if-is_some.false) in
     let sealed = (windows_of head after).sealed in
     subst (AreCompared head after payloads) (sym none)
     (compared-same head before after operation is payloads c.requires.replayed.is_head
-    ((c.is_full.ensures head size).0 c.if-not-is_full.false)
+    ((c.is_full.ensures head of_feed).0 c.if-not-is_full.false)
     (subst (AreCompared head before payloads) none compared)
     (subst (IsSameSeal head after payloads (sealed + 1)) c.if-not-branch.false (c.in_ok-is_sealed.ensures.same tells)))

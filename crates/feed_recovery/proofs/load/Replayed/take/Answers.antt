@@ -1,5 +1,6 @@
 use Rattle.std.proofs.Common.{◌≡◌, ◌+◌, [], ◌∷◌, ◌++◌, ◌∙◌, ℕ, List, length, ap, subst, sym}
 use Rattle.std.proofs.lemmas.Result.{err_from_is_err_and}
+use Rattle.archive_sealer.proofs.FeedLemmas.{of_feed-room, of_feed-same}
 use Rattle.archive_sealer.specs.Window.{WindowValue}
 use Rattle.feed_journal.specs.declared.extent.Extent.{Extent}
 use Rattle.feed_recovery.specs.Faults.{IsBadOperation}
@@ -75,7 +76,8 @@ returns-clause-replayed c =
       lawful = subst (IsLawful head) (sym added)
           (lawful_more head history operation before.lawful c.requires.few (found.follows head.created history of)
           found.rules.1 found.rules.0);
-      size = c.commit-3.ensures.size ∙ ap (λ (w : WindowValue). w.size) c.prepare-2.ensures.same ∙ before.size;
+      of_feed = of_feed-same head c.prepare-2.new.self c.commit-3.new.self c.commit-3.ensures.first c.commit-3.ensures.title
+          (of_feed-room head c.args.self.now.window c.prepare-2.new.self c.prepare-2.ensures.same before.of_feed);
       table = subst (IsTableOf c.commit-2.new.self head.created) (sym added)
           (c.commit-2.ensures.table head.created history of);
     }

@@ -2,7 +2,7 @@ use Rattle.std.proofs.Common.{◌≡◌, ◌-◌, ◌++◌, ◌∷◌, [], List,
 use Rattle.atom_values.specs.Entry.{EntryValue}
 use Rattle.feed_journal.specs.declared.extent.Extent.{Extent}
 use Rattle.feed_recovery.specs.Places.{ArePlaces, PlacesValue}
-use Rattle.feed_recovery.proofs.PlacesLemmas.{change-made, places-add, places-change, places-remove}
+use Rattle.feed_recovery.proofs.PlacesLemmas.{change-made, places-add, places-change, places-remove, places-set}
 use Rattle.feed_recovery.proofs.places.Places.commit.Goals as goal
 use Rattle.member_rules.specs.History.{Fits}
 
@@ -42,4 +42,11 @@ returns-in-Remove c = record {
   places = λ created history journal places following follows count.
       places-remove created history c.args.operation.now c.args.self.now.extents journal c.args.extent places
       following follows.fits count c.in-Remove.field-0 c.in-Remove.is;
+}
+
+pub returns-in-Set : goal.returns-in-Set
+returns-in-Set c = record {
+  places = λ created history journal places following follows count.
+      places-set created history c.args.operation.now c.args.self.now.extents journal c.args.extent places
+      following follows.fits count c.in-Set.setting c.in-Set.moment c.in-Set.is;
 }

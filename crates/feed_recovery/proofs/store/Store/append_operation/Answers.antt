@@ -5,6 +5,7 @@ use Rattle.member_rules.specs.Coding.{operations}
 use Rattle.member_rules.specs.History.{IsLawful}
 use Rattle.member_rules.specs.Windows.{windows_of}
 use Rattle.member_rules.specs.declared.operation.Op.{Op}
+use Rattle.archive_sealer.proofs.FeedLemmas.{of_feed-same}
 use Rattle.feed_disk.specs.Moments.{AlwaysLeaves, LeavesAlone, NowOnly}
 use Rattle.feed_disk.specs.declared.area.Area.{Area}
 use Rattle.feed_disk.specs.declared.area.Area.TheVariants.{Journal, Sealed}
@@ -116,7 +117,8 @@ invariant_of-self-2 g c =
           (counted g (goal.at.invariant_of-self-2 g c).In-Ok) spare c.operations_are_long.ensures keeps
           (c.commit-2.ensures.table c.self.inside.head.created c.self.inside.window.history keeps.members)
           (ap (λ (v : LogValue). v.area) ok) size),
-      c.commit-3.ensures.size ∙ c.self.invariant.1,
+      of_feed-same c.self.inside.head c.self.inside.window c.commit-3.new.self c.commit-3.ensures.first
+          c.commit-3.ensures.title c.self.invariant.1,
       c.self.invariant.2 ∙ ap (λ (v : LogValue). v.spent || c.self.inside.seals.spent) (sym ok),
       tt,
       subst (λ (l : List Extent). ArePlaces c.commit.new.self.extents c.commit-3.new.self.history l)

@@ -1,24 +1,25 @@
-use Rattle.std.proofs.Common.{ℕ, List, refl, sym, subst}
-use Rattle.member_rules.specs.Coding.{head_tag, heads}
-use Rattle.member_rules.specs.FieldLists.{StopsAt}
-use Rattle.member_rules.specs.HeadFields.{first_format}
-use Rattle.member_rules.proofs.HeadLemmas.{formats, no_format}
-use Rattle.member_rules.proofs.KindLemmas.{kind_found, kind_stops}
-use Rattle.member_rules.proofs.SequenceLemmas.{stopped_list}
+use Rattle.std.proofs.Common.{⊎_elim, refl, arith}
+use Rattle.member_rules.specs.Fields.{byte}
+use Rattle.member_rules.specs.HeadFields.{format}
+use Rattle.member_rules.proofs.FieldLemmas.{stopped, narrow_absent, narrow_broken, narrow_found, byte_one}
+use Rattle.member_rules.proofs.RuledLemmas.{format_narrows}
 use Rattle.member_rules.proofs.codec.head.read_format.Goals as goal
 
-pub returns-in_err-read_head : goal.returns-in_err-read_head
-returns-in_err-read_head c =
-    let input = c.args.unread.now.rest.now in
-    stopped_list first_format (λ h. h) heads _ _ input _ _ c.in_err-read_head.ensures c.from_residual.ensures.1
-    (kind_stops heads head_tag first_format (λ h. h) formats input _ (c.if-tag.ensures.next refl) _)
+pub returns-in_err-format : goal.returns-in_err-format
+returns-in_err-format c =
+    stopped byte _ format _ _ c.args.unread.now.rest.now _ _ c.in_err-format.ensures c.from_residual.ensures.1
+    (narrow_absent byte format format_narrows _)
 
-pub returns-then-tag : goal.returns-then-tag
-returns-then-tag c =
-    kind_found heads head_tag first_format (λ h. h) formats c.args.unread.now.rest.now _ (c.if-tag.ensures.next refl) _
-    _ c.in_ok-read_head.ensures
+pub returns-then-format-lt1 : goal.returns-then-format-lt1
+unfolding format
+returns-then-format-lt1 c = (
+  refl,
+  narrow_broken byte format format_narrows byte_one c.args.unread.now.rest.now _ _ c.in_ok-format.ensures
+      (λ is. ⊎_elim (λ low. omega (arith, is.0, low)) (λ high. omega (arith, is.1, high.1)) c.then-format-lt1.either),
+)
 
 pub returns : goal.returns
+unfolding format
 returns c =
-    let P : List ℕ → Type 0 = λ z. StopsAt heads c.args.unread.now.rest.now z in
-    subst P (sym (c.if-tag.ensures.left refl)) (no_format c.args.unread.now.rest.now (c.if-tag.ensures.other refl))
+    narrow_found byte format format_narrows c.args.unread.now.rest.now _ _ c.in_ok-format.ensures
+    (omega arith, omega arith)

@@ -34,7 +34,8 @@ returns-in_err-titles c =
 pub returns : goal.returns
 returns c =
     let input = c.args.unread.now.rest.now in
-    (then (one feed_id) _ feed_id_sequence (then (one base) _ base_sequence (begun name_parts input)
+    rw (c.into_text.ensures.text, c.into_text-2.ensures.text)
+    ((then (one feed_id) _ feed_id_sequence (then (one base) _ base_sequence (begun name_parts input)
     (one_read base _ _ _ c.in_ok-base.ensures))
     (one_read feed_id _ _ _ c.in_ok-id.ensures)).found _ _
-    c.in_ok-titles.ensures
+    c.in_ok-titles.ensures)
