@@ -191,6 +191,64 @@ entry 3 NOW c
 entry 2 NOW b
 entry 1 NOW a
 TEXT
+# a new title and a new size of windows, in a store of each format: the format is the first byte of the head, which is the
+# sixth byte of the journal
+settings() {
+    rm -rf "$work/settings" && mkdir "$work/settings"
+    # shellcheck disable=SC2086
+    (cd "$work/settings" && "$tool" $init_words --window 4 >"$work/output" 2>&1)
+    printf '%b' "\\00$1" | dd of="$work/settings/journal" bs=1 seek=5 conv=notrunc 2>/dev/null
+    printf 'add a\nadd b\ntitle New\nadd c\nadd d\n' >"$work/input"
+    (cd "$work/settings" && "$tool" apply <"$work/input" >"$work/output" 2>"$work/errors"; echo $? >"$work/status")
+}
+setting() {
+    (cd "$work/settings" && "$tool" "$@" <"$work/input" >"$work/output" 2>"$work/errors"; echo $? >"$work/status")
+}
+for format in 1 2 3; do
+    settings "$format"
+    feed <<'TEXT' | sed 's/>Feed</>New</' >"$work/text"
+<link rel="prev-archive" href="http://feed.example/archive/1"/>
+<sp:span first="5" last="5"/>
+<entry><id>urn:uuid:6d1f0c5a-93be-8c27-8000-000000000004</id><title>d</title><updated>NOW</updated><app:edited>NOW</app:edited><link rel="edit" href="http://feed.example/member/4"/><content></content></entry>
+TEXT
+    compare "a new title in a store of format $format" 0 <"$work/text"
+    : >"$work/input"
+    setting show archive 1
+    cp "$work/output" "$work/archive"
+    summarized
+    compare "its archive, format $format" 0 <<'TEXT'
+archive 1
+feed 6d1f0c5a-93be-4c27-8d10-2b7f9e4a5c36
+span 1 4
+prev 0
+updated NOW
+entry 3 NOW c
+entry 2 NOW b
+entry 1 NOW a
+TEXT
+    grep -c '<title>New</title>' "$work/archive" >"$work/output"
+    echo 1 | compare "the title of its archive, format $format" 0
+    printf 'window 2\ntitle Next\nadd e\nadd f\nadd g\nadd h\n' >"$work/input"
+    setting apply
+    cp "$work/output" "$work/newest"
+    summarized
+    compare "a new window in a store of format $format" 0 <<'TEXT'
+subscription
+feed 6d1f0c5a-93be-4c27-8d10-2b7f9e4a5c36
+span 11 11
+prev 3
+updated NOW
+entry 8 NOW h
+TEXT
+    : >"$work/input"
+    setting show archive 1
+    cmp "$work/archive" "$work/output" >"$work/status" && echo 0 >"$work/status"
+    : >"$work/output"
+    compare "its first archive stays, format $format" 0 </dev/null
+done
+settings 4
+echo 'bad store journal 0 0' | compare 'a store of an unknown format' 6
+
 # the pile of the store has its two documents
 offered() {
     echo "http://feed.example/$1 $(($(wc -c <"$2")))"
