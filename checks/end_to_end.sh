@@ -214,7 +214,7 @@ TEXT
     compare "a new title in a store of format $format" 0 <"$work/text"
     : >"$work/input"
     setting show archive 1
-    cp "$work/output" "$work/archive"
+    cp "$work/output" "$work/first_archive"
     summarized
     compare "its archive, format $format" 0 <<'TEXT'
 archive 1
@@ -226,7 +226,7 @@ entry 3 NOW c
 entry 2 NOW b
 entry 1 NOW a
 TEXT
-    grep -c '<title>New</title>' "$work/archive" >"$work/output"
+    grep -c '<title>New</title>' "$work/first_archive" >"$work/output"
     echo 1 | compare "the title of its archive, format $format" 0
     printf 'window 2\ntitle Next\nadd e\nadd f\nadd g\nadd h\n' >"$work/input"
     setting apply
@@ -242,7 +242,7 @@ entry 8 NOW h
 TEXT
     : >"$work/input"
     setting show archive 1
-    cmp "$work/archive" "$work/output" >"$work/status" && echo 0 >"$work/status"
+    cmp "$work/first_archive" "$work/output" >"$work/status" && echo 0 >"$work/status"
     : >"$work/output"
     compare "its first archive stays, format $format" 0 </dev/null
 done
