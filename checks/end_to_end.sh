@@ -230,7 +230,6 @@ TEXT
     echo 1 | compare "the title of its archive, format $format" 0
     printf 'window 2\ntitle Next\nadd e\nadd f\nadd g\nadd h\n' >"$work/input"
     setting apply
-    cp "$work/output" "$work/newest"
     summarized
     compare "a new window in a store of format $format" 0 <<'TEXT'
 subscription
