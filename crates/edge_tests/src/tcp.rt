@@ -1,4 +1,4 @@
-//! The door of the system, with a client in the same process.
+//! The door of the system, with clients in the same process.
 
 use atom_values::{Bytes, Many};
 use document_server::Door;
@@ -11,6 +11,9 @@ use std::process::Abort;
 use std::rt;
 use system_edge::TcpDoor;
 
+/// A request that is whole.
+const REQUEST: &[u8] = b"POST / HTTP/1.1\r\nContent-Length: 4\r\n\r\nseek";
+
 fn empty_disk(rt: &impl Abort, alloc: Global) -> MemoryDisk {
     MemoryDisk::new(
         alloc,
@@ -21,28 +24,44 @@ fn empty_disk(rt: &impl Abort, alloc: Global) -> MemoryDisk {
     )
 }
 
-/// Connects a client, which sends a request of 4 bytes and `rest` kilobytes after it.
-fn client_of<R>(rt: &R, address: SocketAddr, rest: usize) -> TcpStream
+/// A door that listens, and its address.
+fn listening<R: Net + rt::Clock + Abort>(rt: &R, alloc: Global) -> (TcpDoor<'_, R>, SocketAddr) {
+    let mut door = TcpDoor::new(alloc, rt);
+    door.listen(b"127.0.0.1:0").expect(rt, "a port");
+    let address = door.address().expect(rt, "an address");
+    (door, address)
+}
+
+/// Connects a client that sends these bytes.
+fn client_of<R>(rt: &R, address: SocketAddr, sent: &[u8]) -> TcpStream
 where
     R: Net<Stream = TcpStream> + Abort,
 {
     let mut client = TcpStream::connect(rt, address).expect(rt, "a connection");
-    client.write_all(b"seek").expect(rt, "a sent request");
-    for _ in 0..rest {
-        client.write_all(&[b'!'; 1000]).expect(rt, "sent bytes");
-    }
-    client.shutdown(Shutdown::Write).expect(rt, "an end");
+    client.write_all(sent).expect(rt, "sent bytes");
     client
 }
 
-/// Takes the next connection, reads 4 bytes of its request and writes a reply.
-fn answer_next<R: Net + rt::Clock + Abort, D: Disk>(rt: &R, door: &mut TcpDoor<R>, disk: &D) {
+/// Takes the next connection, reads its request up to the first bytes of `request`, and writes a reply.
+fn answer_next<R, D>(rt: &R, door: &mut TcpDoor<R>, disk: &D, request: &[u8], reply: &[u8])
+where
+    R: Net + rt::Clock + Abort,
+    D: Disk,
+{
     let mut link = door.next().expect(rt, "a call").expect(rt, "a client");
-    let mut request = [0u8; 4];
-    assert_eq!(rt; link.read(&mut request), Ok(4));
-    assert_eq!(rt; &request, b"seek");
+    let mut read = [0u8; 64];
+    let length = request.len().min(read.len());
+    assert_eq!(rt; link.read(&mut read[..length]), Ok(length));
+    assert_eq!(rt; &read[..length], request);
     link.begin(disk);
-    assert_eq!(rt; link.write(b"found"), Ok(5));
+    let mut sent = 0;
+    for _ in 0..reply.len() {
+        if sent >= reply.len() {
+            break;
+        }
+        sent += link.write(&reply[sent..]).expect(rt, "a write");
+    }
+    assert_eq!(rt; sent, reply.len());
     door.back(link);
 }
 
@@ -58,13 +77,14 @@ fn expect_reply(rt: &impl Abort, mut client: TcpStream) {
 #[test]
 fn serves_clients(rt: HostRuntime) {
     let disk = empty_disk(&rt, rt.alloc());
-    let mut door = TcpDoor::new(rt.alloc(), &rt);
-    door.listen(b"127.0.0.1:0").expect(&rt, "a port");
-    let address = door.address().expect(&rt, "an address");
-    // The second client sends more than is read.
-    for rest in [0, 100] {
-        let client = client_of(&rt, address, rest);
-        answer_next(&rt, &mut door, &disk);
+    let (mut door, address) = listening(&rt, rt.alloc());
+    let no_head = [b'!'; 32_768];
+    // A whole request, one that the client ends early, one that is whole and goes on, and one without an end.
+    let all: [&[u8]; 4] = [REQUEST, b"seek", b"GET / HTTP/1.1\r\n\r\nmore", &no_head];
+    for sent in all {
+        let client = client_of(&rt, address, sent);
+        client.shutdown(Shutdown::Write).expect(&rt, "an end");
+        answer_next(&rt, &mut door, &disk, &sent[..4], b"found");
         expect_reply(&rt, client);
     }
     drop(door);
@@ -74,17 +94,34 @@ fn serves_clients(rt: HostRuntime) {
 #[test]
 fn serves_a_client_while_another_is_silent(rt: HostRuntime) {
     let disk = empty_disk(&rt, rt.alloc());
-    let mut door = TcpDoor::new(rt.alloc(), &rt);
-    door.listen(b"127.0.0.1:0").expect(&rt, "a port");
-    let address = door.address().expect(&rt, "an address");
-    let mut silent = TcpStream::connect(&rt, address).expect(&rt, "a connection");
-    let client = client_of(&rt, address, 0);
-    answer_next(&rt, &mut door, &disk);
+    let (mut door, address) = listening(&rt, rt.alloc());
+    let mut silent = client_of(&rt, address, b"");
+    let client = client_of(&rt, address, REQUEST);
+    answer_next(&rt, &mut door, &disk, REQUEST, b"found");
     expect_reply(&rt, client);
-    silent.write_all(b"seek").expect(&rt, "a sent request");
-    silent.shutdown(Shutdown::Write).expect(&rt, "an end");
-    answer_next(&rt, &mut door, &disk);
+    silent.write_all(REQUEST).expect(&rt, "a sent request");
+    answer_next(&rt, &mut door, &disk, REQUEST, b"found");
     expect_reply(&rt, silent);
+    drop(door);
+    drop(disk);
+}
+
+#[test]
+fn serves_a_client_while_the_request_of_another_arrives(rt: HostRuntime) {
+    let disk = empty_disk(&rt, rt.alloc());
+    let (mut door, address) = listening(&rt, rt.alloc());
+    let mut slow = client_of(&rt, address, b"");
+    // Every byte of the slow client's request is followed by the whole request of another one.
+    let (last, first) = REQUEST.split_last().expect(&rt, "a request");
+    for byte in first {
+        slow.write_all(&[*byte]).expect(&rt, "a sent byte");
+        let client = client_of(&rt, address, b"GET / HTTP/1.1\r\n\r\n");
+        answer_next(&rt, &mut door, &disk, b"GET / ", b"found");
+        expect_reply(&rt, client);
+    }
+    slow.write_all(&[*last]).expect(&rt, "a sent byte");
+    answer_next(&rt, &mut door, &disk, REQUEST, b"found");
+    expect_reply(&rt, slow);
     drop(door);
     drop(disk);
 }
@@ -92,21 +129,36 @@ fn serves_a_client_while_another_is_silent(rt: HostRuntime) {
 #[test]
 fn reads_on_after_a_reply(rt: HostRuntime) {
     let disk = empty_disk(&rt, rt.alloc());
-    let mut door = TcpDoor::new(rt.alloc(), &rt);
-    door.listen(b"127.0.0.1:0").expect(&rt, "a port");
-    let address = door.address().expect(&rt, "an address");
-    let mut slow = TcpStream::connect(&rt, address).expect(&rt, "a connection");
-    slow.write_all(b"seek").expect(&rt, "a sent request");
-    answer_next(&rt, &mut door, &disk);
-    // The first client sends the rest of its request after another one was served.
+    let (mut door, address) = listening(&rt, rt.alloc());
+    let mut slow = client_of(&rt, address, REQUEST);
+    answer_next(&rt, &mut door, &disk, REQUEST, b"found");
+    // The first client goes on sending after another one was served.
     for _ in 0..2 {
-        let client = client_of(&rt, address, 0);
-        answer_next(&rt, &mut door, &disk);
+        let client = client_of(&rt, address, REQUEST);
+        answer_next(&rt, &mut door, &disk, REQUEST, b"found");
         expect_reply(&rt, client);
         slow.write_all(&[b'!'; 1000]).expect(&rt, "sent bytes");
     }
     slow.shutdown(Shutdown::Write).expect(&rt, "an end");
     expect_reply(&rt, slow);
+    drop(door);
+    drop(disk);
+}
+
+#[test]
+fn serves_a_client_while_another_takes_no_reply(rt: HostRuntime) {
+    let disk = empty_disk(&rt, rt.alloc());
+    let (mut door, address) = listening(&rt, rt.alloc());
+    // It is more than the system has room for.
+    let long = vec![in rt.alloc(); b'!'; 33_554_432].expect(&rt, "memory");
+    let greedy = client_of(&rt, address, REQUEST);
+    answer_next(&rt, &mut door, &disk, REQUEST, &long);
+    let client = client_of(&rt, address, REQUEST);
+    answer_next(&rt, &mut door, &disk, REQUEST, b"found");
+    expect_reply(&rt, client);
+    // Once the client has gone, nothing is left to send.
+    drop(greedy);
+    door.finish();
     drop(door);
     drop(disk);
 }

@@ -53,5 +53,7 @@ fn main(rt: HostRuntime) -> ExitCode {
         // `BufReader` fails only if there is no memory for its buffer.
         (_, _, Err(_)) => print_fault(&mut output, Fault::NoMemory).code(),
     };
+    // Some clients of `serve` may still be taking their replies.
+    door.finish();
     ExitCode::from(status)
 }

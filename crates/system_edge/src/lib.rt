@@ -7,6 +7,7 @@
 //! let mut clock = SystemClock { runtime: &rt };
 //! let mut door = TcpDoor::new(rt.alloc(), &rt);
 //! let ended = serve(rt.alloc(), &mut disk, &mut clock, &mut door, b"127.0.0.1:8080", 100);
+//! door.finish();
 //! ```
 //!
 //! These are thin adapters, which implement traits of the crates below. Contracts see the counts of faults and of bytes,

@@ -1,10 +1,13 @@
 //! The TCP of the system: thin adapters, of which contracts know the counts of faults and the mark of a reply alone.
 
+mod arriving;
+mod client;
 mod closing;
 mod conn;
 mod door;
+mod listening;
 mod port;
-mod socket;
+mod replying;
 
 pub use conn::TcpConn;
 pub use door::TcpDoor;

@@ -1,52 +1,50 @@
 //! A connection with a client over TCP.
 
-ghost use Rattle.std.specs.Prelude.{◌≡◌, [], None};
+ghost use Rattle.std.specs.Prelude.{◌≡◌, ◌≤◌, [], None, vec_len};
 
-use super::socket::{Socket, deadline_in};
+use super::client::Client;
 use atom_values::Failed;
 use feed_disk::Disk;
-use http_face::Conn;
-use std::io::{ErrorKind, Read, Write};
-use std::net::{Net, OpenStream};
-use std::rt;
-use std::time::{Duration, Instant};
+use http_face::{Conn, RequestFault, read_request};
+use std::alloc::Global;
+use std::io::{Read, Write};
+use std::net::OpenStream;
+use std::os::fd::AsRawFd;
 
-/// How long a client may take to receive its whole reply. It is longer than the time for a request, since a reply may
-/// be large.
-const REPLY_SECONDS: u64 = 30;
+/// How many parts are received before the other clients have their turn.
+const TURN_PARTS: u32 = 4;
 
-/// A connection with a client over TCP.
+/// A connection with a client over TCP, no call on which waits for the client.
 ///
-/// The request has a deadline from the acceptance of the connection, and the reply has one from its beginning. A call
-/// that has to wait does so at most until the deadline, so a client that sends or takes a few bytes at a time doesn't
-/// extend it. A call that has what it needs at once works past the deadline too: a client that kept its time isn't cut
-/// off because the server was busy with others.
+/// The door gives it once its request has arrived, and reads take it from memory. A write for which the system has no
+/// room is kept in memory. The door sends it after the connection was given back.
 #[derive(Drop)]
-pub struct TcpConn<'a, R: Net + rt::Clock> {
-    runtime: &'a R,
-    pub(super) socket: Socket<R::Stream>,
-    // `None` if the clock couldn't be read: then each call that has to wait fails.
-    deadline: Option<Instant>,
+pub struct TcpConn<S> {
+    pub(super) client: Client<S>,
+    /// The bytes that have arrived.
+    arrived: Vec<u8>,
+    /// How many of them were read.
+    taken: usize,
+    /// Whether the client has ended its bytes. If it hasn't, a read behind those that have arrived fails.
+    has_ended: bool,
+    /// The part of the reply for which the system had no room.
+    pub(super) rest: Vec<u8>,
     pub(super) begun: Option<u64>,
     pub(super) faults: u64,
     bytes_read: u64,
     reads: u64,
+    ghost in_range: { taken ≤ vec_len arrived },
 }
 
-impl<'a, R: Net + rt::Clock> TcpConn<'a, R> {
-    /// A connection whose client has until the deadline for its request.
-    pub(super) fn new(
-        runtime: &'a R,
-        socket: Socket<R::Stream>,
-        deadline: Instant,
-    ) -> TcpConn<'a, R>
-        ensures faults { result.faults ≡ 0 }
-        ensures begun { result.begun ≡ None }
-    {
+impl<S: OpenStream + Read + Write + AsRawFd + Drop> TcpConn<S> {
+    /// A connection before its first byte has arrived.
+    pub(super) fn new(alloc: Global, client: Client<S>) -> TcpConn<S> {
         TcpConn {
-            runtime,
-            socket,
-            deadline: Some(deadline),
+            client,
+            arrived: Vec::new(alloc),
+            taken: 0,
+            has_ended: false,
+            rest: Vec::new(alloc),
             begun: None,
             faults: 0,
             bytes_read: 0,
@@ -54,34 +52,53 @@ impl<'a, R: Net + rt::Clock> TcpConn<'a, R> {
         }
     }
 
-    /// The time until the deadline, which isn't 0. `None` if it has passed or the clock can't be read.
-    fn left(&self) -> Option<Duration> {
-        let now = Instant::now(self.runtime).ok()?;
-        let left = self.deadline?.duration_since(now);
-        if left.is_zero() { None } else { Some(left) }
+    /// Whether no byte has arrived.
+    pub(super) fn is_silent(&self) -> bool {
+        self.arrived.is_empty()
     }
 
-    /// Has a read wait until the deadline at most, if it waits. `None` if the deadline has passed, or the limit can't
-    /// be set.
-    fn limit_read(&self) -> Option<()> {
-        if !self.socket.waits {
-            return Some(());
+    /// Receives what has arrived, a part of the length of `part` at a time. Returns whether that decides how the request
+    /// is read, or no more will arrive: the client has ended, the connection failed, or memory ran out.
+    pub(super) fn receive(&mut self, alloc: Global, part: &mut [u8]) -> bool {
+        for _ in 0..TURN_PARTS {
+            match self.client.receive(part) {
+                Ok(None) => return false,
+                Ok(Some(0)) => {
+                    self.has_ended = true;
+                    return true;
+                }
+                Ok(Some(count)) => {
+                    if self.arrived.extend_from_slice(&part[..count]).is_err()
+                        || self.is_whole(alloc)
+                    {
+                        return true;
+                    }
+                }
+                Err(Failed) => return true,
+            }
         }
-        let left = self.left()?;
-        self.socket.stream.set_read_timeout(Some(left)).ok()
+        false
     }
 
-    /// The same for a write.
-    fn limit_write(&self) -> Option<()> {
-        if !self.socket.waits {
-            return Some(());
-        }
-        let left = self.left()?;
-        self.socket.stream.set_write_timeout(Some(left)).ok()
+    /// Whether reading the request needs no byte that hasn't arrived. To find out, it reads the request.
+    fn is_whole(&mut self, alloc: Global) -> bool {
+        self.restart();
+        !matches!(read_request(alloc, self), Err(RequestFault::ConnFault))
+    }
+
+    /// Has the request be read from its beginning, as on a connection on which no call was made.
+    pub(super) fn restart(&mut self)
+        ensures begun { self.new.begun ≡ None }
+    {
+        self.taken = 0;
+        self.begun = None;
+        self.faults = 0;
+        self.bytes_read = 0;
+        self.reads = 0;
     }
 }
 
-impl<R: Net + rt::Clock> Conn for TcpConn<'_, R> {
+impl<S: OpenStream + Read + Write + AsRawFd + Drop> Conn for TcpConn<S> {
     ghost observable = { ⊥ };
 
     ghost state = { λ s. record {
@@ -96,55 +113,43 @@ impl<R: Net + rt::Clock> Conn for TcpConn<'_, R> {
 
     fn read(&mut self, into: &mut [u8]) -> Result<usize, Failed> {
         self.reads = self.reads.saturating_add(1);
-        // A read that a signal interrupted took no byte, and is made again.
-        for _ in 0..u64::MAX {
-            if self.limit_read().is_none() {
-                break;
-            }
-            match self.socket.stream.read(into) {
-                Ok(count) => {
-                    self.bytes_read = self.bytes_read.saturating_add(count as u64);
-                    return Ok(count);
-                }
-                Err(error) if error.kind() == ErrorKind::Interrupted => {}
-                // A stream that waits has this error at its deadline.
-                Err(error) if error.kind() == ErrorKind::WouldBlock && !self.socket.waits => {
-                    if self.socket.set_waits(true).is_err() {
-                        break;
-                    }
-                }
-                Err(_) => break,
-            }
+        let count = into.len().min(self.arrived.len() - self.taken);
+        if count == 0 && !into.is_empty() && !self.has_ended {
+            self.faults = self.faults.saturating_add(1);
+            return Err(Failed);
         }
-        self.faults = self.faults.saturating_add(1);
-        Err(Failed)
+        let end = self.taken + count;
+        into[..count].copy_from_slice(&self.arrived[self.taken..end]);
+        self.taken = end;
+        self.bytes_read = self.bytes_read.saturating_add(count as u64);
+        Ok(count)
     }
 
     fn begin<D: Disk>(&mut self, disk: &D) {
         self.begun = Some(disk.calls());
-        self.deadline = deadline_in(self.runtime, REPLY_SECONDS);
     }
 
-    // A write to a client that has gone fails and raises no SIGPIPE, since std sends with MSG_NOSIGNAL.
     fn write(&mut self, from: &[u8]) -> Result<usize, Failed> {
-        // A write that a signal interrupted took no byte, and is made again. One that takes no byte of some is a
-        // failure, since it could be made again for ever.
-        for _ in 0..u64::MAX {
-            if self.limit_write().is_none() {
-                break;
-            }
-            match self.socket.stream.write(from) {
-                Ok(count) if count > 0 || from.is_empty() => return Ok(count),
-                Err(error) if error.kind() == ErrorKind::Interrupted => {}
-                Err(error) if error.kind() == ErrorKind::WouldBlock && !self.socket.waits => {
-                    if self.socket.set_waits(true).is_err() {
-                        break;
-                    }
+        if from.is_empty() {
+            return Ok(0);
+        }
+        // Once a part of the reply is kept, all that follows is kept behind it.
+        if self.rest.is_empty() {
+            match self.client.send(from) {
+                Ok(0) => {}
+                Ok(count) => return Ok(count),
+                Err(Failed) => {
+                    self.faults = self.faults.saturating_add(1);
+                    return Err(Failed);
                 }
-                _ => break,
             }
         }
-        self.faults = self.faults.saturating_add(1);
-        Err(Failed)
+        match self.rest.extend_from_slice(from) {
+            Ok(()) => Ok(from.len()),
+            Err(_) => {
+                self.faults = self.faults.saturating_add(1);
+                Err(Failed)
+            }
+        }
     }
 }

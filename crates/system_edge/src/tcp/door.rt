@@ -7,14 +7,13 @@ use super::port::Port;
 use atom_values::Failed;
 use document_server::Door;
 use std::alloc::Global;
-use std::net::{Net, OpenStream, Shutdown, SocketAddr};
+use std::net::{Net, SocketAddr};
 use std::rt;
 
 /// A TCP port, on which clients connect. It never runs out of connections.
 ///
-/// It gives one connection at a time, each once its request begins to arrive or its time is over. So a silent client
-/// holds nobody up, and the server doesn't wait for a client that has connected and not yet sent its request. A client
-/// that has its reply and still sends is read beside the others.
+/// It gives one connection at a time, each once its request has arrived or its time is over. A reply that a client
+/// doesn't take at once is kept and sent beside other work. So a client that is silent or slow holds nobody up.
 ///
 /// A connection that fails is its own fault, and never the door's.
 #[derive(Drop)]
@@ -40,10 +39,19 @@ impl<'a, R: Net + rt::Clock> TcpDoor<'a, R> {
     pub fn address(&self) -> Option<SocketAddr> {
         self.port.as_ref()?.address()
     }
+
+    /// Sends the replies that clients haven't taken yet, and waits for these clients, 31 seconds at most. To be called
+    /// before the program ends.
+    pub fn finish(&mut self) {
+        if let Some(port) = &mut self.port {
+            // A failure leaves nothing to do: the program's end closes all connections.
+            let _ = port.finish(self.runtime);
+        }
+    }
 }
 
 impl<'a, R: Net + rt::Clock> Door for TcpDoor<'a, R> {
-    type Link = TcpConn<'a, R>;
+    type Link = TcpConn<R::Stream>;
 
     ghost observable = { ⊥ };
 
@@ -63,13 +71,16 @@ impl<'a, R: Net + rt::Clock> Door for TcpDoor<'a, R> {
         Ok(())
     }
 
-    fn next(&mut self) -> Result<Option<TcpConn<'a, R>>, Failed> {
-        let client = match &mut self.port {
+    fn next(&mut self) -> Result<Option<TcpConn<R::Stream>>, Failed> {
+        let conn = match &mut self.port {
             Some(port) => port.next(self.runtime),
             None => Err(Failed),
         };
-        match client {
-            Ok(client) => Ok(Some(TcpConn::new(self.runtime, client.socket, client.deadline))),
+        match conn {
+            Ok(mut conn) => {
+                conn.restart();
+                Ok(Some(conn))
+            }
             Err(Failed) => {
                 self.faults = self.faults.saturating_add(1);
                 Err(Failed)
@@ -78,15 +89,12 @@ impl<'a, R: Net + rt::Clock> Door for TcpDoor<'a, R> {
     }
 
     // A connection that failed, before its reply or within it, closes at once.
-    fn back(&mut self, link: TcpConn<'a, R>) {
-        if link.begun.is_none()
-            || link.faults > 0
-            || link.socket.stream.shutdown(Shutdown::Write).is_err()
-        {
+    fn back(&mut self, link: TcpConn<R::Stream>) {
+        if link.begun.is_none() || link.faults > 0 {
             return;
         }
         if let Some(port) = &mut self.port {
-            port.close(self.runtime, link.socket);
+            port.back(self.runtime, link);
         }
     }
 

@@ -1,99 +1,70 @@
 //! A port that listens, and the clients that have connected.
 
+use super::arriving::Arriving;
+use super::client::Client;
 use super::closing::{Closing, DRAIN_SECONDS};
-use super::socket::{Socket, deadline_in};
+use super::conn::TcpConn;
+use super::listening::{Accepted, Listening};
+use super::replying::{Replying, Turn};
 use atom_values::Failed;
-use mio::unix::SourceFd;
-use mio::{Events, Interest, Poll, Token};
+use mio::{Events, Poll, Token};
 use std::alloc::Global;
 use std::collections::VecDeque;
-use std::io::{Error, ErrorKind};
-use std::net::{Net, OpenListener, OpenStream, SocketAddr, TcpListener};
-use std::os::fd::AsRawFd;
+use std::net::{Net, OpenStream, Shutdown, SocketAddr, TcpListener};
 use std::time::{Duration, Instant};
 use std::{rt, str, thread};
 
-/// How long a client may take for its whole request. Requests are read one at a time, so a client that sends a part of
-/// its request and then waits holds up all others.
+/// How long a client may take for its whole request.
 const REQUEST_SECONDS: u64 = 10;
 
-/// How many connections may wait for their requests. If one more comes, the one that has waited longest is closed. It
-/// is well below the number of descriptors that a process has by default.
-const MAX_WAITING: usize = 512;
+/// How long a client may take to receive its whole reply. It is longer than the time for a request, since a reply may
+/// be large.
+const REPLY_SECONDS: u64 = 30;
+
+/// How many requests may be arriving. Together with the other two limits it is below the number of descriptors that a
+/// process has by default.
+const MAX_ARRIVING: usize = 512;
+
+/// How many replies may be taken at a time.
+const MAX_REPLYING: usize = 128;
 
 /// How many clients that have their replies may still be sending. If one more comes, the oldest of them is cut off.
 const MAX_CLOSING: usize = 256;
 
-/// How many times in a row `accept` may fail. With the pauses between the calls that is about a second.
-const MAX_FAILURES: u32 = 100;
+/// How many bytes of replies are kept. It is twice the length of the longest document.
+const MAX_KEPT: usize = 134_217_728;
 
-/// The pause after a failure of `accept`, so that the loop doesn't spin.
+/// How many bytes are received at a time: most requests arrive in one part.
+const PART: usize = 65_536;
+
+/// How many clients are accepted before the others have their turn.
+const MAX_ACCEPTED: u32 = 64;
+
+/// The pause after a lack of memory or descriptors, so that the loop doesn't spin.
 const PAUSE_MILLIS: u64 = 10;
 
-/// How many reports the system gives at a time. Further ones come when the port next waits.
-const MAX_REPORTS: usize = 64;
+/// How many reports the system gives at a time. No more sockets than this are watched.
+const MAX_REPORTS: usize = 1024;
 
-/// The system's report that clients wait to connect.
+/// The system's report that clients wait to connect. A client has a greater number.
 const CALLS: Token = Token(0);
 
-/// The system's report that something arrived at a connection.
-const ARRIVALS: Token = Token(1);
-
-/// The result of an `accept`.
-enum Accepted<S> {
-    Client(S),
-    /// Nobody waits to connect, or the client has gone.
-    Nobody,
-    /// Memory or descriptors ran out.
-    Shortage,
-}
-
-/// Whether a failure of `accept` is a lack of memory or of descriptors, which may be free again soon: ENOMEM, ENFILE,
-/// EMFILE and ENOBUFS.
-fn is_shortage(error: &Error) -> bool {
-    matches!(error.raw_os_error(), Some(12 | 23 | 24 | 105))
-}
-
-/// Whether a failure of `accept` concerns its client alone. EPERM is the refusal of a firewall. ENONET, EPROTO,
-/// ENOPROTOOPT, EOPNOTSUPP, ENETDOWN, ENETUNREACH, ECONNABORTED, ECONNRESET, ETIMEDOUT, EHOSTDOWN and EHOSTUNREACH are
-/// network errors of the accepted connection, which Linux returns here.
-fn is_of_client(error: &Error) -> bool {
-    matches!(
-        error.raw_os_error(),
-        Some(1 | 64 | 71 | 92 | 95 | 100 | 101 | 103 | 104 | 110 | 112 | 113)
-    )
-}
-
-/// A client whose request hasn't begun to arrive.
-#[derive(Drop)]
-pub(super) struct Waiting<S> {
-    pub(super) socket: Socket<S>,
-    /// When the client's time for its request ends.
-    pub(super) deadline: Instant,
-    /// Whether the system reports when something arrives.
-    is_watched: bool,
-}
-
-impl<S: OpenStream> Waiting<S> {
-    /// Whether its request begins to arrive, or its time is over.
-    fn is_due(&self, now: Instant) -> bool {
-        self.socket.is_readable() || self.deadline <= now
-    }
-}
-
-/// A port that listens.
+/// A port that listens. No call on it but `next` and `finish` waits.
 #[derive(Drop)]
 pub(super) struct Port<R: Net + rt::Clock> {
-    listener: R::Listener,
+    alloc: Global,
+    /// The room for a part of a request.
+    part: Vec<u8>,
+    listening: Listening<R::Listener>,
     poll: Poll,
-    events: Events,
-    /// Whether clients may wait to connect. The system reports them once, so this holds until `accept` finds nobody.
-    is_called: bool,
-    /// How many times in a row `accept` failed.
-    failures: u32,
+    reports: Events,
+    /// How many clients were accepted.
+    accepted: usize,
     /// In the order in which they were accepted.
-    waiting: VecDeque<Waiting<R::Stream>>,
-    /// In the order of their replies.
+    arriving: VecDeque<Arriving<R::Stream>>,
+    /// In the order in which they were served.
+    replying: VecDeque<Replying<R::Stream>>,
+    /// In the order in which their replies ended.
     closing: VecDeque<Closing<R::Stream>>,
 }
 
@@ -102,167 +73,271 @@ impl<R: Net + rt::Clock> Port<R> {
     /// the system still keeps the connections of the last run.
     pub(super) fn bind(alloc: Global, runtime: &R, at: &[u8]) -> Option<Port<R>> {
         let listener = TcpListener::bind(runtime, str::from_utf8(at).ok()?).ok()?;
-        listener.set_nonblocking(true).ok()?;
         let poll = Poll::new(runtime).ok()?;
-        poll.registry()
-            .register(
-                &mut SourceFd(&listener.as_raw_fd()),
-                CALLS,
-                Interest::READABLE,
-            )
-            .ok()?;
+        let listening = Listening::new(listener, &poll, CALLS)?;
         Some(Port {
-            listener,
+            alloc,
+            part: vec![in alloc; 0; PART].ok()?,
+            listening,
             poll,
-            events: Events::with_capacity(alloc, MAX_REPORTS).ok()?,
-            is_called: true,
-            failures: 0,
-            waiting: VecDeque::with_capacity(alloc, MAX_WAITING).ok()?,
+            reports: Events::with_capacity(alloc, MAX_REPORTS).ok()?,
+            accepted: 0,
+            arriving: VecDeque::with_capacity(alloc, MAX_ARRIVING).ok()?,
+            replying: VecDeque::with_capacity(alloc, MAX_REPLYING).ok()?,
             closing: VecDeque::with_capacity(alloc, MAX_CLOSING).ok()?,
         })
     }
 
-    /// The address at which the port listens. At port 0 the system chose the port.
+    /// The address at which the port listens.
     pub(super) fn address(&self) -> Option<SocketAddr> {
-        self.listener.local_addr().ok()
+        self.listening.address()
     }
 
-    /// Returns the next client whose request begins to arrive, or whose time is over. `Failed` if the clock can't be
-    /// read, the system can't report, or `accept` failed for good or `MAX_FAILURES` times in a row.
-    pub(super) fn next(&mut self, runtime: &R) -> Result<Waiting<R::Stream>, Failed> {
+    /// Returns the next client whose request has arrived, or whose time is over. `Failed` if the clock can't be read,
+    /// the system can't report, or `accept` failed for good or too many times in a row.
+    pub(super) fn next(&mut self, runtime: &R) -> Result<TcpConn<R::Stream>, Failed> {
+        self.gather(Some(Duration::ZERO))?;
         for _ in 0..u64::MAX {
             let now = Instant::now(runtime).map_err(|_| Failed)?;
-            self.closing.retain_mut(|link| !link.drain(now));
-            let is_short = self.accept_all(runtime)?;
-            let due = self.waiting.iter().position(|client| client.is_due(now));
-            if let Some(client) = due.and_then(|at| self.waiting.remove(at)) {
-                return Ok(client);
+            self.serve_others(now);
+            let is_short = self.accept_all(now)?;
+            self.receive_all(now);
+            let due = self.arriving.iter().position(|client| client.is_due);
+            if let Some(client) = due.and_then(|at| self.arriving.remove(at)) {
+                return Ok(client.conn);
             }
-            if !is_short {
-                self.wait(now)?;
-            } else if self.waiting.pop_front().is_none() {
+            if is_short {
+                self.listening.count_failure()?;
                 thread::sleep(runtime, Duration::from_millis(PAUSE_MILLIS));
+            } else {
+                self.wait(now)?;
             }
         }
         Err(Failed)
     }
 
-    /// Accepts the clients that wait to connect. Returns whether it stopped because memory or descriptors ran out.
-    fn accept_all(&mut self, runtime: &R) -> Result<bool, Failed> {
+    /// Waits until each client that was served has its reply, or has had its time.
+    pub(super) fn finish(&mut self, runtime: &R) -> Result<(), Failed> {
+        self.arriving.clear();
         for _ in 0..u64::MAX {
-            if !self.is_called {
-                return Ok(false);
+            let now = Instant::now(runtime).map_err(|_| Failed)?;
+            self.serve_others(now);
+            if self.replying.is_empty() && self.closing.is_empty() {
+                return Ok(());
             }
-            match self.accept()? {
-                Accepted::Client(stream) => self.admit(runtime, stream)?,
+            // Nobody is accepted any more.
+            self.listening.is_called = false;
+            self.wait(now)?;
+        }
+        Err(Failed)
+    }
+
+    /// Takes back a connection whose reply was written.
+    pub(super) fn back(&mut self, runtime: &R, conn: TcpConn<R::Stream>) {
+        // Without a clock the connection is dropped, which closes it.
+        let Ok(now) = Instant::now(runtime) else {
+            return;
+        };
+        if conn.rest.is_empty() {
+            self.close(conn.client, now);
+        } else if let Some(deadline) = now.checked_add(Duration::from_secs(REPLY_SECONDS)) {
+            self.make_room(conn.rest.len());
+            // It has room for MAX_REPLYING clients from the beginning.
+            let reply = Replying::new(conn.client, conn.rest, now, deadline);
+            let _ = self.replying.push_back(reply);
+        }
+    }
+
+    /// Sends what it can of the replies, and drops what clients send after theirs.
+    fn serve_others(&mut self, now: Instant) {
+        for _ in 0..self.replying.len() {
+            let Some(mut reply) = self.replying.pop_front() else {
+                break;
+            };
+            match reply.send(now) {
+                Turn::Unsent => {
+                    // The place that it had is free.
+                    let _ = self.replying.push_back(reply);
+                }
+                Turn::Sent => self.close(reply.client, now),
+                Turn::Lost => {}
+            }
+        }
+        self.closing.retain_mut(|link| !link.drain(now));
+    }
+
+    /// Accepts the clients that wait to connect. Returns whether memory or descriptors ran out and no client can be
+    /// closed.
+    fn accept_all(&mut self, now: Instant) -> Result<bool, Failed> {
+        for _ in 0..MAX_ACCEPTED {
+            if !self.listening.is_called {
+                break;
+            }
+            if self.arriving.len() >= MAX_ARRIVING {
+                self.receive_all(now);
+                // If all requests are whole, further clients wait to connect.
+                if !self.cut_arriving() {
+                    break;
+                }
+            }
+            match self.listening.accept()? {
+                Accepted::Client(stream) => self.admit(stream, now),
                 Accepted::Nobody => {}
-                Accepted::Shortage => return Ok(true),
+                Accepted::Shortage => {
+                    self.receive_all(now);
+                    if !self.cut_one() {
+                        return Ok(true);
+                    }
+                }
             }
         }
         Ok(false)
     }
 
-    /// Accepts a client.
-    fn accept(&mut self) -> Result<Accepted<R::Stream>, Failed> {
-        match self.listener.accept() {
-            Ok((stream, _)) => {
-                self.failures = 0;
-                return Ok(Accepted::Client(stream));
-            }
-            Err(error) if error.kind() == ErrorKind::WouldBlock => {
-                self.is_called = false;
-                return Ok(Accepted::Nobody);
-            }
-            Err(error) if error.kind() == ErrorKind::Interrupted => return Ok(Accepted::Nobody),
-            Err(error) => {
-                let is_short = is_shortage(&error);
-                self.failures = self.failures.saturating_add(1);
-                if self.failures >= MAX_FAILURES || !(is_short || is_of_client(&error)) {
-                    Err(Failed)
-                } else if is_short {
-                    Ok(Accepted::Shortage)
-                } else {
-                    Ok(Accepted::Nobody)
-                }
-            }
-        }
-    }
-
-    /// Has a client wait for its request. A client whose socket fails is closed, and so is one for which there is no
+    /// Has a client send its request. A client whose socket fails is closed, and so is one for which there is no
     /// memory.
-    fn admit(&mut self, runtime: &R, stream: R::Stream) -> Result<(), Failed> {
+    fn admit(&mut self, stream: R::Stream, now: Instant) {
         // Sends the end of a reply at once, and not when the client has acknowledged the rest.
         if stream.set_nodelay(true).is_err() || stream.set_nonblocking(true).is_err() {
-            return Ok(());
+            return;
         }
-        let deadline = deadline_in(runtime, REQUEST_SECONDS).ok_or(Failed)?;
-        if self.waiting.len() >= MAX_WAITING {
-            // Its socket is closed when it is dropped.
-            let _ = self.waiting.pop_front();
-        }
-        // Without memory the client is dropped, as documented.
-        let _ = self.waiting.push_back(Waiting {
-            socket: Socket {
-                stream,
-                waits: false,
-            },
+        let Some(deadline) = now.checked_add(Duration::from_secs(REQUEST_SECONDS)) else {
+            return;
+        };
+        self.accepted = self.accepted.saturating_add(1);
+        let client = Client::new(stream, Token(self.accepted));
+        // It has room for MAX_ARRIVING clients from the beginning.
+        let _ = self.arriving.push_back(Arriving {
+            conn: TcpConn::new(self.alloc, client),
             deadline,
-            is_watched: false,
+            is_due: false,
         });
-        Ok(())
     }
 
-    /// Waits until somebody connects, something arrives, or a client's time is over.
-    fn wait(&mut self, now: Instant) -> Result<(), Failed> {
-        let mut all_watched = true;
-        for client in self.waiting.iter_mut() {
-            client.is_watched = client.is_watched || watch(&self.poll, &client.socket.stream);
-            all_watched = all_watched && client.is_watched;
+    /// Receives what has arrived of the requests.
+    fn receive_all(&mut self, now: Instant) {
+        for client in self.arriving.iter_mut() {
+            client.receive(self.alloc, &mut self.part, now);
         }
-        for link in self.closing.iter_mut() {
-            link.is_watched = link.is_watched || watch(&self.poll, &link.socket.stream);
-            all_watched = all_watched && link.is_watched;
-        }
-        let ends = (self.waiting.iter().map(|client| client.deadline)).chain(
-            self.closing.iter().map(|link| link.deadline),
-        );
-        let timeout = match ends.min() {
-            _ if !all_watched => Some(Duration::from_millis(PAUSE_MILLIS)),
-            Some(end) => Some(end.duration_since(now)),
-            None => None,
-        };
-        self.poll
-            .poll(&mut self.events, timeout)
-            .map_err(|_| Failed)?;
-        self.is_called = self.is_called || self.events.iter().any(|event| event.token() == CALLS);
-        Ok(())
     }
 
     /// Closes a connection whose reply was sent whole, once its client has stopped sending.
-    pub(super) fn close(&mut self, runtime: &R, mut socket: Socket<R::Stream>) {
-        // A socket that can't be read without waiting is closed at once.
-        let Some(deadline) = deadline_in(runtime, DRAIN_SECONDS) else {
-            return;
-        };
-        if socket.set_waits(false).is_err() {
+    fn close(&mut self, client: Client<R::Stream>, now: Instant) {
+        // A client that has gone is closed at once.
+        if client.stream.shutdown(Shutdown::Write).is_err() {
             return;
         }
+        let Some(deadline) = now.checked_add(Duration::from_secs(DRAIN_SECONDS)) else {
+            return;
+        };
         if self.closing.len() >= MAX_CLOSING {
             // Its socket is closed when it is dropped.
             let _ = self.closing.pop_front();
         }
-        // Without memory the connection is dropped, which closes it at once.
-        let _ = self.closing.push_back(Closing::new(socket, deadline));
+        // It has room for MAX_CLOSING clients from the beginning.
+        let _ = self.closing.push_back(Closing::new(client, deadline));
     }
-}
 
-/// Has the system report when something arrives at a connection, and also what has arrived. Returns whether it will.
-fn watch<S: AsRawFd>(poll: &Poll, stream: &S) -> bool {
-    poll.registry()
-        .register(
-            &mut SourceFd(&stream.as_raw_fd()),
-            ARRIVALS,
-            Interest::READABLE,
-        )
-        .is_ok()
+    /// Closes a client to free its descriptor: one that has its reply, or else one that has sent nothing, or a part of
+    /// its request, or else the slowest reader. Returns whether there was one. A client whose request is whole isn't
+    /// closed.
+    fn cut_one(&mut self) -> bool {
+        self.closing.pop_front().is_some() || self.cut_arriving() || self.cut_slowest()
+    }
+
+    /// Closes the oldest client that has sent nothing, or else the oldest that has sent a part of its request. Returns
+    /// whether there was one.
+    fn cut_arriving(&mut self) -> bool {
+        let silent = (self.arriving.iter()).position(|client| client.is_silent());
+        let cut = match silent {
+            Some(at) => Some(at),
+            None => self.arriving.iter().position(|client| !client.is_due),
+        };
+        cut.and_then(|at| self.arriving.remove(at)).is_some()
+    }
+
+    /// Closes the client that has taken nothing of its reply for the longest time. Returns whether there was one.
+    fn cut_slowest(&mut self) -> bool {
+        let slowest = (self.replying.iter().enumerate()).min_by_key(|(_, reply)| reply.last_taken);
+        let cut = slowest.map(|(at, _)| at);
+        cut.and_then(|at| self.replying.remove(at)).is_some()
+    }
+
+    /// Closes the slowest readers until there is room for a further reply, of which `size` bytes are kept.
+    fn make_room(&mut self, size: usize) {
+        for _ in 0..MAX_REPLYING {
+            let kept = (self.replying.iter()).fold(
+                size,
+                |sum, reply| sum.saturating_add(reply.size()),
+            );
+            if kept <= MAX_KEPT && self.replying.len() < MAX_REPLYING {
+                return;
+            }
+            self.cut_slowest();
+        }
+    }
+
+    /// Waits until somebody connects, a client can be served further, or a client's time is over.
+    fn wait(&mut self, now: Instant) -> Result<(), Failed> {
+        let mut all_watched = true;
+        for client in self.arriving.iter_mut() {
+            all_watched = client.conn.client.watch(&self.poll) && all_watched;
+        }
+        for reply in self.replying.iter_mut() {
+            all_watched = reply.client.watch(&self.poll) && all_watched;
+        }
+        for link in self.closing.iter_mut() {
+            all_watched = link.client.watch(&self.poll) && all_watched;
+        }
+        let timeout = if self.has_more_to_do() {
+            Some(Duration::ZERO)
+        } else if all_watched {
+            self.next_deadline()
+                .map(|deadline| deadline.duration_since(now))
+        } else {
+            Some(Duration::from_millis(PAUSE_MILLIS))
+        };
+        self.gather(timeout)
+    }
+
+    /// Whether a turn left something that needs no report of the system.
+    fn has_more_to_do(&self) -> bool {
+        self.listening.is_called
+            || self
+                .arriving
+                .iter()
+                .any(|client| client.conn.client.is_ready)
+            || self.replying.iter().any(|reply| reply.client.is_ready)
+    }
+
+    /// When the next client's time is over.
+    fn next_deadline(&self) -> Option<Instant> {
+        (self.arriving.iter().map(|client| client.deadline))
+            .chain(self.replying.iter().map(|reply| reply.deadline))
+            .chain(self.closing.iter().map(|link| link.deadline))
+            .min()
+    }
+
+    /// Waits at most for the time, and takes the system's reports.
+    fn gather(&mut self, timeout: Option<Duration>) -> Result<(), Failed> {
+        self.poll
+            .poll(&mut self.reports, timeout)
+            .map_err(|_| Failed)?;
+        if self.reports.is_empty() {
+            return Ok(());
+        }
+        let reports = &self.reports;
+        let is_called = reports.iter().any(|report| report.token() == CALLS);
+        self.listening.is_called = self.listening.is_called || is_called;
+        for client in self.arriving.iter_mut() {
+            client.conn.client.note(reports);
+        }
+        for reply in self.replying.iter_mut() {
+            reply.client.note(reports);
+        }
+        for link in self.closing.iter_mut() {
+            link.client.note(reports);
+        }
+        Ok(())
+    }
 }

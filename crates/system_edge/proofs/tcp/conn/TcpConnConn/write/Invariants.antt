@@ -1,7 +1,0 @@
-use Rattle.std.proofs.Common.{◌≡◌}
-use Rattle.system_edge.proofs.tcp.conn.TcpConnConn.write.Given as goal
-
-abbrev pub invariant-loop : goal.invariant-loop
-invariant-loop g l =
-    (l.self.faults ≡ l.fn.self.faults) × (l.self.begun ≡ l.fn.self.begun)
-    × (l.self.bytes_read ≡ l.fn.self.bytes_read) × (l.self.reads ≡ l.fn.self.reads)
