@@ -1,5 +1,7 @@
 //! The door of the system, with clients in the same process.
 
+ghost use Rattle.std.specs.Prelude.{IsSome};
+
 use atom_values::{Bytes, Many};
 use document_server::Door;
 use feed_disk::{Disk, MemoryDisk};
@@ -42,6 +44,16 @@ where
     client
 }
 
+/// Writes all bytes of a reply that was begun.
+fn write_all<C: Conn>(rt: &impl Abort, link: &mut C, reply: &[u8])
+    requires { IsSome (C.state link.old).begun }
+{
+    let mut written = 0;
+    while written < reply.len() {
+        written += link.write(&reply[written..]).expect(rt, "a write");
+    }
+}
+
 /// Takes the next connection, reads its request up to the first bytes of `request`, and writes a reply.
 fn answer_next<R, D>(rt: &R, door: &mut TcpDoor<R>, disk: &D, request: &[u8], reply: &[u8])
 where
@@ -54,14 +66,7 @@ where
     assert_eq!(rt; link.read(&mut read[..length]), Ok(length));
     assert_eq!(rt; &read[..length], request);
     link.begin(disk);
-    let mut sent = 0;
-    for _ in 0..reply.len() {
-        if sent >= reply.len() {
-            break;
-        }
-        sent += link.write(&reply[sent..]).expect(rt, "a write");
-    }
-    assert_eq!(rt; sent, reply.len());
+    write_all(rt, &mut link, reply);
     door.back(link);
 }
 
