@@ -80,6 +80,25 @@ fn bad_lines_are_named(rt: HostRuntime) {
     }
 }
 
+/// The certificate of a feed without operations that was made at 2023-11-14T22:13:20Z.
+const CERTIFICATE: &str = "\
+coverage 1\n\
+feed 6d1f0c5a-93be-4c27-8d10-2b7f9e4a5c36 http://feed.example/\n\
+version 0\n\
+document http://feed.example/feed 27b4e081164403fce1e7c6bf0c163f04e8b32fd268534b0f58ac65bc1e41f4ed\n\
+live 0 e3b0c44298fc1c149afbf4c8996fb92427ae41e4649b934ca495991b7852b855\n\
+end\n\
+";
+
+#[test]
+fn a_certificate_that_is_cut_is_refused_at_its_last_line(rt: HostRuntime) {
+    for length in 0..CERTIFICATE.len() {
+        let (text, _) = CERTIFICATE.split_at_checked(length).expect(&rt, "a length");
+        let line = u32::try_from(text.split('\n').count()).expect(&rt, "a few lines");
+        expect(&rt, rt.alloc(), text, line);
+    }
+}
+
 #[test]
 fn a_fault_has_its_sentence(rt: HostRuntime) {
     for (fault, wanted) in [

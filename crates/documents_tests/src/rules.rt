@@ -253,7 +253,7 @@ static OPERATIONS: [(&[Step], &str); 12] = [
         &[(Create, 0, 5), (Delete, 1, 9), (Create, 0, 10)],
         "Add 2 10 10",
     ),
-    // A setting names no member, and no member stands in its way.
+    // A setting names no member, so its number is 0. It is accepted whatever the members' states are.
     (&[(Title, 3, 5)], "Title 0 5 3"),
     (
         &[(Create, 0, 5), (Delete, 1, 9), (Window, 1, 9)],

@@ -237,7 +237,7 @@ fn a_new_best_document_may_need_fewer_archives(rt: HostRuntime) {
                 "",
             ),
             (feed_address, &old, "Complete 13 5", "CDEfg"),
-            // What the second and the third archive removed is shown again.
+            // The chain of this document has archive 1 alone. The members that archives 2 and 3 removed are live again.
             (feed_address, &short, "Complete 14 4", "abXd"),
             (feed_address, &new, "Complete 15 4", "DEFg"),
         ],

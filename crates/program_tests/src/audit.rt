@@ -7,7 +7,7 @@ use feed_disk::Disk;
 use std::alloc::Global;
 use std::process::Abort;
 
-const AUDIT: &[&str] = &["audit"];
+pub const AUDIT: &[&str] = &["audit"];
 
 /// The certificate of the store of thirteen operations.
 pub const THIRTEEN: &str = "\

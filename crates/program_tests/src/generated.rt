@@ -134,7 +134,8 @@ fn push_line(rt: &impl Abort, alloc: Global, fold: &mut Fold, draw: u64) {
     fold.lines.push_str(line.as_str()).expect(rt, "memory");
 }
 
-/// The moment so many milliseconds after 2023-11-14T22:13:20Z, if they are few.
+/// The timestamp that is `after` milliseconds after 2023-11-14T22:13:20Z. The minute is fixed, so `after` has to be less
+/// than 40,000.
 fn moment_text(rt: &impl Abort, alloc: Global, after: u32) -> String {
     let (seconds, millis) = (20 + after / 1_000, after % 1_000);
     let text = if millis == 0 {

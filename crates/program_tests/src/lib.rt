@@ -25,6 +25,8 @@ mod fetches;
 #[cfg(test)]
 mod generated;
 #[cfg(test)]
+mod hostile;
+#[cfg(test)]
 mod mirror;
 #[cfg(test)]
 mod pile;

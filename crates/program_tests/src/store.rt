@@ -489,6 +489,7 @@ fn last_of(span: Option<&[u8]>) -> Option<u8> {
         b"span 1 1" => Some(1),
         b"span 2 2" => Some(2),
         b"span 1 3" => Some(3),
+        b"span 1 4" => Some(4),
         b"span 3 3" => Some(3),
         b"span 5 5" => Some(5),
         _ => None,
@@ -496,7 +497,7 @@ fn last_of(span: Option<&[u8]>) -> Option<u8> {
 }
 
 /// Returns the number of the last operation that the subscription document has, if `last_of` knows its span.
-fn version<D: Disk>(rt: &impl Abort, alloc: Global, disk: &mut D) -> Option<u8> {
+pub fn version<D: Disk>(rt: &impl Abort, alloc: Global, disk: &mut D) -> Option<u8> {
     let feed = ran(rt, alloc, disk, SHOW_FEED, b"");
     let summary = summary_of(rt, alloc, feed.printed.as_slice());
     let mut lines = summary.printed.as_slice().split(|byte| *byte == b'\n');

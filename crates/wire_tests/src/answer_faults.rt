@@ -122,17 +122,18 @@ fn keeps_the_seal_that_was_made_before_a_crash(rt: HostRuntime) {
     assert!(rt; again == sealed);
 }
 
-/// Answers five POSTs on a store with windows of 4 operations, of which the fifth seals an archive.
-fn sealed(rt: &impl Abort, alloc: Global) -> MemoryDisk {
-    let mut disk = store_disk(rt, alloc, 4, CAPACITY, 0);
-    for title in 1..6 {
+/// Answers this number of POSTs on a store with windows of 4 operations, of which a device call fails. 0 lists no call.
+/// The fifth POST seals an archive.
+pub fn posted_disk(rt: &impl Abort, alloc: Global, posts: usize, failing: u64) -> MemoryDisk {
+    let mut disk = store_disk(rt, alloc, 4, CAPACITY, failing);
+    for title in 1..=posts {
         post(rt, alloc, &mut disk, title, 0);
     }
     disk
 }
 
 /// Returns the number of operations that a load finds, and the number of payloads in the sealed area.
-fn counts<D: Disk>(rt: &impl Abort, alloc: Global, disk: &mut D) -> (u32, u32) {
+pub fn counts<D: Disk>(rt: &impl Abort, alloc: Global, disk: &mut D) -> (u32, u32) {
     let store = Store::load(alloc, disk).expect(rt, "a store");
     let seals = Log::load(alloc, disk, Area::Sealed).expect(rt, "a log");
     let counts = (store.version(), seals.len());
@@ -211,7 +212,7 @@ const CRASHES: [(Choice, [(u32, u32); 8]); 3] = [
 
 #[test]
 fn a_crash_leaves_an_operation_behind_its_seal(rt: HostRuntime) {
-    let disk = sealed(&rt, rt.alloc());
+    let disk = posted_disk(&rt, rt.alloc(), 5, 0);
     let crashes = CRASHES;
     for (choice, numbers) in &crashes {
         for (call, &found) in numbers.iter().enumerate() {

@@ -9,6 +9,10 @@ use std::process::Abort;
 /// A request, and its reply.
 type Row = (&'static [u8], &'static [u8]);
 
+/// A POST of an entry whose elements have a prefix. It has an element of another namespace.
+pub const NEWS: &[u8] =
+    b"POST /feed HTTP/1.1\r\nContent-Type: application/atom+xml;type=entry\r\nContent-Length: 241\r\n\r\n<?xml version='1.0'?><atom:entry xmlns:atom='http://www.w3.org/2005/Atom' xmlns:x='urn:x'><atom:id>tag:me</atom:id><atom:title>News</atom:title><atom:content type='html'><![CDATA[<b>A & B</b>]]></atom:content><x:mood>ok</x:mood></atom:entry>";
+
 /// Requests on a store with windows of 4 operations, each with its reply.
 static FOUR: [Row; 50] = [
     (
@@ -136,7 +140,7 @@ static FOUR: [Row; 50] = [
         b"HTTP/1.1 403 Forbidden\r\nContent-Type: text/plain;charset=utf-8\r\nContent-Length: 6\r\nConnection: close\r\n\r\ndraft\n",
     ),
     (
-        b"POST /feed HTTP/1.1\r\nContent-Type: application/atom+xml;type=entry\r\nContent-Length: 241\r\n\r\n<?xml version='1.0'?><atom:entry xmlns:atom='http://www.w3.org/2005/Atom' xmlns:x='urn:x'><atom:id>tag:me</atom:id><atom:title>News</atom:title><atom:content type='html'><![CDATA[<b>A & B</b>]]></atom:content><x:mood>ok</x:mood></atom:entry>",
+        NEWS,
         b"HTTP/1.1 201 Created\r\nContent-Type: application/atom+xml;type=entry\r\nContent-Length: 444\r\nLocation: http://feed.example/member/1\r\nConnection: close\r\n\r\n<?xml version=\"1.0\" encoding=\"utf-8\"?>\n<entry xmlns=\"http://www.w3.org/2005/Atom\" xmlns:app=\"http://www.w3.org/2007/app\"><id>urn:uuid:6d1f0c5a-93be-8c27-8000-000000000001</id><title>News</title><updated>2023-11-14T22:13:20.001Z</updated><app:edited>2023-11-14T22:13:20.001Z</app:edited><author><name>Editor</name></author><link rel=\"edit\" href=\"http://feed.example/member/1\"/><content type=\"html\">&lt;b&gt;A &amp; B&lt;/b&gt;</content></entry>\n",
     ),
     (

@@ -1,5 +1,6 @@
 //! Requests that are read, and the faults of bytes that are none.
 
+use crate::answers::NEWS;
 use crate::conns::conn_of;
 use atom_values::Copies;
 use http_face::{Request, RequestFault, Verb, read_request};
@@ -221,9 +222,11 @@ const WHOLE: &[u8] = b"POST / HTTP/1.1\r\nContent-Length: 4\r\n\r\nabcd";
 
 #[test]
 fn counts_the_bytes_of_an_early_end(rt: HostRuntime) -> Result<(), Fail> {
-    for end in 0..WHOLE.len() {
-        let read_bytes = read(&rt, rt.alloc(), &WHOLE[..end], 0).err();
-        assert!(rt; read_bytes == Some(RequestFault::EndedEarly { read: end as u64 }));
+    for whole in [WHOLE, NEWS] {
+        for end in 0..whole.len() {
+            let read_bytes = read(&rt, rt.alloc(), &whole[..end], 0).err();
+            assert!(rt; read_bytes == Some(RequestFault::EndedEarly { read: end as u64 }));
+        }
     }
     Ok(())
 }

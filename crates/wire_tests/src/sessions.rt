@@ -4,7 +4,7 @@
 
 ghost use Rattle.std.specs.Prelude.{◌≡◌, ◌<◌, ◌≤◌, length, None, All};
 
-use crate::answer_faults::DISK;
+use crate::answer_faults::{DISK, counts, posted_disk};
 use crate::conns::{conn_of, disk_of};
 use crate::stores::{CAPACITY, NOW, init, post_of, store_disk};
 use atom_values::Many;
@@ -444,4 +444,71 @@ fn ends_where_a_device_call_fails(rt: HostRuntime) {
         drop(failed);
     }
     drop(whole);
+}
+
+/// A session of the fifth POST, on a store with windows of 4 operations.
+#[derive(Drop)]
+struct Sealing {
+    /// The number of device calls after it.
+    calls: u64,
+    end: End,
+    /// The only line, and the bytes that its connection was sent.
+    line: Option<Told>,
+    sent: Vec<u8>,
+    /// The numbers of operations and of seals that a load finds afterwards.
+    found: (u32, u32),
+}
+
+/// Serves the fifth POST on a store of which this device call fails.
+fn seal_failing(rt: &impl Abort, alloc: Global, failing: u64) -> Sealing {
+    let mut disk = posted_disk(rt, alloc, 4, failing);
+    let mut door = door_of(rt, alloc, &BACK[..1], 0);
+    let session = served(rt, alloc, &mut disk, &mut door, NOW, 100);
+    let sealing = Sealing {
+        calls: disk.calls(),
+        end: session.end,
+        line: session.lines.get(0).map(told),
+        sent: sent_of(rt, alloc, &door),
+        found: counts(rt, alloc, &mut disk),
+    };
+    drop((disk, door, session));
+    sealing
+}
+
+/// The line of a POST whose commit failed.
+const UNDONE: Option<Told> = Some((500, 4, true));
+
+/// How the session of the fifth POST ends if a device call fails, its line, the bytes that are sent, and the numbers of
+/// operations and of seals that a load finds. The first call is the last one of the store's load. The next eight are the
+/// commit: the seal's write, its sync, the write of the gate and its sync, and the same four for the operation.
+static SEALING: [(End, Option<Told>, &[u8], (u32, u32)); 9] = [
+    (End::Load(LoadFault::DiskFault), None, b"", (4, 0)),
+    (End::DiskFault, UNDONE, DISK, (4, 0)),
+    (End::DiskFault, UNDONE, DISK, (4, 0)),
+    (End::DiskFault, UNDONE, DISK, (4, 0)),
+    (End::DiskFault, UNDONE, DISK, (4, 1)),
+    (End::DiskFault, UNDONE, DISK, (4, 1)),
+    (End::DiskFault, UNDONE, DISK, (4, 1)),
+    (End::DiskFault, UNDONE, DISK, (4, 1)),
+    (End::DiskFault, UNDONE, DISK, (5, 1)),
+];
+
+#[test]
+fn ends_where_a_call_of_a_seal_or_of_its_operation_fails(rt: HostRuntime) {
+    let alloc = rt.alloc();
+    let whole = seal_failing(&rt, alloc, 0);
+    assert!(rt; (whole.end, whole.line, whole.found) == (End::Done, Some((201, 5, true)), (5, 1)));
+    let loaded = whole.calls.saturating_sub(8);
+    drop(whole);
+    for (index, &wanted) in SEALING.iter().enumerate() {
+        let failed = seal_failing(&rt, alloc, loaded.saturating_add(index as u64));
+        let sealing = (
+            failed.end,
+            failed.line,
+            failed.sent.as_slice(),
+            failed.found,
+        );
+        assert!(rt; sealing == wanted, "call {index}");
+        drop(failed);
+    }
 }
