@@ -5,12 +5,16 @@ use std::alloc::Global;
 use std::io::{Read, Write};
 use std::net::OpenStream;
 use std::os::fd::AsRawFd;
-use std::time::Instant;
+use std::time::{Duration, Instant};
+
+/// How long a client has to send its first byte before it counts as silent.
+const SILENT_SECONDS: u64 = 1;
 
 /// A connection whose request is arriving.
 #[derive(Drop)]
 pub(super) struct Arriving<S> {
     pub(super) conn: TcpConn<S>,
+    pub(super) accepted: Instant,
     /// When the client's time for its request ends.
     pub(super) deadline: Instant,
     /// Whether the connection is to be served: its request is whole, no more of it will arrive, or its time is over.
@@ -18,9 +22,11 @@ pub(super) struct Arriving<S> {
 }
 
 impl<S: OpenStream + Read + Write + AsRawFd + Drop> Arriving<S> {
-    /// Whether the client has sent nothing, and may still send its request.
-    pub(super) fn is_silent(&self) -> bool {
-        !self.is_due && self.conn.is_silent()
+    /// Whether the client has had a second to send its first byte, and has sent nothing.
+    pub(super) fn is_silent(&self, now: Instant) -> bool {
+        !self.is_due
+            && self.conn.is_silent()
+            && now.duration_since(self.accepted) >= Duration::from_secs(SILENT_SECONDS)
     }
 
     /// Receives what has arrived, a part of the length of `part` at a time.

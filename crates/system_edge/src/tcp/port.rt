@@ -166,8 +166,8 @@ impl<R: Net + rt::Clock> Port<R> {
         self.closing.retain_mut(|link| !link.drain(now));
     }
 
-    /// Accepts the clients that wait to connect. Returns whether memory or descriptors ran out and no client can be
-    /// closed.
+    /// Accepts the clients that wait to connect. Returns whether memory or descriptors ran out and the port holds no
+    /// client that has one.
     fn accept_all(&mut self, now: Instant) -> Result<bool, Failed> {
         for _ in 0..MAX_ACCEPTED {
             if !self.listening.is_called {
@@ -176,7 +176,7 @@ impl<R: Net + rt::Clock> Port<R> {
             if self.arriving.len() >= MAX_ARRIVING {
                 self.receive_all(now);
                 // If all requests are whole, further clients wait to connect.
-                if !self.cut_arriving() {
+                if !self.cut_arriving(now) {
                     break;
                 }
             }
@@ -185,9 +185,11 @@ impl<R: Net + rt::Clock> Port<R> {
                 Accepted::Nobody => {}
                 Accepted::Shortage => {
                     self.receive_all(now);
-                    if !self.cut_one() {
-                        return Ok(true);
+                    if self.cut_one(now) {
+                        continue;
                     }
+                    // The requests that are left are whole, and each answer frees a descriptor.
+                    return Ok(self.arriving.is_empty());
                 }
             }
         }
@@ -209,6 +211,7 @@ impl<R: Net + rt::Clock> Port<R> {
         // It has room for MAX_ARRIVING clients from the beginning.
         let _ = self.arriving.push_back(Arriving {
             conn: TcpConn::new(self.alloc, client),
+            accepted: now,
             deadline,
             is_due: false,
         });
@@ -238,17 +241,18 @@ impl<R: Net + rt::Clock> Port<R> {
         let _ = self.closing.push_back(Closing::new(client, deadline));
     }
 
-    /// Closes a client to free its descriptor: one that has its reply, or else one that has sent nothing, or a part of
-    /// its request, or else the slowest reader. Returns whether there was one. A client whose request is whole isn't
-    /// closed.
-    fn cut_one(&mut self) -> bool {
-        self.closing.pop_front().is_some() || self.cut_arriving() || self.cut_slowest()
+    /// Closes a client to free its descriptor: one that has its reply, or else one that is silent or has sent a part of
+    /// its request. If no request is whole either, it closes the slowest reader. Returns whether there was one.
+    fn cut_one(&mut self, now: Instant) -> bool {
+        self.closing.pop_front().is_some()
+            || self.cut_arriving(now)
+            || self.arriving.is_empty() && self.cut_slowest()
     }
 
-    /// Closes the oldest client that has sent nothing, or else the oldest that has sent a part of its request. Returns
-    /// whether there was one.
-    fn cut_arriving(&mut self) -> bool {
-        let silent = (self.arriving.iter()).position(|client| client.is_silent());
+    /// Closes the oldest client that is silent, or else the oldest whose request isn't whole. Returns whether there was
+    /// one.
+    fn cut_arriving(&mut self, now: Instant) -> bool {
+        let silent = (self.arriving.iter()).position(|client| client.is_silent(now));
         let cut = match silent {
             Some(at) => Some(at),
             None => self.arriving.iter().position(|client| !client.is_due),
