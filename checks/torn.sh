@@ -106,8 +106,8 @@ def text_of(quoted):
 
 
 def events_of(trace, areas):
-    """Yields ('made', area), ('named',) when the folder is synced, ('write', area, offset, bytes), ('sync', area), and
-    ('told', bytes) for a part of what is sent or printed."""
+    """Yields ('made', area) for a new file, ('named',) for a sync of the folder, ('write', area, offset, bytes),
+    ('sync', area), and ('told', bytes) for bytes that are sent or printed."""
     opened = {}
     with open(trace) as lines:
         for line in lines:
@@ -149,7 +149,7 @@ class File:
         return File(self.synced, self.pending, self.is_made, self.is_named)
 
     def take(self, event):
-        """Goes through an event that is no 'told'."""
+        """Applies a recorded event: a write, a sync, the making of the file, or a sync of the folder."""
         if event[0] == "write":
             self.pending.append(event[2:])
         elif event[0] == "sync":
@@ -188,11 +188,12 @@ def torn(chance, at, old, new):
     kind = chance.choice(("old", "new", "cut", "zeros", "noise", "sectors", "mixed"))
     cut = chance.randint(0, len(new))
     if kind == "sectors":
-        kept = [chance.randrange(2) for _ in range(at // SECTOR, (at + len(new)) // SECTOR + 1)]
-        return bytes((old, new)[kept[(at + one) // SECTOR - at // SECTOR]][one] for one in range(len(new)))
+        first = at // SECTOR
+        is_new = [chance.randrange(2) for _ in range(first, (at + len(new)) // SECTOR + 1)]
+        return bytes((old, new)[is_new[(at + one) // SECTOR - first]][one] for one in range(len(new)))
     if kind == "mixed":
         noise = chance.randbytes(len(new))
-        return bytes(chance.choice(bytes_of_one) for bytes_of_one in zip(old, new, bytes(len(new)), noise))
+        return bytes(chance.choice(candidates) for candidates in zip(old, new, bytes(len(new)), noise))
     return {"old": old, "new": new, "cut": new[:cut] + old[cut:], "zeros": bytes(len(new)),
             "noise": chance.randbytes(len(new))}[kind]
 
@@ -271,7 +272,7 @@ def serve(requests, front):
 
 
 class Store:
-    """A store, by the documents that it has at each version."""
+    """What a store has to show: its documents at each version."""
 
     areas, words, given = ("journal", "sealed"), ["show", "pile"], b""
 
@@ -355,6 +356,7 @@ def record_store():
 
 
 def take(files, event):
+    """Applies a recorded event to the file that it concerns, or a sync of the folder to all."""
     for area, file in files.items():
         if len(event) == 1 or event[1] == area:
             file.take(event)
@@ -375,7 +377,7 @@ def compare_files(folder, files):
 # The mirror
 
 class Mirror:
-    """A mirror, by what it reports if it has the first few documents."""
+    """What a mirror has to report if it holds the first few documents."""
 
     areas, words, given = ("mirror",), [*MIRROR, "--report"], pile_of([])
 
@@ -435,7 +437,7 @@ def record_mirror(documents, is_fetch):
     return moments
 
 
-# The crashes
+# The crashes. A moment has a `Store` or `Mirror`, the least and the greatest version that it may show, and the files.
 
 def crash(folder, chance, moment):
     """Opens files that a crash may leave."""
@@ -445,7 +447,7 @@ def crash(folder, chance, moment):
 
 
 def crash_twice(folder, chance, moment):
-    """Has the program or the machine stop, loads the files, and opens some that a crash within or after the load leaves."""
+    """Kills the program or stops the machine, records a load, and opens files that a crash within or after it may leave."""
     of, least, most, files = moment
     is_killed = chance.randrange(2)
     if is_killed:
@@ -457,7 +459,7 @@ def crash_twice(folder, chance, moment):
     trace = f"{folder}.trace"
     found = of.versions(traced(folder, of.words, trace, of.given), least, most)
     if not is_killed:
-        # The device has what the load read.
+        # The load read synced bytes only, so no later crash changes what they show.
         least, most = found[0], found[-1]
     moments = [(of, least, most, copied(files))]
     for event in events_of(trace, of.areas):
