@@ -1,15 +1,20 @@
 #!/bin/sh
 # Simulates power loss. It records the writes and the syncs that the built program makes on the files of a store and of a
-# mirror, and builds the files that a crash may leave at each moment: of each write that wasn't synced all bytes, none, some
-# of them, zeros or random bytes, and any size between the old and the new one. It opens each with the program.
-# - The store is served while entries are posted, changed and deleted, in windows of 4. Each file must open to the feed and
-#   the archives that the server had at one version. That version has each operation whose reply was begun by then, and at
-#   most one more.
-# - The store is also made anew (`init`) and reopened, since both write too.
-# - The mirror takes a pile of documents. Each file must open to the first documents taken, and to each one that was synced.
-# Usage: checks/torn.sh [IMAGES [PROGRAM]]. IMAGES, the number of files to open, is 20,000 if it isn't given. PROGRAM is run in
-# place of the one of this repository. SEED in the environment makes a run repeatable. It prints a line of counts and ends with
-# 0 if nothing was lost. It ends at the first loss with 1, and leaves the files. It needs `strace` and python3.
+# mirror, and builds the files that a crash may leave at each moment: of each write that wasn't synced all bytes, none, a
+# prefix, some sectors, zeros or random bytes, and any size between the old and the new one. A file may be missing as long
+# as the folder wasn't synced after it was made. It opens each with the program.
+# - The store is made (`init`), served while entries are posted, changed and deleted, in windows of 4, and then given lines
+#   (`apply`), a new title and a new window among them. Each file must open to the feed and the archives that the server had
+#   at one version. That version has each operation that was acknowledged by then, and at most one more. Some stores then
+#   take further entries.
+# - The mirror takes a pile of documents in any order, and the documents of the server. Each file must open to the first
+#   documents taken, with each one that was synced, or after which the next one was asked for. It then takes the rest.
+# - Some files are opened after two crashes: the program alone is killed or the machine stops, a load of the files is
+#   recorded, and the machine stops at some moment of that. The second crash must leave what the load printed.
+# Usage: checks/torn.sh [IMAGES [PROGRAM]]. IMAGES, the number of stores and mirrors to open, is 20,000 if it isn't given.
+# PROGRAM is run in place of the one of this repository. SEED in the environment makes a run repeatable. It prints a line of
+# counts and ends with 0 if nothing was lost. It ends at the first loss with 1, and leaves the files. It needs `strace` and
+# python3.
 images=${1:-20000}
 top=$(CDPATH='' cd -- "$(dirname -- "$0")/.." && pwd) || exit 1
 tool=${2:-$top/out/feed_tool}
@@ -22,10 +27,11 @@ command -v strace >/dev/null || { echo 'strace is needed' >&2; exit 1; }
 
 # The files are written thousands of times, so they are in memory where it is.
 work=$(mktemp -d -p "$([ -d /dev/shm ] && echo /dev/shm || echo "${TMPDIR:-/tmp}")") || exit 1
-mkdir "$work/store" "$work/mirror" || exit 1
+mkdir "$work/store" || exit 1
 
 python3 - "$images" "$tool" "$work" "${SEED:-$$}" <<'PYTHON'
 import concurrent.futures
+import multiprocessing
 import os
 import random
 import re
@@ -37,112 +43,18 @@ import time
 
 images, tool, work, seed = int(sys.argv[1]), sys.argv[2], sys.argv[3], int(sys.argv[4])
 random.seed(seed)
-AREAS = ("journal", "sealed", "mirror")
-BASE = "http://feed.example/"
-INIT = ["init", "--base", BASE, "--uuid", "6d1f0c5a-93be-4c27-8d10-2b7f9e4a5c36", "--title", "Feed", "--author", "Editor"]
 OPERATIONS = 90
 WINDOW = 4
+# what the store is given after it was served, a line at a time. The window of 6 is full, and sealed, before the end.
+LINES = [b"add last", b"title New title", b"window 6"] + [b"add more %d" % count for count in range(1, 13)]
+# how many files are opened after a first crash and the load that follows it
+SECOND_CRASHES = 8
+SECTOR = 512
 
 
 class Lost(Exception):
     """A file that a crash may leave doesn't open to what it has to."""
 
-
-def run(folder, words, given=b""):
-    """Runs the program, and returns its status and what it printed."""
-    done = subprocess.run([tool, *words], cwd=folder, input=given, stdout=subprocess.PIPE, stderr=subprocess.DEVNULL)
-    return done.returncode, done.stdout
-
-
-# A recorded run: what happens to the files, and what is told to the outside.
-
-CALLS = "openat,close,pwrite64,fsync,fdatasync,sendto,write,writev"
-LINE = re.compile(r"^\d+ +(\w+)\((.*)\) += (-?\d+)")
-
-
-def traced(folder, words, trace):
-    """The words that run the program under strace."""
-    return ["strace", "-f", "-xx", "-s", "100000000", "-e", f"trace={CALLS}", "-e", "signal=none", "-o", trace, tool, *words]
-
-
-def text_of(quoted):
-    """The bytes of a string as `strace -xx` prints it."""
-    return bytes.fromhex(re.match(r'[^"]*"((?:\\x[0-9a-f]{2})*)"(?!\.\.\.)', quoted)[1].replace("\\x", ""))
-
-
-def events_of(trace):
-    """Yields ('write', area, offset, bytes), ('sync', area), and ('told', bytes) for each reply or output."""
-    files = {}
-    with open(trace) as lines:
-        for line in lines:
-            if "unfinished" in line or "resumed" in line:
-                raise Lost(f"a call of two threads: {line[:80]}")
-            found = LINE.match(line)
-            if not found or int(found[3]) < 0:
-                continue
-            name, given, returned = found[1], found[2], int(found[3])
-            if name == "openat":
-                area = os.path.basename(text_of(given).decode(errors="replace"))
-                files.pop(returned, None)
-                if area in AREAS:
-                    files[returned] = area
-                continue
-            number = int(given.split(",")[0])
-            if name == "close":
-                files.pop(number, None)
-            elif name == "pwrite64" and number in files:
-                yield "write", files[number], int(given.rsplit(", ", 1)[1]), text_of(given)[:returned]
-            elif name in ("fsync", "fdatasync") and number in files:
-                yield "sync", files[number]
-            elif name in ("sendto", "write") and number not in files and number != 2:
-                yield "told", text_of(given)
-
-
-# What a crash leaves of a file: its synced bytes, and what it may have of the later writes.
-
-class File:
-    def __init__(self, synced=b""):
-        self.synced, self.pending = synced, []
-
-    def write(self, at, written):
-        self.pending.append((at, written))
-
-    def sync(self):
-        self.synced, self.pending = self.whole(), []
-
-    def whole(self):
-        """The bytes if no crash comes."""
-        now = bytearray(self.synced)
-        for at, written in self.pending:
-            now.extend(bytes(max(0, at + len(written) - len(now))))
-            now[at : at + len(written)] = written
-        return bytes(now)
-
-    def left(self, chance):
-        """One of the files that a crash may leave, by chance."""
-        if not self.pending:
-            return self.synced
-        whole = self.whole()
-        size = chance.choice((len(self.synced), len(whole), chance.randint(len(self.synced), len(whole))))
-        kind = chance.choice(("old", "new", "cut", "zeros", "noise", "mixed", "mixed"))
-        left = bytearray(self.synced[:size])
-        left.extend(bytes(size - len(left)))
-        for at, written in self.pending:
-            cut = at + chance.randrange(len(written) + 1)
-            for one in range(at, min(at + len(written), size)):
-                old, new = self.synced[one] if one < len(self.synced) else 0, written[one - at]
-                left[one] = {
-                    "old": lambda: old,
-                    "new": lambda: new,
-                    "cut": lambda: new if one < cut else old,
-                    "zeros": lambda: 0,
-                    "noise": lambda: chance.randrange(256),
-                    "mixed": lambda: chance.choice((old, new, 0, 1, chance.randrange(256))),
-                }[kind]()
-        return bytes(left)
-
-
-# The store.
 
 def free_port():
     """Returns a port below those that the system gives to clients. One of them may connect to itself."""
@@ -156,7 +68,165 @@ def free_port():
                 pass
 
 
-def ask(port, method, path, body=b""):
+port = free_port()
+BASE = f"http://127.0.0.1:{port}/"
+INIT = ["init", "--base", BASE, "--uuid", "6d1f0c5a-93be-4c27-8d10-2b7f9e4a5c36", "--title", "Feed", "--author", "Editor",
+        "--window", str(WINDOW)]
+MIRROR = ["mirror", "--base", BASE]
+
+
+def run(folder, words, given=b""):
+    """Runs the program, and returns its status and what it printed."""
+    done = subprocess.run([tool, *words], cwd=folder, input=given, stdout=subprocess.PIPE, stderr=subprocess.DEVNULL)
+    return done.returncode, done.stdout
+
+
+# A recorded run: what happens to the files, and what is told to the outside.
+
+KNOWN = "openat,close,pwrite64,fsync,fdatasync,sendto,write"
+# calls that would change a file or its name, and of which this script knows nothing
+UNKNOWN = "writev,pwritev,pwritev2,ftruncate,truncate,fallocate,sendfile,copy_file_range,rename,renameat,renameat2,link," \
+    "linkat,unlink,unlinkat"
+LINE = re.compile(r"^\d+ +(\w+)\((.*)\) += (-?\d+)")
+
+
+def traced(folder, words, trace, given=b""):
+    """Runs the program under strace, and returns its status and what it printed."""
+    done = subprocess.run([*under_strace(trace), tool, *words], cwd=folder, input=given, stdout=subprocess.PIPE)
+    return done.returncode, done.stdout
+
+
+def under_strace(trace):
+    return ["strace", "-f", "-xx", "-s", "100000000", "-e", f"trace={KNOWN},{UNKNOWN}", "-e", "signal=none", "-o", trace]
+
+
+def text_of(quoted):
+    """The bytes of a string as `strace -xx` prints it."""
+    return bytes.fromhex(re.match(r'[^"]*"((?:\\x[0-9a-f]{2})*)"(?!\.\.\.)', quoted)[1].replace("\\x", ""))
+
+
+def events_of(trace, areas):
+    """Yields ('made', area) for a new file, ('named',) for a sync of the folder, ('write', area, offset, bytes),
+    ('sync', area), and ('told', bytes) for bytes that are sent or printed."""
+    opened = {}
+    with open(trace) as lines:
+        for line in lines:
+            if "unfinished" in line or "resumed" in line:
+                raise Lost(f"a call of two threads: {line[:80]}")
+            found = LINE.match(line)
+            if not found or int(found[3]) < 0:
+                continue
+            name, given, returned = found[1], found[2], int(found[3])
+            if name == "openat":
+                opened[returned] = os.path.basename(os.path.normpath(text_of(given).decode(errors="replace")))
+                if opened[returned] in areas and "O_CREAT" in given:
+                    yield "made", opened[returned]
+                continue
+            number = int(given.split(",")[0]) if given.split(",")[0].isdigit() else None
+            of = opened.get(number)
+            if name == "close":
+                opened.pop(number, None)
+            elif name == "pwrite64" and of in areas:
+                yield "write", of, int(given.rsplit(", ", 1)[1]), text_of(given)[:returned]
+            elif name in ("fsync", "fdatasync") and of in areas:
+                yield "sync", of
+            elif name == "fsync" and of == ".":
+                yield ("named",)
+            elif name in ("sendto", "write") and of is None:
+                if number != 2:
+                    yield "told", text_of(given)
+            elif of in areas or name in UNKNOWN.split(",") and number is None:
+                raise Lost(f"a call that isn't known here: {line[:80]}")
+
+
+# What a crash leaves of a file: its synced bytes, and what it may have of the later writes.
+
+class File:
+    def __init__(self, synced=b"", pending=(), is_made=False, is_named=False):
+        self.synced, self.pending, self.is_made, self.is_named = synced, list(pending), is_made, is_named
+
+    def copy(self):
+        return File(self.synced, self.pending, self.is_made, self.is_named)
+
+    def take(self, event):
+        """Applies a recorded event: a write, a sync, the making of the file, or a sync of the folder."""
+        if event[0] == "write":
+            self.pending.append(event[2:])
+        elif event[0] == "sync":
+            self.synced, self.pending = self.whole(), []
+        elif event[0] == "made":
+            self.is_made = True
+        else:
+            self.is_named = self.is_made
+
+    def is_settled(self):
+        """Whether a crash can leave one file only."""
+        return not self.pending and (self.is_named or not self.synced)
+
+    def whole(self):
+        """The bytes if no crash comes."""
+        now = bytearray(self.synced)
+        for at, written in self.pending:
+            now.extend(bytes(max(0, at + len(written) - len(now))))
+            now[at : at + len(written)] = written
+        return bytes(now)
+
+    def left(self, chance):
+        """One of the files that a crash may leave, by chance. None if it leaves none."""
+        if not self.is_named and chance.randrange(2):
+            return None
+        old, new = len(self.synced), len(self.whole())
+        size = chance.choice((old, new, chance.randint(old, new)))
+        left = bytearray(self.synced) + bytes(new - old)
+        for at, written in self.pending:
+            left[at : at + len(written)] = torn(chance, at, bytes(left[at : at + len(written)]), written)
+        return bytes(left[:size])
+
+
+def torn(chance, at, old, new):
+    """The bytes that a crash leaves at the offset of a write."""
+    kind = chance.choice(("old", "new", "cut", "zeros", "noise", "sectors", "mixed"))
+    cut = chance.randint(0, len(new))
+    if kind == "sectors":
+        first = at // SECTOR
+        is_new = [chance.randrange(2) for _ in range(first, (at + len(new)) // SECTOR + 1)]
+        return bytes((old, new)[is_new[(at + one) // SECTOR - first]][one] for one in range(len(new)))
+    if kind == "mixed":
+        noise = chance.randbytes(len(new))
+        return bytes(chance.choice(candidates) for candidates in zip(old, new, bytes(len(new)), noise))
+    return {"old": old, "new": new, "cut": new[:cut] + old[cut:], "zeros": bytes(len(new)),
+            "noise": chance.randbytes(len(new))}[kind]
+
+
+def lay(folder, files):
+    """Makes a folder with these files, without those that are None."""
+    shutil.rmtree(folder, ignore_errors=True)
+    os.makedirs(folder)
+    for area, text in files.items():
+        if text is not None:
+            with open(f"{folder}/{area}", "wb") as file:
+                file.write(text)
+
+
+# Piles of documents, which `show pile` prints and `mirror` reads
+
+def pile_of(documents):
+    return b"pile 1\n" + b"".join(b"%s %d\n%s\n" % (at.encode(), len(it), it) for at, it in documents)
+
+
+def read_pile(printed):
+    """Yields the documents of a pile with their addresses."""
+    at = len(b"pile 1\n")
+    while at < len(printed):
+        end = printed.index(b"\n", at)
+        address, length = printed[at:end].split(b" ")
+        yield address.decode(), printed[end + 1 : end + 1 + int(length)]
+        at = end + 2 + int(length)
+
+
+# The store
+
+def ask(method, path, body=b""):
     """Returns the status and the body of a reply."""
     head = f"{method} {path} HTTP/1.1\r\nHost: feed.example\r\nContent-Length: {len(body)}\r\n\r\n"
     for _ in range(3000):
@@ -173,181 +243,287 @@ def ask(port, method, path, body=b""):
     return int(head[9:12]), body
 
 
-def operate(port):
+def operate():
     """Makes operations, and returns what the server has at each version: the feed, and all archives."""
-    feeds, archives, live, made = [ask(port, "GET", "/feed")[1]], [], [], 0
+    feeds, archives, live, made = [ask("GET", "/feed")[1]], [], [], 0
     for count in range(1, OPERATIONS + 1):
         title = f"Title {count} " + "a&lt;b " * random.choice((0, 1, 30, 300))
         entry = f'<entry xmlns="http://www.w3.org/2005/Atom"><title>{title}</title><content>{count}</content></entry>'.encode()
         act = random.choice("ppppuud") if live else "p"
         if act == "p":
-            status, made = ask(port, "POST", "/feed", entry)[0], made + 1
+            status, made = ask("POST", "/feed", entry)[0], made + 1
             live.append(made)
         elif act == "u":
-            status = ask(port, "PUT", f"/member/{random.choice(live)}", entry)[0]
+            status = ask("PUT", f"/member/{random.choice(live)}", entry)[0]
         else:
-            status = ask(port, "DELETE", f"/member/{live.pop(random.randrange(len(live)))}")[0]
+            status = ask("DELETE", f"/member/{live.pop(random.randrange(len(live)))}")[0]
         if status not in (200, 201):
             raise Lost(f"operation {count}: status {status}")
-        feeds.append(ask(port, "GET", "/feed")[1])
+        feeds.append(ask("GET", "/feed")[1])
         if len(archives) < (count - 1) // WINDOW:
-            archives.append(ask(port, "GET", f"/archive/{len(archives) + 1}")[1])
+            archives.append(ask("GET", f"/archive/{len(archives) + 1}")[1])
     return feeds, archives
 
 
-def pile_of(documents):
-    """A pile of documents: the bytes that `show pile` prints and `mirror` reads."""
-    return b"pile 1\n" + b"".join(b"%s %d\n%s\n" % (at.encode(), len(it), it) for at, it in documents)
+def serve(requests, front):
+    """Starts the program, after the words in `front`, as the server of the store for this number of requests."""
+    words = [*front, tool, "serve", "--listen", f"127.0.0.1:{port}", "--requests", str(requests)]
+    return subprocess.Popen(words, cwd=f"{work}/store", stdin=subprocess.DEVNULL, stdout=subprocess.DEVNULL)
+
+
+class Store:
+    """What a store has to show: its documents at each version."""
+
+    areas, words, given = ("journal", "sealed"), ["show", "pile"], b""
+
+    def __init__(self, piles):
+        self.piles = piles
+
+    def versions(self, answer, least, most):
+        """Returns the version that the program showed. It is -1 if there is no store."""
+        status, printed = answer
+        if status == 6 and printed == b"not init\n" and least < 0:
+            return [-1]
+        if status:
+            raise Lost(f"status {status}: {printed[:80]}")
+        documents = dict(read_pile(printed))
+        version = version_of(documents)
+        if not least <= version <= most:
+            raise Lost(f"version {version}, and at least {least} was acknowledged")
+        if documents != self.piles[version]:
+            raise Lost(f"version {version} has other documents")
+        return [version]
+
+    def check(self, folder, chance, least, most):
+        """Opens a store, and has some take further operations."""
+        [version] = self.versions(run(folder, self.words), least, most)
+        if chance.randrange(4):
+            return
+        if version < 0:
+            if run(folder, INIT) != (0, b"ready\n"):
+                raise Lost("init fails after a crash")
+            version = 0
+            kept = {}
+        else:
+            kept = {at: it for at, it in self.piles[version].items() if "/archive/" in at}
+        status, printed = run(folder, ["apply"], b"add further\n" * 7)
+        if status:
+            raise Lost(f"apply after a crash: status {status}: {printed[:80]}")
+        documents = dict(read_pile(run(folder, self.words)[1]))
+        if version_of(documents) != version + 7 or not kept.items() <= documents.items():
+            raise Lost(f"7 operations after version {version} give version {version_of(documents)}, or other archives")
+
+
+def version_of(documents):
+    found = re.search(rb'<sp:span first="\d+" last="(\d+)"/>', documents.get(f"{BASE}feed", b""))
+    return int(found[1]) if found else -1
 
 
 def record_store():
-    """Returns the moments of three runs on a store, each with the version that was acknowledged, and the expected piles."""
-    folder, moments = f"{work}/store", []
-    words = [*INIT, "--window", str(WINDOW)]
-    subprocess.run(traced(folder, words, f"{work}/init.trace"), cwd=folder, stdout=subprocess.DEVNULL, check=True)
-    port = free_port()
+    """Makes a store, and returns it with the moments of its runs."""
+    folder = f"{work}/store"
+    traced(folder, INIT, f"{work}/init.trace")
     requests = 1 + 2 * OPERATIONS + (OPERATIONS - 1) // WINDOW
-    words = ["serve", "--listen", f"127.0.0.1:{port}", "--requests", str(requests)]
-    server = subprocess.Popen(traced(folder, words, f"{work}/serve.trace"), cwd=folder, stdout=subprocess.DEVNULL)
-    feeds, archives = operate(port)
+    server = serve(requests, under_strace(f"{work}/serve.trace"))
+    feeds, archives = operate()
     if server.wait(60):
         raise Lost("the server didn't end with 0")
-    subprocess.run(traced(folder, ["apply"], f"{work}/apply.trace"), cwd=folder, input=b"add last", stdout=subprocess.DEVNULL,
-                   check=True)
-    documents = dict(read_pile(run(folder, ["show", "pile"])[1]))
-    feeds.append(documents[f"{BASE}feed"])
-    if len(archives) < OPERATIONS // WINDOW:
-        archives.append(documents[f"{BASE}archive/{OPERATIONS // WINDOW}"])
     piles = []
     for version, feed in enumerate(feeds):
-        sealed = max(0, version - 1) // WINDOW
-        piles.append({f"{BASE}feed": feed} | {f"{BASE}archive/{j}": archives[j - 1] for j in range(1, sealed + 1)})
-    files = {"journal": File(), "sealed": File()}
-    is_made, told = False, 0
-    for name in ("init", "serve", "apply"):
-        for event in events_of(f"{work}/{name}.trace"):
-            if event[0] == "write":
-                files[event[1]].write(*event[2:])
-            elif event[0] == "sync":
-                files[event[1]].sync()
-            elif name == "init":
-                is_made = is_made or event[1] == b"ready\n"
+        sealed = archives[: max(0, version - 1) // WINDOW]
+        piles.append({f"{BASE}feed": feed} | {f"{BASE}archive/{j}": it for j, it in enumerate(sealed, 1)})
+    for count, line in enumerate(LINES):
+        status, printed = traced(folder, ["apply"], f"{work}/apply{count}.trace", line)
+        if status:
+            raise Lost(f"apply: status {status}: {printed[:80]}")
+        piles.append(dict(read_pile(run(folder, ["show", "pile"])[1])))
+    store = Store(piles)
+    files, moments, least = {area: File() for area in store.areas}, [], -1
+    for name in ["init", "serve"] + [f"apply{count}" for count in range(len(LINES))]:
+        for event in events_of(f"{work}/{name}.trace", store.areas):
+            if event[0] != "told":
+                take(files, event)
             elif name == "serve":
                 # a reply to a change has no feed document
-                told += bool(re.match(rb"HTTP/1\.1 20[01] ", event[1])) and b";type=feed" not in event[1]
+                least += bool(re.match(rb"HTTP/1\.1 20[01] ", event[1])) and b";type=feed" not in event[1]
             else:
-                told += 1
-            moments.append((is_made, told, {area: (it.synced, list(it.pending)) for area, it in files.items()}))
+                least = 0 if name == "init" else OPERATIONS + 1 + int(name[len("apply"):])
+            moments.append((store, least, min(least + 1, len(piles) - 1), copied(files)))
+    if least != len(piles) - 1:
+        raise Lost(f"{least} of {len(piles) - 1} operations were acknowledged")
+    compare_files(folder, files)
+    return store, moments
+
+
+def take(files, event):
+    """Applies a recorded event to the file that it concerns, or a sync of the folder to all."""
+    for area, file in files.items():
+        if len(event) == 1 or event[1] == area:
+            file.take(event)
+
+
+def copied(files):
+    return {area: file.copy() for area, file in files.items()}
+
+
+def compare_files(folder, files):
+    """Compares files with what their recorded calls make."""
     for area, it in files.items():
         with open(f"{folder}/{area}", "rb") as file:
             if file.read() != it.whole():
                 raise Lost(f"the trace doesn't make the file {area}")
-    return moments, piles
 
 
-def read_pile(printed):
-    """Yields the documents of a pile with their addresses."""
-    at = len(b"pile 1\n")
-    while at < len(printed):
-        end = printed.index(b"\n", at)
-        address, length = printed[at:end].split(b" ")
-        yield address.decode(), printed[end + 1 : end + 1 + int(length)]
-        at = end + 2 + int(length)
+# The mirror
+
+class Mirror:
+    """What a mirror has to report if it holds the first few documents."""
+
+    areas, words, given = ("mirror",), [*MIRROR, "--report"], pile_of([])
+
+    def __init__(self, documents):
+        self.documents, self.reports = documents, []
+        for count in range(len(documents) + 1):
+            lay(f"{work}/some", {})
+            run(f"{work}/some", MIRROR, pile_of(documents[:count]))
+            self.reports.append(run(f"{work}/some", self.words, self.given))
+        self.whole = self.reports[-1][1].partition(b"\n")[2]
+
+    def versions(self, answer, least, most):
+        """Returns the numbers of first documents that give this answer."""
+        found = [count for count in range(least, most + 1) if self.reports[count] == answer]
+        if not found:
+            raise Lost(f"{answer[0]} {answer[1][:80]}, and {least} documents were synced")
+        return found
+
+    def check(self, folder, chance, least, most):
+        """Opens a mirror, and gives it all documents."""
+        found = self.versions(run(folder, self.words, self.given), least, most)
+        answer = run(folder, self.words, pile_of(self.documents))
+        all_of = len(self.documents)
+        if answer not in [(0, b"offers %d %d 0 0\n" % (all_of - count, count) + self.whole) for count in found]:
+            raise Lost(f"with all documents {answer[0]} {answer[1][:80]}, and it had {found}")
 
 
-def open_store(folder, chance, moment, piles):
-    """Opens files that a crash at this moment may leave, and returns what is wrong with them."""
-    is_made, told, files = moment
-    for area, (synced, pending) in files.items():
-        it = File(synced)
-        it.pending = pending
-        with open(f"{folder}/{area}", "wb") as file:
-            file.write(it.left(chance))
-    status, printed = run(folder, ["show", "pile"])
-    if status == 6 and printed == b"not init\n" and not is_made:
-        return None
-    if status:
-        return f"status {status}: {printed[:80]}"
-    documents = dict(read_pile(printed))
-    feed = documents.get(f"{BASE}feed", b"")
-    found = re.search(rb'<sp:span first="\d+" last="(\d+)"/>', feed)
-    version = int(found[1]) if found else -1
-    if not told <= version <= min(told + 1, len(piles) - 1):
-        return f"version {version}, and {told} operations were acknowledged"
-    if documents != piles[version]:
-        return f"version {version} has other documents"
-    return None
-
-
-# The mirror.
-
-def record_mirror(documents):
-    """Returns the moments of a run that mirrors documents, each with how many were synced, and what the first few give."""
-    folder = f"{work}/mirror"
-    words = ["mirror", "--base", BASE]
-    subprocess.run(traced(folder, words, f"{work}/mirror.trace"), cwd=folder, input=pile_of(documents),
-                   stdout=subprocess.DEVNULL, check=False)
-    expected = []
-    for count in range(len(documents) + 1):
-        shutil.rmtree(f"{work}/some", ignore_errors=True)
-        os.mkdir(f"{work}/some")
-        run(f"{work}/some", words, pile_of(documents[:count]))
-        expected.append(run(f"{work}/some", [*words, "--report"], pile_of([])))
-    file, moments, opened, synced = File(), [], 0, 0
-    for event in events_of(f"{work}/mirror.trace"):
-        if event[0] == "write":
-            file.write(*event[2:])
+def record_mirror(documents, is_fetch):
+    """Has a mirror take documents from a pile, or those of the server, and returns the moments of that."""
+    folder, trace = f"{work}/mirror", f"{work}/mirror.trace"
+    mirror = Mirror(documents)
+    lay(folder, {})
+    if is_fetch:
+        server = serve(1 + len(documents), [])
+        ask("GET", "/feed")
+        traced(folder, [*MIRROR, "--fetch"], trace)
+        if server.wait(60):
+            raise Lost("the server didn't end with 0")
+    else:
+        traced(folder, MIRROR, trace, pile_of(documents))
+    files, moments, opened, least, asked = {"mirror": File()}, [], 0, 0, 0
+    for event in events_of(trace, mirror.areas):
+        if event[0] != "told":
+            take(files, event)
             # a gate that opens is one byte in the synced bytes
-            opened += event[3] == b"\x01"
-        elif event[0] == "sync":
-            file.sync()
-            synced = opened
-        moments.append((synced, (file.synced, list(file.pending))))
-    if synced != len(documents):
-        raise Lost(f"{synced} of {len(documents)} documents were taken")
-    return moments, expected
+            opened += event[0] == "write" and event[3] == b"\x01"
+            least = opened if event[0] == "sync" and not is_fetch else least
+        elif event[1].startswith(b"GET "):
+            # It asks for a document after it took the one before.
+            least, asked = asked, asked + 1
+        else:
+            least = len(documents)
+        moments.append((mirror, least, min(least + 1, len(documents)), copied(files)))
+    if opened != len(documents) or least != len(documents):
+        raise Lost(f"{opened} of {len(documents)} documents were taken")
+    compare_files(folder, files)
+    return moments
 
 
-def open_mirror(folder, chance, moment, expected):
-    """The same for the mirror's file."""
-    synced, (was, pending) = moment
-    it = File(was)
-    it.pending = pending
-    with open(f"{folder}/mirror", "wb") as file:
-        file.write(it.left(chance))
-    got = run(folder, ["mirror", "--base", BASE, "--report"], pile_of([]))
-    if got not in expected[synced : synced + 2]:
-        return f"{got[0]} {got[1][:80]}, and {synced} documents were synced"
-    return None
+# The crashes. A moment has a `Store` or `Mirror`, the least and the greatest version that it may show, and the files.
+
+def crash(folder, chance, moment):
+    """Opens files that a crash may leave."""
+    of, least, most, files = moment
+    lay(folder, {area: file.left(chance) for area, file in files.items()})
+    of.check(folder, chance, least, most)
+
+
+def crash_twice(folder, chance, moment):
+    """Kills the program or stops the machine, records a load, and opens files that a crash within or after it may leave."""
+    of, least, most, files = moment
+    is_killed = chance.randrange(2)
+    if is_killed:
+        files = copied(files)
+    else:
+        left = {area: file.left(chance) for area, file in files.items()}
+        files = {area: File(it or b"", (), it is not None, it is not None) for area, it in left.items()}
+    lay(folder, {area: file.whole() if file.is_made else None for area, file in files.items()})
+    trace = f"{folder}.trace"
+    found = of.versions(traced(folder, of.words, trace, of.given), least, most)
+    if not is_killed:
+        # The load read synced bytes only, so no later crash changes what they show.
+        least, most = found[0], found[-1]
+    moments = [(of, least, most, copied(files))]
+    for event in events_of(trace, of.areas):
+        if event[0] != "told":
+            take(files, event)
+        else:
+            least, most = found[0], found[-1]
+        moments.append((of, least, most, copied(files)))
+    compare_files(folder, {area: file for area, file in files.items() if file.is_made})
+    os.remove(trace)
+    for _ in range(SECOND_CRASHES):
+        crash(folder, chance, chance.choice(moments))
 
 
 def tried(task):
-    """Opens one crash's files, and returns where they are and what is wrong with them, or `None`."""
-    number, opens, moment, expected = task
+    """Opens the files of a crash, and returns where they are and what is wrong with them, or `None`."""
+    number, act, moment = task
     folder = f"{work}/opened/{number}"
-    os.makedirs(folder)
-    wrong = opens(folder, random.Random(f"{seed} {number}"), moment, expected)
-    if wrong:
-        return f"{folder}: {wrong} (seed {seed})"
+    try:
+        act(folder, random.Random(f"{seed} {number}"), MOMENTS[moment])
+    except Lost as lost:
+        return f"{folder}: {lost} (seed {seed})"
     shutil.rmtree(folder)
     return None
 
 
+def plan(numbers, count):
+    """Returns what to do at these moments, so that `count` files are opened, a fifth of them after two crashes."""
+    settled = [it for it in numbers if all(file.is_settled() for file in MOMENTS[it][3].values())]
+    unsettled = sorted(set(numbers) - set(settled))
+    twice = [(crash_twice, random.choice(numbers)) for _ in range(count // 5 // SECOND_CRASHES)]
+    # A moment with all bytes synced leaves one file only.
+    once = [(crash, it) for it in random.sample(settled, min(len(settled), count // 5))]
+    rest = count - len(twice) * SECOND_CRASHES - len(once)
+    return twice + once + [(crash, random.choice(unsettled)) for _ in range(rest)]
+
+
+MOMENTS = []
+
+
 def main():
-    moments, piles = record_store()
-    documents = sorted(piles[-1].items(), key=lambda it: random.random())
-    mirrored, expected = record_mirror(documents)
-    writes = sum(bool(it[2][area][1]) for it in moments for area in it[2]) + sum(bool(it[1][1]) for it in mirrored)
-    # three quarters are of the store
-    of_store = images * 3 // 4
-    tasks = [(number, open_store, random.choice(moments), piles) for number in range(of_store)]
-    tasks += [(number, open_mirror, random.choice(mirrored), expected) for number in range(of_store, images)]
-    with concurrent.futures.ThreadPoolExecutor(os.cpu_count()) as pool:
-        for wrong in pool.map(tried, tasks):
+    store, of_store = record_store()
+    newest = list(store.piles[-1].items())
+    shuffled = sorted(newest, key=lambda it: random.random())
+    # the order in which a mirror asks: the feed, and then the archives, newest first
+    walked = sorted(newest, key=lambda it: -int(it[0].rpartition("/")[2].replace("feed", "1000")))
+    of_mirror = record_mirror(shuffled, False) + record_mirror(walked, True)
+    MOMENTS.extend(of_store + of_mirror)
+    unsynced = sum(any(file.pending for file in it[3].values()) for it in MOMENTS)
+    acts = plan(range(len(of_store)), images * 3 // 4)
+    acts += plan(range(len(of_store), len(MOMENTS)), images - images * 3 // 4)
+    random.shuffle(acts)
+    tasks = [(number, act, moment) for number, (act, moment) in enumerate(acts)]
+    # The processes have the moments from this one.
+    pool = concurrent.futures.ProcessPoolExecutor(os.cpu_count(), multiprocessing.get_context("fork"))
+    try:
+        for wrong in pool.map(tried, tasks, chunksize=10):
             if wrong:
                 raise Lost(wrong)
-    print(f"{len(moments)} moments of a store, {len(mirrored)} of a mirror, {writes} with bytes not synced, "
-          f"{len(tasks)} files opened, 0 lost")
+    finally:
+        pool.shutdown(cancel_futures=True)
+    second = SECOND_CRASHES * sum(act is crash_twice for act, _ in acts)
+    print(f"{len(of_store)} moments of a store, {len(of_mirror)} of a mirror, {unsynced} with bytes not synced, "
+          f"{len(acts) + second - second // SECOND_CRASHES} files opened, {second} of them after two crashes, 0 lost")
 
 
 try:

@@ -12,7 +12,7 @@ use std::alloc::Global;
 use std::collections::VecDeque;
 use std::net::{Net, OpenStream, Shutdown, SocketAddr, TcpListener};
 use std::time::{Duration, Instant};
-use std::{rt, str, thread};
+use std::{mem, rt, str, thread};
 
 /// How long a client may take for its whole request.
 const REQUEST_SECONDS: u64 = 10;
@@ -33,6 +33,9 @@ const MAX_CLOSING: usize = 256;
 
 /// How many bytes of replies are kept. It is twice the length of the longest document.
 const MAX_KEPT: usize = 134_217_728;
+
+/// The greatest memory of a reply that is kept for the next one.
+const MAX_SPARE: usize = 16_777_216;
 
 /// How many bytes are received at a time: most requests arrive in one part.
 const PART: usize = 65_536;
@@ -55,6 +58,8 @@ pub(super) struct Port<R: Net + rt::Clock> {
     alloc: Global,
     /// The room for a part of a request.
     part: Vec<u8>,
+    /// The memory of an earlier reply, for the next one: the system takes long to give new memory.
+    spare: Vec<u8>,
     listening: Listening<R::Listener>,
     poll: Poll,
     reports: Events,
@@ -78,6 +83,7 @@ impl<R: Net + rt::Clock> Port<R> {
         Some(Port {
             alloc,
             part: vec![in alloc; 0; PART].ok()?,
+            spare: Vec::new(alloc),
             listening,
             poll,
             reports: Events::with_capacity(alloc, MAX_REPORTS).ok()?,
@@ -103,7 +109,8 @@ impl<R: Net + rt::Clock> Port<R> {
             let is_short = self.accept_all(now)?;
             self.receive_all(now);
             let due = self.arriving.iter().position(|client| client.is_due);
-            if let Some(client) = due.and_then(|at| self.arriving.remove(at)) {
+            if let Some(mut client) = due.and_then(|at| self.arriving.remove(at)) {
+                client.conn.rest = mem::replace(&mut self.spare, Vec::new(self.alloc));
                 return Ok(client.conn);
             }
             if is_short {
@@ -139,6 +146,7 @@ impl<R: Net + rt::Clock> Port<R> {
             return;
         };
         if conn.rest.is_empty() {
+            self.keep_spare(conn.rest);
             self.close(conn.client, now);
         } else if let Some(deadline) = now.checked_add(Duration::from_secs(REPLY_SECONDS)) {
             self.make_room(conn.rest.len());
@@ -159,8 +167,11 @@ impl<R: Net + rt::Clock> Port<R> {
                     // The place that it had is free.
                     let _ = self.replying.push_back(reply);
                 }
-                Turn::Sent => self.close(reply.client, now),
-                Turn::Lost => {}
+                Turn::Sent => {
+                    self.keep_spare(reply.rest);
+                    self.close(reply.client, now);
+                }
+                Turn::Lost => self.keep_spare(reply.rest),
             }
         }
         self.closing.retain_mut(|link| !link.drain(now));
@@ -264,7 +275,19 @@ impl<R: Net + rt::Clock> Port<R> {
     fn cut_slowest(&mut self) -> bool {
         let slowest = (self.replying.iter().enumerate()).min_by_key(|(_, reply)| reply.last_taken);
         let cut = slowest.map(|(at, _)| at);
-        cut.and_then(|at| self.replying.remove(at)).is_some()
+        let Some(reply) = cut.and_then(|at| self.replying.remove(at)) else {
+            return false;
+        };
+        self.keep_spare(reply.rest);
+        true
+    }
+
+    /// Keeps the memory of a reply for the next one, if it isn't too much.
+    fn keep_spare(&mut self, mut rest: Vec<u8>) {
+        if rest.capacity() <= MAX_SPARE && rest.capacity() > self.spare.capacity() {
+            rest.clear();
+            self.spare = rest;
+        }
     }
 
     /// Closes the slowest readers until there is room for a further reply, of which `size` bytes are kept.

@@ -27,7 +27,7 @@ pub(super) enum Turn {
 #[derive(Drop)]
 pub(super) struct Replying<S> {
     pub(super) client: Client<S>,
-    rest: Vec<u8>,
+    pub(super) rest: Vec<u8>,
     /// How many bytes of the rest were sent.
     sent: usize,
     /// When the client's time for its reply ends.
