@@ -212,7 +212,7 @@ struct Posted {
 }
 
 /// Serves five POSTs on a store with windows of 4 operations, of which this device call fails.
-fn posted(rt: &impl Abort, alloc: Global, device: u64) -> Posted {
+fn serve_posts(rt: &impl Abort, alloc: Global, device: u64) -> Posted {
     let mut disk = made(rt, alloc, &["--window", "4"], device);
     let (ended, printed) = served(rt, alloc, &mut disk, &POSTS, Failing { device, ..NONE });
     let posted = Posted {
@@ -239,13 +239,13 @@ static LEFT: [u8; 8] = [4, 4, 4, 4, 4, 4, 4, 5];
 #[test]
 fn ends_with_4_where_a_device_call_fails(rt: HostRuntime) {
     let alloc = rt.alloc();
-    let whole = posted(&rt, alloc, 0);
+    let whole = serve_posts(&rt, alloc, 0);
     assert!(rt; is_left(&whole, (0, "201 1\n201 2\n201 3\n201 4\n201 5\n", 5)));
     let before = whole.calls.saturating_sub(8);
     drop(whole);
     for (index, &version) in LEFT.iter().enumerate() {
         let call = before.saturating_add(1 + index as u64);
-        let failed = posted(&rt, alloc, call);
+        let failed = serve_posts(&rt, alloc, call);
         let wanted = (
             4,
             "201 1\n201 2\n201 3\n201 4\n500 4\ndisk fault\n",
