@@ -14,7 +14,7 @@
 # cut off. A client that was cut off connects again. Then all is done once more, in half the time, with a server that may
 # have 64 descriptors.
 # Usage: checks/flood.sh [SECONDS [CLIENTS [PROGRAM]]]. SECONDS, the time of the first round, is 60 if it isn't given. CLIENTS,
-# the number of hostile connections at a time, is 200. PROGRAM is run in place of the one of this repository. It needs python3.
+# the number of hostile connections at a time, is 200, of which 100 are greedy where no other kind is there. PROGRAM is run in place of the one of this repository. It needs python3.
 # It prints a line for each kind: what the good client waited, and the server's memory and descriptors before and after. It
 # ends with a line of counts, and with 1 if under some kind
 # - the server ended, or a reply was missing or wrong,
@@ -54,6 +54,8 @@ KINDS = ("silent", "slow", "half", "reset", "gets", "garbage", "greedy", "stuck"
 # How many shares of the time all kinds at once have. Each kind alone has one, and so has the good client alone.
 ALL_SHARES = 4
 FEW_DESCRIPTORS = 64
+# How many greedy clients there are without others. The server makes a reply of 10 MB for each, one after the other.
+MOST_GREEDY = 100
 # the good client's longest wait above that without hostile clients
 MORE_SECONDS = 1.0
 # when the good client gives a reply up
@@ -190,7 +192,8 @@ def besiege(kinds, server, stop):
     server had at most."""
     selector = selectors.DefaultSelector()
     selector.register(stop, selectors.EVENT_READ)
-    chosen = [kinds[number % len(kinds)] for number in range(clients)] if kinds else []
+    count = min(clients, MOST_GREEDY) if kinds == ("greedy",) else clients
+    chosen = [kinds[number % len(kinds)] for number in range(count)] if kinds else []
     hostile = [Hostile(kind, number, server.port, selector) for number, kind in enumerate(chosen)]
     next_tick, most = 0, 0
     while True:
@@ -458,7 +461,7 @@ def make_store(good):
 def play(good):
     """Tries all kinds, and returns how many failed."""
     make_store(good)
-    print(f"the archive has {len(good.archive)} bytes, {clients} hostile connections at a time", flush=True)
+    print(f"the archive has {len(good.archive)} bytes, at most {clients} hostile connections at a time", flush=True)
     tried, connections, failed = 0, 0, 0
     parts = [("none", (), 1)] + [(kind, (kind,), 1) for kind in KINDS] + [("all", KINDS, ALL_SHARES)]
     share = seconds / sum(shares for _, _, shares in parts)
