@@ -8,16 +8,18 @@ use Rattle.atom_values.specs.Counts.{HasCause, HasRisen}
 use Rattle.document_server.specs.Answer.{Grows, IsAnswer, IsDone, LeavesAnswered, MayAdd, Steps, added}
 use Rattle.document_server.specs.Reply.{IsOutcome, Outcome, disk_fault}
 use Rattle.document_server.specs.Serving.{IsReplyOn, RepliesOne, ServesOne, exchange_of}
-use Rattle.document_server.specs.Session.{IsReported, IsSent, IsTurn, fault_reply, unheard}
+use Rattle.document_server.specs.Session.{IsReported, IsSent, IsTurn, fault_reply, read_limit, unheard}
 use Rattle.document_server.specs.declared.line.Line.{Line}
 use Rattle.document_server.proofs.StepLemmas.{gains-none}
 use Rattle.feed_disk.specs.Disk.{DiskState}
+use Rattle.feed_disk.specs.Raised.{RisesAtMost}
 use Rattle.feed_recovery.specs.Store.{StoreValue, call_count, is_spent}
 use Rattle.feed_recovery.specs.Stored.{IsSized}
-use Rattle.http_face.specs.Conn.{ConnState, Reads}
+use Rattle.http_face.specs.Conn.{ConnState, LastReadAfter, Reads, Writes}
 use Rattle.http_face.specs.Heard.{IsHeard, IsMisheard}
 use Rattle.http_face.specs.Reply.{HasPhrase, IsCutOff, reply_bytes}
 use Rattle.http_face.specs.Request.{IsRequest, RequestValue}
+use Rattle.http_face.specs.Settled.{IsUnsettled}
 use Rattle.http_face.specs.declared.fault.CutOff.{CutOff}
 use Rattle.http_face.specs.declared.fault.RequestFault.{RequestFault}
 use Rattle.http_face.specs.declared.fault.RequestFault.TheVariants as fault
@@ -214,26 +216,47 @@ replies-refused s moments given read clock_observable conn_observable failed sto
       failed = λ observable spent. absurd cc;
     }
 
+-- a call that writes makes no read
+pub read-written : (given read begun back : ConnState) → begun.bytes_read ≡ read.bytes_read → Writes begun back
+    → RisesAtMost read_limit given.bytes_read read.bytes_read → RisesAtMost read_limit given.bytes_read back.bytes_read
+read-written given read begun back same writes rises =
+    subst (RisesAtMost read_limit given.bytes_read) (sym (writes.bytes_read ∙ same)) rises
+
+pub needed-written : (given read begun back : ConnState) → begun.reads ≡ read.reads
+    → begun.before_read ≡ read.before_read → Writes begun back → LastReadAfter IsUnsettled given read
+    → LastReadAfter IsUnsettled given back
+needed-written given read begun back reads before writes needed = record {
+  last = elim needed.last [
+    | inl (same, kept) ↦ inl (writes.reads ∙ reads ∙ same, writes.before_read ∙ before ∙ kept)
+    | inr (front, is, unsettled) ↦
+        inr (front, subst (λ (b : List ℕ). given.left ≡ front ++ b) (sym (writes.before_read ∙ before)) is, unsettled)
+  ];
+}
+
 -- The reply is sent
 
 module _ (s t : DiskState) (given back : ConnState) (line : Line) where
   -- no reply was begun, and the connection failed
   pub reported-none : line.status ≡ 0 → line.whole ≡ false → back.begun ≡ None
-      → HasRisen given.faults back.faults → IsReported (exchange_of s t given back None line)
-  reported-none status cut unbegun rose = record {
+      → HasRisen given.faults back.faults → RisesAtMost read_limit given.bytes_read back.bytes_read
+      → IsReported (exchange_of s t given back None line)
+  reported-none status cut unbegun rose read = record {
     status = status;
     cause = λ _. rose;
     unbegun = λ _. unbegun;
     no_reply = λ _. cut;
+    read = read;
   }
 
-  pub sent-none : Reads given back → IsSent (exchange_of s t given back None line)
-  sent-none reads = record {
+  pub sent-none : Reads given back → LastReadAfter IsUnsettled given back
+      → IsSent (exchange_of s t given back None line)
+  sent-none reads needed = record {
     front = [];
     rest = [];
     split = refl;
     sent = reads.sent ∙ sym (append-nil given.sent);
     whole = λ _. refl;
+    needed = needed;
   }
 
   -- a status that has a phrase isn't 0
@@ -250,8 +273,9 @@ module _ (s t : DiskState) (given back : ConnState) (line : Line) where
   pub reported-reply : (begun : ConnState) (reply : Reply) (result : Result Unit CutOff)
       → line.status ≡ reply.status → HasPhrase reply.status → begun.faults ≡ given.faults
       → HasCause begun.faults back.faults result → line.whole ≡ is_ok result
+      → RisesAtMost read_limit given.bytes_read back.bytes_read
       → IsReported (exchange_of s t given back (Some reply) line)
-  reported-reply begun reply result status phrase faults counts whole =
+  reported-reply begun reply result status phrase faults counts whole read =
       let some : line.status ≢ 0 = λ none. phrase-some reply.status phrase (sym status ∙ none) in
       record {
         status = status;
@@ -263,25 +287,29 @@ module _ (s t : DiskState) (given back : ConnState) (line : Line) where
         ];
         unbegun = λ none. absurd (some none);
         no_reply = λ none. absurd (some none);
+        read = read;
       }
 
   pub sent-reply : (observable : Type 0) (begun : ConnState) (reply : Reply) (result : Result Unit CutOff) → observable
       → begun.sent ≡ given.sent → OnOk result (observable → back.sent ≡ begun.sent ++ reply_bytes reply)
       → IfErr result (λ cut. IsCutOff observable (reply_bytes reply) cut.sent begun.sent back.sent)
-      → line.whole ≡ is_ok result → IsSent (exchange_of s t given back (Some reply) line)
-  sent-reply observable begun reply (Ok done) tells sent whole cut is = record {
+      → line.whole ≡ is_ok result → LastReadAfter IsUnsettled given back
+      → IsSent (exchange_of s t given back (Some reply) line)
+  sent-reply observable begun reply (Ok done) tells sent whole cut is needed = record {
     front = reply_bytes reply;
     rest = [];
     split = sym (append-nil (reply_bytes reply));
     sent = whole tells ∙ ap (λ (b : List ℕ). b ++ reply_bytes reply) sent;
     whole = λ _. refl;
+    needed = needed;
   }
-  sent-reply observable begun reply (Err failure) tells sent whole cut is = record {
+  sent-reply observable begun reply (Err failure) tells sent whole cut is needed = record {
     front = cut.front;
     rest = cut.back;
     split = cut.split;
     sent = cut.sent tells ∙ ap (λ (b : List ℕ). b ++ cut.front) sent;
     whole = λ e. absurd cc;
+    needed = needed;
   }
 
 -- The connection was served

@@ -7,13 +7,15 @@ use Rattle.chain_links.specs.declared.address.Address.{Address}
 use Rattle.document_server.specs.Answer.{Gains, MayAdd}
 use Rattle.document_server.specs.Reply.{IsOutcome, Outcome, disk_fault, line_reply, no_memory}
 use Rattle.document_server.specs.declared.line.Line.{Line}
+use Rattle.feed_disk.specs.Raised.{RisesAtMost}
 use Rattle.feed_disk.specs.declared.area.Area.{Area}
 use Rattle.feed_recovery.specs.Store.{StoreValue}
 use Rattle.feed_recovery.specs.Stored.{IsSized, OpensTo, stored_of}
-use Rattle.http_face.specs.Conn.{ConnState}
+use Rattle.http_face.specs.Conn.{ConnState, LastReadAfter}
 use Rattle.http_face.specs.Heard.{IsHeard, IsMisheard}
 use Rattle.http_face.specs.Reply.{body_text, reply_bytes}
 use Rattle.http_face.specs.Request.{IsRequest, RequestValue}
+use Rattle.http_face.specs.Settled.{IsUnsettled}
 use Rattle.http_face.specs.declared.fault.RequestFault.{RequestFault}
 use Rattle.http_face.specs.declared.fault.RequestFault.TheVariants as fault
 use Rattle.http_face.specs.declared.reply.Line7.TheVariants as line
@@ -26,6 +28,10 @@ use Rattle.member_rules.specs.declared.operation.Op.{Op}
 -- the greatest number of connections of a session
 abbrev pub connection_limit : ℕ
 connection_limit = 1_000_000
+
+-- the most bytes that are read of a connection: those of the longest head and of the longest body
+abbrev pub read_limit : ℕ
+read_limit = 81_920
 
 -- The reply to bytes that are no request (RFC 9110 section 15.5, RFC 6585 section 5). A failed connection gets none.
 abbrev pub fault_reply : RequestFault → Option Reply
@@ -101,21 +107,25 @@ bytes_of None = []
 bytes_of (Some reply) = reply_bytes reply
 
 -- The line has the status of the reply. It has status 0, or says that the reply isn't whole, only if a call of the
--- connection failed since the door gave it. With status 0 no reply was begun, and none is whole.
+-- connection failed since the door gave it. With status 0 no reply was begun, and none is whole. The bytes that were read
+-- are at most those of a request.
 pub record IsReported (exchange : Exchange) : Type 0 where
   pub status : exchange.line.status ≡ status_of exchange.reply
   pub cause : (exchange.line.status ≡ 0) ⊎ (exchange.line.whole ≡ false)
       → HasRisen exchange.given.faults exchange.back.faults
   pub unbegun : exchange.line.status ≡ 0 → exchange.back.begun ≡ None
   pub no_reply : exchange.line.status ≡ 0 → exchange.line.whole ≡ false
+  pub read : RisesAtMost read_limit exchange.given.bytes_read exchange.back.bytes_read
 
--- the bytes of the reply were sent, or a prefix of them if the line says that it isn't whole
+-- The bytes of the reply were sent, or a prefix of them if the line says that it isn't whole. The last read was made
+-- because the bytes before it didn't decide the request, so none was made for anything else.
 pub record IsSent (exchange : Exchange) : Type 0 where
   pub front : List ℕ
   pub rest : List ℕ
   pub split : bytes_of exchange.reply ≡ front ++ rest
   pub sent : exchange.back.sent ≡ exchange.given.sent ++ front
   pub whole : exchange.line.whole ≡ true → rest ≡ []
+  pub needed : LastReadAfter IsUnsettled exchange.given exchange.back
 
 -- no device call failed while the connection was served
 pub record IsUnfailed (faults : ℕ) (exchange : Exchange) : Type 0 where

@@ -5,13 +5,15 @@ ghost use Rattle.document_server.specs.Answer.{Grows, Steps};
 ghost use Rattle.document_server.specs.Reply.{disk_fault};
 ghost use Rattle.document_server.specs.Serving.{AreLogs, CountsFrom, EndsUnopened, EndsWithin, RepliesOne, Serves, ServesFrom};
 ghost use Rattle.document_server.specs.Serving.{ServesOne, end_of};
-ghost use Rattle.document_server.specs.Session.{connection_limit, fault_reply};
+ghost use Rattle.document_server.specs.Session.{connection_limit, fault_reply, read_limit};
 ghost use Rattle.feed_disk.specs.Moments.{LeavesAlone};
+ghost use Rattle.feed_disk.specs.Raised.{RisesAtMost};
 ghost use Rattle.feed_disk.specs.declared.area.Area.TheVariants.{Mirror};
 ghost use Rattle.feed_recovery.specs.Store.{StandsFor, call_count, is_spent};
 ghost use Rattle.feed_recovery.specs.declared.fault.LoadFault.{LoadFault as Fault};
-ghost use Rattle.http_face.specs.Conn.{Reads};
+ghost use Rattle.http_face.specs.Conn.{LastReadAfter, Reads};
 ghost use Rattle.http_face.specs.Reply.{HasPhrase};
+ghost use Rattle.http_face.specs.Settled.{IsUnsettled};
 
 use crate::clock::Clock;
 use crate::dispatch::answer;
@@ -243,6 +245,8 @@ fn reply_to<D: Disk, C: Clock, K: Conn>(
         ⊎ Grows (D.state disk.old) (D.state disk.new) store.old store.new }
     // The status line of the reply has a phrase.
     ensures status { IfSome result (λ reply. HasPhrase reply.status) }
+    ensures read { RisesAtMost read_limit (K.state link.old).bytes_read (K.state link.new).bytes_read }
+    ensures needed { K.observable → LastReadAfter IsUnsettled (K.state link.old) (K.state link.new) }
     ensures reads { Reads (K.state link.old) (K.state link.new) }
     ensures lost { result ≡ None → HasRisen (K.state link.old).faults (K.state link.new).faults }
     ensures unfailed { IsSome result → (K.state link.new).faults ≡ (K.state link.old).faults }

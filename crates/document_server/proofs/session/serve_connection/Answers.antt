@@ -1,7 +1,7 @@
 use Rattle.std.proofs.Common.{◌≡◌, ap, ◌∙◌, refl}
 use Rattle.std.specs.Prelude.{None, Some}
-use Rattle.document_server.proofs.LinkLemmas.{none-since, reported-none, reported-reply, sent-none, sent-reply}
-use Rattle.document_server.proofs.LinkLemmas.{serves-one, turn-sent}
+use Rattle.document_server.proofs.LinkLemmas.{needed-written, none-since, read-written, reported-none, reported-reply}
+use Rattle.document_server.proofs.LinkLemmas.{sent-none, sent-reply, serves-one, turn-sent}
 use Rattle.document_server.specs.declared.line.Line.{Line}
 use Rattle.http_face.specs.Conn.{ConnState}
 use Rattle.document_server.proofs.session.serve_connection.Goals as goal
@@ -19,8 +19,9 @@ returns-in_default-clause-serves g c =
     (λ now turn is. is) (rw none at c.reply_to.ensures.replies) c.reply_to.ensures.steps
     (rw none at c.reply_to.ensures.spent)
     (reported-none before after given back c.line_of.result (ap (λ (l : Line). l.status) c.line_of.ensures.is)
-    (ap (λ (l : Line). l.whole) c.line_of.ensures.is) (reads.begun ∙ c.requires.unbegun) (c.reply_to.ensures.lost none))
-    (λ observable. sent-none before after given back c.line_of.result reads)
+    (ap (λ (l : Line). l.whole) c.line_of.ensures.is) (reads.begun ∙ c.requires.unbegun) (c.reply_to.ensures.lost none)
+    c.reply_to.ensures.read)
+    (λ observable. sent-none before after given back c.line_of.result reads (c.reply_to.ensures.needed observable))
     (ap (λ (l : Line). l.version) c.line_of.ensures.is) (ap (λ (l : Line). l.calls) c.line_of.ensures.is)
     c.reply_to.ensures.grows (λ some. absurd (some (ap (λ (l : Line). l.status) c.line_of.ensures.is)))
 
@@ -42,10 +43,13 @@ returns-clause-serves g c =
     (reported-reply before after given back line begun reply c.write_reply.result
     (ap (λ (l : Line). l.status) c.line_of-2.ensures.is) c.in-Some.ensures.status
     (ap (λ (s : ConnState). s.faults) c.begin.ensures ∙ c.in-Some.ensures.unfailed refl)
-    c.write_reply.ensures.counts whole)
+    c.write_reply.ensures.counts whole (read-written given read begun back
+    (ap (λ (s : ConnState). s.bytes_read) c.begin.ensures) c.write_reply.ensures.writes c.reply_to.ensures.read))
     (λ observable. sent-reply before after given back line g.K.Conn.observable begun reply c.write_reply.result observable
     (ap (λ (s : ConnState). s.sent) c.begin.ensures ∙ c.reply_to.ensures.reads.sent) c.write_reply.ensures.whole
-    c.write_reply.ensures.cut whole)
+    c.write_reply.ensures.cut whole (needed-written given read begun back
+    (ap (λ (s : ConnState). s.reads) c.begin.ensures) (ap (λ (s : ConnState). s.before_read) c.begin.ensures)
+    c.write_reply.ensures.writes (c.reply_to.ensures.needed observable)))
     (ap (λ (l : Line). l.version) c.line_of-2.ensures.is) (ap (λ (l : Line). l.calls) c.line_of-2.ensures.is)
     c.reply_to.ensures.grows
     (λ some. c.write_reply.ensures.writes.begun ∙ ap (λ (s : ConnState). s.begun) c.begin.ensures)
