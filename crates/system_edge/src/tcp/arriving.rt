@@ -29,6 +29,11 @@ impl<S: OpenStream + Read + Write + AsRawFd + Drop> Arriving<S> {
             && now.duration_since(self.accepted) >= Duration::from_secs(SILENT_SECONDS)
     }
 
+    /// Whether the client has sent a part of its request.
+    pub(super) fn is_partial(&self) -> bool {
+        !self.is_due && !self.conn.is_silent()
+    }
+
     /// Receives what has arrived, a part of the length of `part` at a time.
     pub(super) fn receive(&mut self, alloc: Global, part: &mut [u8], now: Instant) {
         if self.is_due {

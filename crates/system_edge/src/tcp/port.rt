@@ -186,7 +186,7 @@ impl<R: Net + rt::Clock> Port<R> {
             }
             if self.arriving.len() >= MAX_ARRIVING {
                 self.receive_all(now);
-                // If all requests are whole, further clients wait to connect.
+                // If all requests are whole or about to be sent, further clients wait to connect.
                 if !self.cut_arriving(now) {
                     break;
                 }
@@ -199,7 +199,7 @@ impl<R: Net + rt::Clock> Port<R> {
                     if self.cut_one(now) {
                         continue;
                     }
-                    // The requests that are left are whole, and each answer frees a descriptor.
+                    // If a request is whole, its answer frees a descriptor.
                     return Ok(self.arriving.is_empty());
                 }
             }
@@ -253,20 +253,22 @@ impl<R: Net + rt::Clock> Port<R> {
     }
 
     /// Closes a client to free its descriptor: one that has its reply, or else one that is silent or has sent a part of
-    /// its request. If no request is whole either, it closes the slowest reader. Returns whether there was one.
+    /// its request. If no request is whole either, it closes the slowest reader, or else a client that has just
+    /// connected. Returns whether there was one.
     fn cut_one(&mut self, now: Instant) -> bool {
         self.closing.pop_front().is_some()
             || self.cut_arriving(now)
-            || self.arriving.is_empty() && self.cut_slowest()
+            || !self.arriving.iter().any(|client| client.is_due)
+                && (self.cut_slowest() || self.arriving.pop_front().is_some())
     }
 
-    /// Closes the oldest client that is silent, or else the oldest whose request isn't whole. Returns whether there was
-    /// one.
+    /// Closes the oldest client that is silent, or else the oldest that has sent a part of its request. Returns whether
+    /// there was one.
     fn cut_arriving(&mut self, now: Instant) -> bool {
         let silent = (self.arriving.iter()).position(|client| client.is_silent(now));
         let cut = match silent {
             Some(at) => Some(at),
-            None => self.arriving.iter().position(|client| !client.is_due),
+            None => self.arriving.iter().position(|client| client.is_partial()),
         };
         cut.and_then(|at| self.arriving.remove(at)).is_some()
     }
@@ -318,7 +320,7 @@ impl<R: Net + rt::Clock> Port<R> {
         }
         let timeout = if self.has_more_to_do() {
             Some(Duration::ZERO)
-        } else if all_watched {
+        } else if all_watched && !self.listening.is_called {
             self.next_deadline()
                 .map(|deadline| deadline.duration_since(now))
         } else {
