@@ -331,7 +331,7 @@ impl<R: Net + rt::Clock> Port<R> {
 
     /// Whether a turn left something that needs no report of the system.
     fn has_more_to_do(&self) -> bool {
-        self.listening.is_called
+        self.listening.is_called && self.arriving.len() < MAX_ARRIVING
             || self
                 .arriving
                 .iter()
