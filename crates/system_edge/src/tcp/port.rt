@@ -253,13 +253,13 @@ impl<R: Net + rt::Clock> Port<R> {
     }
 
     /// Closes a client to free its descriptor: one that has its reply, or else one that is silent or has sent a part of
-    /// its request. If no request is whole either, it closes the slowest reader, or else a client that has just
-    /// connected. Returns whether there was one.
+    /// its request. If no request is whole either, it closes the oldest client that has just connected, or else the
+    /// slowest reader. Returns whether there was one.
     fn cut_one(&mut self, now: Instant) -> bool {
         self.closing.pop_front().is_some()
             || self.cut_arriving(now)
             || !self.arriving.iter().any(|client| client.is_due)
-                && (self.cut_slowest() || self.arriving.pop_front().is_some())
+                && (self.arriving.pop_front().is_some() || self.cut_slowest())
     }
 
     /// Closes the oldest client that is silent, or else the oldest that has sent a part of its request. Returns whether
