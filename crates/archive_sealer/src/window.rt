@@ -130,6 +130,7 @@ impl Window {
     pub fn prepare(&mut self) -> Result<(), NoMemory>
         ensures room { OnOk result (1 ≤ self.new.spare) }
         ensures same { self.new ≡ record self.old { spare = self.new.spare } }
+        ensures spare { self.old.spare ≤ self.new.spare }
     {
         self.items.reserve(1)?;
         self.order.reserve(self.items.len() as u32 + 1)

@@ -73,6 +73,13 @@ pub record HasRoom (store : StoreValue) : Type 0 where
   pub journal : 0 < store.journal.spare
   pub seals : 0 < store.seals.spare
 
+-- no room that was there is lost
+pub record KeepsRoom (before after : StoreValue) : Type 0 where
+  pub history : before.spare ≤ after.spare
+  pub members : before.members.spare ≤ after.members.spare
+  pub journal : before.journal.spare ≤ after.journal.spare
+  pub seals : before.seals.spare ≤ after.seals.spare
+
 -- the payload doesn't fit into an area of this capacity
 pub record IsFull (log : LogValue) (payload : List ℕ) (size needed capacity : ℕ) : Type 0 where
   pub is_size : size ≡ log.size

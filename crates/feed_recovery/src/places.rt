@@ -44,6 +44,7 @@ impl Places {
     pub(crate) fn prepare(&mut self) -> Result<(), NoMemory>
         ensures room { OnOk result (1 ≤ self.new.spare) }
         ensures same { self.new ≡ record self.old { spare = self.new.spare } }
+        ensures spare { self.old.spare ≤ self.new.spare }
     {
         self.extents.reserve(1)?;
         Ok(())

@@ -83,6 +83,7 @@ impl Store {
         ensures decided { IfOk result (λ ready. decision_of self.old ask now ≡ Ok ready.operation) }
         ensures commits { IfOk result (λ ready. MayCommit self.new ready) }
         ensures room { OnOk result (HasRoom self.new) }
+        ensures kept { KeepsRoom self.old self.new }
         // The sizes of the two logs are those of their payloads.
         ensures logs { IsLog self.old.journal × IsLog self.old.seals }
         ensures refused { IfErr result (IsPrepareFault self.old ask now) }
@@ -188,6 +189,7 @@ impl Store {
         ensures few { length self.old.history < history_limit }
         ensures logs { IsLog self.old.journal × IsLog self.old.seals }
         ensures room { OnOk result (HasRoom self.new) }
+        ensures kept { KeepsRoom self.old self.new }
         ensures same { self.new ≡ record self.old {
           members = record self.old.members { spare = self.new.members.spare };
           journal = record self.old.journal { spare = self.new.journal.spare };

@@ -236,6 +236,7 @@ impl Members {
     pub fn prepare(&mut self) -> Result<(), NoMemory>
         ensures room { OnOk result (1 ≤ self.new.spare) }
         ensures same { self.new ≡ record self.old { spare = self.new.spare } }
+        ensures spare { self.old.spare ≤ self.new.spare }
     {
         let slots = (self.members.len() as u32).checked_add(2).ok_or(NoMemory)?;
         self.members.reserve(1)?;
