@@ -9,7 +9,7 @@ work=$(mktemp -d) || exit 1
 trap 'rm -rf "$work"' EXIT
 trap 'exit 1' HUP INT TERM
 
-for crate in atom_values entry_reader; do
+for crate in atom_values xml_tokens entry_reader; do
     copy=$work/crates/$crate
     mkdir -p "$copy" || exit 1
     for folder in src specs proofs; do
@@ -20,7 +20,7 @@ for crate in atom_values entry_reader; do
 done
 mkdir -p "$work/crates/entries/src" || exit 1
 cp "$top/HANDLES" "$work/HANDLES" || exit 1
-grep -E '^(atom_values|entry_reader):' "$top/crates.txt" >"$work/crates.txt" || exit 1
+grep -E '^(atom_values|xml_tokens|entry_reader):' "$top/crates.txt" >"$work/crates.txt" || exit 1
 echo 'entries: entry_reader' >>"$work/crates.txt" || exit 1
 cp "$top/bench/entries.rt.txt" "$work/crates/entries/src/main.rt" || exit 1
 

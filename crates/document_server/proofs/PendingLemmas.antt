@@ -23,7 +23,7 @@ use Rattle.document_server.specs.Answer.{added}
 use Rattle.document_server.specs.Reply.{IsAccepted, IsAsked, IsAtAddress, IsMemberShown, IsOfArchive, IsOfFeed}
 use Rattle.document_server.specs.Reply.{IsOfMember, IsOfState, IsOutcome, IsRead, IsSent, Outcome, unchanged}
 use Rattle.document_server.specs.Session.{Exchange, IsBrokenOff}
-use Rattle.entry_reader.proofs.XmlLemmas.{xml_nil}
+use Rattle.xml_tokens.proofs.XmlLemmas.{xml_nil}
 use Rattle.feed_disk.specs.Disk.{DiskState}
 use Rattle.feed_journal.specs.Log.{IsLog}
 use Rattle.feed_recovery.specs.Store.{StandsFor, StoreValue}

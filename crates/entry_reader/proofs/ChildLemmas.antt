@@ -11,9 +11,10 @@ use Rattle.atom_values.specs.Space.{trimmed}
 use Rattle.entry_reader.specs.declared.fault.Why.{Why}
 use Rattle.entry_reader.specs.declared.fault.Why.TheVariants.{NotUtf8, Doctype, NotWellFormed, TooDeep, NotAnEntry}
 use Rattle.entry_reader.specs.declared.fault.Why.TheVariants.{Xhtml, OutOfLine, Draft, Missing, Twice, BadDate, TooMany}
-use Rattle.entry_reader.specs.Tree.{Name, Element, Content, Event, contents}
-use Rattle.entry_reader.specs.Tree.Content.{element}
-use Rattle.entry_reader.specs.Entry.{app, atom, attribute, same_name, text_of}
+use Rattle.xml_tokens.specs.Tree.{Name, Element, Content, Event, contents}
+use Rattle.xml_tokens.specs.Tree.Content.{element}
+use Rattle.xml_tokens.specs.Children.{attribute, same_name, text_of}
+use Rattle.xml_tokens.specs.Names.{app, atom}
 use Rattle.entry_reader.specs.Faults.{HasFault, HasOtherType, Is, IsFaultless, IsFirstFault, IsPastLimit, LacksPart}
 use Rattle.entry_reader.specs.Faults.{SaysDraft, Seen, all_seen}
 use Rattle.entry_reader.specs.Faults.{constructs, count_before, dates, inline_texts, inside_of, is_one_of, persons}
@@ -21,15 +22,15 @@ use Rattle.entry_reader.specs.Faults.{rank, single_parts, type_of}
 use Rattle.entry_reader.specs.Faults.Within.{in_entry, in_person, in_text, in_skipped}
 use Rattle.std.specs.Prelude.{Result}
 use Rattle.std.specs.Result.{IsErrAnd}
-use Rattle.entry_reader.specs.declared.elements.Elements.{Elements}
-use Rattle.entry_reader.specs.declared.elements.Element.{Element as RawElement}
+use Rattle.xml_tokens.specs.declared.elements.Elements.{Elements}
+use Rattle.xml_tokens.specs.declared.elements.Element.{Element as RawElement}
 use Rattle.entry_reader.specs.declared.fault.EarlyEnd.{EarlyEnd}
 use Rattle.entry_reader.specs.declared.fault.EarlyEnd.TheVariants.{Refused}
-use Rattle.entry_reader.specs.Progress.{AreInner, IsAt, IsElementOf, IsLed, Point, first_place, pending}
+use Rattle.xml_tokens.specs.Progress.{AreInner, IsAt, IsElementOf, IsLed, Point, first_place, pending}
 use Rattle.entry_reader.specs.Parts.{IsFaultlessIn, IsFirstRefusal, IsPartRead, IsStopped, Refuses}
 use Rattle.entry_reader.proofs.FieldLemmas.{name_is}
 use Rattle.entry_reader.proofs.PersonLemmas.{stop_is}
-use Rattle.entry_reader.proofs.ProgressLemmas.{led_nowhere}
+use Rattle.xml_tokens.proofs.ProgressLemmas.{led_nowhere}
 use Rattle.entry_reader.proofs.SeenLemmas.{fault_before, fault_behind, skipped_faultless, text_refusal}
 
 -- a test that each of these names of Atom passes

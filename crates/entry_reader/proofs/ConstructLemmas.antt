@@ -8,9 +8,10 @@ use Rattle.atom_values.specs.declared.text.TextKind.{TextKind}
 use Rattle.atom_values.specs.declared.text.TextKind.TheVariants.{Plain, Html}
 use Rattle.entry_reader.specs.declared.fault.Why.{Why}
 use Rattle.entry_reader.specs.declared.fault.Why.TheVariants.{NotAnEntry, Xhtml, OutOfLine, Twice, BadDate}
-use Rattle.entry_reader.specs.Tree.{Name, Element, Content}
-use Rattle.entry_reader.specs.Tree.Content.{element}
-use Rattle.entry_reader.specs.Entry.{atom, attribute, same_name}
+use Rattle.xml_tokens.specs.Tree.{Name, Element, Content}
+use Rattle.xml_tokens.specs.Tree.Content.{element}
+use Rattle.xml_tokens.specs.Children.{attribute, same_name}
+use Rattle.xml_tokens.specs.Names.{atom}
 use Rattle.entry_reader.specs.Faults.{HasFault, HasOtherType, IsFirstFault, all_seen, constructs, dates, inline_texts}
 use Rattle.entry_reader.specs.Faults.{is_one_of, rank, single_parts, type_of}
 use Rattle.entry_reader.specs.Faults.Within.{in_entry}

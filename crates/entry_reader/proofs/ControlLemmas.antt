@@ -6,12 +6,14 @@ use Rattle.std.proofs.lemmas.Bool.{both_ways, cases_Bool, not-true, not_from_fal
 use Rattle.std.proofs.lemmas.List.Folds.{Any-from_list_any, list_any-append, list_any-from_Any}
 use Rattle.std.proofs.lemmas.Slice.Eq.{bytes_eq-Decides}
 use Rattle.atom_values.specs.Space.{trimmed}
-use Rattle.entry_reader.specs.Tree.{Name, Element, Content}
-use Rattle.entry_reader.specs.Entry.{Child, app, child_text, named, same_name, text_of}
+use Rattle.xml_tokens.specs.Tree.{Name, Element, Content}
+use Rattle.xml_tokens.specs.Children.{Child, child_text, named, same_name, text_of}
+use Rattle.xml_tokens.specs.Names.{app}
 use Rattle.entry_reader.specs.Faults.{SaysDraft}
-use Rattle.entry_reader.specs.Parts.{has_draft, joined, with_child}
+use Rattle.entry_reader.specs.Parts.{has_draft}
+use Rattle.xml_tokens.specs.Children.{joined, with_child}
 use Rattle.entry_reader.proofs.ChildLemmas.{a_child}
-use Rattle.entry_reader.proofs.ContentLemmas.{says}
+use Rattle.xml_tokens.proofs.ContentLemmas.{says}
 use Rattle.entry_reader.proofs.FieldLemmas.{said_named}
 use Rattle.entry_reader.proofs.SeenLemmas.{named_more, named_other}
 

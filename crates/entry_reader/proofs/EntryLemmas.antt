@@ -6,25 +6,29 @@ use Rattle.std.proofs.lemmas.Bool.{both_ways}
 use Rattle.std.proofs.lemmas.List.{append-nil}
 use Rattle.atom_values.specs.Entry.{DraftValue}
 use Rattle.atom_values.specs.Space.{trimmed}
-use Rattle.entry_reader.specs.declared.elements.Elements.{Elements}
+use Rattle.xml_tokens.specs.declared.elements.Elements.{Elements}
 use Rattle.entry_reader.specs.declared.entry.Parts.{Parts}
-use Rattle.entry_reader.specs.declared.fault.EntryFault.{EntryFault}
+use Rattle.xml_tokens.specs.declared.fault.TokenFault.{TokenFault}
 use Rattle.entry_reader.specs.declared.fault.EarlyEnd.{EarlyEnd}
 use Rattle.entry_reader.specs.declared.fault.EarlyEnd.TheVariants.{Refused, Fault}
 use Rattle.entry_reader.specs.declared.fault.Why.{Why}
 use Rattle.entry_reader.specs.declared.fault.Why.TheVariants.{Missing, NotAnEntry}
-use Rattle.entry_reader.specs.Tree.{Name, Element, Event, Content, contents, with_element}
-use Rattle.entry_reader.specs.Tree.Content.{element}
-use Rattle.entry_reader.specs.Tree.Event.{begin}
-use Rattle.entry_reader.specs.Entry.{Child, IsMoment, IsReadAs, atom, category, child, child_text, construct, first_of}
-use Rattle.entry_reader.specs.Entry.{link, named, person, same_name}
+use Rattle.xml_tokens.specs.Tree.{Name, Element, Event, Content, contents, with_element}
+use Rattle.xml_tokens.specs.Tree.Content.{element}
+use Rattle.xml_tokens.specs.Tree.Event.{begin}
+use Rattle.entry_reader.specs.Entry.{IsMoment, IsReadAs, category, construct}
+use Rattle.xml_tokens.specs.Children.{Child, child, child_text, first_of}
+use Rattle.xml_tokens.specs.Names.{atom}
+use Rattle.entry_reader.specs.Entry.{link, person}
+use Rattle.xml_tokens.specs.Children.{named, same_name}
 use Rattle.entry_reader.specs.Faults.{IsFaultless, IsFirstFault, all_seen}
 use Rattle.entry_reader.specs.Faults.Within.{in_entry}
-use Rattle.entry_reader.specs.Progress.{IsDrainedFrom, IsFaultFrom, IsLed, Point, pending}
-use Rattle.entry_reader.specs.Parts.{ArePartsFrom, IsEntryFrom, IsSoFar, IsStopped, joined, names_of}
-use Rattle.entry_reader.proofs.ContentLemmas.{ArePart, says, with_before}
+use Rattle.xml_tokens.specs.Progress.{IsDrainedFrom, IsFaultFrom, IsLed, Point, pending}
+use Rattle.entry_reader.specs.Parts.{ArePartsFrom, IsEntryFrom, IsSoFar, IsStopped}
+use Rattle.xml_tokens.specs.Children.{joined, names_of}
+use Rattle.xml_tokens.proofs.ContentLemmas.{ArePart, says, with_before}
 use Rattle.entry_reader.proofs.FieldLemmas.{name_is, said_named, says_seen}
-use Rattle.entry_reader.proofs.ProgressLemmas.{fault_on, led_on}
+use Rattle.xml_tokens.proofs.ProgressLemmas.{fault_on, led_on}
 use Rattle.entry_reader.proofs.SeenLemmas.{fault_behind, seen_joined}
 
 -- characters between the children
@@ -125,7 +129,7 @@ module _ (total : ℕ) (first : List Event) (from : Point) (root : Element)
 
   module _ (parts : Parts) (mid new : Elements) (x : ArePartsFrom total first from (Ok parts) mid) where
     -- a fault after the entry
-    pub end_faulty : (fault : EntryFault) → IsDrainedFrom mid.length (pending mid) x.2.to (Err fault) new →
+    pub end_faulty : (fault : TokenFault) → IsDrainedFrom mid.length (pending mid) x.2.to (Err fault) new →
         IsFaultFrom total from fault
     end_faulty fault z = fault_on total first from x.1 mid x.2 fault z
 

@@ -12,22 +12,25 @@ use Rattle.entry_reader.specs.declared.fault.Why.TheVariants.{NotAnEntry, Twice}
 use Rattle.entry_reader.specs.declared.person.Field.{Field}
 use Rattle.entry_reader.specs.declared.person.Field.TheVariants.{Name as NameField, Uri, Email}
 use Rattle.entry_reader.specs.declared.person.Fields.{Fields}
-use Rattle.entry_reader.specs.Tree.{Name, Element, Content}
-use Rattle.entry_reader.specs.Tree.Content.{nothing, element}
-use Rattle.entry_reader.specs.Entry.{Child, atom, child_text, children, first_of, named, named_in, same_name, text_of}
+use Rattle.xml_tokens.specs.Tree.{Name, Element, Content}
+use Rattle.xml_tokens.specs.Tree.Content.{nothing, element}
+use Rattle.xml_tokens.specs.Children.{Child, child_text, children, first_of, named, named_in, same_name, text_of}
+use Rattle.xml_tokens.specs.Names.{atom}
 use Rattle.entry_reader.specs.Faults.{Within, all_seen, is_one_of, person_parts}
 use Rattle.entry_reader.specs.Faults.Within.{in_person}
 use Rattle.std.specs.Prelude.{Result, Ok, Err}
-use Rattle.entry_reader.specs.declared.elements.Elements.{Elements}
-use Rattle.entry_reader.specs.declared.fault.EntryFault.{EntryFault}
-use Rattle.entry_reader.specs.Tree.{Event}
-use Rattle.entry_reader.specs.Progress.{IsSkippedFrom, Point, first_place}
-use Rattle.entry_reader.specs.Parts.{AreFieldsOf, IsFieldsChild, IsFirstRefusal, count_of, field_name, joined, names_of}
-use Rattle.entry_reader.specs.Parts.{slot_refusal, taken_fields, with_child}
+use Rattle.xml_tokens.specs.declared.elements.Elements.{Elements}
+use Rattle.xml_tokens.specs.declared.fault.TokenFault.{TokenFault}
+use Rattle.xml_tokens.specs.Tree.{Event}
+use Rattle.xml_tokens.specs.Progress.{IsSkippedFrom, Point, first_place}
+use Rattle.entry_reader.specs.Parts.{AreFieldsOf, IsFieldsChild, IsFirstRefusal, count_of, field_name}
+use Rattle.xml_tokens.specs.Children.{joined, names_of}
+use Rattle.entry_reader.specs.Parts.{slot_refusal, taken_fields}
+use Rattle.xml_tokens.specs.Children.{with_child}
 use Rattle.std.proofs.lemmas.List.{append-nil}
 use Rattle.std.proofs.lemmas.List.Elements.{All-nil}
 use Rattle.entry_reader.specs.Faults.{IsFaultless}
-use Rattle.entry_reader.proofs.ContentLemmas.{says}
+use Rattle.xml_tokens.proofs.ContentLemmas.{says}
 use Rattle.entry_reader.proofs.SeenLemmas.{named_joined, named_more, named_other, person_once, person_other}
 use Rattle.entry_reader.proofs.SeenLemmas.{person_twice, refusal_joined, seen_joined}
 
@@ -256,7 +259,7 @@ fields_skipped b e inner fields are other =
 
 -- a child that is read over, and a fault in it
 pub skip_child : (total : ℕ) (first : List Event) (from : Point) (b : Content) (e : Element) (fields : Fields)
-    (new : Elements) (r : Result (Unit {0}) EntryFault) → IsSkippedFrom total first from r new → AreFieldsOf b fields →
+    (new : Elements) (r : Result (Unit {0}) TokenFault) → IsSkippedFrom total first from r new → AreFieldsOf b fields →
     is_one_of person_parts e.name ≡ false → IsFieldsChild total first from b e r fields new
 skip_child total first from b e fields new (Ok done) s are other =
     (s.0, s.1, s.2, s.3, fields_skipped b e s.0 fields are other)

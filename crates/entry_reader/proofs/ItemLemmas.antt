@@ -4,9 +4,10 @@ use Rattle.std.proofs.Common.{refl, option_map, ap, arith, ⊎_elim, codes}
 use Rattle.std.proofs.lemmas.Bool.{both_ways}
 use Rattle.atom_values.specs.Entry.{category_limit, link_limit}
 use Rattle.entry_reader.specs.declared.fault.Why.TheVariants.{Draft, Missing, TooMany}
-use Rattle.entry_reader.specs.Tree.{Name, Element, Content}
-use Rattle.entry_reader.specs.Tree.Content.{element}
-use Rattle.entry_reader.specs.Entry.{app, atom, attribute, same_name}
+use Rattle.xml_tokens.specs.Tree.{Name, Element, Content}
+use Rattle.xml_tokens.specs.Tree.Content.{element}
+use Rattle.xml_tokens.specs.Children.{attribute, same_name}
+use Rattle.xml_tokens.specs.Names.{app, atom}
 use Rattle.entry_reader.specs.Faults.{IsFirstFault, IsPastLimit, LacksPart, SaysDraft, all_seen, count_before}
 use Rattle.entry_reader.specs.Faults.{is_one_of, persons, single_parts}
 use Rattle.entry_reader.specs.Faults.Within.{in_entry}

@@ -8,9 +8,10 @@ use Rattle.atom_values.specs.Entry.{person_limit}
 use Rattle.entry_reader.specs.declared.fault.Why.{Why}
 use Rattle.entry_reader.specs.declared.fault.Why.TheVariants.{NotUtf8, Doctype, NotWellFormed, TooDeep, NotAnEntry}
 use Rattle.entry_reader.specs.declared.fault.Why.TheVariants.{Xhtml, OutOfLine, Draft, Missing, Twice, BadDate, TooMany}
-use Rattle.entry_reader.specs.Tree.{Name, Element, Content}
-use Rattle.entry_reader.specs.Tree.Content.{nothing, element}
-use Rattle.entry_reader.specs.Entry.{Child, app, atom, child, same_name}
+use Rattle.xml_tokens.specs.Tree.{Name, Element, Content}
+use Rattle.xml_tokens.specs.Tree.Content.{nothing, element}
+use Rattle.xml_tokens.specs.Children.{Child, child, same_name}
+use Rattle.xml_tokens.specs.Names.{app, atom}
 use Rattle.entry_reader.specs.Faults.{HasFault, IsFaultless, IsFirstFault, Seen, all_seen, constructs, count_before}
 use Rattle.entry_reader.specs.Faults.{dates, inline_texts, inside_of, is_one_of, persons, rank, single_parts}
 use Rattle.entry_reader.specs.Faults.Within.{in_entry, in_person, in_text}
@@ -18,11 +19,12 @@ use Rattle.std.specs.Prelude.{Result, Ok, Err}
 use Rattle.std.specs.Result.{IsErrAnd}
 use Rattle.entry_reader.specs.declared.fault.EarlyEnd.{EarlyEnd}
 use Rattle.atom_values.specs.declared.person.Person.{Person}
-use Rattle.entry_reader.specs.declared.elements.Elements.{Elements}
+use Rattle.xml_tokens.specs.declared.elements.Elements.{Elements}
 use Rattle.entry_reader.specs.declared.person.Fields.{Fields}
-use Rattle.entry_reader.specs.Tree.{Event, contents}
-use Rattle.entry_reader.specs.Entry.{child_text, person}
-use Rattle.entry_reader.specs.Progress.{AreInner, IsLed, Point}
+use Rattle.xml_tokens.specs.Tree.{Event, contents}
+use Rattle.entry_reader.specs.Entry.{person}
+use Rattle.xml_tokens.specs.Children.{child_text}
+use Rattle.xml_tokens.specs.Progress.{AreInner, IsLed, Point}
 use Rattle.entry_reader.specs.Parts.{AreFieldsOf, IsFaultlessIn, IsFirstRefusal, IsPartRead, Refuses, count_of}
 use Rattle.entry_reader.specs.Parts.{named_person, person_in, person_of}
 use Rattle.entry_reader.proofs.FieldLemmas.{name_is}

@@ -8,15 +8,16 @@ use Rattle.std.proofs.lemmas.List.Elements.{All-append, All-cons, All-nil}
 use Rattle.entry_reader.specs.declared.fault.Why.{Why}
 use Rattle.entry_reader.specs.declared.fault.Why.TheVariants.{NotUtf8, Doctype, NotWellFormed, TooDeep, NotAnEntry}
 use Rattle.entry_reader.specs.declared.fault.Why.TheVariants.{Xhtml, OutOfLine, Draft, Missing, Twice, BadDate, TooMany}
-use Rattle.entry_reader.specs.Tree.{Name, Element, Content}
-use Rattle.entry_reader.specs.Tree.Content.{nothing, said, element}
-use Rattle.entry_reader.specs.Entry.{Child, children, named, named_in, same_name}
+use Rattle.xml_tokens.specs.Tree.{Name, Element, Content}
+use Rattle.xml_tokens.specs.Tree.Content.{nothing, said, element}
+use Rattle.xml_tokens.specs.Children.{Child, children, named, named_in, same_name}
 use Rattle.entry_reader.specs.Faults.{Within, HasFault, Is, IsFaultless, IsFirstFault, Seen, all_seen, count_before}
 use Rattle.entry_reader.specs.Faults.{inside_of, is_one_of, person_parts, rank}
 use Rattle.entry_reader.specs.Faults.Within.{in_entry, in_person, in_text, in_skipped}
-use Rattle.entry_reader.specs.Progress.{first_place}
-use Rattle.entry_reader.specs.Parts.{IsFirstRefusal, joined, names_of, with_child}
-use Rattle.entry_reader.proofs.ContentLemmas.{children_joined}
+use Rattle.xml_tokens.specs.Progress.{first_place}
+use Rattle.entry_reader.specs.Parts.{IsFirstRefusal}
+use Rattle.xml_tokens.specs.Children.{joined, names_of, with_child}
+use Rattle.xml_tokens.proofs.ContentLemmas.{children_joined}
 
 named_append : (name : Name) (xs ys : List Child) → named_in name (xs ++ ys) ≡ named_in name xs ++ named_in name ys
 named_append name [] ys = refl

@@ -8,20 +8,24 @@ use Rattle.std.specs.List.{list_all}
 use Rattle.std.proofs.lemmas.List.{length-map, map-append}
 use Rattle.std.proofs.lemmas.List.Elements.{All-append, All-head}
 use Rattle.atom_values.specs.Space.{trimmed}
-use Rattle.entry_reader.specs.declared.elements.Elements.{Elements}
+use Rattle.xml_tokens.specs.declared.elements.Elements.{Elements}
 use Rattle.entry_reader.specs.declared.entry.Parts.{Parts}
 use Rattle.entry_reader.specs.declared.fault.EarlyEnd.{EarlyEnd}
 use Rattle.entry_reader.specs.declared.fault.Why.TheVariants.{Twice}
-use Rattle.entry_reader.specs.Tree.{Name, Element, Content, Event}
-use Rattle.entry_reader.specs.Tree.Content.{nothing, element}
-use Rattle.entry_reader.specs.Entry.{Child, IsMoment, app, atom, category, child, child_text, children, construct}
-use Rattle.entry_reader.specs.Entry.{first_of, link, named, person, same_name, text_of}
+use Rattle.xml_tokens.specs.Tree.{Name, Element, Content, Event}
+use Rattle.xml_tokens.specs.Tree.Content.{nothing, element}
+use Rattle.entry_reader.specs.Entry.{IsMoment, category, construct}
+use Rattle.xml_tokens.specs.Children.{Child, child, child_text, children}
+use Rattle.xml_tokens.specs.Names.{app, atom}
+use Rattle.entry_reader.specs.Entry.{link, person}
+use Rattle.xml_tokens.specs.Children.{first_of, named, same_name, text_of}
 use Rattle.entry_reader.specs.Faults.{Within, IsFaultless, all_seen, constructs, inside_of, is_one_of, persons}
 use Rattle.entry_reader.specs.Faults.{single_parts}
 use Rattle.entry_reader.specs.Faults.Within.{in_entry}
-use Rattle.entry_reader.specs.Progress.{Point}
+use Rattle.xml_tokens.specs.Progress.{Point}
 use Rattle.entry_reader.specs.Parts.{IsConstructMade, IsDateMade, IsFaultlessIn, IsItemMade, IsPartRead, IsSlot}
-use Rattle.entry_reader.specs.Parts.{IsSoFar, count_of, names_of, other_names, with_child}
+use Rattle.entry_reader.specs.Parts.{IsSoFar, count_of, other_names}
+use Rattle.xml_tokens.specs.Children.{names_of, with_child}
 use Rattle.entry_reader.proofs.ChildLemmas.{a_child, all_of, no_list}
 use Rattle.entry_reader.proofs.FieldLemmas.{count_named, name_is, same_refl}
 use Rattle.entry_reader.proofs.ItemLemmas.{beside_faultless}

@@ -1,6 +1,6 @@
 -- How the elements of an entry document are read (RFC 4287, RFC 5023).
-use Rattle.std.specs.Prelude.{◌≡◌, ℕ, List, [], ◌∷◌, ◌++◌, map, Bool, ◌&&◌, if◌then◌else◌, ℤ}
-use Rattle.std.specs.Prelude.{Option, Some, None, option_map, unwrap_or, codes, bytes_eq}
+use Rattle.std.specs.Prelude.{◌≡◌, [], map, if◌then◌else◌, ℤ, Option, Some, None, option_map, unwrap_or, codes}
+use Rattle.std.specs.Prelude.{bytes_eq}
 use Rattle.atom_values.specs.declared.category.Category.{Category}
 use Rattle.atom_values.specs.declared.link.Link.{Link}
 use Rattle.atom_values.specs.declared.person.Person.{Person}
@@ -9,65 +9,9 @@ use Rattle.atom_values.specs.declared.text.TextKind.TheVariants.{Plain, Html}
 use Rattle.atom_values.specs.DateText.{States}
 use Rattle.atom_values.specs.Entry.{DraftValue}
 use Rattle.atom_values.specs.Space.{trimmed}
-use Rattle.entry_reader.specs.Tokens.{Attribute}
-use Rattle.entry_reader.specs.Tree.{Name, Element, Content}
-use Rattle.entry_reader.specs.Tree.Content.{nothing, said, element}
-
--- a name of Atom (RFC 4287 section 2)
-abbrev pub atom : List ℕ → Name
-atom local = record { namespace = codes "http://www.w3.org/2005/Atom"; local = local }
-
--- a name of the Atom Publishing Protocol (RFC 5023 section 4.1)
-abbrev pub app : List ℕ → Name
-app local = record { namespace = codes "http://www.w3.org/2007/app"; local = local }
-
-abbrev pub same_name : Name → Name → Bool
-same_name a b = bytes_eq a.namespace b.namespace && bytes_eq a.local b.local
-
--- the value of the first attribute with this name and no prefix
-abbrev pub attribute_in : List ℕ → List Attribute → Option (List ℕ)
-attribute_in name [] = None
-attribute_in name (a ∷ more) =
-    if bytes_eq a.name.prefix [] && bytes_eq a.name.local name then Some a.value else attribute_in name more
-
--- an element with its content
-pub record Child : Type 0 where
-  pub element : Element
-  pub content : Content
-
-abbrev pub attribute : List ℕ → Child → Option (List ℕ)
-attribute name child = attribute_in name child.element.attributes
-
--- the elements of a content, without those inside them
-abbrev pub children : Content → List Child
-children nothing = []
-children (said read rest) = children rest
-children (element e content rest) = record { element = e; content = content } ∷ children rest
-
--- the characters of a content, without those of elements inside it
-abbrev pub text_of : Content → List ℕ
-text_of nothing = []
-text_of (said read rest) = read ++ text_of rest
-text_of (element e content rest) = text_of rest
-
--- those with this name
-abbrev pub named_in : Name → List Child → List Child
-named_in name [] = []
-named_in name (c ∷ cs) = if same_name c.element.name name then c ∷ named_in name cs else named_in name cs
-
-abbrev pub named : Name → Content → List Child
-named name content = named_in name (children content)
-
-abbrev pub first_of : {A : Type 0} → List A → Option A
-first_of [] = None
-first_of (x ∷ xs) = Some x
-
--- the first child with this name
-abbrev pub child : List ℕ → Content → Option Child
-child name content = first_of (named (atom name) content)
-
-abbrev pub child_text : Child → List ℕ
-child_text c = text_of c.content
+use Rattle.xml_tokens.specs.Children.{Child, attribute, child, child_text, named}
+use Rattle.xml_tokens.specs.Names.{atom}
+use Rattle.xml_tokens.specs.Tree.{Content}
 
 -- a text construct (RFC 4287 section 3.1)
 abbrev pub construct : Child → Text

@@ -9,9 +9,10 @@ use Rattle.atom_values.specs.Space.{trimmed}
 use Rattle.entry_reader.specs.declared.fault.Why.{Why}
 use Rattle.entry_reader.specs.declared.fault.Why.TheVariants.{NotUtf8, Doctype, NotWellFormed, TooDeep, NotAnEntry}
 use Rattle.entry_reader.specs.declared.fault.Why.TheVariants.{Xhtml, OutOfLine, Draft, Missing, Twice, BadDate, TooMany}
-use Rattle.entry_reader.specs.Tree.{Name, Content}
-use Rattle.entry_reader.specs.Tree.Content.{nothing, said, element}
-use Rattle.entry_reader.specs.Entry.{Child, atom, app, same_name, attribute, child, child_text, named}
+use Rattle.xml_tokens.specs.Tree.{Name, Content}
+use Rattle.xml_tokens.specs.Tree.Content.{nothing, said, element}
+use Rattle.xml_tokens.specs.Children.{Child, same_name, attribute, child, child_text, named}
+use Rattle.xml_tokens.specs.Names.{atom, app}
 
 -- where an element is: in the entry, a person, a text, or an element that is skipped
 pub data Within : Type 0 where

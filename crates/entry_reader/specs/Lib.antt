@@ -1,13 +1,6 @@
-pub mod Characters
-pub mod Tokens
-pub mod Stages
-pub mod Tree
 pub mod Entry
 pub mod Faults
 pub mod Spells
 pub mod Refusal
-pub mod Reading
-pub mod Scopes
-pub mod Progress
 pub mod Parts
 pub mod Laws

@@ -14,9 +14,9 @@ use Rattle.atom_values.specs.declared.text.TextKind.TheVariants.{Plain, Html}
 use Rattle.atom_values.specs.DateText.{States}
 use Rattle.atom_values.specs.Entry.{DraftValue}
 use Rattle.atom_values.specs.Space.{trimmed}
-use Rattle.entry_reader.specs.declared.elements.Elements.{Elements}
+use Rattle.xml_tokens.specs.declared.elements.Elements.{Elements}
 use Rattle.entry_reader.specs.declared.entry.Parts.{Parts}
-use Rattle.entry_reader.specs.declared.fault.EntryFault.{EntryFault}
+use Rattle.xml_tokens.specs.declared.fault.TokenFault.{TokenFault}
 use Rattle.entry_reader.specs.declared.fault.EarlyEnd.{EarlyEnd}
 use Rattle.entry_reader.specs.declared.fault.EarlyEnd.TheVariants.{Refused, Fault}
 use Rattle.entry_reader.specs.declared.fault.Why.{Why}
@@ -24,29 +24,18 @@ use Rattle.entry_reader.specs.declared.fault.Why.TheVariants.{Missing, NotAnEntr
 use Rattle.entry_reader.specs.declared.person.Field.{Field}
 use Rattle.entry_reader.specs.declared.person.Field.TheVariants.{Name as NameField, Uri, Email}
 use Rattle.entry_reader.specs.declared.person.Fields.{Fields}
-use Rattle.entry_reader.specs.Tokens.{Attribute}
-use Rattle.entry_reader.specs.Tree.{Name, Element, Content, Event, contents}
-use Rattle.entry_reader.specs.Tree.Content.{nothing, said, element}
-use Rattle.entry_reader.specs.Entry.{Child, IsMoment, IsReadAs, app, atom, attribute_in, category, child, child_text}
-use Rattle.entry_reader.specs.Entry.{children, construct, link, named, person, same_name, text_of}
+use Rattle.xml_tokens.specs.Tokens.{Attribute}
+use Rattle.xml_tokens.specs.Tree.{Name, Element, Content, Event, contents}
+use Rattle.xml_tokens.specs.Tree.Content.{nothing, element}
+use Rattle.entry_reader.specs.Entry.{IsMoment, IsReadAs, category}
+use Rattle.xml_tokens.specs.Children.{Child, attribute_in, child, child_text, with_child}
+use Rattle.xml_tokens.specs.Names.{app, atom}
+use Rattle.entry_reader.specs.Entry.{construct, link, person}
+use Rattle.xml_tokens.specs.Children.{named, same_name, text_of}
 use Rattle.entry_reader.specs.Faults.{Within, IsFaultless, IsFirstFault, Seen, all_seen, is_one_of, person_parts}
 use Rattle.entry_reader.specs.Faults.Within.{in_entry, in_person}
 use Rattle.entry_reader.specs.Refusal.{IsNoEntryAt}
-use Rattle.entry_reader.specs.Progress.{Point, AreInner, IsFaultFrom, IsLed}
-
--- a content, and what follows it
-abbrev pub joined : Content → Content → Content
-joined nothing c = c
-joined (said read b) c = said read (joined b c)
-joined (element e inner b) c = element e inner (joined b c)
-
--- a content, and an element after it
-abbrev pub with_child : Content → Element → Content → Content
-with_child b e inner = joined b (element e inner nothing)
-
--- the names of the elements of a content
-abbrev pub names_of : Content → List Name
-names_of b = map (λ (c : Child). c.element.name) (children b)
+use Rattle.xml_tokens.specs.Progress.{Point, AreInner, IsFaultFrom, IsLed}
 
 -- how many of these names are this one
 abbrev pub count_of : Name → List Name → ℕ
@@ -166,7 +155,7 @@ abbrev pub person_of : Fields → ℕ → Bool → Result Person EarlyEnd
 person_of fields at full = person_in fields.name fields at full
 
 -- the rest of a child of a person is read
-abbrev pub IsFieldsChild : ℕ → List Event → Point → Content → Element → Result (Unit {0}) EntryFault → Fields → Elements
+abbrev pub IsFieldsChild : ℕ → List Event → Point → Content → Element → Result (Unit {0}) TokenFault → Fields → Elements
     → Type 0
 IsFieldsChild total first from b e (Ok done) fields new =
     (inner : Content) × (told : List Event) × IsLed total first from told new × AreInner inner told
@@ -174,7 +163,7 @@ IsFieldsChild total first from b e (Ok done) fields new =
 IsFieldsChild total first from b e (Err fault) fields new = IsFaultFrom total from fault
 
 -- the rest of a person is read
-abbrev pub AreFieldsFrom : ℕ → List Event → Point → Result Fields EntryFault → Elements → Type 0
+abbrev pub AreFieldsFrom : ℕ → List Event → Point → Result Fields TokenFault → Elements → Type 0
 AreFieldsFrom total first from (Ok fields) new =
     (inner : Content) × (told : List Event) × IsLed total first from told new × AreInner inner told
     × AreFieldsOf inner fields
@@ -242,7 +231,7 @@ other_names =
     ∷ codes "category" ∷ []
 
 -- the rest of a child of a control element is read, and whether it says that the entry is a draft
-abbrev pub IsDraftRead : ℕ → List Event → Point → Element → Result Bool EntryFault → Elements → Type 0
+abbrev pub IsDraftRead : ℕ → List Event → Point → Element → Result Bool TokenFault → Elements → Type 0
 IsDraftRead total first from e (Ok is_draft) new =
     (inner : Content) × (told : List Event) × IsLed total first from told new × AreInner inner told
     × (is_draft ≡ (same_name e.name (app (codes "draft")) && not (bytes_eq (trimmed (text_of inner)) (codes "no"))))
@@ -254,7 +243,7 @@ has_draft inner =
     list_any (λ c. not (bytes_eq (trimmed (child_text c)) (codes "no"))) (named (app (codes "draft")) inner)
 
 -- the rest of a control element is read, and whether it says that the entry is a draft
-abbrev pub IsControlRead : ℕ → List Event → Point → Result Bool EntryFault → Elements → Type 0
+abbrev pub IsControlRead : ℕ → List Event → Point → Result Bool TokenFault → Elements → Type 0
 IsControlRead total first from (Ok is_draft) new =
     (inner : Content) × (told : List Event) × IsLed total first from told new × AreInner inner told
     × (is_draft ≡ has_draft inner)

@@ -1,90 +1,33 @@
 -- Why bytes are no entry document that is read, and where: the first of five steps that finds a fault.
-use Rattle.std.specs.Prelude.{◌≡◌, ◌≢◌, ◌⊎◌, ℕ, ◌-◌, List, [], ◌++◌, length, All, false, IsTrue, Option, None, codes}
-use Rattle.std.specs.Str.{is_utf8, IsValidUpTo}
-use Rattle.atom_values.specs.XmlText.{IsXmlText}
+use Rattle.std.specs.Prelude.{◌≡◌, ◌≢◌, ◌⊎◌, ℕ, List, [], All, None, codes}
+use Rattle.xml_tokens.specs.declared.fault.TokenFault.{TokenFault}
+use Rattle.xml_tokens.specs.declared.fault.TokenFault.TheVariants as token_fault
+use Rattle.xml_tokens.specs.declared.fault.TokenWhy.{TokenWhy}
+use Rattle.xml_tokens.specs.declared.fault.TokenWhy.TheVariants as token
+use Rattle.xml_tokens.specs.Children.{child}
+use Rattle.xml_tokens.specs.Names.{atom}
+use Rattle.xml_tokens.specs.Refusal.{IsTokenRefusedAt}
+use Rattle.xml_tokens.specs.Tree.{Element, Content, IsDocument}
+use Rattle.entry_reader.specs.declared.fault.EntryFault.{EntryFault}
+use Rattle.entry_reader.specs.declared.fault.EntryFault.TheVariants.{NotRead, NoMemory}
 use Rattle.entry_reader.specs.declared.fault.Why.{Why}
 use Rattle.entry_reader.specs.declared.fault.Why.TheVariants.{NotUtf8, Doctype, NotWellFormed, TooDeep, NotAnEntry}
 use Rattle.entry_reader.specs.declared.fault.Why.TheVariants.{Missing}
-use Rattle.entry_reader.specs.Characters.{begins}
-use Rattle.entry_reader.specs.Tokens.{Tag, Token, IsDeclaration, IsSpelled, IsTag, is_utf8_name}
-use Rattle.entry_reader.specs.Stages.{Stage, Lexeme, CanStand, CanAllStand, last_stage, lexemes_text, open_in}
-use Rattle.entry_reader.specs.Stages.Stage.{start, epilog}
-use Rattle.entry_reader.specs.Tree.{Element, Content, IsDocument, mark_of}
-use Rattle.entry_reader.specs.Entry.{atom, child}
 use Rattle.entry_reader.specs.Spells.{depth_limit}
 use Rattle.entry_reader.specs.Faults.{all_seen, IsFaultless, IsFirstFault}
 use Rattle.entry_reader.specs.Faults.Within.{in_entry}
 
--- the text begins with a declaration of an encoding whose texts aren't UTF-8
-pub record IsForeign (bytes : List ℕ) : Type 0 where
-  pub encoding : Option (List ℕ)
-  pub text : List ℕ
-  pub rest : List ℕ
-  pub split : bytes ≡ mark_of bytes ++ text ++ rest
-  pub declared : IsDeclaration encoding text
-  pub foreign : is_utf8_name encoding ≡ false
+-- the reason of a token, as that of an entry document
+abbrev pub why_of : TokenWhy → Why
+why_of token.NotUtf8 = NotUtf8
+why_of token.Doctype = Doctype
+why_of token.NotWellFormed = NotWellFormed
+why_of token.TooDeep = TooDeep
 
--- step 1: the first sequence that isn't UTF-8, also where the end cuts it, or else the declaration
-abbrev pub IsNotUtf8At : List ℕ → ℕ → Type 0
-IsNotUtf8At bytes at =
-    IsValidUpTo bytes at ⊎ (IsTrue (is_utf8 bytes) × IsForeign bytes × (at ≡ length (mark_of bytes)))
-
-abbrev pub IsInUtf8 : List ℕ → Type 0
-IsInUtf8 bytes = IsTrue (is_utf8 bytes) × ¬ IsForeign bytes
-
--- a token that is allowed at the stage begins the text
-pub record Begins (most : ℕ) (stage : Stage) (text : List ℕ) : Type 0 where
-  pub token : Token
-  pub front : List ℕ
-  pub rest : List ℕ
-  pub split : text ≡ front ++ rest
-  pub spelled : IsSpelled token front rest
-  pub stands : CanStand most stage token
-
--- some continuation of the text begins with a token that is allowed at the stage
-abbrev pub CanGoOn : ℕ → Stage → List ℕ → Type 0
-CanGoOn most stage text = (more : List ℕ) × Begins most stage (text ++ more)
-
--- the text, or some continuation of it, begins with a tag one level too deep
-pub record IsTooDeep (most : ℕ) (stage : Stage) (text : List ℕ) : Type 0 where
-  pub deep : length (open_in stage) ≡ most
-  pub more : List ℕ
-  pub tag : Tag
-  pub front : List ℕ
-  pub rest : List ℕ
-  pub split : text ++ more ≡ front ++ rest
-  pub xml : IsXmlText front
-  pub is_tag : IsTag tag front
-
--- why the token that the text begins with isn't allowed
-abbrev pub IsTokenFault : ℕ → Stage → List ℕ → Why → Type 0
-IsTokenFault most stage text why =
-    (IsTrue (begins (codes "<!DOCTYPE") text) × (why ≡ Doctype))
-    ⊎ (IsTooDeep most stage text × (why ≡ TooDeep))
-    ⊎ ((begins (codes "<!DOCTYPE") text ≡ false) × ¬ IsTooDeep most stage text × (why ≡ NotWellFormed))
-
--- from this stage on the text is these lexemes and then `rest`, where no token is allowed
-pub record IsStuck (most : ℕ) (stage : Stage) (text : List ℕ) (lexemes : List Lexeme) (rest : List ℕ) : Type 0 where
-  pub split : text ≡ lexemes_text lexemes ++ rest
-  pub stand : CanAllStand most stage lexemes rest
-  pub no_more : ¬ Begins most (last_stage stage lexemes) rest
-  pub unfinished : rest ≡ [] → last_stage stage lexemes ≢ epilog
-
--- The first token of the text that isn't allowed, from this stage on. If the text ends within a token that could still
--- stand, the offset is `end`, at which the text ends, and else that of the token.
-pub record IsStuckAt (most : ℕ) (stage : Stage) (text : List ℕ) (end at : ℕ) (why : Why) : Type 0 where
-  pub lexemes : List Lexeme
-  pub rest : List ℕ
-  pub stuck : IsStuck most stage text lexemes rest
-  pub place :
-      (CanGoOn most (last_stage stage lexemes) rest × (at ≡ end) × (why ≡ NotWellFormed))
-      ⊎ (¬ CanGoOn most (last_stage stage lexemes) rest × (at ≡ end - length rest)
-      × IsTokenFault most (last_stage stage lexemes) rest why)
-
--- step 2: the first token of the input that isn't allowed
-abbrev pub IsNotTokensAt : ℕ → List ℕ → ℕ → Why → Type 0
-IsNotTokensAt most bytes at why =
-    (text : List ℕ) × (bytes ≡ mark_of bytes ++ text) × IsStuckAt most start text (length bytes) at why
+-- the fault of a token, as that of an entry document
+abbrev pub entry_fault : TokenFault → EntryFault
+entry_fault (token_fault.NotRead at why) = NotRead at (why_of why)
+entry_fault token_fault.NoMemory = NoMemory
 
 -- step 3: the root isn't an entry
 abbrev pub IsOtherRoot : Element → ℕ → Why → Type 0
@@ -103,10 +46,9 @@ IsNoEntryAt root content at why =
     ⊎ ((root.name ≡ atom (codes "entry"))
     × (IsFirstFault (all_seen in_entry [] content) at why ⊎ HasNoTitle root content at why))
 
--- the bytes are refused with this offset and reason
+-- the bytes are refused with this offset and reason; steps 1 and 2 are those of tokens
 abbrev pub IsRefusedAt : List ℕ → ℕ → Why → Type 0
 IsRefusedAt bytes at why =
-    (IsNotUtf8At bytes at × (why ≡ NotUtf8))
-    ⊎ (IsInUtf8 bytes × IsNotTokensAt depth_limit bytes at why)
+    ((cause : TokenWhy) × IsTokenRefusedAt depth_limit bytes at cause × (why ≡ why_of cause))
     ⊎ ((root : Element) × (content : Content) × IsDocument depth_limit bytes root content
     × IsNoEntryAt root content at why)

@@ -1,8 +1,9 @@
 -- The bytes that are read as a draft.
 use Rattle.std.specs.Prelude.{◌≡◌, ℕ, List, [], All, codes}
 use Rattle.atom_values.specs.Entry.{DraftValue}
-use Rattle.entry_reader.specs.Tree.{Element, Content, IsDocument}
-use Rattle.entry_reader.specs.Entry.{atom, IsReadAs}
+use Rattle.xml_tokens.specs.Tree.{Element, Content, IsDocument}
+use Rattle.entry_reader.specs.Entry.{IsReadAs}
+use Rattle.xml_tokens.specs.Names.{atom}
 use Rattle.entry_reader.specs.Faults.{all_seen, IsFaultless}
 use Rattle.entry_reader.specs.Faults.Within.{in_entry}
 

@@ -4,29 +4,32 @@ ghost use Rattle.entry_reader.specs.Spells.{Spells, entry_limit};
 ghost use Rattle.entry_reader.specs.Refusal.{IsRefusedAt};
 ghost use Rattle.atom_values.specs.Entry.{person_limit, link_limit, category_limit};
 ghost use Rattle.atom_values.specs.Space.{trimmed};
-ghost use Rattle.entry_reader.specs.Tree.{Name, Element as TreeElement, Content as Inner};
-ghost use Rattle.entry_reader.specs.Tree.Content.{nothing};
-ghost use Rattle.entry_reader.specs.Entry.{IsReadAs, app, atom, attribute_in, category, child, link, person, text_of};
+ghost use Rattle.xml_tokens.specs.Tree.{Name, Element as TreeElement, Content as Inner};
+ghost use Rattle.xml_tokens.specs.Tree.Content.{nothing};
+ghost use Rattle.entry_reader.specs.Entry.{IsReadAs, category, link, person};
+ghost use Rattle.xml_tokens.specs.Children.{attribute_in, child, text_of};
+ghost use Rattle.xml_tokens.specs.Names.{app, atom};
 ghost use Rattle.entry_reader.specs.Faults.{constructs, dates, is_one_of, persons as person_names};
 ghost use Rattle.entry_reader.specs.Faults.Within.{in_entry};
-ghost use Rattle.entry_reader.specs.Progress.{IsXmlLength, IsNotUtf8Fault, Point, IsAt, IsElementOf, IsOver, IsReading};
-ghost use Rattle.entry_reader.specs.Progress.{depth_of, left_of, pending};
+ghost use Rattle.xml_tokens.specs.Progress.{Point, IsAt, IsElementOf, IsOver, IsReading};
+ghost use Rattle.xml_tokens.specs.Progress.{total_of, depth_of, left_of, pending};
 ghost use Rattle.entry_reader.specs.Parts.{IsConstructMade, IsDateMade, IsEntryFrom, IsFaultlessIn, IsItemMade, IsPartRead};
 ghost use Rattle.entry_reader.specs.Parts.{ArePartsFrom, IsConstructKind, IsContentKind, IsControlRead, IsDraftRead, IsSlot, IsSoFar};
-ghost use Rattle.entry_reader.specs.Parts.{category_in, count_of, link_in, names_of, other_names, with_child};
+ghost use Rattle.entry_reader.specs.Parts.{category_in, count_of, link_in, other_names};
+ghost use Rattle.xml_tokens.specs.Children.{names_of, with_child};
 ghost use Rattle.std.specs.Prelude.{◌+◌, ◌<◌, OnOk, Some, None, is_some, true, false, codes, IfSome, List, MatchOption, unwrap_or};
 ghost use Rattle.entry_reader.specs.declared.fault.Why.{Why};
 
-use crate::elements::{Element, Elements, Event, broken};
 use crate::fault::{EarlyEnd, EntryFault, Why};
 use crate::person::person;
 use crate::rules::Ruled;
 use crate::text::{attribute_text, copied_text, inner_fault, kind, text, two_texts};
 use atom_values::{
     AtomText, Category, Draft, Link, ListFault, MAX_CATEGORIES, MAX_LINKS, MAX_PERSONS, Many,
-    NoMemory, Person, Stamp, Text, TextKind, is_xml_char,
+    NoMemory, Person, Stamp, Text, TextKind,
 };
 use std::alloc::Global;
+use xml_tokens::{Element, Elements, Event, TokenFault};
 
 /// The greatest length of an entry document, in bytes.
 pub const MAX_ENTRY: usize = 65_536;
@@ -79,7 +82,7 @@ pub fn read_entry(alloc: Global, bytes: &[u8]) -> Result<Draft, EntryFault>
     ensures refused { (at : ℕ) (why : Why) → result ≡ Err (EntryFault.NotRead at why)
         → IsRefusedAt bytes.now at why }
 {
-    let mut elements = Elements::new(alloc, MAX_DEPTH, bytes, xml_length(bytes)?);
+    let mut elements = Elements::new(alloc, MAX_DEPTH, bytes)?;
     let root = match elements.next()? {
         Some(Event::Begin(root)) => root,
         // The first part of a document's tree is its root.
@@ -89,7 +92,7 @@ pub fn read_entry(alloc: Global, bytes: &[u8]) -> Result<Draft, EntryFault>
     };
     match entry(alloc, &mut elements, &root) {
         Ok(draft) => Ok(draft),
-        Err(EarlyEnd::Fault(fault)) => Err(fault),
+        Err(EarlyEnd::Fault(fault)) => Err(EntryFault::from(fault)),
         Err(EarlyEnd::Refused { at, why }) => {
             elements.drain()?;
             Err(EntryFault::NotRead { at, why })
@@ -97,22 +100,11 @@ pub fn read_entry(alloc: Global, bytes: &[u8]) -> Result<Draft, EntryFault>
     }
 }
 
-/// The length of the longest prefix that has XML characters only. `NotUtf8` if the bytes aren't UTF-8.
-fn xml_length(bytes: &[u8]) -> Result<usize, EntryFault>
-    ensures { MatchResult result (IsXmlLength bytes.now) (IsNotUtf8Fault bytes.now) }
-{
-    let text = match str::from_utf8(bytes) {
-        Ok(text) => text,
-        Err(error) => {
-            return Err(EntryFault::NotRead {
-                at: error.valid_up_to(),
-                why: Why::NotUtf8,
-            });
-        }
-    };
-    match text.find(|c: char| !is_xml_char(c)) {
-        Some(at) => Ok(at),
-        None => Ok(text.len()),
+/// The fault of an input that ends too early.
+fn broken(at: usize) -> EntryFault {
+    EntryFault::NotRead {
+        at,
+        why: Why::NotWellFormed,
     }
 }
 
@@ -125,7 +117,7 @@ fn entry<'a>(
     requires reading { IsReading elements.old }
     requires inside { 1 ≤ depth_of elements.old }
     ensures read { (from : Point) (e : TreeElement) → IsAt elements.old from → IsElementOf e root.now
-        → IsEntryFrom elements.old.length (pending elements.old) from e result elements.new }
+        → IsEntryFrom (total_of elements.old) (pending elements.old) from e result elements.new }
     ensures kept { IfOk result IsDraft }
     ensures over { OnOk result (IsOver elements.new) }
 {
@@ -148,7 +140,7 @@ fn read_parts(alloc: Global, elements: &mut Elements<'_>) -> Result<Parts, Early
     requires reading { IsReading elements.old }
     requires inside { 1 ≤ depth_of elements.old }
     ensures { (from : Point) → IsAt elements.old from
-        → ArePartsFrom elements.old.length (pending elements.old) from result elements.new }
+        → ArePartsFrom (total_of elements.old) (pending elements.old) from result elements.new }
 {
     let mut parts = Parts::new(alloc);
     loop {
@@ -187,11 +179,11 @@ fn once<T>(slot: &Option<T>, element: &Element<'_>) -> Result<(), EarlyEnd>
 fn list_end(fault: ListFault, element: &Element<'_>) -> EarlyEnd
     ensures full { (count : ℕ) → fault ≡ ListFault.TooMany count
         → result ≡ EarlyEnd.Refused element.now.at Why.TooMany }
-    ensures memory { fault ≡ ListFault.NoMemory → result ≡ EarlyEnd.Fault EntryFault.NoMemory }
+    ensures memory { fault ≡ ListFault.NoMemory → result ≡ EarlyEnd.Fault TokenFault.NoMemory }
 {
     match fault {
         ListFault::TooMany { count: _ } => refused(element, Why::TooMany),
-        ListFault::NoMemory => EarlyEnd::Fault(EntryFault::NoMemory),
+        ListFault::NoMemory => EarlyEnd::Fault(TokenFault::NoMemory),
     }
 }
 
@@ -262,7 +254,7 @@ impl Parts {
         requires inside { 1 ≤ depth_of elements.old }
         ensures read { (from : Point) (b : Inner) (e : TreeElement) → IsAt elements.old from
             → IsElementOf e child.now → IsSoFar b self.old
-            → IsPartRead elements.old.length (pending elements.old) from in_entry (names_of b) e
+            → IsPartRead (total_of elements.old) (pending elements.old) from in_entry (names_of b) e
             (λ inner _. IsSoFar (with_child b e inner) self.new) result elements.new }
         ensures depth { OnOk result (depth_of elements.new + 1 ≡ depth_of elements.old) }
         ensures shorter { OnOk result (left_of elements.new < left_of elements.old) }
@@ -298,7 +290,7 @@ impl Parts {
         ensures read { (from : Point) (before : List Name) (e : TreeElement) → IsAt elements.old from
             → IsElementOf e child.now → e.name ≡ atom (codes "id")
             → IsSlot e.name before (is_some self.old.id)
-            → IsPartRead elements.old.length (pending elements.old) from in_entry before e
+            → IsPartRead (total_of elements.old) (pending elements.old) from in_entry before e
             (λ inner _. (self.new ≡ record self.old { id = Some (trimmed (text_of inner)) })
             × IsFaultlessIn in_entry before e inner) result elements.new }
         ensures depth { OnOk result (depth_of elements.new + 1 ≡ depth_of elements.old) }
@@ -325,7 +317,7 @@ impl Parts {
         requires inside { 1 ≤ depth_of elements.old }
         ensures read { (from : Point) (b : Inner) (e : TreeElement) → IsAt elements.old from
             → IsElementOf e child.now → IsSoFar b self.old → is_one_of other_names e.name ≡ false
-            → IsPartRead elements.old.length (pending elements.old) from in_entry (names_of b) e
+            → IsPartRead (total_of elements.old) (pending elements.old) from in_entry (names_of b) e
             (λ inner _. IsSoFar (with_child b e inner) self.new) result elements.new }
         ensures depth { OnOk result (depth_of elements.new + 1 ≡ depth_of elements.old) }
         ensures shorter { OnOk result (left_of elements.new < left_of elements.old) }
@@ -357,7 +349,7 @@ impl Parts {
         ensures read { (from : Point) (before : List Name) (e : TreeElement) → IsAt elements.old from
             → IsElementOf e child.now → e.name ≡ atom (codes "link")
             → length self.old.links.items ≡ count_of e.name before
-            → IsPartRead elements.old.length (pending elements.old) from in_entry before e
+            → IsPartRead (total_of elements.old) (pending elements.old) from in_entry before e
             (λ inner made. (self.new ≡ record self.old { links = self.new.links })
             × IsItemMade link before e self.old.links.items self.new.links.items inner made)
             result elements.new }
@@ -389,7 +381,7 @@ impl Parts {
         ensures read { (from : Point) (before : List Name) (e : TreeElement) → IsAt elements.old from
             → IsElementOf e child.now → e.name ≡ atom (codes "category")
             → length self.old.categories.items ≡ count_of e.name before
-            → IsPartRead elements.old.length (pending elements.old) from in_entry before e
+            → IsPartRead (total_of elements.old) (pending elements.old) from in_entry before e
             (λ inner made. (self.new ≡ record self.old { categories = self.new.categories })
             × IsItemMade category before e self.old.categories.items self.new.categories.items inner made)
             result elements.new }
@@ -465,7 +457,7 @@ fn date<'a>(
     requires inside { 1 ≤ depth_of elements.old }
     ensures read { (from : Point) (before : List Name) (e : TreeElement) → IsAt elements.old from
         → IsElementOf e child.now → is_one_of dates e.name ≡ true → IsSlot e.name before (is_some slot.old)
-        → IsPartRead elements.old.length (pending elements.old) from in_entry before e
+        → IsPartRead (total_of elements.old) (pending elements.old) from in_entry before e
         (IsDateMade before e slot.new) result elements.new }
     ensures depth { OnOk result (depth_of elements.new + 1 ≡ depth_of elements.old) }
     ensures shorter { OnOk result (left_of elements.new < left_of elements.old) }
@@ -494,7 +486,7 @@ fn author<'a>(
     ensures read { (from : Point) (before : List Name) (e : TreeElement) → IsAt elements.old from
         → IsElementOf e child.now → is_one_of person_names e.name ≡ true
         → length persons.old.items ≡ count_of e.name before
-        → IsPartRead elements.old.length (pending elements.old) from in_entry before e
+        → IsPartRead (total_of elements.old) (pending elements.old) from in_entry before e
         (IsItemMade person before e persons.old.items persons.new.items) result elements.new }
     ensures depth { OnOk result (depth_of elements.new + 1 ≡ depth_of elements.old) }
     ensures shorter { OnOk result (left_of elements.new < left_of elements.old) }
@@ -545,7 +537,7 @@ fn construct<'a>(
     ensures read { (from : Point) (before : List Name) (e : TreeElement) → IsAt elements.old from
         → IsElementOf e child.now → is_one_of constructs e.name ≡ true
         → IsSlot e.name before (is_some slot.old)
-        → IsPartRead elements.old.length (pending elements.old) from in_entry before e
+        → IsPartRead (total_of elements.old) (pending elements.old) from in_entry before e
         (IsConstructMade before e slot.new) result elements.new }
     ensures depth { OnOk result (depth_of elements.new + 1 ≡ depth_of elements.old) }
     ensures shorter { OnOk result (left_of elements.new < left_of elements.old) }
@@ -567,11 +559,11 @@ fn construct<'a>(
 }
 
 /// Reads a child of the control element, and returns whether it says that the entry is a draft.
-fn says_draft<'a>(elements: &mut Elements<'a>, child: &Element<'a>) -> Result<bool, EntryFault>
+fn says_draft<'a>(elements: &mut Elements<'a>, child: &Element<'a>) -> Result<bool, TokenFault>
     requires reading { IsReading elements.old }
     requires inside { 1 ≤ depth_of elements.old }
     ensures read { (from : Point) (e : TreeElement) → IsAt elements.old from → IsElementOf e child.now
-        → IsDraftRead elements.old.length (pending elements.old) from e result elements.new }
+        → IsDraftRead (total_of elements.old) (pending elements.old) from e result elements.new }
     ensures depth { OnOk result (depth_of elements.new + 1 ≡ depth_of elements.old) }
     ensures shorter { OnOk result (left_of elements.new < left_of elements.old) }
 {
@@ -584,11 +576,11 @@ fn says_draft<'a>(elements: &mut Elements<'a>, child: &Element<'a>) -> Result<bo
 }
 
 /// Reads the rest of a control element, and returns whether a child says that the entry is a draft.
-fn is_draft(elements: &mut Elements<'_>) -> Result<bool, EntryFault>
+fn is_draft(elements: &mut Elements<'_>) -> Result<bool, TokenFault>
     requires reading { IsReading elements.old }
     requires inside { 1 ≤ depth_of elements.old }
     ensures read { (from : Point) → IsAt elements.old from
-        → IsControlRead elements.old.length (pending elements.old) from result elements.new }
+        → IsControlRead (total_of elements.old) (pending elements.old) from result elements.new }
     ensures depth { OnOk result (depth_of elements.new + 1 ≡ depth_of elements.old) }
     ensures shorter { OnOk result (left_of elements.new < left_of elements.old) }
 {
@@ -609,7 +601,7 @@ fn control<'a>(elements: &mut Elements<'a>, control: &Element<'a>) -> Result<(),
     requires inside { 1 ≤ depth_of elements.old }
     ensures read { (from : Point) (before : List Name) (e : TreeElement) → IsAt elements.old from
         → IsElementOf e control.now → e.name ≡ app (codes "control")
-        → IsPartRead elements.old.length (pending elements.old) from in_entry before e
+        → IsPartRead (total_of elements.old) (pending elements.old) from in_entry before e
         (λ inner _. IsFaultlessIn in_entry before e inner) result elements.new }
     ensures depth { OnOk result (depth_of elements.new + 1 ≡ depth_of elements.old) }
     ensures shorter { OnOk result (left_of elements.new < left_of elements.old) }

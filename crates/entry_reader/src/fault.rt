@@ -1,6 +1,7 @@
 use atom_values::NoMemory;
 use std::error::Error;
 use std::fmt;
+use xml_tokens::{TokenFault, TokenWhy};
 
 /// Why bytes aren't read as an entry. The offset beside the reason is that of the element's `<`, unless the
 /// variant says otherwise.
@@ -35,6 +36,22 @@ pub enum Why {
     TooMany,
 }
 
+impl From<TokenWhy> for Why {
+    ghost use Rattle.std.specs.Prelude.{◌≡◌};
+    ghost use Rattle.entry_reader.specs.Refusal.{why_of};
+
+    ghost from_gives = { λ cause why. why ≡ why_of cause };
+
+    fn from(cause: TokenWhy) -> Why {
+        match cause {
+            TokenWhy::NotUtf8 => Why::NotUtf8,
+            TokenWhy::Doctype => Why::Doctype,
+            TokenWhy::NotWellFormed => Why::NotWellFormed,
+            TokenWhy::TooDeep => Why::TooDeep,
+        }
+    }
+}
+
 /// Why [`read_entry`](crate::read_entry) refused bytes.
 #[derive(Clone, Copy, Debug, PartialEq, Eq)]
 pub enum EntryFault {
@@ -58,6 +75,23 @@ impl fmt::Display for EntryFault {
 
 impl Error for EntryFault {}
 
+impl From<TokenFault> for EntryFault {
+    ghost use Rattle.std.specs.Prelude.{◌≡◌};
+    ghost use Rattle.entry_reader.specs.Refusal.{entry_fault};
+
+    ghost from_gives = { λ fault entry. entry ≡ entry_fault fault };
+
+    fn from(fault: TokenFault) -> EntryFault {
+        match fault {
+            TokenFault::NotRead { at, why } => EntryFault::NotRead {
+                at,
+                why: Why::from(why),
+            },
+            TokenFault::NoMemory => EntryFault::NoMemory,
+        }
+    }
+}
+
 impl From<NoMemory> for EntryFault {
     ghost use Rattle.std.specs.Prelude.{◌≡◌};
     ghost use Rattle.entry_reader.specs.declared.fault.EntryFault.TheVariants.{NoMemory as OutOfMemory};
@@ -75,28 +109,28 @@ pub(crate) enum EarlyEnd {
     /// An element is refused. A fault of a later token comes before it, so the tokens are read on.
     Refused { at: usize, why: Why },
     /// A token isn't allowed where it is, or memory ran out.
-    Fault(EntryFault),
+    Fault(TokenFault),
 }
 
-impl From<EntryFault> for EarlyEnd {
+impl From<TokenFault> for EarlyEnd {
     ghost use Rattle.std.specs.Prelude.{◌≡◌};
     ghost use Rattle.entry_reader.specs.declared.fault.EarlyEnd.TheVariants.{Fault};
 
     ghost from_gives = { λ fault stop. stop ≡ Fault fault };
 
-    fn from(fault: EntryFault) -> EarlyEnd {
+    fn from(fault: TokenFault) -> EarlyEnd {
         EarlyEnd::Fault(fault)
     }
 }
 
 impl From<NoMemory> for EarlyEnd {
     ghost use Rattle.std.specs.Prelude.{◌≡◌};
-    ghost use Rattle.entry_reader.specs.declared.fault.EntryFault.TheVariants.{NoMemory as OutOfMemory};
+    ghost use Rattle.xml_tokens.specs.declared.fault.TokenFault.TheVariants.{NoMemory as OutOfMemory};
     ghost use Rattle.entry_reader.specs.declared.fault.EarlyEnd.TheVariants.{Fault};
 
     ghost from_gives = { λ _ stop. stop ≡ Fault OutOfMemory };
 
     fn from(_error: NoMemory) -> EarlyEnd {
-        EarlyEnd::Fault(EntryFault::NoMemory)
+        EarlyEnd::Fault(TokenFault::NoMemory)
     }
 }

@@ -16,23 +16,15 @@
 //! The law [`bytes_are_read_in_one_way`] states that bytes spell one draft at most or have one refusal at most, and
 //! not both.
 //!
-//! Stands on `atom_values`.
+//! Stands on `xml_tokens` for the elements of a document, and on `atom_values` for the draft.
 #![tactic(auto)]
 
-mod cursor;
-mod declaration;
-mod elements;
 mod entry;
 mod fault;
 mod laws;
 mod person;
-mod reference;
 mod rules;
-mod scopes;
-mod tag;
 mod text;
-mod token;
-mod value;
 
 pub use entry::{MAX_DEPTH, MAX_ENTRY, read_entry};
 pub use fault::{EntryFault, Why};

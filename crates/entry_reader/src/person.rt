@@ -1,17 +1,17 @@
 ghost use Rattle.std.specs.Prelude.{◌≡◌, ℕ, ◌+◌, ◌<◌, ◌≤◌, List, [], OnOk, Bool, true, false, Some, if◌then◌else◌};
 ghost use Rattle.atom_values.specs.Entry.{person_limit};
-ghost use Rattle.entry_reader.specs.Tree.{Name, Element as TreeElement, Content as Inner, Event as Told};
+ghost use Rattle.xml_tokens.specs.Tree.{Name, Element as TreeElement, Content as Inner, Event as Told};
 ghost use Rattle.entry_reader.specs.Entry.{person};
 ghost use Rattle.entry_reader.specs.Faults.{Within, persons, is_one_of};
 ghost use Rattle.entry_reader.specs.Faults.Within.{in_entry};
-ghost use Rattle.entry_reader.specs.Progress.{Point, AreInner, IsAt, IsElementOf, IsFaultFrom, IsLed, IsReading, depth_of, left_of, pending};
+ghost use Rattle.xml_tokens.specs.Progress.{Point, AreInner, IsAt, IsElementOf, IsFaultFrom, IsLed, IsReading, total_of, depth_of, left_of, pending};
 ghost use Rattle.entry_reader.specs.Parts.{AreFieldsOf, AreFieldsFrom, IsFieldOf, IsFieldsChild, IsPartRead, IsFaultlessIn, count_of, person_of, taken_fields};
 
-use crate::elements::{Content, Element, Elements, Event};
-use crate::fault::{EarlyEnd, EntryFault, Why};
+use crate::fault::{EarlyEnd, Why};
 use crate::text::{inner_fault, text};
 use atom_values::{AtomText, NoMemory, Person};
 use std::alloc::Global;
+use xml_tokens::{Content, Element, Elements, Event, TokenFault};
 
 /// The fields of a person that are read so far, and the refusal of the first child that has one.
 #[derive(Drop)]
@@ -52,13 +52,13 @@ impl Fields {
         alloc: Global,
         elements: &mut Elements<'a>,
         child: &Element<'a>,
-    ) -> Result<(), EntryFault>
+    ) -> Result<(), TokenFault>
         requires reading { IsReading elements.old }
         requires inside { 1 ≤ depth_of elements.old }
         ensures read { (from : Point) (b : Inner) (e : TreeElement) → IsAt elements.old from
             → AreFieldsOf b self.old
             → IsElementOf e child.now
-            → IsFieldsChild elements.old.length (pending elements.old) from b e result self.new elements.new }
+            → IsFieldsChild (total_of elements.old) (pending elements.old) from b e result self.new elements.new }
         ensures depth { OnOk result (depth_of elements.new + 1 ≡ depth_of elements.old) }
         ensures shorter { OnOk result (left_of elements.new < left_of elements.old) }
     {
@@ -137,11 +137,11 @@ fn slot_refusal(taken: bool, at: usize, inner: Option<(usize, Why)>) -> Option<(
 }
 
 /// Reads the fields of a person, to its end.
-fn read_fields(alloc: Global, elements: &mut Elements<'_>) -> Result<Fields, EntryFault>
+fn read_fields(alloc: Global, elements: &mut Elements<'_>) -> Result<Fields, TokenFault>
     requires reading { IsReading elements.old }
     requires inside { 1 ≤ depth_of elements.old }
     ensures read { (from : Point) → IsAt elements.old from
-        → AreFieldsFrom elements.old.length (pending elements.old) from result elements.new }
+        → AreFieldsFrom (total_of elements.old) (pending elements.old) from result elements.new }
     ensures depth { OnOk result (depth_of elements.new + 1 ≡ depth_of elements.old) }
     ensures shorter { OnOk result (left_of elements.new < left_of elements.old) }
 {
@@ -175,7 +175,7 @@ pub(crate) fn person<'a>(
         → IsElementOf e element.now → is_one_of persons e.name ≡ true
         → (full ≡ true → person_limit ≤ count_of e.name before)
         → (full ≡ false → count_of e.name before < person_limit)
-        → IsPartRead elements.old.length (pending elements.old) from in_entry before e
+        → IsPartRead (total_of elements.old) (pending elements.old) from in_entry before e
         (λ inner made. (made ≡ person (record { element = e; content = inner }))
         × IsFaultlessIn in_entry before e inner)
         result elements.new }

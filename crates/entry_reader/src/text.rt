@@ -1,16 +1,14 @@
 ghost use Rattle.std.specs.Prelude.{◌≡◌, List, IfOk, codes, option_map};
-ghost use Rattle.std.specs.List.{AllZip};
-ghost use Rattle.entry_reader.specs.Characters.{IsName};
-ghost use Rattle.entry_reader.specs.Tokens.{Attribute as Read};
-ghost use Rattle.entry_reader.specs.Entry.{attribute_in};
-ghost use Rattle.entry_reader.specs.Scopes.{IsLawfulOf};
-ghost use Rattle.entry_reader.specs.Progress.{IsAttributeFound};
+ghost use Rattle.xml_tokens.specs.Characters.{IsName};
+ghost use Rattle.xml_tokens.specs.Tokens.{Attribute as Read};
+ghost use Rattle.xml_tokens.specs.Children.{attribute_in};
+ghost use Rattle.xml_tokens.specs.Progress.{AreAttributesOf, IsAttributeFound};
 ghost use Rattle.entry_reader.specs.Parts.{IsKindRead};
 
-use crate::elements::{Content, Element};
 use crate::fault::Why;
 use atom_values::{AtomText, NoMemory, TextKind};
 use std::alloc::Global;
+use xml_tokens::{Content, Element};
 
 /// The types of a text construct (RFC 4287 section 3.1.1).
 const TEXT: &[u8] = b"text";
@@ -78,7 +76,7 @@ pub(crate) fn kind(
     unknown: Why,
 ) -> Result<Result<TextKind, Why>, NoMemory>
     ensures { IfOk result (λ kind. (attributes : List Read)
-        → AllZip IsLawfulOf attributes element.now.attributes.items
+        → AreAttributesOf attributes element.now
         → IsKindRead (attribute_in (codes "type") attributes) unknown kind) }
 {
     match element.attribute(alloc, b"type")? {

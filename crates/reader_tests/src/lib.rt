@@ -1,4 +1,4 @@
-//! Tests of the public call of `entry_reader`.
+//! Tests of the public calls of `xml_tokens` and `entry_reader`.
 //!
 //! They are in a crate of their own, so that it is proved once, without its tests.
 //! A test drops large values by `drop`: a value that goes out of scope is proved to be dropped field by field,
@@ -11,3 +11,5 @@ mod entries;
 mod refusals;
 #[cfg(test)]
 mod shown;
+#[cfg(test)]
+mod tokens;

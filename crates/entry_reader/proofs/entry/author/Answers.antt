@@ -6,7 +6,7 @@ use Rattle.std.proofs.lemmas.List.Elements.{All-head}
 use Rattle.entry_reader.specs.declared.fault.Why.TheVariants.{TooMany}
 use Rattle.entry_reader.specs.Faults.{IsFaultless, Seen, all_seen, inside_of}
 use Rattle.entry_reader.specs.Faults.Within.{in_entry}
-use Rattle.entry_reader.specs.Progress.{pending}
+use Rattle.xml_tokens.specs.Progress.{pending}
 use Rattle.entry_reader.specs.Parts.{IsStopped, count_of}
 use Rattle.entry_reader.proofs.entry.author.Goals as goal
 

@@ -2,7 +2,7 @@ use Rattle.std.proofs.Common.{refl, sym, ap, subst, ◌∙◌, Some, option_map}
 use Rattle.entry_reader.specs.declared.fault.EarlyEnd.TheVariants.{Fault}
 use Rattle.entry_reader.specs.declared.fault.Why.TheVariants.{Twice}
 use Rattle.entry_reader.specs.Faults.{constructs, is_one_of, single_parts}
-use Rattle.entry_reader.specs.Progress.{pending}
+use Rattle.xml_tokens.specs.Progress.{pending}
 use Rattle.entry_reader.specs.Parts.{IsConstructKind}
 use Rattle.entry_reader.proofs.ChildLemmas.{all_of, no_some, part_stopped, refused_at, refuses_read, single_faultless}
 use Rattle.entry_reader.proofs.ChildLemmas.{single_inner, single_own, single_twice, stopped_here}

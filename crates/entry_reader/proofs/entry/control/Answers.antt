@@ -2,7 +2,7 @@ use Rattle.std.proofs.Common.{[], ◌∷◌, sym, ap, ◌∙◌, codes}
 use Rattle.entry_reader.specs.declared.fault.EarlyEnd.TheVariants.{Fault}
 use Rattle.entry_reader.specs.declared.fault.Why.TheVariants.{Draft}
 use Rattle.entry_reader.specs.Faults.{is_one_of, persons, single_parts}
-use Rattle.entry_reader.specs.Progress.{pending}
+use Rattle.xml_tokens.specs.Progress.{pending}
 use Rattle.entry_reader.proofs.ChildLemmas.{no_list, part_stopped, stopped_read}
 use Rattle.entry_reader.proofs.ControlLemmas.{says_draft, says_no_draft}
 use Rattle.entry_reader.proofs.ItemLemmas.{beside_faultless, control_draft}

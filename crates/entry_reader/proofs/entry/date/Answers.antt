@@ -4,9 +4,9 @@ use Rattle.atom_values.specs.DateText.{States}
 use Rattle.atom_values.specs.Space.{trimmed}
 use Rattle.entry_reader.specs.declared.fault.EarlyEnd.TheVariants.{Fault}
 use Rattle.entry_reader.specs.declared.fault.Why.TheVariants.{BadDate, Twice}
-use Rattle.entry_reader.specs.Entry.{text_of}
+use Rattle.xml_tokens.specs.Children.{text_of}
 use Rattle.entry_reader.specs.Faults.{constructs, dates, is_one_of, single_parts}
-use Rattle.entry_reader.specs.Progress.{pending}
+use Rattle.xml_tokens.specs.Progress.{pending}
 use Rattle.entry_reader.proofs.ChildLemmas.{all_of, date_bad, no_some, none_of, part_stopped, refused_at, refuses_read}
 use Rattle.entry_reader.proofs.ChildLemmas.{single_faultless, single_inner, single_own, single_twice, stopped_here}
 use Rattle.entry_reader.proofs.ChildLemmas.{stopped_read, untyped}

@@ -1,11 +1,11 @@
 use Rattle.std.proofs.Common.{Err, sym, ap, subst, ◌∙◌}
 use Rattle.entry_reader.specs.declared.fault.EarlyEnd.TheVariants.{Refused}
 use Rattle.entry_reader.specs.declared.fault.Why.TheVariants.{Missing, NotAnEntry}
-use Rattle.entry_reader.specs.Progress.{pending}
+use Rattle.xml_tokens.specs.Progress.{pending}
 use Rattle.entry_reader.specs.Parts.{IsEntryFrom}
 use Rattle.entry_reader.proofs.EntryLemmas.{end_faulty, entry_read, other_root, parts_stopped, untitled}
 use Rattle.entry_reader.proofs.PersonLemmas.{stop_is}
-use Rattle.entry_reader.proofs.ProgressLemmas.{led_nowhere}
+use Rattle.xml_tokens.proofs.ProgressLemmas.{led_nowhere}
 use Rattle.entry_reader.proofs.entry.entry.Goals as goal
 
 pub returns-then-not-is_atom-clause-read : goal.returns-then-not-is_atom-clause-read

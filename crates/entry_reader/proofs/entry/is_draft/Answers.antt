@@ -1,15 +1,16 @@
 use Rattle.std.proofs.Common.{rules, ◌≡◌, ◌<◌, ◌+◌, ◌∷◌, ◌++◌, [], List, Some, Ok, refl, sym, ap, subst, ◌∙◌, arith}
 use Rattle.std.proofs.Common.{map, ◌||◌}
 use Rattle.std.specs.Prelude.{IsSome}
-use Rattle.entry_reader.specs.declared.elements.Event.TheVariants.{Begin, End, Said}
-use Rattle.entry_reader.specs.Tree.{Content, Event}
-use Rattle.entry_reader.specs.Tree.Content.{nothing}
-use Rattle.entry_reader.specs.Tree.Event.{begin, finish, say}
-use Rattle.entry_reader.specs.Progress.{Point, IsAt, IsDepthAfter, IsEventOf, IsLed, depth_of, left_of, pending}
-use Rattle.entry_reader.specs.Parts.{IsControlRead, has_draft, with_child}
-use Rattle.entry_reader.proofs.ContentLemmas.{ArePart, part_last, part_none, part_said, part_whole}
+use Rattle.xml_tokens.specs.declared.elements.Event.TheVariants.{Begin, End, Said}
+use Rattle.xml_tokens.specs.Tree.{Content, Event}
+use Rattle.xml_tokens.specs.Tree.Content.{nothing}
+use Rattle.xml_tokens.specs.Tree.Event.{begin, finish, say}
+use Rattle.xml_tokens.specs.Progress.{Point, IsAt, IsDepthAfter, IsEventOf, IsLed, depth_of, left_of, pending}
+use Rattle.entry_reader.specs.Parts.{IsControlRead, has_draft}
+use Rattle.xml_tokens.specs.Children.{with_child}
+use Rattle.xml_tokens.proofs.ContentLemmas.{ArePart, part_last, part_none, part_said, part_whole}
 use Rattle.entry_reader.proofs.ControlLemmas.{drafts_more, drafts_said}
-use Rattle.entry_reader.proofs.ProgressLemmas.{err_is, fault_on, led_nowhere, led_on}
+use Rattle.xml_tokens.proofs.ProgressLemmas.{err_is, fault_on, led_nowhere, led_on}
 use Rattle.entry_reader.proofs.entry.is_draft.Goals as goal
 
 pub loop-child-init : goal.loop-child-init

@@ -1,8 +1,8 @@
 use Rattle.std.proofs.Common.{◌≡◌, ◌≤◌, [], List}
-use Rattle.entry_reader.specs.Tree.{Content, Event}
-use Rattle.entry_reader.specs.Progress.{Point, IsAt, IsLed, IsReading, depth_of, left_of, pending}
+use Rattle.xml_tokens.specs.Tree.{Content, Event}
+use Rattle.xml_tokens.specs.Progress.{Point, IsAt, IsLed, IsReading, depth_of, left_of, pending}
 use Rattle.entry_reader.specs.Parts.{has_draft}
-use Rattle.entry_reader.proofs.ContentLemmas.{ArePart}
+use Rattle.xml_tokens.proofs.ContentLemmas.{ArePart}
 use Rattle.entry_reader.proofs.entry.is_draft.Given as goal
 
 abbrev pub invariant-loop-child : goal.invariant-loop-child

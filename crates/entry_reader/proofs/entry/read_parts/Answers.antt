@@ -1,16 +1,17 @@
 use Rattle.std.proofs.Common.{rules, ◌≡◌, ◌<◌, ◌+◌, ◌∷◌, ◌++◌, [], List, Some, Ok, refl, ap, subst, ◌∙◌, arith, map}
 use Rattle.std.specs.Prelude.{IsSome}
-use Rattle.entry_reader.specs.declared.elements.Event.TheVariants.{Begin, End, Said}
+use Rattle.xml_tokens.specs.declared.elements.Event.TheVariants.{Begin, End, Said}
 use Rattle.entry_reader.specs.declared.fault.EarlyEnd.TheVariants.{Fault}
-use Rattle.entry_reader.specs.Tree.{Content, Event}
-use Rattle.entry_reader.specs.Tree.Content.{nothing}
-use Rattle.entry_reader.specs.Tree.Event.{begin, finish, say}
-use Rattle.entry_reader.specs.Progress.{Point, IsAt, IsDepthAfter, IsEventOf, IsLed, depth_of, left_of, pending}
-use Rattle.entry_reader.specs.Parts.{ArePartsFrom, IsSoFar, with_child}
-use Rattle.entry_reader.proofs.ContentLemmas.{ArePart, part_last, part_none, part_said, part_whole}
+use Rattle.xml_tokens.specs.Tree.{Content, Event}
+use Rattle.xml_tokens.specs.Tree.Content.{nothing}
+use Rattle.xml_tokens.specs.Tree.Event.{begin, finish, say}
+use Rattle.xml_tokens.specs.Progress.{Point, IsAt, IsDepthAfter, IsEventOf, IsLed, depth_of, left_of, pending}
+use Rattle.entry_reader.specs.Parts.{ArePartsFrom, IsSoFar}
+use Rattle.xml_tokens.specs.Children.{with_child}
+use Rattle.xml_tokens.proofs.ContentLemmas.{ArePart, part_last, part_none, part_said, part_whole}
 use Rattle.entry_reader.proofs.EntryLemmas.{child_stopped, parts_said}
 use Rattle.entry_reader.proofs.PersonLemmas.{stop_is}
-use Rattle.entry_reader.proofs.ProgressLemmas.{fault_on, led_nowhere, led_on}
+use Rattle.xml_tokens.proofs.ProgressLemmas.{fault_on, led_nowhere, led_on}
 use Rattle.entry_reader.proofs.entry.read_parts.Goals as goal
 
 pub loop-parts-init : goal.loop-parts-init

@@ -1,9 +1,9 @@
 use Rattle.std.proofs.Common.{◌&&◌, sym, ap, ◌∙◌, codes, not, bytes_eq}
 use Rattle.atom_values.specs.Space.{trimmed}
-use Rattle.entry_reader.specs.Entry.{text_of}
-use Rattle.entry_reader.specs.Progress.{pending}
+use Rattle.xml_tokens.specs.Children.{text_of}
+use Rattle.xml_tokens.specs.Progress.{pending}
 use Rattle.entry_reader.specs.Parts.{IsDraftRead}
-use Rattle.entry_reader.proofs.ProgressLemmas.{err_is}
+use Rattle.xml_tokens.proofs.ProgressLemmas.{err_is}
 use Rattle.entry_reader.proofs.entry.says_draft.Goals as goal
 
 pub returns-in_err-skip-clause-read : goal.returns-in_err-skip-clause-read

@@ -1,14 +1,15 @@
 use Rattle.std.proofs.Common.{rules, ◌≡◌, ◌<◌, ◌+◌, ◌∷◌, ◌++◌, [], List, Some, Ok, refl, ap, subst, ◌∙◌, arith, map}
 use Rattle.std.specs.Prelude.{IsSome}
-use Rattle.entry_reader.specs.declared.elements.Event.TheVariants.{Begin, End, Said}
-use Rattle.entry_reader.specs.Tree.{Content, Event}
-use Rattle.entry_reader.specs.Tree.Content.{nothing}
-use Rattle.entry_reader.specs.Tree.Event.{begin, finish, say}
-use Rattle.entry_reader.specs.Progress.{Point, IsAt, IsDepthAfter, IsEventOf, IsLed, depth_of, left_of, pending}
-use Rattle.entry_reader.specs.Parts.{AreFieldsFrom, AreFieldsOf, with_child}
-use Rattle.entry_reader.proofs.ContentLemmas.{ArePart, part_last, part_none, part_said, part_whole}
+use Rattle.xml_tokens.specs.declared.elements.Event.TheVariants.{Begin, End, Said}
+use Rattle.xml_tokens.specs.Tree.{Content, Event}
+use Rattle.xml_tokens.specs.Tree.Content.{nothing}
+use Rattle.xml_tokens.specs.Tree.Event.{begin, finish, say}
+use Rattle.xml_tokens.specs.Progress.{Point, IsAt, IsDepthAfter, IsEventOf, IsLed, depth_of, left_of, pending}
+use Rattle.entry_reader.specs.Parts.{AreFieldsFrom, AreFieldsOf}
+use Rattle.xml_tokens.specs.Children.{with_child}
+use Rattle.xml_tokens.proofs.ContentLemmas.{ArePart, part_last, part_none, part_said, part_whole}
 use Rattle.entry_reader.proofs.FieldLemmas.{fields_said, no_fields}
-use Rattle.entry_reader.proofs.ProgressLemmas.{err_is, fault_on, led_nowhere, led_on}
+use Rattle.xml_tokens.proofs.ProgressLemmas.{err_is, fault_on, led_nowhere, led_on}
 use Rattle.entry_reader.proofs.person.read_fields.Goals as goal
 
 pub loop-fields-init : goal.loop-fields-init

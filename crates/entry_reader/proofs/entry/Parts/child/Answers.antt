@@ -1,10 +1,12 @@
 use Rattle.std.proofs.Common.{sym, ap, ◌∙◌, codes, refl}
 use Rattle.atom_values.specs.Space.{trimmed}
-use Rattle.entry_reader.specs.Entry.{atom, category, child_text, link, person}
+use Rattle.entry_reader.specs.Entry.{category, link, person}
+use Rattle.xml_tokens.specs.Children.{child_text}
+use Rattle.xml_tokens.specs.Names.{atom}
 use Rattle.entry_reader.specs.Faults.{dates, is_one_of, persons}
 use Rattle.entry_reader.specs.Faults.Within.{in_entry}
-use Rattle.entry_reader.specs.Progress.{pending}
-use Rattle.entry_reader.specs.Parts.{names_of}
+use Rattle.xml_tokens.specs.Progress.{pending}
+use Rattle.xml_tokens.specs.Children.{names_of}
 use Rattle.entry_reader.proofs.FieldLemmas.{name_is}
 use Rattle.entry_reader.proofs.SoFarLemmas.{items_counted, part_mapped, slot_mapped, slot_moment, so_far_authors}
 use Rattle.entry_reader.proofs.SoFarLemmas.{so_far_categories, so_far_contributors, so_far_id, so_far_links}

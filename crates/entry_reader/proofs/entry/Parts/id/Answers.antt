@@ -4,7 +4,7 @@ use Rattle.atom_values.specs.Space.{trimmed}
 use Rattle.entry_reader.specs.declared.fault.EarlyEnd.TheVariants.{Fault}
 use Rattle.entry_reader.specs.declared.fault.Why.TheVariants.{Twice}
 use Rattle.entry_reader.specs.Faults.{constructs, dates, is_one_of, single_parts}
-use Rattle.entry_reader.specs.Progress.{pending}
+use Rattle.xml_tokens.specs.Progress.{pending}
 use Rattle.entry_reader.proofs.ChildLemmas.{no_some, part_stopped, refused_at, refuses_read, single_faultless}
 use Rattle.entry_reader.proofs.ChildLemmas.{single_inner, single_own, single_twice, stopped_here, untyped}
 use Rattle.entry_reader.proofs.entry.Parts.id.Goals as goal

@@ -4,11 +4,13 @@ use Rattle.std.proofs.lemmas.Bool.{both_ways}
 use Rattle.atom_values.specs.Entry.{link_limit}
 use Rattle.entry_reader.specs.declared.fault.EarlyEnd.TheVariants.{Fault}
 use Rattle.entry_reader.specs.declared.fault.Why.TheVariants.{Missing, TooMany}
-use Rattle.entry_reader.specs.Tree.Content.{nothing}
-use Rattle.entry_reader.specs.Entry.{app, attribute_in, link, same_name}
+use Rattle.xml_tokens.specs.Tree.Content.{nothing}
+use Rattle.entry_reader.specs.Entry.{link}
+use Rattle.xml_tokens.specs.Children.{attribute_in, same_name}
+use Rattle.xml_tokens.specs.Names.{app}
 use Rattle.entry_reader.specs.Faults.{is_one_of, persons, single_parts}
 use Rattle.entry_reader.specs.Faults.Within.{in_entry}
-use Rattle.entry_reader.specs.Progress.{pending}
+use Rattle.xml_tokens.specs.Progress.{pending}
 use Rattle.entry_reader.specs.Parts.{IsStopped, count_of}
 use Rattle.entry_reader.proofs.ChildLemmas.{no_some, part_stopped, stopped_here}
 use Rattle.entry_reader.proofs.ItemLemmas.{beside_faultless, link_part, link_room, item_many, item_missing, no_value}

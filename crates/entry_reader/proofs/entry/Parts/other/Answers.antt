@@ -1,11 +1,12 @@
 use Rattle.std.proofs.Common.{◌≡◌, sym, ap, ◌∙◌, codes, false, refl}
 use Rattle.std.proofs.lemmas.Bool.{or_from}
 use Rattle.entry_reader.specs.declared.fault.EarlyEnd.TheVariants.{Fault}
-use Rattle.entry_reader.specs.Entry.{app, atom, construct}
+use Rattle.entry_reader.specs.Entry.{construct}
+use Rattle.xml_tokens.specs.Names.{app, atom}
 use Rattle.entry_reader.specs.Faults.{constructs, is_one_of}
 use Rattle.entry_reader.specs.Faults.Within.{in_entry}
-use Rattle.entry_reader.specs.Progress.{pending}
-use Rattle.entry_reader.specs.Parts.{names_of}
+use Rattle.xml_tokens.specs.Progress.{pending}
+use Rattle.xml_tokens.specs.Children.{names_of}
 use Rattle.entry_reader.proofs.ChildLemmas.{part_stopped}
 use Rattle.entry_reader.proofs.FieldLemmas.{name_is}
 use Rattle.entry_reader.proofs.SoFarLemmas.{other_faultless, part_mapped, part_names, slot_mapped, so_far_beside}

@@ -1,8 +1,9 @@
 use Rattle.std.proofs.Common.{sym, subst, ◌∙◌}
-use Rattle.entry_reader.specs.Parts.{AreFieldsOf, IsFieldsChild, taken_fields, with_child}
-use Rattle.entry_reader.specs.Progress.{pending}
+use Rattle.entry_reader.specs.Parts.{AreFieldsOf, IsFieldsChild, taken_fields}
+use Rattle.xml_tokens.specs.Children.{with_child}
+use Rattle.xml_tokens.specs.Progress.{pending}
 use Rattle.entry_reader.proofs.FieldLemmas.{fields_taken, skip_child}
-use Rattle.entry_reader.proofs.ProgressLemmas.{err_is}
+use Rattle.xml_tokens.proofs.ProgressLemmas.{err_is}
 use Rattle.entry_reader.proofs.person.Fields.child.Goals as goal
 
 pub returns-in_default-clause-read : goal.returns-in_default-clause-read

@@ -1,0 +1,21 @@
+use Rattle.std.proofs.Common.{◌≡◌, ◌++◌, ◌∷◌, [], ◌+◌, ◌∙◌, take, reverse, subst, sym, ap, add-one}
+use Rattle.std.proofs.Math.Seq.{take-suc}
+use Rattle.std.specs.Option.{option_or}
+use Rattle.xml_tokens.specs.Scopes.{AreLevelsOf}
+use Rattle.xml_tokens.proofs.ScopeLemmas.{level_step}
+use Rattle.xml_tokens.proofs.scopes.Scopes.find.Goals as goal
+
+pub loop-level-preserved : goal.loop-level-preserved
+loop-level-preserved c = λ opened are.
+    let levels = c.args.self.now.levels.items in
+    let i = c.loop-level.level-index in
+    let level = c.level-item.result in
+    let shown = c.deref-level-items.result.now in
+    let grown : take (i + 1) shown ≡ take i shown ++ level ∷ [] =
+    ap (λ n. take n shown) (add-one i) ∙ take-suc shown i level c.loop-level-test.true
+    ∙ ap (λ x. take i shown ++ x ∷ []) (sym c.level-item.is) in
+    c.or-found.ensures ∙ ap (λ x. option_or x c.loop-level.found) c.copied.ensures
+    ∙ level_step opened (take i levels) level c.args.prefix.now c.loop-level.found _ c.loop-level.invariant
+    (λ own is. c.get.ensures.value ∙ is c.args.prefix.now)
+    (subst (λ xs. AreLevelsOf opened (reverse xs))
+    (subst (λ xs. take (i + 1) xs ≡ take i xs ++ level ∷ []) c.deref-level-items.ensures.value grown) are)

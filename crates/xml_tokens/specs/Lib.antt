@@ -1,0 +1,11 @@
+pub mod Characters
+pub mod Tokens
+pub mod Stages
+pub mod Tree
+pub mod Names
+pub mod Children
+pub mod Refusal
+pub mod Reading
+pub mod Scopes
+pub mod Progress
+pub mod Laws
