@@ -16,13 +16,13 @@ use Rattle.mirror_walk.specs.declared.answer.Offered.{Offered}
 use Rattle.mirror_walk.specs.declared.answer.Offered.TheVariants.{NotADocument, WrongAddress, WrongFeed}
 use Rattle.mirror_walk.specs.declared.answer.Offered.TheVariants.{Conflict}
 use Rattle.mirror_walk.specs.declared.answer.Offered.TheVariants.{Break, Full, DiskFault, NoMemory}
-use Rattle.mirror_walk.specs.Accept.{Answer, IsAnswerWithin, IsKeptOf, IsOfRead, accept, accept_within}
-use Rattle.mirror_walk.specs.Accept.{after_answer}
+use Rattle.mirror_walk.specs.Accept.{Answer, IsAnswerWithin, IsKeptOf, IsOfRead, IsTakeable, accept}
+use Rattle.mirror_walk.specs.Accept.{accept_within, after_answer}
 use Rattle.mirror_walk.specs.Holding.{KeptValue, payloads_of}
 use Rattle.mirror_walk.specs.Mirror.{MirrorValue}
-use Rattle.mirror_walk.specs.Taking.{IsAnswerBefore, IsNoRoom}
+use Rattle.mirror_walk.specs.Taking.{IsAnswerBefore, IsNoRoom, IsToBeTaken}
 use Rattle.mirror_walk.proofs.AcceptLemmas.{IsCheck, accept-is_check}
-use Rattle.mirror_walk.proofs.WithinLemmas.{answered-within, fits-first, within-full, within-same}
+use Rattle.mirror_walk.proofs.WithinLemmas.{answered-within, fits-first, within-full, within-same, within-taken}
 
 module _ (mirror : MirrorValue) (address bytes : List ℕ) where
   abbrev pub IsRefused : Offered → Type 0
@@ -43,23 +43,34 @@ module _ (mirror : MirrorValue) (address bytes : List ℕ) where
   refused-answers refusal (other, inr answer) = inr (inr answer)
 
   -- and of a document that was to be taken
-  pub taken-answers : (answer : Answer) (given : KeptValue) (left : List KeptValue) → IsKeptOf bytes given
-      → accept_within mirror.capacity mirror.base mirror.kept address given ≡ Ok Taken
-      → OnOk answer (left ≡ mirror.kept ++ given ∷ [])
-      → (answer ≡ Ok Taken) ⊎ (answer ≡ Err NoMemory) ⊎ (answer ≡ Err DiskFault)
-      → (answer ≡ Err NoMemory) ⊎ (answer ≡ Err DiskFault)
-      ⊎ IsAnswerWithin mirror.capacity mirror.base mirror.kept address bytes answer left
-  taken-answers answer given left read accepted kept (inr (inl spent)) = inl spent
-  taken-answers answer given left read accepted kept (inr (inr failed)) = inr (inl failed)
-  taken-answers answer given left read accepted kept (inl taken) = inr (inr (subst
-      (λ (r : Answer). IsAnswerWithin mirror.capacity mirror.base mirror.kept address bytes r left)
-      (sym taken)
-      (record {
-        given = given;
-        read = read;
-        first_fit = sym accepted;
-        left_over = subst (λ (r : Answer). OnOk r (left ≡ mirror.kept ++ given ∷ [])) taken kept;
-      })))
+  module _ (given : KeptValue) (payload : List ℕ) (size : mirror.log.size ≡ size_of (payloads_of mirror.kept))
+      (to : IsToBeTaken mirror address bytes given payload) where
+    new-read : IsKeptOf bytes given
+    new-read = subst (λ (b : List ℕ). IsKeptOf b given) to.bytes_are to.taken.read
+
+    new-taken : accept_within mirror.capacity mirror.base mirror.kept address given ≡ Ok Taken
+    new-taken = within-taken mirror.capacity mirror.base mirror.kept address given to.accepted
+        (omega (arith, to.taken.fits, size, ap length to.taken.read.text))
+
+    -- `Mirror::offer`: the clause `failed_taking`
+    pub new-takeable : IsTakeable mirror.capacity mirror.base mirror.kept address bytes
+    new-takeable = record { given = given; read = new-read; taken = new-taken }
+
+    pub taken-answers : (answer : Answer) (left : List KeptValue) → OnOk answer (left ≡ mirror.kept ++ given ∷ [])
+        → (answer ≡ Ok Taken) ⊎ (answer ≡ Err NoMemory) ⊎ (answer ≡ Err DiskFault)
+        → (answer ≡ Err NoMemory) ⊎ (answer ≡ Err DiskFault)
+        ⊎ IsAnswerWithin mirror.capacity mirror.base mirror.kept address bytes answer left
+    taken-answers answer left kept (inr (inl spent)) = inl spent
+    taken-answers answer left kept (inr (inr failed)) = inr (inl failed)
+    taken-answers answer left kept (inl taken) = inr (inr (subst
+        (λ (r : Answer). IsAnswerWithin mirror.capacity mirror.base mirror.kept address bytes r left)
+        (sym taken)
+        (record {
+          given = given;
+          read = new-read;
+          first_fit = sym new-taken;
+          left_over = subst (λ (r : Answer). OnOk r (left ≡ mirror.kept ++ given ∷ [])) taken kept;
+        })))
 
   -- `Mirror::offer`: the clause `first_fit` from the clause `answer`
   pub answer-fits : (answer : Answer) (left : List KeptValue)

@@ -118,7 +118,8 @@ module _ (mirror : MirrorValue) (answers others : List ℕ → Option (List ℕ)
   visit-agrees kept address left (Err faults.FetchFault) agrees visit = visit
   visit-agrees kept address left (Err (faults.Full size needed capacity)) agrees (same, answered) =
       (same, answered-agrees kept address _ kept agrees answered)
-  visit-agrees kept address left (Err faults.DiskFault) agrees visit = tt
+  visit-agrees kept address left (Err faults.DiskFault) agrees visit =
+      record { bytes = visit.bytes; there = agrees ∙ visit.there; takeable = visit.takeable }
   visit-agrees kept address left (Err faults.NoMemory) agrees visit = visit
 
 -- from each of these addresses on, a walk may ask for at least `least` documents

@@ -8,7 +8,7 @@ use Rattle.mirror_walk.specs.declared.answer.Offered.{Offered}
 use Rattle.mirror_walk.specs.declared.answer.Offered.TheVariants.{NotADocument, WrongAddress, WrongFeed}
 use Rattle.mirror_walk.specs.declared.answer.Offered.TheVariants.{Conflict, Break, Full, DiskFault, NoMemory}
 use Rattle.mirror_walk.specs.declared.walk.WalkFault.TheVariants as faults
-use Rattle.mirror_walk.specs.Accept.{Answer, IsAnswerWithin, IsForRoom}
+use Rattle.mirror_walk.specs.Accept.{Answer, IsAnswerWithin, IsForRoom, IsTakeable}
 use Rattle.feed_disk.specs.Disk.{DiskState}
 use Rattle.feed_disk.specs.Moments.{AlwaysLeaves}
 use Rattle.feed_disk.specs.declared.area.Area.TheVariants.{Mirror as MirrorArea}
@@ -111,26 +111,28 @@ module _ (mirror : MirrorValue) (address : Address) (bytes : List ℕ) (left : L
   pub offered-visit : (answer : Answer)
       → (answer ≡ Err NoMemory) ⊎ (answer ≡ Err DiskFault)
       ⊎ IsAnswerWithin mirror.capacity mirror.base mirror.kept (printed mirror.base address) bytes answer left
+      → (answer ≡ Err DiskFault
+      → IsTakeable mirror.capacity mirror.base mirror.kept (printed mirror.base address) bytes)
       → (answer ≢ Ok Taken → answer ≢ Err DiskFault → left ≡ mirror.kept)
       → IsVisit setting mirror.kept address left (visit_of answer)
-  offered-visit (Ok accepted) (inl is) kept = absurd (cc)
-  offered-visit (Ok accepted) (inr (inl is)) kept = absurd (cc)
-  offered-visit (Ok accepted) (inr (inr is)) kept =
+  offered-visit (Ok accepted) (inl is) takes kept = absurd (cc)
+  offered-visit (Ok accepted) (inr (inl is)) takes kept = absurd (cc)
+  offered-visit (Ok accepted) (inr (inr is)) takes kept =
       answered mirror setting refl refl address bytes refl (Ok accepted) left is
-  offered-visit (Err (NotADocument at)) is kept = refusal (NotADocument at) (λ e. cc) (λ e. cc) (λ none. none) is kept
-  offered-visit (Err (WrongAddress says)) is kept =
+  offered-visit (Err (NotADocument at)) is takes kept = refusal (NotADocument at) (λ e. cc) (λ e. cc) (λ none. none) is kept
+  offered-visit (Err (WrongAddress says)) is takes kept =
       refusal (WrongAddress says) (λ e. cc) (λ e. cc) (λ none. none) is kept
-  offered-visit (Err (WrongFeed one other)) is kept =
+  offered-visit (Err (WrongFeed one other)) is takes kept =
       refusal (WrongFeed one other) (λ e. cc) (λ e. cc) (λ none. none) is kept
-  offered-visit (Err (Conflict own one other)) is kept =
+  offered-visit (Err (Conflict own one other)) is takes kept =
       refusal (Conflict own one other) (λ e. cc) (λ e. cc) (λ none. none) is kept
-  offered-visit (Err (Break last first)) is kept = refusal (Break last first) (λ e. cc) (λ e. cc) (λ none. none) is kept
-  offered-visit (Err (Full size needed capacity)) (inl is) kept = absurd (cc)
-  offered-visit (Err (Full size needed capacity)) (inr (inl is)) kept = absurd (cc)
-  offered-visit (Err (Full size needed capacity)) (inr (inr is)) kept =
+  offered-visit (Err (Break last first)) is takes kept = refusal (Break last first) (λ e. cc) (λ e. cc) (λ none. none) is kept
+  offered-visit (Err (Full size needed capacity)) (inl is) takes kept = absurd (cc)
+  offered-visit (Err (Full size needed capacity)) (inr (inl is)) takes kept = absurd (cc)
+  offered-visit (Err (Full size needed capacity)) (inr (inr is)) takes kept =
       let same = kept (λ e. cc) (λ e. cc) in (same, refused-visit (Full size needed capacity) same is)
-  offered-visit (Err DiskFault) is kept = tt
-  offered-visit (Err NoMemory) is kept = kept (λ e. cc) (λ e. cc)
+  offered-visit (Err DiskFault) is takes kept = record { bytes = bytes; there = refl; takeable = takes refl }
+  offered-visit (Err NoMemory) is takes kept = kept (λ e. cc) (λ e. cc)
 
 -- the visit of an address that isn't asked, or at which no document is found
 module _ (observable seen : Type 0) (s : DiskState) (source : FetchState) (mirror : MirrorValue) (address : Address)

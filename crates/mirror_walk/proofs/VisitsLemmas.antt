@@ -21,7 +21,7 @@ use Rattle.mirror_walk.specs.Visit.{CountsFaults, HasAsked, HasVisited, IsVisit,
 use Rattle.mirror_walk.specs.Walk.{EndsAt, HasRefusal, IsAnswered, WalkEnding, WalkSetting}
 use Rattle.std.specs.Prelude.{IsErrAnd}
 use Rattle.mirror_walk.specs.Walk.WalkEnding.{nothing_wanted, not_there, refused, fetch_failed, filled}
-use Rattle.mirror_walk.specs.Walk.WalkEnding.{cut_short}
+use Rattle.mirror_walk.specs.Walk.WalkEnding.{cut_short, disk_failed}
 use Rattle.mirror_walk.proofs.PassedLemmas.{counts-passed}
 use Rattle.mirror_walk.proofs.WalkRunLemmas.{Reaches, reaches-more, tally-more, walks-at, walks-before}
 
@@ -194,7 +194,7 @@ module _ (setting : WalkSetting) (kept now : List KeptValue) (address : Address)
       ends is
       refl
   ends-fault faults.DiskFault held later visit is =
-      faults-here cut_short faults.DiskFault held later (λ works. absurd (works refl)) tt is refl
+      faults-here disk_failed faults.DiskFault held later (λ works. absurd (works refl)) visit is refl
   ends-fault faults.NoMemory held later same (inr is) =
       faults-here cut_short faults.NoMemory held later (λ works. same) tt is refl
   ends-fault faults.NoMemory held later same (inl is) = record {

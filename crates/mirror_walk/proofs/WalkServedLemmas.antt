@@ -23,7 +23,7 @@ use Rattle.mirror_walk.specs.Visit.{HasVisited}
 use Rattle.mirror_walk.specs.Walk.{EndsAt, EndsBefore, HasRefusal, HasWalked, IsAnswered, IsServedBy}
 use Rattle.mirror_walk.specs.Walk.{WalkEnding, WalkSetting, Walks, accepted_offers, answer_at, offering_at}
 use Rattle.mirror_walk.specs.Walk.WalkEnding.{nothing_wanted, not_there, refused, fetch_failed, filled}
-use Rattle.mirror_walk.specs.Walk.WalkEnding.{cut_short}
+use Rattle.mirror_walk.specs.Walk.WalkEnding.{cut_short, disk_failed}
 use Rattle.mirror_walk.proofs.MirrorLemmas.{taken-mirrored}
 use Rattle.mirror_walk.proofs.OfferedLemmas.{Mirrors, answer-mirrored}
 use Rattle.mirror_walk.proofs.WalkRunLemmas.{walks-cut}
@@ -98,6 +98,7 @@ IsNoRefusal nothing_wanted = Unit {0}
 IsNoRefusal not_there = Unit {0}
 IsNoRefusal fetch_failed = Unit {0}
 IsNoRefusal (filled size needed capacity) = Unit {0}
+IsNoRefusal disk_failed = Unit {0}
 IsNoRefusal cut_short = Unit {0}
 
 module _ (head : HeadValue) (history : List Op) (setting : WalkSetting) (same : setting.base ≡ head.name.base)
@@ -138,6 +139,7 @@ module _ (head : HeadValue) (history : List Op) (setting : WalkSetting) (same : 
   ends-served past kept address not_there mirrors ends = tt
   ends-served past kept address fetch_failed mirrors ends = tt
   ends-served past kept address (filled size needed capacity) mirrors ends = tt
+  ends-served past kept address disk_failed mirrors ends = tt
   ends-served past kept address cut_short mirrors ends = tt
 
   before-served : (next : Option Address) (ending : WalkEnding) → EndsBefore next ending → IsNoRefusal ending
@@ -146,6 +148,7 @@ module _ (head : HeadValue) (history : List Op) (setting : WalkSetting) (same : 
   before-served next not_there ends = tt
   before-served next fetch_failed ends = tt
   before-served next (filled size needed capacity) ends = tt
+  before-served next disk_failed ends = tt
   before-served next cut_short ends = tt
 
   walk-served : (past : List Offering) (asked : List Address) (accepted : List Accepted)
@@ -168,6 +171,7 @@ no-refusal asked nothing_wanted refusal is has = has
 no-refusal asked not_there refusal is has = has
 no-refusal asked fetch_failed refusal is has = absurd has
 no-refusal asked (filled size needed capacity) refusal is has = absurd has
+no-refusal asked disk_failed refusal is has = absurd has
 no-refusal asked cut_short refusal is has = absurd has
 
 -- `Mirror::walk`: the clause `served`

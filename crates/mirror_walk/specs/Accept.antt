@@ -212,6 +212,12 @@ IsAnswerWithin capacity base kept address bytes (Err NoMemory) left = ⊥
 IsAnswerWithin capacity base kept address bytes (Err refusal) left =
     AnswersWithin capacity base kept address bytes (Err refusal) left
 
+-- the bytes are a document's that a mirror takes under this address, within the capacity of its area
+pub record IsTakeable (capacity : ℕ) (base : List ℕ) (kept : List KeptValue) (address bytes : List ℕ) : Type 0 where
+  pub given : KeptValue
+  pub read : IsKeptOf bytes given
+  pub taken : accept_within capacity base kept address given ≡ Ok Taken
+
 -- the refusal has its cause in the mirror's area, disk or memory, and not in the document
 abbrev pub IsForRoom : Offered → Type 0
 IsForRoom (Full size needed capacity) = Unit {0}

@@ -26,7 +26,7 @@ use Rattle.mirror_walk.specs.Holding.{KeptValue, best_of, first_missing}
 use Rattle.mirror_walk.specs.Mirror.{IsAtRest, LoadsTo, MirrorValue}
 use Rattle.mirror_walk.specs.Walk.{EndsAt, Exchange, HasRefusal, IsAnswered, IsWalkStep, WalkEnding, WalkSetting}
 use Rattle.mirror_walk.specs.Walk.{WalksFromFeed, is_known, is_stale, is_taken, setting_by}
-use Rattle.mirror_walk.specs.Walk.WalkEnding.{not_there, refused, fetch_failed, filled, cut_short}
+use Rattle.mirror_walk.specs.Walk.WalkEnding.{not_there, refused, fetch_failed, filled, disk_failed, cut_short}
 
 -- the walk's visit for a mirror's answer to a document that was found
 abbrev pub visit_of : Answer → Result Visit WalkFault
@@ -52,7 +52,7 @@ IsVisit setting kept address left (Ok (visits.Refused why)) = (left ≡ kept) ×
 IsVisit setting kept address left (Err faults.FetchFault) = left ≡ kept
 IsVisit setting kept address left (Err (faults.Full size needed capacity)) =
     (left ≡ kept) × EndsAt setting kept address (filled size needed capacity)
-IsVisit setting kept address left (Err faults.DiskFault) = Unit {0}
+IsVisit setting kept address left (Err faults.DiskFault) = EndsAt setting kept address disk_failed
 IsVisit setting kept address left (Err faults.NoMemory) = left ≡ kept
 
 -- the address was asked; if memory ran out, maybe not
@@ -125,7 +125,7 @@ IsVisitsResult asked accepted ending (Ok made) =
 IsVisitsResult asked accepted ending (Err faults.FetchFault) = ending ≡ fetch_failed
 IsVisitsResult asked accepted ending (Err (faults.Full size needed capacity)) = ending ≡ filled size needed
     capacity
-IsVisitsResult asked accepted ending (Err faults.DiskFault) = ending ≡ cut_short
+IsVisitsResult asked accepted ending (Err faults.DiskFault) = ending ≡ disk_failed
 IsVisitsResult asked accepted ending (Err faults.NoMemory) = ending ≡ cut_short
 
 -- the walk up to its end, without the outcome

@@ -20,7 +20,7 @@ use Rattle.mirror_walk.specs.declared.walk.Refusal.{Refusal}
 use Rattle.mirror_walk.specs.declared.walk.WalkFault.{WalkFault}
 use Rattle.mirror_walk.specs.declared.walk.WalkFault.TheVariants as faults
 use Rattle.mirror_walk.specs.declared.walk.Walked.{Walked}
-use Rattle.mirror_walk.specs.Accept.{Answer, IsAnswerWithin, IsForRoom}
+use Rattle.mirror_walk.specs.Accept.{Answer, IsAnswerWithin, IsForRoom, IsTakeable}
 use Rattle.mirror_walk.specs.Holding.{archive_at, first_missing}
 use Rattle.mirror_walk.specs.Listing.{HasAddress, outcome_of}
 use Rattle.mirror_walk.specs.Mirror.{IsAtRest, LoadsTo, MirrorValue}
@@ -53,7 +53,9 @@ pub data WalkEnding : Type 0 where
   fetch_failed : WalkEnding
   -- the last document doesn't fit: the size of the area, the bytes needed, and the capacity
   filled : ℕ → ℕ → ℕ → WalkEnding
-  -- a device call failed, or memory ran out
+  -- a device call failed while the last document was taken
+  disk_failed : WalkEnding
+  -- memory ran out, or a crash came
   cut_short : WalkEnding
 
 -- the bytes that the source answers to an address
@@ -68,13 +70,19 @@ pub record IsAnswered (setting : WalkSetting) (kept : List KeptValue) (address :
   pub answered : IsAnswerWithin setting.capacity setting.base kept (printed setting.base address) bytes answer
       left
 
+-- the source has a document at the address, and the mirror takes it
+pub record IsTakeableAt (setting : WalkSetting) (kept : List KeptValue) (address : Address) : Type 0 where
+  pub bytes : List ℕ
+  pub there : answer_at setting address ≡ Some bytes
+  pub takeable : IsTakeable setting.capacity setting.base kept (printed setting.base address) bytes
+
 -- a walk ends before it asks for its next document
 abbrev pub EndsBefore : Option Address → WalkEnding → Type 0
 EndsBefore next nothing_wanted = next ≡ None
 EndsBefore next cut_short = Unit {0}
 EndsBefore next _ = ⊥
 
--- a walk ends at an address that it asked, and takes no document there
+-- A walk ends at an address that it asked. Unless a device call failed, it takes no document there.
 abbrev pub EndsAt : WalkSetting → List KeptValue → Address → WalkEnding → Type 0
 EndsAt setting kept address nothing_wanted = ⊥
 EndsAt setting kept address not_there = answer_at setting address ≡ None
@@ -82,6 +90,7 @@ EndsAt setting kept address (refused why) = (¬ IsForRoom why) × IsAnswered set
 EndsAt setting kept address fetch_failed = Unit {0}
 EndsAt setting kept address (filled size needed capacity) =
     IsAnswered setting kept address (Err (Full size needed capacity)) kept
+EndsAt setting kept address disk_failed = IsTakeableAt setting kept address
 EndsAt setting kept address cut_short = Unit {0}
 
 -- A walk of a mirror that holds `kept` and whose next address is `next`: the addresses that it asks, the
@@ -142,6 +151,7 @@ HasRefusal asked not_there refusal = refusal ≡ None
 HasRefusal asked (refused why) refusal = IsRefusedLast asked why refusal
 HasRefusal asked fetch_failed refusal = ⊥
 HasRefusal asked (filled size needed capacity) refusal = ⊥
+HasRefusal asked disk_failed refusal = ⊥
 HasRefusal asked cut_short refusal = ⊥
 
 -- the result of a walk: the numbers of its addresses and answers, the refusal, and the outcome of the documents
@@ -162,7 +172,7 @@ IsWalkResult asked accepted left ending (Ok walked) = IsWalked asked accepted le
 IsWalkResult asked accepted left ending (Err faults.FetchFault) = ending ≡ fetch_failed
 IsWalkResult asked accepted left ending (Err (faults.Full size needed capacity)) = ending ≡ filled size needed
     capacity
-IsWalkResult asked accepted left ending (Err faults.DiskFault) = ending ≡ cut_short
+IsWalkResult asked accepted left ending (Err faults.DiskFault) = ending ≡ disk_failed
 IsWalkResult asked accepted left ending (Err faults.NoMemory) = ending ≡ cut_short
 
 -- a walk of a mirror over a source: the addresses asked, the documents held afterwards unless a device call

@@ -7,7 +7,7 @@ ghost use Rattle.feed_journal.specs.Limits.{header_length};
 ghost use Rattle.member_rules.specs.Head.{HeadValue};
 ghost use Rattle.member_rules.specs.Served.{Served};
 ghost use Rattle.member_rules.specs.declared.operation.Op.{Op};
-ghost use Rattle.mirror_walk.specs.Accept.{IsAnswerWithin, IsForRoom, IsKeptOf, accept_within};
+ghost use Rattle.mirror_walk.specs.Accept.{IsAnswerWithin, IsForRoom, IsKeptOf, IsTakeable, accept_within};
 ghost use Rattle.mirror_walk.specs.Holding.{KeptValue};
 ghost use Rattle.mirror_walk.specs.Mirror.{IsAtRest, IsOfferStep, KeepsSetting, StandsFor, StaysSound, is_spent};
 ghost use Rattle.mirror_walk.specs.Offers.{AreServed, AreTakenOf, Offering};
@@ -75,6 +75,9 @@ impl Mirror {
         ensures first_fit { (given : KeptValue) → IsKeptOf bytes.now given
             → (result ≡ accept_within self.old.capacity self.old.base self.old.kept address.now given)
             ⊎ (result ≡ Err Offered.NoMemory) ⊎ (result ≡ Err Offered.DiskFault) }
+        // A device call fails only while a document is taken, so a failure hides no refusal.
+        ensures failed_taking { result ≡ Err Offered.DiskFault → IsTakeable self.old.capacity
+            self.old.base self.old.kept address.now bytes.now }
         // Only the room that the log has for one more payload may differ. What is held stays, and what `entry`
         // reads by: the places of the payloads and the list of the live entries.
         ensures unchanged { result ≢ Ok Accepted.Taken → result ≢ Err Offered.DiskFault

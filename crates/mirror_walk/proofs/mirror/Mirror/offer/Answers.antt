@@ -1,24 +1,23 @@
-use Rattle.std.proofs.Common.{◌≡◌, ◌≢◌, ◌⊎◌, inl, inr, ℕ, List, Ok, Err, length, refl, sym, ◌∙◌, ap, subst}
-use Rattle.std.proofs.Common.{◌+◌, ◌≤◌, arith}
+use Rattle.std.proofs.Common.{◌≡◌, ◌≢◌, ◌⊎◌, inl, inr, Ok, Err, refl, sym, ◌∙◌, subst, arith}
 use Rattle.std.proofs.lemmas.Result.{err_from_is_err_and}
 use Rattle.feed_disk.specs.declared.area.Area.TheVariants.{Mirror as MirrorArea}
 use Rattle.feed_disk.proofs.MomentLemmas.{always_weaker}
-use Rattle.atom_writer.specs.Pieces.{text}
-use Rattle.feed_journal.specs.Limits.{header_length}
 use Rattle.feed_journal.specs.Records.{size_of}
 use Rattle.mirror_walk.specs.declared.answer.Accepted.TheVariants.{Taken}
 use Rattle.mirror_walk.specs.declared.answer.Offered.{Offered}
 use Rattle.mirror_walk.specs.declared.answer.Offered.TheVariants.{DiskFault, NoMemory}
 use Rattle.mirror_walk.specs.declared.offer.Checked.{Checked}
-use Rattle.mirror_walk.specs.Accept.{Answer, IsKeptOf}
+use Rattle.mirror_walk.specs.Accept.{Answer}
 use Rattle.mirror_walk.specs.Holding.{payloads_of}
 use Rattle.mirror_walk.specs.Mirror.{IsOfferStep, KeepsMirror}
-use Rattle.mirror_walk.specs.Taking.{IsChecked, IsTakeStep}
-use Rattle.mirror_walk.proofs.CheckedLemmas.{answer-fits, refused-answers, taken-answers}
+use Rattle.mirror_walk.specs.Taking.{IsChecked, IsTakeStep, IsToBeTaken}
+use Rattle.mirror_walk.proofs.CheckedLemmas.{answer-fits, new-takeable, refused-answers, taken-answers}
 use Rattle.mirror_walk.proofs.SoundLemmas.{setting-begins, sound-begins}
 use Rattle.mirror_walk.proofs.StepLemmas.{offer-step, still-offers}
-use Rattle.mirror_walk.proofs.WithinLemmas.{offer-served, within-taken}
+use Rattle.mirror_walk.proofs.WithinLemmas.{offer-served}
+use Rattle.mirror_walk.proofs.mirror.Mirror.offer.Given.{Over}
 use Rattle.mirror_walk.proofs.mirror.Mirror.offer.Goals as goal
+use Rattle.mirror_walk.proofs.mirror.Mirror.offer.Goals.{In-New}
 
 pub returns-in_err-accepted-clause-answer : goal.returns-in_err-accepted-clause-answer
 returns-in_err-accepted-clause-answer g c =
@@ -35,6 +34,11 @@ never_failed : (refusal : Offered) (result : Answer) → refusal ≢ DiskFault
 never_failed refusal result other (x, is, same) failed =
     let it : x ≡ DiskFault = cc in
     other (sym same ∙ it)
+
+pub returns-in_err-accepted-clause-failed_taking : goal.returns-in_err-accepted-clause-failed_taking
+returns-in_err-accepted-clause-failed_taking g c = λ failed. absurd (never_failed c.in_err-accepted.field-0.0
+    c.from_residual.result c.in_err-accepted.ensures.0
+    (err_from_is_err_and c.from_residual.result c.from_residual.ensures.1) failed)
 
 pub returns-in_err-accepted-clause-spent : goal.returns-in_err-accepted-clause-spent
 returns-in_err-accepted-clause-spent g c = λ failed. absurd (never_failed c.in_err-accepted.field-0.0
@@ -107,24 +111,27 @@ take-requires-clause-name g c =
     c.in-New.is
     c.in_ok-accepted.ensures).0
 
--- the answer of a document that was to be taken
+-- the document is to be taken
+to-take : (g : Over) (c : In-New g)
+    → IsToBeTaken c.args.self.now c.args.address.now c.args.bytes.now c.in-New.given.kept c.in-New.framed
+to-take g c =
+    (subst (λ (found : Checked). IsChecked c.args.self.now c.args.address.now c.args.bytes.now (Ok found)) c.in-New.is
+    c.in_ok-accepted.ensures).1
+
+log-size : (g : Over) (c : In-New g) → c.args.self.now.log.size ≡ size_of (payloads_of c.args.self.now.kept)
+log-size g c = ((subst KeepsMirror c.self.view_is c.self.invariant).documents c.requires.unspent).size
+
 pub returns-in-New-clause-answer : goal.returns-in-New-clause-answer
 returns-in-New-clause-answer g c =
-    let mirror = c.args.self.now in
-    let to = (subst (λ (found : Checked). IsChecked mirror c.args.address.now c.args.bytes.now (Ok found))
-    c.in-New.is
-    c.in_ok-accepted.ensures).1 in
-    let keeps = subst KeepsMirror c.self.view_is c.self.invariant in
-    let fits : size_of (payloads_of mirror.kept) + (length (text c.in-New.given.kept.document) + header_length)
-    ≤ mirror.capacity =
-    omega (arith, to.taken.fits, (keeps.documents c.requires.unspent).size, ap length to.taken.read.text) in
-    let accepted = within-taken mirror.capacity mirror.base mirror.kept c.args.address.now c.in-New.given.kept
-    to.accepted
-    fits in
-    taken-answers mirror c.args.address.now c.args.bytes.now c.take.result c.in-New.given.kept c.take.new.self.kept
-    (subst (λ (b : List ℕ). IsKeptOf b c.in-New.given.kept) to.bytes_are to.taken.read) accepted
-    c.take.ensures.kept
-    c.take.ensures.answers
+    let at_new = (goal.at.returns-in-New-clause-answer g c).In-New in
+    taken-answers c.args.self.now c.args.address.now c.args.bytes.now c.in-New.given.kept c.in-New.framed
+    (log-size g at_new) (to-take g at_new) c.take.result c.take.new.self.kept c.take.ensures.kept c.take.ensures.answers
+
+pub returns-in-New-clause-failed_taking : goal.returns-in-New-clause-failed_taking
+returns-in-New-clause-failed_taking g c = λ failed.
+    let at_new = (goal.at.returns-in-New-clause-failed_taking g c).In-New in
+    new-takeable c.args.self.now c.args.address.now c.args.bytes.now c.in-New.given.kept c.in-New.framed
+    (log-size g at_new) (to-take g at_new)
 
 pub returns-in-New-clause-first_fit : goal.returns-in-New-clause-first_fit
 returns-in-New-clause-first_fit g c = answer-fits c.args.self.now c.args.address.now c.args.bytes.now
@@ -144,14 +151,11 @@ returns-in-New-clause-unchanged g c = λ other other'.
 pub returns-in-New-clause-moments : goal.returns-in-New-clause-moments
 returns-in-New-clause-moments g c = λ tells rest.
     let mirror = c.args.self.now in
-    let to = (subst (λ (found : Checked). IsChecked mirror c.args.address.now c.args.bytes.now (Ok found))
-    c.in-New.is
-    c.in_ok-accepted.ensures).1 in
-    let keeps = subst KeepsMirror c.self.view_is c.self.invariant in
+    let at_new = (goal.at.returns-in-New-clause-moments g c).In-New in
     always_weaker (g.D.Disk.state c.args.disk.now) (g.D.Disk.state c.take.new.disk) MirrorArea
     (IsTakeStep mirror c.in-New.given.kept) (IsOfferStep mirror c.args.address.now c.args.bytes.now)
     (offer-step mirror c.args.address.now c.args.bytes.now c.in-New.given.kept c.in-New.framed
-    (keeps.documents c.requires.unspent).size to) (c.take.ensures.moments tells rest)
+    (log-size g at_new) (to-take g at_new)) (c.take.ensures.moments tells rest)
 
 pub returns-in-New-clause-served : goal.returns-in-New-clause-served
 returns-in-New-clause-served g c = λ head history offers same served taken there.

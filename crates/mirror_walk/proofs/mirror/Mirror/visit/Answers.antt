@@ -4,7 +4,7 @@ use Rattle.chain_links.specs.Address.{printed}
 use Rattle.doc_source.specs.declared.fetch.GetFault.TheVariants.{NoMemory as NoGetMemory}
 use Rattle.mirror_walk.specs.declared.answer.Offered.TheVariants.{DiskFault, NoMemory as OfferNoMemory}
 use Rattle.mirror_walk.specs.declared.walk.WalkFault.TheVariants.{NoMemory}
-use Rattle.mirror_walk.specs.Accept.{IsAnswerWithin}
+use Rattle.mirror_walk.specs.Accept.{IsAnswerWithin, IsTakeable}
 use Rattle.mirror_walk.specs.Mirror.{MirrorValue}
 use Rattle.mirror_walk.specs.Visit.{VisitsByAnswer, get_fault}
 use Rattle.mirror_walk.proofs.VisitAnswerLemmas.{asked-found, disk-visit, fails-unasked, fetch-fails, finds-none}
@@ -78,6 +78,8 @@ returns-clause-visited g c =
           (subst (λ (l : List ℕ). (c.offer.result ≡ Err OfferNoMemory) ⊎ (c.offer.result ≡ Err DiskFault)
           ⊎ IsAnswerWithin mirror.capacity mirror.base mirror.kept l bytes c.offer.result c.offer.new.self.kept) is
           c.offer.ensures.answer)
+          (λ failed. subst (λ (l : List ℕ). IsTakeable mirror.capacity mirror.base mirror.kept l bytes) is
+          (c.offer.ensures.failed_taking failed))
           (λ other other'. ap (λ (m : MirrorValue). m.kept) (c.offer.ensures.unchanged other other').0);
       texts = printed mirror.base c.args.address ∷ [];
       texts_are = λ observable. c.in_ok-bytes.ensures.asked (ok-works _ _) observable
