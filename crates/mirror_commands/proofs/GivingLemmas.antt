@@ -16,7 +16,7 @@ use Rattle.feed_disk.specs.declared.area.Area.{Area}
 use Rattle.feed_disk.specs.declared.area.Area.TheVariants.{Mirror as MirrorArea}
 use Rattle.feed_disk.proofs.MomentLemmas.{alone_begins, alone_joins}
 use Rattle.feed_journal.specs.Laws.{BegunAreWhole}
-use Rattle.mirror_walk.specs.Accept.{Answer as MirrorAnswer, IsAnswerWithin}
+use Rattle.mirror_walk.specs.Accept.{Answer as MirrorAnswer, IsAnswerWithin, IsTakeable}
 use Rattle.mirror_walk.specs.Holding.{payloads_of}
 use Rattle.mirror_walk.specs.Loaded.{IsLoadedOf}
 use Rattle.mirror_walk.specs.Mirror.{IsAtRest, IsOfferStep, MirrorValue}
@@ -166,13 +166,17 @@ module _ (input_observable disk_observable : Type 0) (detailed : Bool) (first : 
 
     -- and a device call failed
     pub giving-failed : (later : DiskState) (failed whole : Type 0) → failed → ¬ whole
+        → IsTakeable mirror.capacity mirror.base mirror.kept offer.address offer.bytes
         → (disk_observable → IsAtRest now mirror.kept
         → AlwaysLeaves now later MirrorArea (IsOfferStep mirror offer.address offer.bytes))
         → GivesOffers first.capacity first.base first.kept input.left input_observable disk_observable s later failed
         whole
-    giving-failed later failed whole is part moments =
+    giving-failed later failed whole is part takeable moments =
         gives-failed disk_observable first.capacity first.base first.kept s input.left input_observable h.offers offer
-        later mirror.kept failed whole is part reads-next
+        later mirror.kept failed whole is part
+        (subst (λ (b : List ℕ). IsTakeable first.capacity b mirror.kept offer.address offer.bytes) h.same.base
+        (subst (λ (c : ℕ). IsTakeable c mirror.base mirror.kept offer.address offer.bytes) h.same.capacity takeable))
+        reads-next
         (has-answered input_observable detailed first.capacity first.base first.kept input.left h.offers reader source
         mirror.kept report
         h.amid)
@@ -215,7 +219,9 @@ module _ (input_observable disk_observable : Type 0) (detailed : Bool) (first : 
 
     -- and a fault ended the offers
     pub giving-fault : (later : DiskState) (fault : Fault) (failed whole : Type 0) → MayEndOffer fault
-        → (fault ≡ Disk → failed) → (failed → fault ≡ Disk) → ¬ whole → BegunAreWhole
+        → (fault ≡ Disk → failed) → (failed → fault ≡ Disk)
+        → (fault ≡ Disk → IsTakeable mirror.capacity mirror.base mirror.kept offer.address offer.bytes) → ¬ whole
+        → BegunAreWhole
         → (disk_observable → IsAtRest now mirror.kept
         → AlwaysLeaves now later MirrorArea (IsOfferStep mirror offer.address offer.bytes))
         → (fault ≢ Disk
@@ -225,17 +231,17 @@ module _ (input_observable disk_observable : Type 0) (detailed : Bool) (first : 
         whole)
         → GivesOffers first.capacity first.base first.kept input.left input_observable disk_observable s later failed
         whole
-    giving-fault later Disk failed whole may is back part law moments same =
-        giving-failed later failed whole (is refl) part moments
-    giving-fault later NoMemory failed whole may is back part law moments same =
+    giving-fault later Disk failed whole may is back takes part law moments same =
+        giving-failed later failed whole (is refl) part (takes refl) moments
+    giving-fault later NoMemory failed whole may is back takes part law moments same =
         same (λ e. cc) (giving-ends now source reader mirror report failed whole law h
         (unended part (λ f. let e = back f in cc)))
-    giving-fault later (Full area size needed most) failed whole may is back part law moments same =
+    giving-fault later (Full area size needed most) failed whole may is back takes part law moments same =
         same (λ e. cc) (giving-ends now source reader mirror report failed whole law h
         (unended part (λ f. let e = back f in cc)))
-    giving-fault later Input failed whole may is back part law moments same = absurd may
-    giving-fault later (BadStore bad) failed whole may is back part law moments same = absurd may
-    giving-fault later (Refused refusal) failed whole may is back part law moments same = absurd may
+    giving-fault later Input failed whole may is back takes part law moments same = absurd may
+    giving-fault later (BadStore bad) failed whole may is back takes part law moments same = absurd may
+    giving-fault later (Refused refusal) failed whole may is back takes part law moments same = absurd may
 
 -- no offer was given
 pub gives-none : (input_observable disk_observable : Type 0) (first : MirrorValue) (s : DiskState) (input : List ℕ)

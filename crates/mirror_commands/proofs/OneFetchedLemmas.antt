@@ -9,7 +9,8 @@ use Rattle.mirror_walk.specs.Accept.{Answer as MirrorAnswer, IsAnswerWithin, IsF
 use Rattle.mirror_walk.specs.Holding.{KeptValue, first_missing}
 use Rattle.mirror_walk.specs.Walk.{EndsAt, EndsBefore, HasRefusal, IsAnswered, IsWalked, WalkEnding}
 use Rattle.mirror_walk.specs.Walk.{WalkSetting, Walks}
-use Rattle.mirror_walk.specs.Walk.WalkEnding.{nothing_wanted, not_there, refused, fetch_failed, filled, cut_short}
+use Rattle.mirror_walk.specs.Walk.WalkEnding.{nothing_wanted, not_there, refused, fetch_failed, filled}
+use Rattle.mirror_walk.specs.Walk.WalkEnding.{cut_short, disk_failed}
 use Rattle.mirror_walk.specs.declared.answer.Accepted.{Accepted}
 use Rattle.mirror_walk.specs.declared.answer.Offered.{Offered}
 use Rattle.mirror_walk.specs.declared.answer.Offered.TheVariants.{Full}
@@ -29,6 +30,7 @@ IsSure not_there = Unit {0}
 IsSure (refused why) = Unit {0}
 IsSure (filled size needed capacity) = Unit {0}
 IsSure fetch_failed = ⊥
+IsSure disk_failed = ⊥
 IsSure cut_short = ⊥
 
 -- a document or none is at an address
@@ -56,6 +58,7 @@ module _ (setting : WalkSetting) where
   wants-none next address (refused why) sure ends is = ends
   wants-none next address (filled size needed capacity) sure ends is = ends
   wants-none next address fetch_failed sure ends is = ends
+  wants-none next address disk_failed sure ends is = sure
   wants-none next address cut_short sure ends is = sure
 
   before-same : (next : Option Address) (one other : WalkEnding) → IsSure one → IsSure other → EndsBefore next one
@@ -65,11 +68,13 @@ module _ (setting : WalkSetting) where
   before-same next nothing_wanted (refused why) sure too p q = absurd q
   before-same next nothing_wanted (filled size needed capacity) sure too p q = absurd q
   before-same next nothing_wanted fetch_failed sure too p q = absurd q
+  before-same next nothing_wanted disk_failed sure too p q = absurd too
   before-same next nothing_wanted cut_short sure too p q = absurd too
   before-same next not_there other sure too p q = absurd p
   before-same next (refused why) other sure too p q = absurd p
   before-same next (filled size needed capacity) other sure too p q = absurd p
   before-same next fetch_failed other sure too p q = absurd p
+  before-same next disk_failed other sure too p q = absurd sure
   before-same next cut_short other sure too p q = absurd sure
 
   -- the answer at the last address, of which nothing is taken
@@ -94,6 +99,7 @@ module _ (setting : WalkSetting) where
     fits = λ (e : filled size needed capacity ≡ refused (Full size needed capacity)). absurd (cc);
   })
   last-answer kept address fetch_failed sure ends = absurd sure
+  last-answer kept address disk_failed sure ends = absurd sure
   last-answer kept address cut_short sure ends = absurd sure
 
   last-same : (kept : List KeptValue) (address : Address) (one other : WalkEnding) → IsLastAnswer kept address one
@@ -217,6 +223,7 @@ sure-of_report asked not_there refusal has = tt
 sure-of_report asked (refused why) refusal has = tt
 sure-of_report asked fetch_failed refusal has = absurd has
 sure-of_report asked (filled size needed capacity) refusal has = absurd has
+sure-of_report asked disk_failed refusal has = absurd has
 sure-of_report asked cut_short refusal has = absurd has
 
 last-once : (xs ys : List Address) (x y : Address) → xs ++ x ∷ [] ≡ ys ++ y ∷ [] → x ≡ y
@@ -240,6 +247,7 @@ refusal-once asked (refused why) one other p q =
     ∙ sym p.is
 refusal-once asked fetch_failed one other p q = absurd p
 refusal-once asked (filled size needed capacity) one other p q = absurd p
+refusal-once asked disk_failed one other p q = absurd p
 refusal-once asked cut_short one other p q = absurd p
 
 module _ (report : Bool) (capacity : ℕ) (base : List ℕ) (kept : List KeptValue)

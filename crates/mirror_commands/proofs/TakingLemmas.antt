@@ -9,7 +9,7 @@ use Rattle.feed_disk.specs.declared.area.Area.TheVariants.{Mirror as MirrorArea}
 use Rattle.feed_disk.proofs.MomentLemmas.{alone_leaves, always_begins, always_joins, always_weaker}
 use Rattle.feed_journal.specs.Laws.{BegunAreWhole}
 use Rattle.feed_journal.specs.Records.{records}
-use Rattle.mirror_walk.specs.Accept.{Answer as MirrorAnswer, IsAnswerWithin}
+use Rattle.mirror_walk.specs.Accept.{Answer as MirrorAnswer, IsAnswerWithin, IsTakeable}
 use Rattle.mirror_walk.specs.Holding.{KeptValue, payloads_of}
 use Rattle.mirror_walk.specs.Loaded.{IsLoadedOf}
 use Rattle.mirror_walk.specs.Mirror.{IsAtRest, IsOfferStep, LoadsTo, MirrorValue}
@@ -70,14 +70,23 @@ pub record IsTaking (observable : Type 0) (capacity : ℕ) (base : List ℕ) (st
   pub rests : observable → IsAtRest s start → IsAtRest now kept
 
 -- what a failed call or a report says of the offers holds of fewer of them
-pub given-weaker : (input : List ℕ) (observable failed more whole less : Type 0) (answered offers : List Offer)
+pub given-weaker : (capacity : ℕ) (base : List ℕ) (left : List KeptValue) (input : List ℕ)
+    (observable failed more whole less : Type 0) (answered offers : List Offer)
     → (failed → more) → (less ⊎ more → whole ⊎ failed) → (less → whole)
-    → AreAllAnswered input observable failed whole answered offers ⊎ FailsAtLast failed whole answered offers
-    → AreAllAnswered input observable more less answered offers ⊎ FailsAtLast more less answered offers
-given-weaker input observable failed more whole less answered offers to back from (inl all) =
+    → AreAllAnswered input observable failed whole answered offers
+    ⊎ FailsAtLast capacity base left failed whole answered offers
+    → AreAllAnswered input observable more less answered offers
+    ⊎ FailsAtLast capacity base left more less answered offers
+given-weaker capacity base left input observable failed more whole less answered offers to back from (inl all) =
     inl record { same = all.same; all = λ e. all.all (back e) }
-given-weaker input observable failed more whole less answered offers to back from (inr last) =
-    inr record { is = to last.is; part = λ l. last.part (from l); last = last.last; one_more = last.one_more }
+given-weaker capacity base left input observable failed more whole less answered offers to back from (inr last) =
+    inr record {
+      is = to last.is;
+      part = λ l. last.part (from l);
+      last = last.last;
+      one_more = last.one_more;
+      takeable = last.takeable;
+    }
 
 -- the offers that were given to the mirror that the area loads to
 pub gives-held : (capacity : ℕ) (base : List ℕ) (kept : List KeptValue) (content : Area → List ℕ) (input : List ℕ)
@@ -95,7 +104,8 @@ gives-held capacity base kept content input input_observable disk_observable bef
       left = h.left;
       has = h.has;
       given = elim
-          (given-weaker input input_observable failed more whole less h.answered h.offers to back from h.given) [
+          (given-weaker capacity base h.left input input_observable failed more whole less h.answered h.offers to back
+          from h.given) [
             | inl all ↦ inl record { same = all.same; all = λ e seen. all.all e reads }
             | inr last ↦ inr last
           ];
@@ -112,7 +122,8 @@ held-weaker capacity base content input failed more whole less to back from h = 
   answered = h.answered;
   left = h.left;
   has = h.has;
-  given = given-weaker input (Unit {0}) failed more whole less h.answered h.offers to back from h.given;
+  given = given-weaker capacity base h.left input (Unit {0}) failed more whole less h.answered h.offers to back from
+      h.given;
 }
 
 module _ (observable : Type 0) (capacity : ℕ) (base : List ℕ) (start : List KeptValue) (s : DiskState) where
@@ -229,18 +240,19 @@ module _ (observable : Type 0) (capacity : ℕ) (base : List ℕ) (start : List 
   -- the last offer failed on the disk
   pub gives-failed : (input : List ℕ) (input_observable : Type 0) (answered : List Offer) (last : Offer) (t : DiskState)
       (kept : List KeptValue) (failed whole : Type 0) → failed → ¬ whole
+      → IsTakeable capacity base kept last.address last.bytes
       → (input_observable → ReadsOffers input (answered ++ last ∷ [])) → HasAnswered capacity base start answered kept
       → (observable → IsAtRest s start
       → AlwaysLeaves s t MirrorArea (IsPileStep capacity base start (answered ++ last ∷ [])))
       → GivesOffers capacity base start input input_observable observable s t failed whole
-  gives-failed input input_observable answered last t kept failed whole is part read has images = record {
+  gives-failed input input_observable answered last t kept failed whole is part takeable read has images = record {
     offers = answered ++ last ∷ [];
     read = read;
     images = images;
     answered = answered;
     left = kept;
     has = has;
-    given = inr record { is = is; part = part; last = last; one_more = refl };
+    given = inr record { is = is; part = part; last = last; one_more = refl; takeable = takeable };
     now = λ none. absurd (none is);
   }
 
@@ -254,7 +266,8 @@ module _ (observable : Type 0) (capacity : ℕ) (base : List ℕ) (start : List 
     read = h.read;
     answered = h.answered;
     has = h.has;
-    given = given-weaker input input_observable failed more whole less h.answered h.offers to back from h.given;
+    given = given-weaker capacity base h.left input input_observable failed more whole less h.answered h.offers to back
+        from h.given;
     images = λ seen rest.
         let images = h.images seen rest in
         always_joins s m t MirrorArea (IsPileStep capacity base start h.offers) images

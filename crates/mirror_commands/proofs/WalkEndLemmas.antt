@@ -17,7 +17,8 @@ use Rattle.mirror_walk.specs.Listing.{outcome_of}
 use Rattle.mirror_walk.specs.Loaded.{IsLoadedOf}
 use Rattle.mirror_walk.specs.Mirror.{IsAtRest}
 use Rattle.mirror_walk.specs.Walk.{HasRefusal, HasWalked, IsWalkResult, IsWalkStep, WalkEnding, WalkSetting, Walks}
-use Rattle.mirror_walk.specs.Walk.WalkEnding.{nothing_wanted, not_there, refused, fetch_failed, filled, cut_short}
+use Rattle.mirror_walk.specs.Walk.WalkEnding.{nothing_wanted, not_there, refused, fetch_failed, filled}
+use Rattle.mirror_walk.specs.Walk.WalkEnding.{cut_short, disk_failed}
 use Rattle.mirror_walk.specs.declared.answer.Accepted.{Accepted}
 use Rattle.mirror_walk.specs.declared.walk.Refusal.{Refusal}
 use Rattle.mirror_walk.specs.declared.walk.WalkFault.{WalkFault}
@@ -58,6 +59,7 @@ refusal-over asked not_there refusal has = tt
 refusal-over asked (refused why) refusal has = tt
 refusal-over asked fetch_failed refusal has = absurd has
 refusal-over asked (filled size needed capacity) refusal has = absurd has
+refusal-over asked disk_failed refusal has = absurd has
 refusal-over asked cut_short refusal has = absurd has
 
 -- and one with a fault, by the fault
@@ -82,7 +84,7 @@ fault-ends asked accepted left ending faults.DiskFault result is same = record {
 fault-ends asked accepted left ending faults.NoMemory result is same = record {
   over = λ whole. absurd (not-ok result _ same whole);
   at_source = λ e. let other = sym same ∙ e in cc;
-  at_device = λ e. inl is;
+  at_device = λ e. let other = sym same ∙ e in cc;
 }
 
 -- after the walk's end no call of the source is made

@@ -6,6 +6,7 @@ use Rattle.feed_disk.specs.Disk.{DiskState}
 use Rattle.feed_disk.specs.Moments.{AlwaysLeaves, NowOnly}
 use Rattle.feed_disk.specs.declared.area.Area.{Area}
 use Rattle.feed_disk.specs.declared.area.Area.TheVariants.{Mirror as MirrorArea}
+use Rattle.mirror_walk.specs.Accept.{IsTakeable}
 use Rattle.mirror_walk.specs.Holding.{KeptValue}
 use Rattle.mirror_walk.specs.Mirror.{IsAtRest, LoadsTo}
 use Rattle.mirror_commands.specs.declared.report_fault.ReportFault.{ReportFault}
@@ -72,12 +73,14 @@ pub record AreAllAnswered (input : List ℕ) (observable failed whole : Type 0) 
   pub same : offers ≡ answered
   pub all : whole ⊎ failed → observable → ReadsTo input offers (Ok None)
 
--- a device call failed while the last offer was taken
-pub record FailsAtLast (failed whole : Type 0) (answered offers : List Offer) : Type 0 where
+-- A device call failed while the last offer was taken. The mirror holds `left` before that offer, and takes it.
+pub record FailsAtLast (capacity : ℕ) (base : List ℕ) (left : List KeptValue) (failed whole : Type 0)
+    (answered offers : List Offer) : Type 0 where
   pub is : failed
   pub part : ¬ whole
   pub last : Offer
   pub one_more : offers ≡ answered ++ last ∷ []
+  pub takeable : IsTakeable capacity base left last.address last.bytes
 
 -- The offers of a pile that were given to a mirror, up to the end of the pile or to a fault. While they are, a crash
 -- leaves of a disk at rest the documents held after the first few of them. It answered all of them but the last, if a
@@ -92,7 +95,7 @@ pub record GivesOffers (capacity : ℕ) (base : List ℕ) (kept : List KeptValue
   pub left : List KeptValue
   pub has : HasAnswered capacity base kept answered left
   pub given : AreAllAnswered input input_observable failed whole answered offers
-      ⊎ FailsAtLast failed whole answered offers
+      ⊎ FailsAtLast capacity base left failed whole answered offers
   pub now : ¬ failed → disk_observable → IsAtRest before kept → NowOnly after MirrorArea (LoadsTo base left)
 
 -- the area loads to the documents of a mirror, and these offers of the pile were given to it
@@ -106,7 +109,7 @@ pub record HasGiven (capacity : ℕ) (base : List ℕ) (content : Area → List 
   pub left : List KeptValue
   pub has : HasAnswered capacity base kept answered left
   pub given : AreAllAnswered input (Unit {0}) failed whole answered offers
-      ⊎ FailsAtLast failed whole answered offers
+      ⊎ FailsAtLast capacity base left failed whole answered offers
 
 -- the mirror wasn't loaded and nothing was read, or these offers were given to it
 abbrev pub GivesOf : ℕ → List ℕ → (Area → List ℕ) → SourceState → SourceState → Type 0 → Type 0 → Type 0

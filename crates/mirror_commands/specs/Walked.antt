@@ -3,7 +3,8 @@ use Rattle.std.specs.Prelude.{◌≡◌, ◌⊎◌, ℕ, List, Bool, Option}
 use Rattle.chain_links.specs.declared.address.Address.{Address}
 use Rattle.mirror_walk.specs.Holding.{KeptValue}
 use Rattle.mirror_walk.specs.Walk.{IsWalked, WalkEnding, WalkSetting, WalksFromFeed}
-use Rattle.mirror_walk.specs.Walk.WalkEnding.{nothing_wanted, not_there, refused, fetch_failed, filled, cut_short}
+use Rattle.mirror_walk.specs.Walk.WalkEnding.{nothing_wanted, not_there, refused, fetch_failed, filled}
+use Rattle.mirror_walk.specs.Walk.WalkEnding.{cut_short, disk_failed}
 use Rattle.mirror_walk.specs.declared.answer.Accepted.{Accepted}
 use Rattle.mirror_walk.specs.declared.walk.Walked.{Walked}
 use Rattle.command_ends.specs.Answer.{Answer}
@@ -21,14 +22,15 @@ IsOver not_there = Unit {0}
 IsOver (refused why) = Unit {0}
 IsOver fetch_failed = ⊥
 IsOver (filled size needed capacity) = ⊥
+IsOver disk_failed = ⊥
 IsOver cut_short = ⊥
 
 -- How a walk ended. If there is a report, it ended without a fault. If a call of the source failed, the walk ended with
--- that call. If a device call failed, the walk was cut short, or the call came after its end.
+-- that call. If a device call failed, that was while the walk's last document was taken, or after the walk's end.
 pub record EndsWalk (reported source_failed device_failed : Type 0) (ending : WalkEnding) : Type 0 where
   pub over : reported → IsOver ending
   pub at_source : source_failed → ending ≡ fetch_failed
-  pub at_device : device_failed → (ending ≡ cut_short) ⊎ IsOver ending
+  pub at_device : device_failed → (ending ≡ disk_failed) ⊎ IsOver ending
 
 -- the answer is the report, or else the certificate, of a mirror that held `kept` before its walk
 pub record IsWalkReport (report : Bool) (capacity : ℕ) (base : List ℕ) (kept : List KeptValue)

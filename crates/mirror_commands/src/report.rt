@@ -14,7 +14,7 @@ ghost use Rattle.command_ends.specs.Summary.{entry_line};
 ghost use Rattle.feed_disk.specs.Moments.{AlwaysLeaves, LeavesAlone};
 ghost use Rattle.feed_disk.specs.declared.area.Area.{Area as AreaValue};
 ghost use Rattle.feed_disk.specs.declared.area.Area.TheVariants.{Mirror as MirrorArea};
-ghost use Rattle.mirror_walk.specs.Accept.{Answer as MirrorAnswer, IsAnswerWithin};
+ghost use Rattle.mirror_walk.specs.Accept.{Answer as MirrorAnswer, IsAnswerWithin, IsTakeable};
 ghost use Rattle.mirror_walk.specs.Holding.{best_of, payloads_of};
 ghost use Rattle.mirror_walk.specs.Listing.{live_at, live_entries, outcome_of};
 ghost use Rattle.mirror_walk.specs.Loaded.{IsLoadedOf};
@@ -136,6 +136,9 @@ impl Report {
         ensures full { (size needed capacity : ℕ) → result ≡ Err (full_fault size needed capacity)
             → IsAnswerWithin mirror.old.capacity mirror.old.base mirror.old.kept address.now bytes.now
             (Err (NoRoom size needed capacity)) mirror.old.kept }
+        // A device call fails only while the document is taken.
+        ensures failed_taking { result ≡ Err Fault.Disk → IsTakeable mirror.old.capacity
+            mirror.old.base mirror.old.kept address.now bytes.now }
         ensures only_errors { IfErr result MayEndOffer }
         ensures unmoved { IfErr result (λ fault. fault ≢ Fault.Disk
             → (mirror.new.kept ≡ mirror.old.kept) × (disk.new ≡ disk.old)) }

@@ -7,7 +7,7 @@ use Rattle.doc_source.specs.declared.offer.Offer.{Offer}
 use Rattle.feed_disk.specs.Moments.{AlwaysLeaves}
 use Rattle.feed_disk.specs.declared.area.Area.TheVariants.{Mirror as MirrorArea}
 use Rattle.feed_disk.proofs.MomentLemmas.{alone_joins}
-use Rattle.mirror_walk.specs.Accept.{IsAnswerWithin}
+use Rattle.mirror_walk.specs.Accept.{IsAnswerWithin, IsTakeable}
 use Rattle.mirror_walk.specs.Mirror.{IsOfferStep}
 use Rattle.command_ends.specs.declared.fault.Fault.{Fault}
 use Rattle.command_ends.specs.declared.fault.Fault.TheVariants.{Disk, Input}
@@ -122,6 +122,10 @@ returns-in_err-added-clause-gives g c =
     c.in_ok-offer.ensures.limit (omega (arith, c.in_ok-offer.ensures.bound))
     (g.D.Disk.state c.offer-added.new.disk) fault _ _ c.in_err-added.ensures.only_errors
     (λ is. let a = p.1 in let b = p.2 in cc) (λ is. let a = p.1 in let b = p.2 in cc)
+    (λ is. let mirror = c.loop-offer.mirror in
+    subst (λ (a : List ℕ). IsTakeable mirror.capacity mirror.base mirror.kept a c.in-Some.offer.bytes) c.slice.ensures
+    (subst (λ (x : List ℕ). IsTakeable mirror.capacity mirror.base mirror.kept c.slice.result.now x)
+    c.slice-in-Some.ensures (c.in_err-added.ensures.failed_taking (ap Err is))))
     (not-ok c.from_residual-in_err-added.result _ p.1) c.begun_images_are_whole.ensures
     (λ observable rest.
     subst (λ (a : List ℕ). AlwaysLeaves (g.D.Disk.state c.loop-offer.disk) (g.D.Disk.state c.offer-added.new.disk) MirrorArea
