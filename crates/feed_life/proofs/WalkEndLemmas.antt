@@ -32,7 +32,8 @@ use Rattle.mirror_walk.specs.Offers.{AreServed, AreTakenOf, IsOffered, Offering}
 use Rattle.mirror_walk.specs.Published.{HoldsServed}
 use Rattle.mirror_walk.specs.Walk.{EndsAt, EndsBefore, HasRefusal, IsServedBy, IsWalkResult}
 use Rattle.mirror_walk.specs.Walk.{WalkEnding, WalkSetting, Walks, WalksFromFeed, accepted_offers, answer_at}
-use Rattle.mirror_walk.specs.Walk.WalkEnding.{cut_short, fetch_failed, filled, not_there, nothing_wanted, refused}
+use Rattle.mirror_walk.specs.Walk.WalkEnding.{cut_short, disk_failed, fetch_failed, filled, not_there}
+use Rattle.mirror_walk.specs.Walk.WalkEnding.{nothing_wanted, refused}
 use Rattle.mirror_walk.specs.declared.answer.Accepted.{Accepted}
 use Rattle.mirror_walk.specs.declared.answer.Outcome.TheVariants.{Complete}
 use Rattle.mirror_walk.specs.declared.walk.Refusal.{Refusal}
@@ -76,6 +77,7 @@ EndsNext setting next not_there = (address : Address) × (next ≡ Some address)
 EndsNext setting next (refused why) = Unit {0}
 EndsNext setting next fetch_failed = Unit {0}
 EndsNext setting next (filled size needed capacity) = Unit {0}
+EndsNext setting next disk_failed = Unit {0}
 EndsNext setting next cut_short = Unit {0}
 
 before-next : (setting : WalkSetting) (next : Option Address) (ending : WalkEnding) → EndsBefore next ending
@@ -85,6 +87,7 @@ before-next setting next not_there ends = absurd ends
 before-next setting next (refused why) ends = tt
 before-next setting next fetch_failed ends = tt
 before-next setting next (filled size needed capacity) ends = tt
+before-next setting next disk_failed ends = tt
 before-next setting next cut_short ends = tt
 
 at-next : (setting : WalkSetting) (kept : List KeptValue) (address : Address) (ending : WalkEnding)
@@ -94,6 +97,7 @@ at-next setting kept address not_there ends = (address, refl, ends)
 at-next setting kept address (refused why) ends = tt
 at-next setting kept address fetch_failed ends = tt
 at-next setting kept address (filled size needed capacity) ends = tt
+at-next setting kept address disk_failed ends = tt
 at-next setting kept address cut_short ends = tt
 
 -- after the feed's document a walk ends at the first missing document of what it holds then
@@ -118,6 +122,7 @@ Finishes not_there = Unit {0}
 Finishes (filled size needed capacity) = Unit {0}
 Finishes (refused why) = ⊥
 Finishes fetch_failed = ⊥
+Finishes disk_failed = ⊥
 Finishes cut_short = ⊥
 
 -- the result of such a walk
@@ -143,6 +148,7 @@ unrefused-finishes asked not_there refusal none has = tt
 unrefused-finishes asked (refused why) refusal none has = absurd (let is = has.is in cc)
 unrefused-finishes asked fetch_failed refusal none has = absurd has
 unrefused-finishes asked (filled size needed capacity) refusal none has = absurd has
+unrefused-finishes asked disk_failed refusal none has = absurd has
 unrefused-finishes asked cut_short refusal none has = absurd has
 
 result-finishes : (asked : List Address) (accepted : List Accepted) (left : List KeptValue) (ending : WalkEnding)
@@ -254,6 +260,7 @@ module _ (head : HeadValue) (history : List Op) (is_head : IsHead head) (lawful 
     ends-whole (filled size needed capacity) ends finishes = tt
     ends-whole (refused why) ends finishes = finishes
     ends-whole fetch_failed ends finishes = finishes
+    ends-whole disk_failed ends finishes = finishes
     ends-whole cut_short ends finishes = finishes
 
   -- a walk from the feed's document
@@ -303,6 +310,7 @@ module _ (head : HeadValue) (history : List Op) (is_head : IsHead head) (lawful 
     walk-whole [] [] left (filled size needed capacity) (same, ends) finishes = tt
     walk-whole [] [] left (refused why) (same, ends) finishes = finishes
     walk-whole [] [] left fetch_failed (same, ends) finishes = finishes
+    walk-whole [] [] left disk_failed (same, ends) finishes = finishes
     walk-whole [] [] left cut_short (same, ends) finishes = finishes
     walk-whole [] (answer ∷ accepted) left ending walks finishes = absurd walks
     walk-whole (address ∷ asked) [] left nothing_wanted (is, none, same, ends) finishes = absurd ends
@@ -314,6 +322,7 @@ module _ (head : HeadValue) (history : List Op) (is_head : IsHead head) (lawful 
     walk-whole (address ∷ asked) [] left (filled size needed capacity) (is, none, same, ends) finishes = tt
     walk-whole (address ∷ asked) [] left (refused why) (is, none, same, ends) finishes = finishes
     walk-whole (address ∷ asked) [] left fetch_failed (is, none, same, ends) finishes = finishes
+    walk-whole (address ∷ asked) [] left disk_failed (is, none, same, ends) finishes = finishes
     walk-whole (address ∷ asked) [] left cut_short (is, none, same, ends) finishes = finishes
     walk-whole (address ∷ asked) (answer ∷ accepted) left ending (is, (after, answered, walks)) finishes =
         let setting = setting_by head history in
