@@ -11,6 +11,7 @@ use std::io::{Read, Write};
 use std::net::{Net, Shutdown, SocketAddr, TcpStream};
 use std::process::Abort;
 use std::rt;
+use std::time::{Duration, Instant};
 use system_edge::TcpDoor;
 
 /// A request that is whole.
@@ -111,22 +112,61 @@ fn serves_a_client_while_another_is_silent(rt: HostRuntime) {
     drop(disk);
 }
 
+/// Requests of which the last byte decides how they are read.
+static ARRIVING: [&[u8]; 4] = [
+    REQUEST,
+    b"GET / HTTP/1.1\nHost: a\n\n",
+    b"GET / HTTP/1.1\r\nContent-Length: 4\r\n\r\n",
+    b"PUT / HTTP/1.1\r\nTransfer-Encoding: chunked\r\n\r\n",
+];
+
 #[test]
 fn serves_a_client_while_the_request_of_another_arrives(rt: HostRuntime) {
     let disk = empty_disk(&rt, rt.alloc());
     let (mut door, address) = listening(&rt, rt.alloc());
-    let mut slow = client_of(&rt, address, b"");
-    // Every byte of the slow client's request is followed by the whole request of another one.
-    let (last, first) = REQUEST.split_last().expect(&rt, "a request");
-    for byte in first {
-        slow.write_all(&[*byte]).expect(&rt, "a sent byte");
-        let client = client_of(&rt, address, b"GET / HTTP/1.1\r\n\r\n");
-        answer_next(&rt, &mut door, &disk, b"GET / ", b"found");
+    for &request in &ARRIVING {
+        let mut slow = client_of(&rt, address, b"");
+        // Every byte of the slow client's request is followed by the whole request of another one.
+        let (last, first) = request.split_last().expect(&rt, "a request");
+        for byte in first {
+            slow.write_all(&[*byte]).expect(&rt, "a sent byte");
+            let client = client_of(&rt, address, b"HEAD / HTTP/1.1\r\n\r\n");
+            answer_next(&rt, &mut door, &disk, b"HEAD / ", b"found");
+            expect_reply(&rt, client);
+        }
+        slow.write_all(&[*last]).expect(&rt, "a sent byte");
+        answer_next(&rt, &mut door, &disk, request, b"found");
+        expect_reply(&rt, slow);
+    }
+    drop(door);
+    drop(disk);
+}
+
+/// Bytes that decide how a request is read, though more of it may follow.
+static DECIDED: [&[u8]; 8] = [
+    b"GET / HTTP/1.1\r\nContent-Length: 4\r\n\r\n",
+    b"POST / HTTP/1.1\r\n\r\n",
+    b"POST / HTTP/1.1\r\nTransfer-Encoding: chunked\r\n\r\n",
+    b"POST / HTTP/1.1\r\nContent-Length: 4\r\nContent-Length: 4\r\n\r\n",
+    b"POST / HTTP/1.1\r\nContent-Length: +4\r\n\r\n",
+    b"POST / HTTP/1.1\r\nContent-Length: 65537\r\n\r\n",
+    b"POST / HTTP/1.1\r\nContent-Length: 18446744073709551615\r\n\r\n",
+    b"GET  ",
+];
+
+#[test]
+fn serves_clients_before_they_end(rt: HostRuntime) {
+    let disk = empty_disk(&rt, rt.alloc());
+    let (mut door, address) = listening(&rt, rt.alloc());
+    for &sent in &DECIDED {
+        let begun = Instant::now(&rt).expect(&rt, "a clock");
+        let client = client_of(&rt, address, sent);
+        answer_next(&rt, &mut door, &disk, sent, b"found");
+        // A request that isn't decided is served after 10 seconds.
+        let took = begun.elapsed(&rt).expect(&rt, "a clock");
+        assert!(&rt; took < Duration::from_secs(5), "{took:?}");
         expect_reply(&rt, client);
     }
-    slow.write_all(&[*last]).expect(&rt, "a sent byte");
-    answer_next(&rt, &mut door, &disk, REQUEST, b"found");
-    expect_reply(&rt, slow);
     drop(door);
     drop(disk);
 }

@@ -14,7 +14,7 @@
 //! and the mark of a reply, and nothing of the content. That the system does what it is asked is trusted.
 //!
 //! Stands on `document_server` for the clock and the door, on `doc_source` for the input and the output, on `http_face`
-//! for connections, and on `mio` for waiting.
+//! for connections, on `httparse` for a look at heads that are arriving, and on `mio` for waiting.
 #![tactic(auto)]
 
 mod system;

@@ -6,6 +6,7 @@ mod closing;
 mod conn;
 mod door;
 mod listening;
+mod look;
 mod port;
 mod replying;
 

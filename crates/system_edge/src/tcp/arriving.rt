@@ -41,7 +41,7 @@ impl<S: OpenStream + Read + Write + AsRawFd + Drop> Arriving<S> {
         }
         // What arrived in time counts, also if the server was busy when the time ended.
         let is_late = self.deadline <= now;
-        if self.conn.client.is_to_try() || is_late {
+        if self.conn.is_to_try() || is_late {
             self.is_due = self.conn.receive(alloc, part) || is_late;
         }
     }

@@ -34,15 +34,14 @@ impl<S: OpenStream + Read + Write + AsRawFd> Closing<S> {
         }
     }
 
-    /// Drops what has arrived. Returns whether the socket may be closed.
-    pub(super) fn drain(&mut self, now: Instant) -> bool {
+    /// Drops what has arrived, which is received into `part`. Returns whether the socket may be closed.
+    pub(super) fn drain(&mut self, now: Instant, part: &mut [u8]) -> bool {
         if !self.client.is_to_try() {
             return self.deadline <= now;
         }
-        let mut dropped = [0u8; 4096];
         while self.room > 0 {
-            let most = self.room.min(dropped.len());
-            match self.client.receive(&mut dropped[..most]) {
+            let most = self.room.min(part.len());
+            match self.client.receive(&mut part[..most]) {
                 Ok(None) => return self.deadline <= now,
                 Ok(Some(0)) | Err(Failed) => return true,
                 Ok(Some(count)) => self.room -= count,

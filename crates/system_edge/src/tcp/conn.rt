@@ -1,18 +1,28 @@
 //! A connection with a client over TCP.
 
-ghost use Rattle.std.specs.Prelude.{◌≡◌, ◌≤◌, [], None, vec_len};
+ghost use Rattle.std.specs.Prelude.{◌≡◌, ◌≤◌, [], None, IfSome, vec_len};
 
 use super::client::Client;
+use super::look::{has_empty_line, stated_length};
 use atom_values::Failed;
 use feed_disk::Disk;
 use http_face::{Conn, RequestFault, read_request};
+use mio::Poll;
 use std::alloc::Global;
 use std::io::{Read, Write};
+use std::mem;
 use std::net::OpenStream;
 use std::os::fd::AsRawFd;
 
 /// How many parts are received before the other clients have their turn.
 const TURN_PARTS: u32 = 4;
+
+/// For how many bytes of a request there is room at first. Most requests have fewer, and a lack of memory seldom hits so
+/// few. The room is doubled when it is full.
+const ROOM: usize = 4_096;
+
+/// The most bytes of a head. A longer one is refused.
+const MAX_HEAD: usize = 16_384;
 
 /// A connection with a client over TCP, no call on which waits for the client.
 ///
@@ -27,6 +37,12 @@ pub struct TcpConn<S> {
     taken: usize,
     /// Whether the client has ended its bytes. If it hasn't, a read behind those that have arrived fails.
     has_ended: bool,
+    /// How many bytes have to arrive until the next look, if no empty line comes before.
+    next_look: usize,
+    /// The stated length of the request, once its head has arrived.
+    length: Option<usize>,
+    /// Whether memory ran out. What lacked it is tried again after a pause.
+    is_short: bool,
     /// The part of the reply for which the system had no room.
     pub(super) rest: Vec<u8>,
     pub(super) begun: Option<u64>,
@@ -44,6 +60,9 @@ impl<S: OpenStream + Read + Write + AsRawFd + Drop> TcpConn<S> {
             arrived: Vec::new(alloc),
             taken: 0,
             has_ended: false,
+            next_look: 0,
+            length: None,
+            is_short: false,
             rest: Vec::new(alloc),
             begun: None,
             faults: 0,
@@ -57,20 +76,42 @@ impl<S: OpenStream + Read + Write + AsRawFd + Drop> TcpConn<S> {
         self.arrived.is_empty()
     }
 
-    /// Receives what has arrived, a part of the length of `part` at a time. Returns whether that decides how the request
-    /// is read, or no more will arrive: the client has ended, the connection failed, or memory ran out.
+    /// Whether a call is to be made: the client may have sent bytes, or memory ran out before.
+    pub(super) fn is_to_try(&self) -> bool {
+        self.client.is_to_try() || self.is_short
+    }
+
+    /// Whether a call may have something to do at once.
+    pub(super) fn is_ready(&self) -> bool {
+        self.client.is_ready && !self.is_short
+    }
+
+    /// Has the system report the client. Returns whether the next call can wait for the report.
+    pub(super) fn watch(&mut self, poll: &Poll) -> bool {
+        self.client.watch(poll) && !self.is_short
+    }
+
+    /// Receives what has arrived, a part of at most the length of `part` at a time. Returns whether that decides how the
+    /// request is read, or no more will arrive: the client has ended, or the connection failed.
     pub(super) fn receive(&mut self, alloc: Global, part: &mut [u8]) -> bool {
+        if mem::take(&mut self.is_short) && !self.is_silent() && self.is_whole(alloc) {
+            return true;
+        }
         for _ in 0..TURN_PARTS {
-            match self.client.receive(part) {
+            // Bytes for which there is no memory stay with the system.
+            let Some(room) = self.room(part.len()) else {
+                return false;
+            };
+            match self.client.receive(&mut part[..room]) {
                 Ok(None) => return false,
                 Ok(Some(0)) => {
                     self.has_ended = true;
                     return true;
                 }
                 Ok(Some(count)) => {
-                    if self.arrived.extend_from_slice(&part[..count]).is_err()
-                        || self.is_whole(alloc)
-                    {
+                    // There is room for them.
+                    let _ = self.arrived.extend_from_slice(&part[..count]);
+                    if self.is_to_look(count) && self.is_whole(alloc) {
                         return true;
                     }
                 }
@@ -80,10 +121,52 @@ impl<S: OpenStream + Read + Write + AsRawFd + Drop> TcpConn<S> {
         false
     }
 
-    /// Whether reading the request needs no byte that hasn't arrived. To find out, it reads the request.
+    /// Returns for how many bytes of at most `most` there is room, at least one. `None` if memory ran out.
+    fn room(&mut self, most: usize) -> Option<usize>
+        ensures { IfSome result (λ room. room ≤ most) }
+    {
+        let is_full = self.arrived.len() == self.arrived.capacity();
+        // While a request can't be read for lack of memory, it takes no more.
+        if is_full && (self.is_short || self.arrived.reserve(ROOM).is_err()) {
+            self.is_short = true;
+            return None;
+        }
+        Some((self.arrived.capacity() - self.arrived.len()).min(most))
+    }
+
+    /// Whether the last `count` bytes may decide how the request is read.
+    ///
+    /// Until the head has arrived, each look parses all of its bytes. So a look is due only after an empty line, with
+    /// which a head ends, or once the bytes have grown by an eighth, since they may be refused before. The looks of the
+    /// second kind parse nine times the bytes of the head at most, however small the parts are.
+    fn is_to_look(&self, count: usize) -> bool {
+        let arrived = self.arrived.len();
+        if let Some(length) = self.length {
+            return length <= arrived;
+        }
+        // An empty line may begin with the last bytes of the part before.
+        let new = &self.arrived[arrived.saturating_sub(count).saturating_sub(2)..];
+        self.next_look.min(MAX_HEAD) <= arrived || has_empty_line(new)
+    }
+
+    /// Whether reading the request needs no byte that hasn't arrived. If the stated length doesn't show it, the request
+    /// is read.
     fn is_whole(&mut self, alloc: Global) -> bool {
+        let arrived = self.arrived.len();
+        self.next_look = arrived.saturating_add(arrived / 8 + 1);
+        self.length = stated_length(&self.arrived);
+        if matches!(self.length, Some(length) if length <= arrived) {
+            return true;
+        }
         self.restart();
-        !matches!(read_request(alloc, self), Err(RequestFault::ConnFault))
+        match read_request(alloc, self) {
+            Err(RequestFault::ConnFault) => false,
+            Err(RequestFault::NoMemory) => {
+                self.is_short = true;
+                false
+            }
+            _ => true,
+        }
     }
 
     /// Has the request be read from its beginning, as on a connection on which no call was made.

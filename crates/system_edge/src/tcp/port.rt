@@ -37,7 +37,7 @@ const MAX_KEPT: usize = 134_217_728;
 /// The greatest memory of a reply that is kept for the next one.
 const MAX_SPARE: usize = 16_777_216;
 
-/// How many bytes are received at a time: most requests arrive in one part.
+/// How many bytes are received at a time.
 const PART: usize = 65_536;
 
 /// How many clients are accepted before the others have their turn.
@@ -56,7 +56,7 @@ const CALLS: Token = Token(0);
 #[derive(Drop)]
 pub(super) struct Port<R: Net + rt::Clock> {
     alloc: Global,
-    /// The room for a part of a request.
+    /// The room for what a client sends.
     part: Vec<u8>,
     /// The memory of an earlier reply, for the next one: the system takes long to give new memory.
     spare: Vec<u8>,
@@ -150,7 +150,7 @@ impl<R: Net + rt::Clock> Port<R> {
             self.close(conn.client, now);
         } else if let Some(deadline) = now.checked_add(Duration::from_secs(REPLY_SECONDS)) {
             self.make_room(conn.rest.len());
-            // It has room for MAX_REPLYING clients from the beginning.
+            // The queue was made with room for MAX_REPLYING clients.
             let reply = Replying::new(conn.client, conn.rest, now, deadline);
             let _ = self.replying.push_back(reply);
         }
@@ -174,11 +174,12 @@ impl<R: Net + rt::Clock> Port<R> {
                 Turn::Lost => self.keep_spare(reply.rest),
             }
         }
-        self.closing.retain_mut(|link| !link.drain(now));
+        let part = &mut self.part;
+        self.closing.retain_mut(|link| !link.drain(now, part));
     }
 
-    /// Accepts the clients that wait to connect. Returns whether memory or descriptors ran out and the port holds no
-    /// client that has one.
+    /// Accepts the clients that wait to connect. Returns whether memory or descriptors ran out although the port has no
+    /// client.
     fn accept_all(&mut self, now: Instant) -> Result<bool, Failed> {
         for _ in 0..MAX_ACCEPTED {
             if !self.listening.is_called {
@@ -219,7 +220,7 @@ impl<R: Net + rt::Clock> Port<R> {
         };
         self.accepted = self.accepted.saturating_add(1);
         let client = Client::new(stream, Token(self.accepted));
-        // It has room for MAX_ARRIVING clients from the beginning.
+        // The queue was made with room for MAX_ARRIVING clients.
         let _ = self.arriving.push_back(Arriving {
             conn: TcpConn::new(self.alloc, client),
             accepted: now,
@@ -248,7 +249,7 @@ impl<R: Net + rt::Clock> Port<R> {
             // Its socket is closed when it is dropped.
             let _ = self.closing.pop_front();
         }
-        // It has room for MAX_CLOSING clients from the beginning.
+        // The queue was made with room for MAX_CLOSING clients.
         let _ = self.closing.push_back(Closing::new(client, deadline));
     }
 
@@ -310,7 +311,7 @@ impl<R: Net + rt::Clock> Port<R> {
     fn wait(&mut self, now: Instant) -> Result<(), Failed> {
         let mut all_watched = true;
         for client in self.arriving.iter_mut() {
-            all_watched = client.conn.client.watch(&self.poll) && all_watched;
+            all_watched = client.conn.watch(&self.poll) && all_watched;
         }
         for reply in self.replying.iter_mut() {
             all_watched = reply.client.watch(&self.poll) && all_watched;
@@ -332,10 +333,7 @@ impl<R: Net + rt::Clock> Port<R> {
     /// Whether a turn left something that needs no report of the system.
     fn has_more_to_do(&self) -> bool {
         self.listening.is_called && self.arriving.len() < MAX_ARRIVING
-            || self
-                .arriving
-                .iter()
-                .any(|client| client.conn.client.is_ready)
+            || self.arriving.iter().any(|client| client.conn.is_ready())
             || self.replying.iter().any(|reply| reply.client.is_ready)
     }
 
