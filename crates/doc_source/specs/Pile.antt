@@ -1,6 +1,7 @@
 -- The text of a pile of offers, and the answer that the bytes of a source have.
-use Rattle.std.specs.Prelude.{◌≡◌, ◌≢◌, ℕ, ◌-◌, ◌<◌, ◌≤◌, List, [], ◌∷◌, ◌++◌, ◌==◌, if◌then◌else◌, Option, None, Some, Result, Ok, Err, length, take, All, codes, decimal, flat_map}
+use Rattle.std.specs.Prelude.{◌≡◌, ◌≢◌, ℕ, ◌+◌, ◌-◌, ◌<◌, ◌≤◌, List, [], ◌∷◌, ◌++◌, ◌==◌, if◌then◌else◌, Option, None, Some, Result, Ok, Err, length, take, All, codes, decimal, flat_map}
 use Rattle.atom_values.specs.Ascii.{lf, space}
+use Rattle.feed_disk.specs.Raised.{RisesAtMost}
 use Rattle.doc_source.specs.Outside.{SourceState}
 use Rattle.doc_source.specs.declared.fault.PileFault.{PileFault}
 use Rattle.doc_source.specs.declared.fault.PileFault.TheVariants.{BadPile, TooLong, SourceFault, NoMemory}
@@ -81,6 +82,15 @@ pub record PileState : Type 0 where
 -- the unused bytes of the pile
 abbrev pub unused : PileState → SourceState → List ℕ
 unused reader source = reader.ahead ++ source.left
+
+-- how many bytes of the pile a reader took from its source
+abbrev pub taken_by : PileState → ℕ
+taken_by reader = reader.used + length reader.ahead
+
+-- the reader took all bytes that were read of its source, by the source's count of them
+pub record TakesRead (before after : PileState) (counted counted_after : ℕ) : Type 0 where
+  pub later : taken_by before ≤ taken_by after
+  pub read : RisesAtMost (taken_by after - taken_by before) counted counted_after
 
 -- those of the unused bytes that lie within the limit
 abbrev pub within : ℕ → ℕ → List ℕ → List ℕ

@@ -5,7 +5,8 @@ ghost use Rattle.atom_values.specs.Counts.{CountsFault};
 ghost use Rattle.feed_disk.specs.Raised.{RisesAtMost};
 ghost use Rattle.doc_source.specs.declared.fault.PileFault.{PileFault as PileFaultValue};
 ghost use Rattle.doc_source.specs.declared.offer.Offer.{Offer as OfferValue};
-ghost use Rattle.doc_source.specs.Pile.{IsAnswer, IsOfBytes, IsOffer, IsOpen, refusal_after, taken_past, unused, used_text};
+ghost use Rattle.doc_source.specs.Pile.{IsAnswer, IsOfBytes, IsOffer, IsOpen, refusal_after, taken_by, taken_past};
+ghost use Rattle.doc_source.specs.Pile.{TakesRead, unused, used_text};
 
 use crate::fault::PileFault;
 use crate::intake::Intake;
@@ -101,8 +102,11 @@ impl PileReader {
         ensures limit { self.new.limit ≡ self.old.limit }
         ensures bound { self.new.used + length self.new.ahead ≤ self.new.limit }
         ensures read { RisesAtMost
-            (self.old.limit - (self.old.used + length self.old.ahead) + taken_past result)
+            (self.old.limit - taken_by self.old + taken_past result)
             (S.state source.old).bytes_read (S.state source.new).bytes_read }
+        // While no refusal is kept, each byte that was read is used or ahead.
+        ensures kept { self.new.refusal ≡ None
+            → TakesRead self.old self.new (S.state source.old).bytes_read (S.state source.new).bytes_read }
         ensures rules { IfOk result (λ found. IfSome found IsOffer) }
 
         // Bytes from which no pile goes on are refused before more are asked for.
@@ -134,8 +138,10 @@ impl PileReader {
         ensures limit { self.new.limit ≡ self.old.limit }
         ensures bound { self.new.used + length self.new.ahead ≤ self.new.limit }
         ensures read { RisesAtMost
-            (self.old.limit - (self.old.used + length self.old.ahead) + taken_past result)
+            (self.old.limit - taken_by self.old + taken_past result)
             (S.state source.old).bytes_read (S.state source.new).bytes_read }
+        ensures kept { refusal_after result ≡ None
+            → TakesRead self.old self.new (S.state source.old).bytes_read (S.state source.new).bytes_read }
         ensures rules { IfOk result (λ found. IfSome found IsOffer) }
         ensures open { result ≡ Err PileFault.SourceFault → IsOpen self.old.used self.new.ahead }
         ensures faults { CountsFault (S.state source.old).faults (S.state source.new).faults

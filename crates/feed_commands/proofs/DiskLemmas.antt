@@ -63,10 +63,11 @@ applies-none s moments input rest observable failed stopped later is never = λ 
 -- a statement on the ends of `apply` holds if more of them have a failed call of the disk, and fewer one of the input,
 -- and fewer come after the load
 pub applies-weaker : (before after : DiskState) (moments : ℕ → ℕ) (input rest : SourceState)
-    (observable failed stopped later more fewer less : Type 0) → (failed → more) → (fewer → stopped) → (less → later) →
+    (observable failed stopped later more fewer less : Type 0) → (failed → more) → (more → failed) → (fewer → stopped) → (less → later) →
     AppliesSafely before after moments input rest observable failed stopped later →
     AppliesSafely before after moments input rest observable more fewer less
-applies-weaker before after moments input rest observable failed stopped later more fewer less fails stops ends safely =
+applies-weaker before after moments input rest observable failed stopped later more fewer less fails caused stops ends
+    safely =
     λ head operations least settled.
     ⊎_elim
     (λ (unloaded : (later → ⊥) × AlwaysLeavesBoth before after (OpensPast head operations least)).
@@ -82,6 +83,7 @@ applies-weaker before after moments input rest observable failed stopped later m
         grows = l.lines.grows;
         one_more = l.lines.one_more;
         first = l.lines.first;
+        cause = λ f. l.lines.cause (caused f);
         read = λ f. l.lines.read (stops f);
       };
       loaded = l.loaded;

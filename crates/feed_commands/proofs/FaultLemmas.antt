@@ -3,7 +3,7 @@ use Rattle.std.proofs.Common.{◌≡◌, refl}
 use Rattle.feed_commands.specs.declared.commands.lines.LinesFault.{LinesFault}
 use Rattle.feed_commands.specs.declared.commands.lines.LinesFault.TheVariants as lines
 use Rattle.command_ends.specs.declared.fault.Fault.{Fault}
-use Rattle.command_ends.specs.declared.fault.Fault.TheVariants.{Input, Refused}
+use Rattle.command_ends.specs.declared.fault.Fault.TheVariants.{Disk, Input, Refused}
 use Rattle.command_ends.specs.declared.fault.Refusal.TheVariants.{TooLong}
 use Rattle.feed_commands.specs.Apply.{lines_fault}
 use Rattle.command_ends.specs.Fault.{IsRefusal}
@@ -19,3 +19,8 @@ pub input-of_lines : (fault : LinesFault) → lines_fault fault ≡ Input → fa
 input-of_lines lines.TooLong e = cc
 input-of_lines lines.Input e = refl
 input-of_lines lines.NoMemory e = cc
+
+pub lines-no_disk : (fault : LinesFault) → lines_fault fault ≡ Disk → ⊥
+lines-no_disk lines.TooLong e = cc
+lines-no_disk lines.Input e = cc
+lines-no_disk lines.NoMemory e = cc

@@ -28,6 +28,8 @@ pub mod PileEndLemmas
 pub mod PileLemmas
 -- serves `run`, `answered`: the loops over the lines of an input
 pub mod ProgressLemmas
+-- serves `run`, `faults`: how many bytes of an input of lines were read
+pub mod ReadLemmas
 -- serves `run`, `answered` and `applied`: a store after a line of `apply`
 pub mod RoomLemmas
 -- serves `run`: the words that were read, and how the command ended

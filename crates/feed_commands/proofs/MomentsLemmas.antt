@@ -33,9 +33,9 @@ module _ (s t : DiskState) (moments : ℕ → ℕ) (input rest : SourceState) (s
     (lines : seen → IsMadeByFirst (stored_step moments) opened input.left count made)
     (read : stopped → seen → IsMadeByRead (stored_step moments) opened input rest made) where
   pub lines-leave : AlwaysLeavesBoth s t (OpensPast opened.head made.history (length opened.history))
-      → Settled t opened.head made.history (length made.history)
+      → Settled t opened.head made.history (length made.history) → ¬ failed
       → LeavesLines s t moments input rest seen opened failed stopped
-  lines-leave each settled = record {
+  lines-leave each settled works = record {
     made = made;
     history = made.history;
     lines = record {
@@ -43,6 +43,7 @@ module _ (s t : DiskState) (moments : ℕ → ℕ) (input rest : SourceState) (s
       grows = grown.1;
       one_more = inl refl;
       first = λ observable. record { count = count; makes = lines observable; adds = inl refl };
+      cause = λ fails. absurd (works fails);
       read = read;
     };
     calls = calls;
@@ -67,6 +68,13 @@ module _ (s t : DiskState) (moments : ℕ → ℕ) (input rest : SourceState) (s
         makes = lines observable;
         adds = inr (with_operation made operation, next observable, refl);
       };
+      cause = λ _ observable. record {
+        count = count;
+        makes = lines observable;
+        next = with_operation made operation;
+        adds = next observable;
+        is = refl;
+      };
       read = read;
     };
     calls = calls;
@@ -82,10 +90,10 @@ loaded-leaves : (s m t : DiskState) (moments : ℕ → ℕ) (input rest : Source
     → OpensTo s.content opened
     → opened.head ≡ head → AlwaysLeavesBoth s m (OpensPast head operations least)
     → LeavesLines m t moments input rest seen opened lines_failed lines_stopped → (lines_failed → failed)
-    → (stopped → lines_stopped)
+    → (failed → lines_failed) → (stopped → lines_stopped)
     → LeavesApplied s t moments input rest seen head operations least failed stopped
 loaded-leaves s m t moments input rest seen head operations least lines_failed lines_stopped failed stopped opened opens
-    same first second fails stops =
+    same first second fails caused stops =
     record {
       opened = opened;
       opens = opens;
@@ -97,6 +105,7 @@ loaded-leaves s m t moments input rest seen head operations least lines_failed l
         grows = second.lines.grows;
         one_more = second.lines.one_more;
         first = second.lines.first;
+        cause = λ fail. second.lines.cause (caused fail);
         read = λ stop. second.lines.read (stops stop);
       };
       loaded = m.clock;
@@ -132,12 +141,12 @@ pub applies-safely : {observable : Type 0} (s m t : DiskState) (moments : ℕ �
     → ((head : HeadValue) (operations : List Op) (least : ℕ) → Settled s head operations least
     → AlwaysLeavesBoth s m (OpensPast head operations least))
     → (AreWhole s → LeavesLines m t moments input rest seen opened lines_failed lines_stopped)
-    → (lines_failed → failed) → (stopped → lines_stopped)
+    → (lines_failed → failed) → (failed → lines_failed) → (stopped → lines_stopped)
     → AppliesSafely s t moments input rest seen failed stopped later
 applies-safely s m t moments input rest seen lines_failed lines_stopped failed stopped later opened disk tells one opens
-    first second fails stops =
+    first second fails caused stops =
     λ head operations least settled.
     inr (loaded-leaves s m t moments input rest seen head operations least lines_failed lines_stopped failed stopped
     opened opens
     (settled-head s head operations least disk tells one settled opened opens) (first head operations least settled)
-    (second (settled-whole s head operations least disk tells settled)) fails stops)
+    (second (settled-whole s head operations least disk tells settled)) fails caused stops)

@@ -187,6 +187,7 @@ pub faults-none : {words : List (List ℕ)} {disk : DiskState} {door : DoorState
 faults-none no_disk no_shared no_input counts = record {
   disk_faults = counts-none no_disk;
   input_faults = counts-none no_input;
+  input_read = λ command of_words. omega arith;
   output_faults = counts;
   door_faults = shared-counts (counts-none no_shared);
   fetch_faults = shared-counts (counts-none no_shared);

@@ -76,15 +76,26 @@ pub record AddsFirstLines (step : Step Stored) (opened : Stored) (input : List �
       (history ≡ made.history)
       ⊎ ((next : Stored) × IsMadeByFirst step opened input (count + 1) next × (history ≡ next.history))
 
+-- The first lines of the input made this store, and the history is that of the store which one line more makes.
+pub record AddsNextLine (step : Step Stored) (opened : Stored) (input : List ℕ) (made : Stored) (history : List Op)
+    : Type 0 where
+  pub count : ℕ
+  pub makes : IsMadeByFirst step opened input count made
+  pub next : Stored
+  pub adds : IsMadeByFirst step opened input (count + 1) next
+  pub is : history ≡ next.history
+
 -- The lines of the input made this store, whose history is the opened one with more operations or none. `history` is
--- that, with the operation of the next line if that failed on the disk. If a call on the input failed (`stopped`),
--- these are all lines that ended before it.
-pub record AreMadeByLines (moments : ℕ → ℕ) (input rest : SourceState) (observable stopped : Type 0) (opened made : Stored)
-    (history : List Op) : Type 0 where
+-- that, with the operation of the next line if a device call of that failed (`failed`). If a call on the input failed
+-- (`stopped`), these are all lines that ended before it.
+pub record AreMadeByLines (moments : ℕ → ℕ) (input rest : SourceState) (observable failed stopped : Type 0)
+    (opened made : Stored) (history : List Op) : Type 0 where
   pub more : List Op
   pub grows : made.history ≡ opened.history ++ more
   pub one_more : IsWithOneMore made.history history
   pub first : observable → AddsFirstLines (stored_step moments) opened input.left made history
+  -- a device call fails only for a line that isn't refused
+  pub cause : failed → observable → AddsNextLine (stored_step moments) opened input.left made history
   pub read : stopped → observable → IsMadeByRead (stored_step moments) opened input rest made
 
 -- `apply` on a store that was loaded. Until the load's last device call a crash leaves what it could leave before; then
@@ -97,7 +108,7 @@ pub record LeavesApplied (before after : DiskState) (moments : ℕ → ℕ) (inp
   pub same : opened.head ≡ head
   pub made : Stored
   pub history : List Op
-  pub lines : AreMadeByLines moments input rest observable stopped opened made history
+  pub lines : AreMadeByLines moments input rest observable failed stopped opened made history
   -- the moment of the last device call of the load, which comes before the four or more of each operation
   pub loaded : ℕ
   pub before_lines : after.clock < counter_limit

@@ -1,7 +1,10 @@
 -- The lines of an input, and a reader of them.
 use Rattle.std.specs.Prelude.{◌≡◌, ◌⊎◌, ℕ, ◌+◌, ◌-◌, ◌<◌, ◌≤◌, List, [], ◌∷◌, ◌++◌, Bool, ◌==◌, if◌then◌else◌, length, take}
-use Rattle.std.specs.Prelude.{IsTrue, true, false}
+use Rattle.std.specs.Prelude.{IsTrue, true, false, Result, Err}
 use Rattle.atom_values.specs.Ascii.{lf}
+use Rattle.feed_disk.specs.Raised.{RisesAtMost}
+use Rattle.feed_commands.specs.declared.commands.lines.LinesFault.{LinesFault}
+use Rattle.feed_commands.specs.declared.commands.lines.LinesFault.TheVariants.{TooLong}
 use Rattle.feed_commands.specs.Line.{prefix_limit}
 use Rattle.doc_source.specs.Outside.{SourceState}
 use Rattle.tool_words.specs.Line.{HasNo}
@@ -114,6 +117,16 @@ pub record ReadsMore (before after : LinesState) : Type 0 where
   pub going_on : before.ended ≡ false
   pub some : 0 < length after.ahead
   pub used : length after.ahead + after.allowed ≡ before.allowed
+
+-- the one byte of the input that is read past the limit
+abbrev pub read_past : {A : Type 0} → Result A LinesFault → ℕ
+read_past (Err TooLong) = 1
+read_past _ = 0
+
+-- the count of the input's bytes rose by as many as may no longer be read, and by some more
+pub record ReadsAllowed (before after : LinesState) (more counted counted_after : ℕ) : Type 0 where
+  pub fewer : after.allowed ≤ before.allowed
+  pub read : RisesAtMost (before.allowed - after.allowed + more) counted counted_after
 
 -- the input had nothing left, and no byte is ahead
 pub record IsSpent (after : LinesState) (input rest : SourceState) : Type 0 where

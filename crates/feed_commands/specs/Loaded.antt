@@ -24,7 +24,7 @@ pub record LeavesLines (before after : DiskState) (moments : ℕ → ℕ) (input
     (opened : Stored) (failed stopped : Type 0) : Type 0 where
   pub made : Stored
   pub history : List Op
-  pub lines : AreMadeByLines moments input rest observable stopped opened made history
+  pub lines : AreMadeByLines moments input rest observable failed stopped opened made history
   pub calls : after.clock < counter_limit
       → before.clock + 4 * (length made.history - length opened.history) ≤ after.clock
   pub each : AlwaysLeavesBoth before after (OpensPast opened.head history (length opened.history))

@@ -1,9 +1,10 @@
 -- The answer of each command, and how the program ends.
-use Rattle.std.specs.Prelude.{◌≡◌, ◌⊎◌, ℕ, ◌≤◌, List, length, Option, Some, None, [], Bool, true, false}
+use Rattle.std.specs.Prelude.{◌≡◌, ◌⊎◌, ℕ, ◌+◌, ◌≤◌, List, length, Option, Some, None, [], Bool, true, false}
 use Rattle.atom_values.specs.Counts.{CountsFault, HasRisen}
 use Rattle.document_server.specs.Door.{DoorState}
 use Rattle.document_server.specs.declared.line.Line.{Line}
 use Rattle.feed_disk.specs.Disk.{DiskState}
+use Rattle.feed_disk.specs.Raised.{RisesAtMost}
 use Rattle.feed_disk.specs.declared.area.Area.{Area}
 use Rattle.feed_recovery.specs.Stored.{OpensTo, Stored}
 use Rattle.command_ends.specs.declared.status.Status.{Status}
@@ -14,14 +15,16 @@ use Rattle.command_ends.specs.Answer.{Answer}
 use Rattle.command_ends.specs.Ends.{CountsOutput, EndsAs}
 use Rattle.feed_commands.specs.Applied.{IsUnrefused}
 use Rattle.feed_commands.specs.Apply.{answer, history_step, test_head}
-use Rattle.mirror_commands.specs.Audit.{IsAuditUnrefused, IsAudited}
+use Rattle.mirror_commands.specs.Audit.{IsAuditUnrefused, IsAudited, audit_limit}
 use Rattle.feed_commands.specs.Drill.{drill_answer}
 use Rattle.feed_life.specs.Life.{LifeValue}
 use Rattle.mirror_commands.specs.FetchEnds.{IsWalkAnswer, IsWalkEnd}
 use Rattle.mirror_commands.specs.MirrorEnds.{IsMirrorUnrefused, IsPileAnswer, IsPileEnd}
+use Rattle.feed_commands.specs.Lines.{input_limit}
+use Rattle.mirror_commands.specs.Mirror.{pile_limit}
 use Rattle.feed_commands.specs.Outside.{Outside}
 use Rattle.feed_commands.specs.Pile.{pile_answer}
-use Rattle.feed_commands.specs.Show.{IsShown, ReadsWithinLimit}
+use Rattle.feed_commands.specs.Show.{IsShown, ReadsWithinLimit, document_limit}
 use Rattle.command_ends.specs.Status.{code_of}
 use Rattle.feed_commands.specs.Stored.{IsBadStore, IsInitAnswer, apply_answer, archive_answer, feed_answer, member_answer, stored_step}
 use Rattle.member_rules.specs.Head.{window_limit, capacity_floor, capacity_limit, title_limit}
@@ -48,6 +51,14 @@ ReadsInput (Show Document) = Unit {0}
 ReadsInput (Mirror base false report capacity) = Unit {0}
 ReadsInput Audit = Unit {0}
 ReadsInput _ = ⊥
+
+-- how many bytes of the input the command reads: its limit, and one byte more to learn whether the input goes on
+abbrev pub read_limit : Command → ℕ
+read_limit (Apply window) = input_limit + 1
+read_limit (Show Document) = document_limit + 1
+read_limit (Mirror base false report capacity) = pile_limit + 1
+read_limit Audit = audit_limit + 1
+read_limit _ = 0
 
 -- whether the answer depends on the clock
 abbrev pub AsksClock : Command → Type 0
@@ -159,11 +170,14 @@ pub record CountsShared (before after : ℕ) (is_returned is_alone : Type 0) : T
   pub failed : is_alone → is_returned → HasRisen before after
   pub unfailed : ¬ is_returned → after ≡ before
 
--- the counts of all five objects; the door and the source of documents share a status
+-- The counts of faults of all five objects, of which the door and the source of documents share a status. The input is
+-- read up to the command's limit.
 pub record CountsFaults (words : List (List ℕ)) (disk left : DiskState) (door shut : DoorState)
     (fetch fetched : FetchState) (input rest : SourceState) (output taken : SinkState) (ended : ℕ) : Type 0 where
   pub disk_faults : CountsFault disk.faults left.faults (ended ≡ code_of ends.DiskFault)
   pub input_faults : CountsFault input.faults rest.faults (ended ≡ code_of ends.InputFault)
+  pub input_read : (command : Command) → IsCommandOf words command
+      → RisesAtMost (read_limit command) input.bytes_read rest.bytes_read
   pub output_faults : CountsOutput output.faults taken.faults ended
   pub door_faults : CountsShared door.faults shut.faults (ended ≡ code_of ends.DoorFault) (FetchesNot words)
   pub fetch_faults : CountsShared fetch.faults fetched.faults (ended ≡ code_of ends.FetchFault) (ServesNot words)

@@ -2,6 +2,7 @@ ghost use Rattle.std.specs.Prelude.{◌≡◌, ◌≢◌, ◌⊎◌, ℕ, List, 
 ghost use Rattle.atom_values.specs.Counts.{CountsFault};
 ghost use Rattle.atom_writer.specs.declared.doc.FeedName.{FeedName};
 ghost use Rattle.feed_disk.specs.Moments.{LeavesAlone};
+ghost use Rattle.feed_disk.specs.Raised.{RisesAtMost};
 ghost use Rattle.feed_disk.specs.declared.area.Area.TheVariants.{Mirror};
 ghost use Rattle.command_ends.specs.declared.status.Status.TheVariants as status;
 ghost use Rattle.command_ends.specs.Answer.{Answer, Prints};
@@ -19,7 +20,7 @@ ghost use Rattle.feed_commands.specs.Outside.{outside_of};
 ghost use Rattle.feed_commands.specs.Pile.{EndsCut};
 ghost use Rattle.feed_commands.specs.Run.{CountsFaults, EndsWith, IsAtOnce, IsBare, IsComplete, IsSeenUnfetched};
 ghost use Rattle.feed_commands.specs.Run.{IsTextual, IsUsageOf, LeavesUnused, MirrorsNot, PrintsAtOnce, ReadsInput};
-ghost use Rattle.feed_commands.specs.Run.{UsesClock, UsesDisk};
+ghost use Rattle.feed_commands.specs.Run.{UsesClock, UsesDisk, read_limit};
 ghost use Rattle.command_ends.specs.Ends.{IsAlone, alone_line};
 ghost use Rattle.feed_commands.specs.Serve.{EndsServing};
 ghost use Rattle.command_ends.specs.Status.{code_of};
@@ -122,7 +123,8 @@ pub fn run<D: Disk, C: Clock, L: Door, F: Fetch, I: Source, O: Sink>(
         → result.status ≢ code_of status.Done → result.status ≢ code_of status.OutputFault
         → EndsCut (D.state disk.old).content D.observable (O.state output.old) (O.state output.new) result.status }
 
-    // A fault comes only if the object's count of faults rose, and nothing that was read before it is refused.
+    // A fault comes only if the object's count of faults rose, and nothing that was read before it is refused. The input
+    // is read up to the command's limit, and one byte past it.
     ensures faults { CountsFaults (map string_bytes words.now) (D.state disk.old) (D.state disk.new)
         (L.state door.old) (L.state door.new) (F.state fetch.old) (F.state fetch.new)
         (I.state input.old) (I.state input.new) (O.state output.old) (O.state output.new) result.status }
@@ -272,6 +274,7 @@ fn answer<D: Disk, C: Clock, I: Source>(
         (result ≡ Err Fault.Disk) }
     ensures input_faults { CountsFault (I.state input.old).faults (I.state input.new).faults
         (result ≡ Err Fault.Input) }
+    ensures read { RisesAtMost (read_limit command) (I.state input.old).bytes_read (I.state input.new).bytes_read }
     ensures unrefused { result ≡ Err Fault.Input → IsSeenUnfetched command D.observable C.observable I.observable
         → IsUnrefusedBy command (C.coming clock.old) (D.state disk.old).content
         (I.state input.old) (I.state input.new) }

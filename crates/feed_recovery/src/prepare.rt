@@ -3,7 +3,7 @@ ghost use Rattle.std.specs.Prelude.{◌<◌, OnErr};
 ghost use Rattle.atom_writer.specs.Pieced.{text_of};
 ghost use Rattle.feed_journal.specs.Limits.{header_length};
 ghost use Rattle.feed_journal.specs.Log.{IsLog};
-ghost use Rattle.feed_recovery.specs.Prepare.{Fits, HasRoom, IsDueSeal, IsPrepareFault, MayCommit};
+ghost use Rattle.feed_recovery.specs.Prepare.{Fits, HasRoom, KeepsRoom, IsDueSeal, IsPrepareFault, MayCommit};
 ghost use Rattle.feed_recovery.specs.Prepare.{IsFullFault, SealFits, decision_of};
 ghost use Rattle.feed_recovery.specs.Store.{is_spent};
 ghost use Rattle.member_rules.specs.Coding.{operations};

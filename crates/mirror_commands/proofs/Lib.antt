@@ -8,6 +8,8 @@ pub mod GivingLemmas
 pub mod ListingLemmas
 -- serves `mirror` and `mirror_fetched`: the disk after a mirror was loaded
 pub mod LoadedLemmas
+-- serves `mirror` and `audit`: how many bytes of a pile were read
+pub mod CountedLemmas
 -- serves `mirror` and `audit`: a pile of which a part was read
 pub mod AmidLemmas
 -- serves `mirror`: the offers of a pile, one after another

@@ -1,5 +1,5 @@
 -- `audit`: the part of the input that is read before the pile.
-use Rattle.std.specs.Prelude.{◌≡◌, ◌≢◌, ◌⊎◌, ℕ, ◌<◌, List, [], ◌++◌, All, length, take}
+use Rattle.std.specs.Prelude.{◌≡◌, ◌≢◌, ◌⊎◌, ℕ, ◌<◌, List, [], ◌++◌, All, length, take, Option, Some, None}
 use Rattle.doc_source.specs.Outside.{SourceState}
 use Rattle.coverage_certificate.specs.Text.{text_of_lines}
 use Rattle.atom_values.specs.Ascii.{lf}
@@ -27,3 +27,8 @@ pub record ReadsPart (before after : SourceState) (text : List ℕ) : Type 0 whe
 pub record IsLongPart (input : List ℕ) : Type 0 where
   pub more : audit_limit < length input
   pub no_end : HasNoEnd (take audit_limit input)
+
+-- how many bytes a read of one byte gave
+abbrev pub byte_count : Option ℕ → ℕ
+byte_count None = 0
+byte_count (Some byte) = 1

@@ -1,8 +1,9 @@
 //! The pile of an audit.
 
-ghost use Rattle.std.specs.Prelude.{◌≡◌, ◌≤◌, All, Err, IfErr, IfOk, None, Ok, length};
+ghost use Rattle.std.specs.Prelude.{◌≡◌, ◌+◌, ◌≤◌, All, Err, IfErr, IfOk, None, Ok, length};
 ghost use Rattle.atom_values.specs.Counts.{CountsFault};
 ghost use Rattle.doc_source.specs.Pile.{IsOffer};
+ghost use Rattle.feed_disk.specs.Raised.{RisesAtMost};
 ghost use Rattle.mirror_commands.specs.Audit.{audited_limit};
 ghost use Rattle.mirror_commands.specs.AuditEnds.{MayStopAudit};
 ghost use Rattle.mirror_commands.specs.AuditedPile.{RefusesPile, StopsAmidPile};
@@ -33,6 +34,7 @@ pub(crate) fn read_pile<I: Source>(
         (result ≡ Err Fault.Input) }
     ensures within { result ≡ Err Fault.Input → I.observable
         → StopsAmidPile limit (I.state input.old) (I.state input.new) }
+    ensures read { RisesAtMost (limit + 1) (I.state input.old).bytes_read (I.state input.new).bytes_read }
 {
     let mut reader = PileReader::new(alloc, limit)?;
     let mut offers = Vec::new(alloc);

@@ -1,10 +1,11 @@
-ghost use Rattle.std.specs.Prelude.{◌≡◌, ◌⊎◌, Err, IfErr, IfOk};
+ghost use Rattle.std.specs.Prelude.{◌≡◌, ◌⊎◌, ◌+◌, ◌-◌, ◌≤◌, Err, IfErr, IfOk};
 ghost use Rattle.atom_values.specs.Counts.{CountsFault, HasRisen};
 ghost use Rattle.coverage_certificate.specs.Certificate.{IsCertificate};
 ghost use Rattle.command_ends.specs.declared.status.Status.TheVariants as status;
 ghost use Rattle.command_ends.specs.Answer.{Answer, Prints};
 ghost use Rattle.mirror_commands.specs.Audit.{BeginsCertified, EndsAuditing, IsAuditUnrefused, IsAudited};
-ghost use Rattle.mirror_commands.specs.Audit.{MayEndAudit};
+ghost use Rattle.mirror_commands.specs.Audit.{MayEndAudit, audit_limit};
+ghost use Rattle.feed_disk.specs.Raised.{RisesAtMost};
 ghost use Rattle.mirror_commands.specs.Audit.{StopsInCertificate, pile_room};
 ghost use Rattle.mirror_commands.specs.AuditEnds.{JudgesPile, MayStopAudit, certificate_fault};
 ghost use Rattle.mirror_commands.specs.AuditedPile.{RefusesPile, StopsAmidPile};
@@ -41,6 +42,7 @@ pub fn audit<I: Source, O: Sink>(alloc: Global, input: &mut I, output: &mut O) -
         → ¬ HasRisen (O.state output.old).faults (O.state output.new).faults
         → (code_of result ≡ code_of given.status) ⊎ (code_of result ≡ code_of status.NoMemory) }
     ensures audits { I.observable → EndsAuditing (I.state input.old).left (code_of result) }
+    ensures read { RisesAtMost (audit_limit + 1) (I.state input.old).bytes_read (I.state input.new).bytes_read }
 {
     match verdict(alloc, input) {
         Ok(printed) => end_printed(output, printed),
@@ -60,6 +62,7 @@ fn verdict<I: Source>(alloc: Global, input: &mut I) -> Result<Printed, Fault>
         (result ≡ Err Fault.Input) }
     ensures within { result ≡ Err Fault.Input → I.observable
         → IsAuditUnrefused (I.state input.old) (I.state input.new) }
+    ensures read { RisesAtMost (audit_limit + 1) (I.state input.old).bytes_read (I.state input.new).bytes_read }
 {
     let (certificate, room) = read_certificate(alloc, input)?;
     let printed = judge(alloc, &certificate, room, input);
@@ -80,6 +83,9 @@ fn read_certificate<I: Source>(alloc: Global, input: &mut I) -> Result<(Certific
         (result ≡ Err Fault.Input) }
     ensures within { result ≡ Err Fault.Input → I.observable
         → StopsInCertificate (I.state input.old) (I.state input.new) }
+    ensures read { IfOk result (λ x. (x.1 ≤ audit_limit) × RisesAtMost (audit_limit - x.1)
+        (I.state input.old).bytes_read (I.state input.new).bytes_read) }
+    ensures bound { RisesAtMost (audit_limit + 1) (I.state input.old).bytes_read (I.state input.new).bytes_read }
 {
     let text = read_part(alloc, input)?;
     let room = (AUDIT_LIMIT - text.len()) as u64;
@@ -121,6 +127,7 @@ fn judge<I: Source>(
         (result ≡ Err Fault.Input) }
     ensures within { result ≡ Err Fault.Input → I.observable
         → StopsAmidPile room (I.state input.old) (I.state input.new) }
+    ensures read { RisesAtMost (room + 1) (I.state input.old).bytes_read (I.state input.new).bytes_read }
 {
     let offers = read_pile(alloc, room, input)?;
     let verdict = coverage_auditor::audit(alloc, certificate, offers.as_slice());

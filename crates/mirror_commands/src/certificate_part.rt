@@ -1,12 +1,13 @@
 //! The part of an input that is a certificate, before the pile.
 
-ghost use Rattle.std.specs.Prelude.{◌≡◌, ◌⊎◌, ◌<◌, ◌≤◌, ◌∷◌, ◌++◌, [], length, Err, IfErr, IfNone, IfOk};
+ghost use Rattle.std.specs.Prelude.{◌≡◌, ◌⊎◌, ◌+◌, ◌<◌, ◌≤◌, ◌∷◌, ◌++◌, [], length, Err, IfErr, IfNone, IfOk};
 ghost use Rattle.std.specs.Prelude.{IfSome, Ok, OnErr, OnOk, true, false};
 ghost use Rattle.atom_values.specs.Counts.{CountsFault, HasCause};
 ghost use Rattle.command_ends.specs.declared.fault.Fault.TheVariants.{Refused};
 ghost use Rattle.command_ends.specs.declared.fault.Refusal.TheVariants.{TooLong};
 ghost use Rattle.mirror_commands.specs.Audit.{EndsOnce, StopsInCertificate, audit_limit};
-ghost use Rattle.mirror_commands.specs.CertificatePart.{IsAmid, IsLongPart, ReadsPart};
+ghost use Rattle.mirror_commands.specs.CertificatePart.{IsAmid, IsLongPart, ReadsPart, byte_count};
+ghost use Rattle.feed_disk.specs.Raised.{RisesAtMost};
 
 use atom_values::Failed;
 use command_ends::{Fault, Refusal};
@@ -35,6 +36,9 @@ pub(crate) fn read_part<I: Source>(alloc: Global, input: &mut I) -> Result<Vec<u
         (result ≡ Err Fault.Input) }
     ensures within { result ≡ Err Fault.Input → I.observable
         → StopsInCertificate (I.state input.old) (I.state input.new) }
+    ensures read { IfOk result (λ text. RisesAtMost (length text.items)
+        (I.state input.old).bytes_read (I.state input.new).bytes_read) }
+    ensures bound { RisesAtMost (audit_limit + 1) (I.state input.old).bytes_read (I.state input.new).bytes_read }
 {
     let mut text = Vec::new(alloc);
     let mut start = 0;
@@ -58,6 +62,9 @@ fn read_byte<I: Source>(input: &mut I) -> Result<Option<u8>, Failed>
     ensures none { IfOk result (λ found. IfNone found (I.observable
         → ((I.state input.old).left ≡ []) × ((I.state input.new).left ≡ []))) }
     ensures err { OnErr result (I.observable → (I.state input.new).left ≡ (I.state input.old).left) }
+    ensures read { IfOk result (λ found. RisesAtMost (byte_count found)
+        (I.state input.old).bytes_read (I.state input.new).bytes_read) }
+    ensures unread { OnErr result ((I.state input.new).bytes_read ≡ (I.state input.old).bytes_read) }
     ensures counts { HasCause (I.state input.old).faults (I.state input.new).faults result }
 {
     let mut buffer = [0u8; 1];

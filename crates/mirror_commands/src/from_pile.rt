@@ -1,4 +1,4 @@
-ghost use Rattle.std.specs.Prelude.{◌≡◌, ◌≢◌, ◌⊎◌, ◌≤◌, List, [], None, Err, Ok, IfOk, IfErr, IsOk, OnOk, map};
+ghost use Rattle.std.specs.Prelude.{◌≡◌, ◌≢◌, ◌⊎◌, ◌+◌, ◌≤◌, List, [], None, Err, Ok, IfOk, IfErr, IsOk, OnOk, map};
 ghost use Rattle.atom_values.specs.Counts.{CountsFault, HasRisen};
 ghost use Rattle.doc_source.specs.declared.offer.Offer.{Offer as OfferValue};
 ghost use Rattle.command_ends.specs.declared.status.Status.TheVariants as status;
@@ -19,6 +19,7 @@ ghost use Rattle.command_ends.specs.Status.{code_of};
 ghost use Rattle.feed_disk.specs.Moments.{LeavesAlone, NowOnly};
 ghost use Rattle.feed_disk.specs.declared.area.Area.{Area as AreaValue};
 ghost use Rattle.feed_disk.specs.declared.area.Area.TheVariants.{Mirror as MirrorArea};
+ghost use Rattle.feed_disk.specs.Raised.{RisesAtMost};
 ghost use Rattle.feed_journal.specs.Limits.{area_limit};
 ghost use Rattle.feed_journal.specs.Records.{IsWhole};
 ghost use Rattle.feed_recovery.specs.Settled.{KeepsPayloads};
@@ -77,6 +78,7 @@ pub fn mirror<D: Disk, I: Source, O: Sink>(
     ensures mirrors { D.observable → I.observable → EndsMirroring report capacity base.now (D.state disk.old)
         (D.state disk.new) (I.state input.old) (I.state input.new) O.observable
         (O.state output.old) (O.state output.new) (code_of result) }
+    ensures read { RisesAtMost (pile_limit + 1) (I.state input.old).bytes_read (I.state input.new).bytes_read }
     ensures safe { D.observable → KeepsPayloads (D.state disk.old) (D.state disk.new) }
 {
     match load_and_offer(alloc, base, report, capacity, disk, input) {
@@ -110,6 +112,7 @@ fn load_and_offer<D: Disk, I: Source>(
     ensures within { result ≡ Err (ReportFault.Other Fault.Input) → D.observable → I.observable
         → IsMirrorUnrefused base.now capacity (D.state disk.old).content
         (I.state input.old) (I.state input.new) }
+    ensures read { RisesAtMost (pile_limit + 1) (I.state input.old).bytes_read (I.state input.new).bytes_read }
     ensures others { (a : AreaValue) → a ≢ MirrorArea
         → LeavesAlone (D.state disk.old) (D.state disk.new) a }
     ensures gave { D.observable → I.observable → GivesOf capacity base.now (D.state disk.old).content
@@ -156,6 +159,7 @@ fn report_offers<D: Disk, I: Source>(
     ensures within { result ≡ Err Fault.Input → I.observable
         → ReadsWithinPile mirror.old.capacity mirror.old.base mirror.old.kept
         (I.state input.old) (I.state input.new) }
+    ensures read { RisesAtMost (pile_limit + 1) (I.state input.old).bytes_read (I.state input.new).bytes_read }
 {
     begun_images_are_whole();
     let mut reader = PileReader::new(alloc, PILE_LIMIT)?;
@@ -199,6 +203,7 @@ fn offer_all<D: Disk, I: Source>(
     ensures within { result ≡ Err Fault.Input → I.observable
         → ReadsWithinPile mirror.old.capacity mirror.old.base mirror.old.kept
         (I.state input.old) (I.state input.new) }
+    ensures read { RisesAtMost (pile_limit + 1) (I.state input.old).bytes_read (I.state input.new).bytes_read }
 {
     begun_images_are_whole();
     while let Some(offer) = reader.next(input)? {

@@ -10,6 +10,8 @@ ghost use Rattle.feed_commands.specs.Applied.{IsUnrefused};
 ghost use Rattle.feed_commands.specs.Apply.{applied_history, asked, answer, history_step, test_head};
 ghost use Rattle.command_ends.specs.Fault.{fault_answer, IsRefusal};
 ghost use Rattle.feed_commands.specs.Line.{line_ask};
+ghost use Rattle.feed_commands.specs.Lines.{input_limit};
+ghost use Rattle.feed_disk.specs.Raised.{RisesAtMost};
 
 use crate::commands::line::line_ask;
 use crate::commands::lines::{Lines, LinesFault};
@@ -99,6 +101,7 @@ pub fn window_of<C: Clock, I: Source>(
     ensures unrefused { result ≡ Err Fault.Input → I.observable → C.observable
         → IsUnrefused (history_step head.now (C.coming clock.old)) [] (I.state input.old)
         (I.state input.new) }
+    ensures read { RisesAtMost (input_limit + 1) (I.state input.old).bytes_read (I.state input.new).bytes_read }
     ensures no_disk { result ≢ Err Fault.Disk }
 {
     let mut lines = Lines::new(alloc)?;
@@ -171,6 +174,7 @@ pub fn apply<C: Clock, I: Source>(
     ensures unrefused { result ≡ Err Fault.Input → I.observable → C.observable
         → IsUnrefused (history_step (test_head window) (C.coming clock.old)) [] (I.state input.old)
         (I.state input.new) }
+    ensures read { RisesAtMost (input_limit + 1) (I.state input.old).bytes_read (I.state input.new).bytes_read }
     ensures no_disk { result ≢ Err Fault.Disk }
 {
     let head = test_head(alloc, window)?;

@@ -2,6 +2,8 @@ ghost use Rattle.std.specs.Prelude.{◌≡◌, ◌+◌, ◌<◌, ◌≤◌, ◌+
 ghost use Rattle.atom_values.specs.Ascii.{lf};
 ghost use Rattle.atom_values.specs.Counts.{CountsFault, HasCause};
 ghost use Rattle.feed_commands.specs.Lines.{KnowsEnd, FindsLine, HasNoLf, IsTooLong, StopsAmid, TakesEnd, TakesAll, ReadsMore, IsSpent, allowance, stream, with_prefix};
+ghost use Rattle.feed_commands.specs.Lines.{ReadsAllowed, read_past};
+ghost use Rattle.feed_disk.specs.Raised.{RisesAtMost, raised};
 ghost use Rattle.tool_words.specs.Line.{IsFirst};
 
 use crate::commands::line::PREFIX_LIMIT;
@@ -110,6 +112,8 @@ impl Lines {
     ///
     /// `TooLong`: the input has more than `INPUT_LIMIT` bytes, and all lines that lie within the limit were given.
     /// `Input`: a call on the input failed. After an error the reader's state is unspecified.
+    ///
+    /// One byte past the limit may be read before `TooLong`.
     pub fn next<I: Source>(&mut self, input: &mut I) -> Result<bool, LinesFault>
         requires { I.observable → KnowsEnd self.old (I.state input.old) }
         ensures found { result ≡ Ok true → I.observable
@@ -117,6 +121,8 @@ impl Lines {
         ensures progress { result ≡ Ok true → allowance self.new < allowance self.old }
         ensures none { result ≡ Ok false → I.observable → stream self.old (I.state input.old) ≡ [] }
         ensures too_long { result ≡ Err LinesFault.TooLong → I.observable → IsTooLong self.old (I.state input.old) }
+        ensures read { ReadsAllowed self.old self.new (read_past result)
+            (I.state input.old).bytes_read (I.state input.new).bytes_read }
         ensures input_faults { CountsFault (I.state input.old).faults (I.state input.new).faults
             (result ≡ Err LinesFault.Input) }
         ensures amid { result ≡ Err LinesFault.Input → I.observable
@@ -176,6 +182,8 @@ impl Lines {
             → IsSpent self.new (I.state input.old) (I.state input.new) }
         ensures too_long { result ≡ Err LinesFault.TooLong
             → (self.old.allowed ≡ 0) × (I.observable → 0 < length (I.state input.old).left) }
+        ensures read { ReadsAllowed self.old self.new (read_past result)
+            (I.state input.old).bytes_read (I.state input.new).bytes_read }
         ensures input_faults { CountsFault (I.state input.old).faults (I.state input.new).faults
             (result ≡ Err LinesFault.Input) }
         ensures amid { result ≡ Err LinesFault.Input → (self.old.ended ≡ false)
@@ -202,13 +210,16 @@ impl Lines {
 }
 
 /// Reads up to `room` bytes into the start of `buffer`.
-fn read_front<I: Source>(input: &mut I, buffer: &mut [u8], room: usize) -> Result<usize, Failed>
+pub fn read_front<I: Source>(input: &mut I, buffer: &mut [u8], room: usize) -> Result<usize, Failed>
     requires { room ≤ length buffer.old }
     ensures within { IfOk result (λ count. count ≤ room) }
     ensures bytes { IfOk result (λ count. I.observable
         → (I.state input.old).left ≡ take count buffer.new ++ (I.state input.new).left) }
     ensures end { IfOk result (λ count. I.observable → count ≡ 0 → 0 < room → (I.state input.old).left ≡ []) }
     ensures err { OnErr result (I.observable → (I.state input.new).left ≡ (I.state input.old).left) }
+    ensures read { IfOk result (λ count. (I.state input.new).bytes_read
+        ≡ raised (I.state input.old).bytes_read count) }
+    ensures unread { OnErr result ((I.state input.new).bytes_read ≡ (I.state input.old).bytes_read) }
     ensures counts { HasCause (I.state input.old).faults (I.state input.new).faults result }
 {
     input.read(&mut buffer[..room])
@@ -218,6 +229,7 @@ fn read_front<I: Source>(input: &mut I, buffer: &mut [u8], room: usize) -> Resul
 fn probe<I: Source>(input: &mut I) -> Result<(), LinesFault>
     ensures end { OnOk result (I.observable → ((I.state input.old).left ≡ []) × ((I.state input.new).left ≡ [])) }
     ensures too_long { result ≡ Err LinesFault.TooLong → I.observable → 0 < length (I.state input.old).left }
+    ensures read { RisesAtMost (read_past result) (I.state input.old).bytes_read (I.state input.new).bytes_read }
     ensures input_faults { CountsFault (I.state input.old).faults (I.state input.new).faults
         (result ≡ Err LinesFault.Input) }
     ensures amid { result ≡ Err LinesFault.Input → I.observable

@@ -1,12 +1,14 @@
-ghost use Rattle.std.specs.Prelude.{◌≡◌, ◌≢◌, ◌⊎◌, ◌≤◌, ◌<◌, length, Err, IfOk, IfErr};
+ghost use Rattle.std.specs.Prelude.{◌≡◌, ◌≢◌, ◌⊎◌, ◌+◌, ◌≤◌, ◌<◌, length, Err, IfOk, IfErr};
 ghost use Rattle.atom_values.specs.Counts.{CountsFault};
 ghost use Rattle.atom_grammar.specs.Progress.{HasRead};
 ghost use Rattle.command_ends.specs.declared.fault.Fault.TheVariants.{Refused};
 ghost use Rattle.command_ends.specs.declared.fault.Refusal.TheVariants.{TooLong};
 ghost use Rattle.command_ends.specs.declared.status.Status.TheVariants as status;
 ghost use Rattle.command_ends.specs.Fault.{fault_answer, IsRefusal};
-ghost use Rattle.feed_commands.specs.Show.{IsShown, ReadsWithinLimit};
+ghost use Rattle.feed_commands.specs.Show.{IsShown, ReadsWithinLimit, document_limit};
+ghost use Rattle.feed_disk.specs.Raised.{RisesAtMost};
 
+use crate::commands::lines::read_front;
 use atom_grammar::{DocReader, MAX_DOCUMENT, ReadFault};
 use command_ends::{Fault, Refusal, summary};
 use doc_source::Source;
@@ -25,6 +27,8 @@ pub fn show<I: Source>(alloc: Global, input: &mut I) -> Result<Vec<u8>, Fault>
         (result ≡ Err Fault.Input) }
     ensures within { result ≡ Err Fault.Input → I.observable
         → ReadsWithinLimit (I.state input.old) (I.state input.new) }
+    ensures read { RisesAtMost (document_limit + 1)
+        (I.state input.old).bytes_read (I.state input.new).bytes_read }
     ensures no_disk { result ≢ Err Fault.Disk }
 {
     let reader = read_to_end(alloc, input)?;
@@ -41,14 +45,16 @@ pub fn show<I: Source>(alloc: Global, input: &mut I) -> Result<Vec<u8>, Fault>
     }
 }
 
-/// Returns a reader that was given all bytes of the input, if they are no more than a document may have. Reads at most
-/// one buffer more of a longer input.
+/// Returns a reader that was given all bytes of the input, if they are no more than a document may have. Reads one byte
+/// more of a longer input.
 fn read_to_end<I: Source>(alloc: Global, input: &mut I) -> Result<DocReader, Fault>
     ensures read { IfOk result (λ reader. I.observable → HasRead reader (I.state input.old).left) }
     ensures room { IfOk result (λ reader. reader.length ≤ MAX_DOCUMENT) }
     ensures only_errors { IfErr result (λ fault.
         (fault ≡ Fault.NoMemory) ⊎ (fault ≡ Fault.Input) ⊎ (fault ≡ Refused TooLong)) }
     ensures past { result ≡ Err (Refused TooLong) → I.observable → MAX_DOCUMENT < length (I.state input.old).left }
+    ensures bound { RisesAtMost (document_limit + 1)
+        (I.state input.old).bytes_read (I.state input.new).bytes_read }
     ensures input_faults { CountsFault (I.state input.old).faults (I.state input.new).faults
         (result ≡ Err Fault.Input) }
     ensures within { result ≡ Err Fault.Input → I.observable
@@ -57,7 +63,8 @@ fn read_to_end<I: Source>(alloc: Global, input: &mut I) -> Result<DocReader, Fau
     let mut buffer = vec![in alloc; 0; BUFFER]?;
     let mut reader = DocReader::new(alloc);
     loop {
-        let count = match input.read(&mut buffer) {
+        let room = BUFFER.min(MAX_DOCUMENT - reader.len() + 1);
+        let count = match read_front(input, &mut buffer, room) {
             Ok(count) => count,
             Err(error) => {
                 drop(reader);

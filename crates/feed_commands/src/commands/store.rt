@@ -10,7 +10,9 @@ ghost use Rattle.command_ends.specs.declared.status.Status.TheVariants as status
 ghost use Rattle.feed_commands.specs.Applied.{IsUnrefused};
 ghost use Rattle.feed_commands.specs.Crash.{EndsAfterLoad, EndsApplying};
 ghost use Rattle.command_ends.specs.Fault.{fault_answer, HasAnswer, IsRefusal};
+ghost use Rattle.feed_commands.specs.Lines.{input_limit};
 ghost use Rattle.feed_commands.specs.Loaded.{LeavesLines, line_made};
+ghost use Rattle.feed_disk.specs.Raised.{RisesAtMost};
 ghost use Rattle.feed_commands.specs.Stored.{IsAnswerOn, applied_store, apply_answer, archive_answer};
 ghost use Rattle.feed_commands.specs.Stored.{feed_answer, member_answer, stored_step, with_operation};
 ghost use Rattle.member_rules.specs.declared.operation.Op.{Op};
@@ -49,6 +51,7 @@ pub fn apply<D: Disk, C: Clock, I: Source>(
     ensures unrefused { result ≡ Err Fault.Input → D.observable → C.observable → I.observable → (stored : Stored)
         × OpensTo (D.state disk.old).content stored
         × IsUnrefused (stored_step (C.coming clock.old)) stored (I.state input.old) (I.state input.new) }
+    ensures read { RisesAtMost (input_limit + 1) (I.state input.old).bytes_read (I.state input.new).bytes_read }
 {
     stores_open_in_one_way();
     let mut store = Store::load(alloc, disk)?;
@@ -96,6 +99,7 @@ fn apply_lines<D: Disk, C: Clock, I: Source>(
     ensures unrefused { result ≡ Err Fault.Input → D.observable → C.observable → I.observable
         → IsUnrefused (stored_step (C.coming clock.old)) (stored_of store.old) (I.state input.old)
         (I.state input.new) }
+    ensures read { RisesAtMost (input_limit + 1) (I.state input.old).bytes_read (I.state input.new).bytes_read }
 {
     let mut lines = Lines::new(alloc)?;
     let opened = store.version();

@@ -13,7 +13,7 @@ use Rattle.feed_commands.specs.Outside.{outside_of}
 use Rattle.command_ends.specs.Ends.{IsAnswered}
 use Rattle.command_ends.specs.Status.{code_of}
 use Rattle.command_ends.proofs.AnsweredLemmas.{done-sent}
-use Rattle.feed_commands.proofs.CountLemmas.{counts-none, counts-of_ok, disk-of_fault, input-of_fault, no_usage}
+use Rattle.feed_commands.proofs.CountLemmas.{counts-none, counts-of_ok, disk-of_fault, disk_end, input-of_fault, no_usage}
 use Rattle.feed_commands.proofs.CountLemmas.{output-later, output-of_fault, shared-counts, shared-other}
 use Rattle.feed_commands.proofs.DiskLemmas.{applies-none, applies-weaker, keeps-none, makes-none, makes-weaker}
 use Rattle.command_ends.proofs.EndLemmas.{answered-refusal, input_end, no_door, no_end, no_output}
@@ -145,6 +145,7 @@ pub returns-in-Serve-clause-faults : goal.returns-in-Serve-clause-faults
 returns-in-Serve-clause-faults g c = record {
   disk_faults = c.serve.ensures.disk_faults;
   input_faults = counts-none (serve-other _ c.serve.ensures.statuses).1;
+  input_read = λ command of_words. omega arith;
   output_faults = c.serve.ensures.output_faults;
   door_faults = shared-counts c.serve.ensures.door_faults;
   fetch_faults = shared-other (λ others. others _ _ (read_as _ c.in-Ok.is c.in-Serve.is c.read_words.ensures.found));
@@ -206,6 +207,7 @@ returns-in-Show-Pile-clause-faults g c =
     rw c.with_status-in-Show-Pile.ensures.status (record {
       disk_faults = c.show_pile.ensures.disk_faults;
       input_faults = counts-none other.2;
+      input_read = λ command of_words. omega arith;
       output_faults = c.show_pile.ensures.output_faults;
       door_faults = shared-counts (counts-none other.1);
       fetch_faults = shared-counts (counts-none other.1);
@@ -270,6 +272,7 @@ returns-in-Mirror-default-true-default-default-clause-faults g c =
     rw c.with_status-in-Mirror-default-true-default-default.ensures.status (record {
       disk_faults = c.mirror_fetched-status.ensures.disk_faults;
       input_faults = counts-none (fetched-other _ c.mirror_fetched-status.ensures.statuses).1;
+      input_read = λ command of_words. omega arith;
       output_faults = c.mirror_fetched-status.ensures.output_faults;
       door_faults = shared-other (λ others. others (Mirror arm.base true arm.report arm.capacity) of_words tt);
       fetch_faults = shared-counts c.mirror_fetched-status.ensures.fetch_faults;
@@ -367,9 +370,12 @@ pub returns-in-Mirror-default-false-default-default-clause-faults :
     goal.returns-in-Mirror-default-false-default-default-clause-faults
 returns-in-Mirror-default-false-default-default-clause-faults g c =
     let other = mirror-other _ c.mirror-status.ensures.statuses in
+    let arm = c.in-Mirror-default-false-default-default in
+    let command = mirror-is arm.is arm.fetch-test in
     rw c.with_status-in-Mirror-default-false-default-default.ensures.status (record {
       disk_faults = c.mirror-status.ensures.disk_faults;
       input_faults = c.mirror-status.ensures.input_faults;
+      input_read = read_all _ c.in-Ok.is c.read_words.ensures.only (rw command c.mirror-status.ensures.read);
       output_faults = c.mirror-status.ensures.output_faults;
       door_faults = shared-counts (counts-none other.1);
       fetch_faults = shared-counts (counts-none other.1);
@@ -464,6 +470,7 @@ returns-in-Audit-clause-faults g c =
     rw c.with_status-in-Audit.ensures.status (record {
       disk_faults = counts-none other.1;
       input_faults = c.audit.ensures.input_faults;
+      input_read = read_all _ c.in-Ok.is c.read_words.ensures.only (rw c.in-Audit.is c.audit.ensures.read);
       output_faults = c.audit.ensures.output_faults;
       door_faults = shared-counts (counts-none other.2);
       fetch_faults = shared-counts (counts-none other.2);
@@ -560,6 +567,7 @@ returns-in-Ok-write_all-clause-faults g c =
     record {
       disk_faults = counts-of_ok (λ e. omega (arith, e, is)) c.in-Ok-answer.ensures.disk_faults;
       input_faults = counts-of_ok (λ e. omega (arith, e, is)) c.in-Ok-answer.ensures.input_faults;
+      input_read = read_all _ c.in-Ok.is c.read_words.ensures.only c.answer.ensures.read;
       output_faults = record {
         later = c.in-Ok-write_all.ensures.counts.later;
         failed = λ e. absurd (omega (arith, e, is));
@@ -595,6 +603,7 @@ returns-in-Ok-write_all-clause-applied g c = λ of_words observable.
     observable in
     record {
       safe = applies-weaker _ _ _ _ _ _ _ _ _ _ _ _ (λ e. cc)
+          (λ e. absurd (omega (arith, e, c.with_status-in-Ok-write_all.ensures.status)))
           (λ e. absurd (omega (arith, e, c.with_status-in-Ok-write_all.ensures.status))) (λ e. tt) applied.safe;
       opens = λ clock source answered. applied.opens clock source tt;
     }
@@ -637,6 +646,7 @@ returns-in-Ok-answer-clause-faults g c =
     record {
       disk_faults = counts-of_ok (λ e. omega (arith, e, is)) c.in-Ok-answer.ensures.disk_faults;
       input_faults = counts-of_ok (λ e. omega (arith, e, is)) c.in-Ok-answer.ensures.input_faults;
+      input_read = read_all _ c.in-Ok.is c.read_words.ensures.only c.answer.ensures.read;
       output_faults = record {
         later = c.in-Err-write_all.ensures.counts.later;
         failed = λ _. c.in-Err-write_all.ensures.counts.failed;
@@ -662,6 +672,7 @@ returns-in-Ok-answer-clause-applied g c = λ of_words observable.
     observable in
     record {
       safe = applies-weaker _ _ _ _ _ _ _ _ _ _ _ _ (λ e. cc)
+          (λ e. absurd (omega (arith, e, c.with_status-in-Err-write_all.ensures.status)))
           (λ e. absurd (omega (arith, e, c.with_status-in-Err-write_all.ensures.status))) (λ e. tt) applied.safe;
       opens = λ clock source answered. applied.opens clock source tt;
     }
@@ -705,6 +716,7 @@ returns-clause-faults g c =
     record {
       disk_faults = disk-of_fault c.in-Err.fault is c.in-Err.ensures.disk_faults;
       input_faults = input-of_fault c.in-Err.fault is c.in-Err.ensures.input_faults;
+      input_read = read_all _ c.in-Ok.is c.read_words.ensures.only c.answer.ensures.read;
       output_faults = output-of_fault c.in-Err.fault is c.print_fault-in-Err.ensures.faults;
       door_faults = shared-counts (counts-none (λ e. no_door c.in-Err.fault (sym is ∙ e)));
       fetch_faults = shared-counts (counts-none (λ e. no_door c.in-Err.fault (sym is ∙ e)));
@@ -750,6 +762,7 @@ returns-clause-applied g c = λ of_words observable.
     record {
       safe = applies-weaker _ _ _ _ _ _ _ _ _ _ _ _ (λ e. let same : c.in-Err.fault ≡ Disk = cc in
           is ∙ ap (λ fault. code_of (fault_answer fault).status) same)
+          (λ e. let same : c.in-Err.fault ≡ Disk = disk_end c.in-Err.fault (sym is ∙ e) in ap Err same)
           (λ e. let same : c.in-Err.fault ≡ Input = input_end c.in-Err.fault (sym is ∙ e) in ap Err same)
           (λ ends. loaded_fault c.in-Err.fault (subst IsStatusAfterLoad is ends)) applied.safe;
       opens = λ clock source answered.

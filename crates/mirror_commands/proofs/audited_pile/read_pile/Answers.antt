@@ -11,6 +11,7 @@ use Rattle.command_ends.specs.Fault.{pile_fault}
 use Rattle.mirror_commands.proofs.AuditedPileLemmas.{IsReading, pile-input, reading-ends, reading-full, reading-next}
 use Rattle.mirror_commands.proofs.AuditedPileLemmas.{reading-refused, reading-start}
 use Rattle.mirror_commands.proofs.AuditedPileLemmas.{reading-stops}
+use Rattle.mirror_commands.proofs.CountedLemmas.{counted-ends, counted-next, counted-start, counted-within}
 use Rattle.mirror_commands.proofs.audited_pile.read_pile.Goals as goal
 
 pub loop-offers-init : goal.loop-offers-init
@@ -19,8 +20,15 @@ loop-offers-init g c = record {
       (g.I.Source.state c.args.input.now) c.in_ok-reader.reader os) (sym c.new-offers.ensures.items)
       (reading-start g.I.Source.observable c.args.limit (g.I.Source.state c.args.input.now) c.in_ok-reader.reader
       c.in_ok-reader.ensures);
+  counted = counted-start c.args.limit (g.I.Source.state c.args.input.now) c.in_ok-reader.reader c.in_ok-reader.ensures;
   faults = refl;
 }
+
+pub returns-in_err-offer-clause-read : goal.returns-in_err-offer-clause-read
+returns-in_err-offer-clause-read g c =
+    counted-ends c.args.limit (g.I.Source.state c.args.input.now) (g.I.Source.state c.loop-offers.input)
+    c.loop-offers.reader c.loop-offers.invariant.counted (g.I.Source.state c.next.new.source) c.next.result
+    c.next.ensures.read
 
 pub returns-in_err-offer-clause-refused : goal.returns-in_err-offer-clause-refused
 returns-in_err-offer-clause-refused g c =
@@ -87,6 +95,9 @@ loop-offers-preserved g c =
           c.in_ok-offer.ensures.limit (omega (arith, c.in_ok-offer.ensures.bound))
           (c.in_ok-offer.ensures.refusal h.fresh)
           (subst (λ (o : Option Offer). IfSome o IsOffer) c.in-Some.is c.in_ok-offer.ensures.rules) room);
+      counted = counted-next c.args.limit (g.I.Source.state c.args.input.now) now reader c.loop-offers.invariant.counted
+          rest after c.next.ensures.limit c.next.ensures.bound
+          (c.next.ensures.kept (c.in_ok-offer.ensures.refusal h.fresh));
       faults = c.in_ok-offer.ensures.faults.unfailed (λ e. cc) ∙ c.loop-offers.invariant.faults;
     }
 
@@ -98,3 +109,30 @@ returns-clause-offers g c = λ observable.
     (subst (λ (o : Option Offer). IsPileAnswer c.loop-offers.reader.used c.loop-offers.reader.limit
     (unused c.loop-offers.reader (g.I.Source.state c.loop-offers.input)) (Ok o)) c.in_default.is
     (c.in_ok-offer.ensures.answer h.fresh observable))
+
+pub returns-then-len-eq-MAX_AUDITED_OFFERS-clause-read : goal.returns-then-len-eq-MAX_AUDITED_OFFERS-clause-read
+returns-then-len-eq-MAX_AUDITED_OFFERS-clause-read g c =
+    let first = g.I.Source.state c.args.input.now in
+    let rest = g.I.Source.state c.next.new.source in
+    counted-within c.args.limit first rest c.next.new.self
+    (counted-next c.args.limit first (g.I.Source.state c.loop-offers.input) c.loop-offers.reader
+    c.loop-offers.invariant.counted rest c.next.new.self c.next.ensures.limit c.next.ensures.bound
+    (c.next.ensures.kept (c.in_ok-offer.ensures.refusal c.loop-offers.invariant.reading.fresh)))
+
+pub returns-in_err-push-clause-read : goal.returns-in_err-push-clause-read
+returns-in_err-push-clause-read g c =
+    let first = g.I.Source.state c.args.input.now in
+    let rest = g.I.Source.state c.next.new.source in
+    counted-within c.args.limit first rest c.next.new.self
+    (counted-next c.args.limit first (g.I.Source.state c.loop-offers.input) c.loop-offers.reader
+    c.loop-offers.invariant.counted rest c.next.new.self c.next.ensures.limit c.next.ensures.bound
+    (c.next.ensures.kept (c.in_ok-offer.ensures.refusal c.loop-offers.invariant.reading.fresh)))
+
+pub returns-clause-read : goal.returns-clause-read
+returns-clause-read g c =
+    let first = g.I.Source.state c.args.input.now in
+    let rest = g.I.Source.state c.next.new.source in
+    counted-within c.args.limit first rest c.next.new.self
+    (counted-next c.args.limit first (g.I.Source.state c.loop-offers.input) c.loop-offers.reader
+    c.loop-offers.invariant.counted rest c.next.new.self c.next.ensures.limit c.next.ensures.bound
+    (c.next.ensures.kept (c.in_ok-offer.ensures.refusal c.loop-offers.invariant.reading.fresh)))

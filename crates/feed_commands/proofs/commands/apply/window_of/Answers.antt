@@ -14,6 +14,7 @@ use Rattle.archive_sealer.proofs.FeedLemmas.{of_feed-room, of_feed-same}
 use Rattle.feed_commands.proofs.HistoryLemmas.{IsTableOf-with_room, history-with_room, lawful-none}
 use Rattle.feed_commands.proofs.ProgressLemmas.{Progress-start, Progress-end, Progress-step, Progress-refused}
 use Rattle.feed_commands.proofs.ProgressLemmas.{Progress-long, Progress-amid}
+use Rattle.feed_commands.proofs.ReadLemmas.{read-ends, read-next, read-start, read-within}
 use Rattle.feed_commands.proofs.StepLemmas.{history_step-is, history_step-prefix}
 use Rattle.feed_commands.proofs.commands.apply.window_of.Goals as goal
 
@@ -110,6 +111,7 @@ loop-window-init g c =
         ap length c.in_ok-window.ensures.empty,
       );
       faults = refl;
+      read = read-start c.in_ok-lines.lines (g.I.Source.state c.args.input.now).bytes_read c.in_ok-lines.ensures.1;
     }
 
 pub loop-window-preserved : goal.loop-window-preserved
@@ -157,6 +159,8 @@ loop-window-preserved g c =
         c.in_ok-next.ensures.progress (ap Ok c.if-branch.true),
       );
       faults = c.in_ok-next.ensures.input_faults.unfailed (λ e. cc) ∙ held.faults;
+      read = read-next c.loop-window.lines (g.I.Source.state c.args.input.now).bytes_read input.bytes_read held.read
+          c.next.new.self rest.bytes_read c.in_ok-next.ensures.read;
     }
 
 pub returns-clause-history : goal.returns-clause-history
@@ -165,3 +169,47 @@ returns-clause-history g c = λ source clock.
     (g.I.Source.state c.args.input.now).left c.loop-window.lines
     (g.I.Source.state c.loop-window.input) (length c.loop-window.window.history) c.loop-window.window.history
     (c.loop-window.invariant.progress source clock) (c.in_ok-next.ensures.none (ap Ok c.if-branch.false) source)
+
+pub returns-in_err-next-clause-read : goal.returns-in_err-next-clause-read
+returns-in_err-next-clause-read g c =
+    let first = (g.I.Source.state c.args.input.now).bytes_read in
+    let now = (g.I.Source.state c.loop-window.input).bytes_read in
+    let rest = (g.I.Source.state c.next.new.input).bytes_read in
+    read-ends c.loop-window.lines first now c.loop-window.invariant.read c.next.new.self rest c.next.result
+    c.next.ensures.read
+
+pub returns-in_err-prepare-clause-read : goal.returns-in_err-prepare-clause-read
+returns-in_err-prepare-clause-read g c =
+    let first = (g.I.Source.state c.args.input.now).bytes_read in
+    let now = (g.I.Source.state c.loop-window.input).bytes_read in
+    let rest = (g.I.Source.state c.next.new.input).bytes_read in
+    read-within c.next.new.self first rest
+    (read-next c.loop-window.lines first now c.loop-window.invariant.read c.next.new.self rest
+    c.in_ok-next.ensures.read)
+
+pub returns-in_err-prepare-2-clause-read : goal.returns-in_err-prepare-2-clause-read
+returns-in_err-prepare-2-clause-read g c =
+    let first = (g.I.Source.state c.args.input.now).bytes_read in
+    let now = (g.I.Source.state c.loop-window.input).bytes_read in
+    let rest = (g.I.Source.state c.next.new.input).bytes_read in
+    read-within c.next.new.self first rest
+    (read-next c.loop-window.lines first now c.loop-window.invariant.read c.next.new.self rest
+    c.in_ok-next.ensures.read)
+
+pub returns-in_err-operation-clause-read : goal.returns-in_err-operation-clause-read
+returns-in_err-operation-clause-read g c =
+    let first = (g.I.Source.state c.args.input.now).bytes_read in
+    let now = (g.I.Source.state c.loop-window.input).bytes_read in
+    let rest = (g.I.Source.state c.next.new.input).bytes_read in
+    read-within c.next.new.self first rest
+    (read-next c.loop-window.lines first now c.loop-window.invariant.read c.next.new.self rest
+    c.in_ok-next.ensures.read)
+
+pub returns-clause-read : goal.returns-clause-read
+returns-clause-read g c =
+    let first = (g.I.Source.state c.args.input.now).bytes_read in
+    let now = (g.I.Source.state c.loop-window.input).bytes_read in
+    let rest = (g.I.Source.state c.next.new.input).bytes_read in
+    read-within c.next.new.self first rest
+    (read-next c.loop-window.lines first now c.loop-window.invariant.read c.next.new.self rest
+    c.in_ok-next.ensures.read)

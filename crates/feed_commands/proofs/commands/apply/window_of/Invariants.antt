@@ -4,6 +4,7 @@ use Rattle.member_rules.specs.Table.{IsTableOf}
 use Rattle.archive_sealer.specs.Window.{IsOfFeed}
 use Rattle.feed_commands.specs.Apply.{history_step}
 use Rattle.feed_commands.specs.Lines.{KnowsEnd, allowance, input_limit}
+use Rattle.feed_commands.proofs.ReadLemmas.{HasReadAllowed}
 use Rattle.feed_commands.proofs.ProgressLemmas.{Progress}
 use Rattle.feed_commands.proofs.commands.apply.window_of.Given as goal
 
@@ -23,6 +24,7 @@ invariant-loop-window g l =
       feed : IsOfFeed l.window l.head;
       few : length l.window.history + allowance l.lines ≤ input_limit;
       faults : (g.I.Source.state l.input).faults ≡ before.faults;
+      read : HasReadAllowed l.lines before.bytes_read input.bytes_read;
     }
 
 abbrev pub decreases-loop-window : goal.decreases-loop-window

@@ -13,6 +13,7 @@ loop-count-init g c = record {
   buffer = sym c.in_ok-buffer.buffer.ok.0 ∙ c.in_ok-buffer.ensures.len;
   within = omega (arith, c.new-reader.ensures.length);
   given = record { bytes = []; read = c.new-reader.ensures; left = λ _. refl };
+  read = omega arith;
   faults = refl;
 }
 
@@ -29,8 +30,7 @@ returns-in-Err-clause-within g c = λ _ observable.
 pub returns-then-count-eq0-clause-read : goal.returns-then-count-eq0-clause-read
 returns-then-count-eq0-clause-read g c = λ observable.
     let given = c.loop-count.invariant.given in
-    let some : 0 < length c.deref_mut.result.now =
-    omega (arith, ap length c.deref_mut.ensures.value, c.loop-count.invariant.buffer) in
+    let some : 0 < c.min-room.result = omega (arith, c.min-room.ensures) in
     let all =
     given.left observable
     ∙ ap (λ (x : List ℕ). given.bytes ++ x) (c.in-Ok.ensures.end observable c.if-count-eq0.true some)
@@ -40,12 +40,12 @@ returns-then-count-eq0-clause-read g c = λ observable.
 pub returns-then-count-len-clause-past : goal.returns-then-count-len-clause-past
 returns-then-count-len-clause-past g c = λ _ observable.
     let given = c.loop-count.invariant.given in
-    let low : c.in-Ok.count ≤ length c.read.new.into = omega (arith, c.read.auto.into, c.in-Ok.ensures.within) in
+    let low : c.in-Ok.count ≤ length c.read_front.new.buffer = omega (arith, c.read_front.auto.buffer, c.in-Ok.ensures.within) in
     let past : document_limit - length given.bytes < c.in-Ok.count =
     omega (arith, c.if-count-len.true, c.len.ensures.length, given.read.length) in
-    bytes_past document_limit c.in-Ok.count given.bytes c.read.new.into
+    bytes_past document_limit c.in-Ok.count given.bytes c.read_front.new.buffer
     (g.I.Source.state c.args.input.now).left (g.I.Source.state c.loop-count.input).left
-    (g.I.Source.state c.read.new.self).left
+    (g.I.Source.state c.read_front.new.input).left
     (given.left observable) (c.in-Ok.ensures.bytes observable) low past
     (omega (arith, given.read.length, c.loop-count.invariant.within))
 
@@ -65,16 +65,16 @@ returns-in-Err-clause-input_faults g c =
 pub loop-count-preserved : goal.loop-count-preserved
 loop-count-preserved g c =
     let given = c.loop-count.invariant.given in
-    let into = c.read.new.into in
+    let into = c.read_front.new.buffer in
     let count = c.in-Ok.count in
     let buffer = c.loop-count.buffer in
     let left0 = (g.I.Source.state c.args.input.now).left in
     let left1 = (g.I.Source.state c.loop-count.input).left in
-    let left2 = (g.I.Source.state c.read.new.self).left in
-    let whole : length into ≡ buffer.len = c.read.auto.into ∙ c.deref_mut.ensures.len in
+    let left2 = (g.I.Source.state c.read_front.new.input).left in
+    let whole : length into ≡ buffer.len = c.read_front.auto.buffer ∙ c.deref_mut.ensures.len in
     let same : take buffer.len (into ++ drop (length into) buffer.items) ≡ into =
     written_whole buffer.len into buffer.items whole in
-    let low : count ≤ length into = omega (arith, c.read.auto.into, c.in-Ok.ensures.within) in
+    let low : count ≤ length into = omega (arith, c.read_front.auto.buffer, c.in-Ok.ensures.within) in
     let piece = ap (take count) (c.deref.ensures.value ∙ same) in
     let read =
     subst (λ (bytes : List ℕ). HasRead c.feed.new.self (given.bytes ++ bytes)) piece
@@ -98,18 +98,28 @@ loop-count-preserved g c =
         left = λ observable. bytes_more count given.bytes into left0 left1 left2 (given.left observable)
             (c.in-Ok.ensures.bytes observable);
       };
+      read = omega (
+        arith,
+        read.length,
+        length-append given.bytes (take count into),
+        length-take-le count into low,
+        low,
+        given.read.length,
+        c.loop-count.invariant.read,
+        c.in-Ok.ensures.read,
+      );
       faults = c.in-Ok.ensures.counts.worked ∙ c.loop-count.invariant.faults;
     }
 
 pub loop-count-smaller : goal.loop-count-smaller
 loop-count-smaller g c =
     let given = c.loop-count.invariant.given in
-    let into = c.read.new.into in
+    let into = c.read_front.new.buffer in
     let count = c.in-Ok.count in
     let buffer = c.loop-count.buffer in
     let same : take buffer.len (into ++ drop (length into) buffer.items) ≡ into =
-    written_whole buffer.len into buffer.items (c.read.auto.into ∙ c.deref_mut.ensures.len) in
-    let low : count ≤ length into = omega (arith, c.read.auto.into, c.in-Ok.ensures.within) in
+    written_whole buffer.len into buffer.items (c.read_front.auto.buffer ∙ c.deref_mut.ensures.len) in
+    let low : count ≤ length into = omega (arith, c.read_front.auto.buffer, c.in-Ok.ensures.within) in
     let piece = ap (take count) (c.deref.ensures.value ∙ same) in
     let read = c.feed.ensures.read given.bytes given.read in
     omega (

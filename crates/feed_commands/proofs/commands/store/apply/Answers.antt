@@ -68,7 +68,7 @@ returns-in-Err-clause-applied g c = λ observable.
           (λ whole.
           let settled = c.in_ok-store.ensures.settled observable whole in
           c.in-Err.ensures.leaves observable settled.rests settled.settled)
-          (λ e. let is : fault ≡ Disk = cc in ap Err is)
+          (λ e. let is : fault ≡ Disk = cc in ap Err is) (λ e. let is : fault ≡ Disk = cc in ap Err is)
           (λ e. let is : fault ≡ Input = cc in ap Err is);
       opens = λ clock source refusal.
           opens-applied moments input.left (stored_of store) (stored_of c.apply_lines.new.store) before.content
@@ -108,7 +108,7 @@ returns-in_err-text-in-Ok-clause-applied g c =
           (λ whole.
           let settled = c.in_ok-store.ensures.settled observable whole in
           c.in-Ok.ensures.leaves observable settled.rests settled.settled)
-          (λ e. cc) (λ e. cc);
+          (λ e. cc) (λ e. cc) (λ e. cc);
       opens = λ clock source refusal. absurd refusal;
     })
 
@@ -150,7 +150,7 @@ returns-in_ok-text-in-Ok-clause-applied g c = λ observable.
           (λ whole.
           let settled = c.in_ok-store.ensures.settled observable whole in
           c.in-Ok.ensures.leaves observable settled.rests settled.settled)
-          (λ e. cc) (λ e. cc);
+          (λ e. cc) (λ e. cc) (λ e. cc);
       opens = λ clock source answered.
           opens-applied moments input.left (stored_of store) (stored_of c.apply_lines.new.store) before.content
           after.content None c.stores_open_in_one_way.ensures opened (c.in-Ok.ensures.made observable clock source)

@@ -11,9 +11,10 @@ use Rattle.command_ends.specs.declared.fault.Fault.TheVariants.{Input, Disk}
 use Rattle.feed_commands.specs.Apply.{lines_fault}
 use Rattle.feed_commands.specs.Loaded.{LeavesLines}
 use Rattle.feed_commands.specs.Stored.{applied_store, stored_step, with_operation}
-use Rattle.feed_commands.proofs.FaultLemmas.{input-of_lines, refusal-of_lines}
+use Rattle.feed_commands.proofs.FaultLemmas.{lines-no_disk, input-of_lines, refusal-of_lines}
 use Rattle.feed_recovery.proofs.PastLemmas.{both_stay, leaves-more}
 use Rattle.feed_commands.proofs.MomentsLemmas.{lines-fail, lines-leave}
+use Rattle.feed_commands.proofs.ReadLemmas.{read-ends, read-next, read-start, read-within}
 use Rattle.feed_commands.proofs.ProgressLemmas.{Progress, Progress-amid, Progress-end, Progress-long, Progress-made}
 use Rattle.feed_commands.proofs.ProgressLemmas.{Progress-read, Progress-refused, Progress-start, Progress-step}
 use Rattle.feed_commands.proofs.StepLemmas.{stored_step-prefix}
@@ -34,7 +35,7 @@ returns-in_err-lines-clause-leaves g c =
     (λ seen. record { within = omega arith; lines = refl })
     (λ stop. cc)
     (both_stay disk (OpensPast opened.head opened.history (length opened.history))
-    (g.met.D.Disk.is_disk c.args.disk.now) settled) settled)
+    (g.met.D.Disk.is_disk c.args.disk.now) settled) settled (λ e. cc))
 
 pub loop-lines-init : goal.loop-lines-init
 loop-lines-init g c =
@@ -59,6 +60,7 @@ loop-lines-init g c =
           ap moments same;
       knows = λ source ended. absurd (false≢true (rw c.in_ok-lines.ensures.2 at ended));
       faults = refl;
+      read = read-start c.in_ok-lines.lines input.bytes_read c.in_ok-lines.ensures.1;
       disk_faults = refl;
       calls = λ below. omega arith;
       mirror = alone_begins disk Mirror;
@@ -110,6 +112,9 @@ loop-lines-preserved g c =
           c.now.ensures.later clock k ∙ held.moments clock (k + 1) ∙ ap moments later;
       knows = c.in_ok-next.ensures.knows;
       faults = c.in_ok-next.ensures.input_faults.unfailed (λ e. cc) ∙ held.faults;
+      read = read-next c.loop-lines.lines (g.I.Source.state c.args.input.now).bytes_read
+          (g.I.Source.state c.loop-lines.input).bytes_read held.read c.next.new.self
+          (g.I.Source.state c.next.new.input).bytes_read c.in_ok-next.ensures.read;
       disk_faults = c.in_ok-apply_line.ensures.disk_faults.unfailed (λ e. cc) ∙ held.disk_faults;
       calls = λ below.
           let one = c.in_ok-apply_line.ensures.calls below in
@@ -174,7 +179,9 @@ returns-in_err-next-clause-leaves g c =
     Progress-read (stored_step moments) opened start c.loop-lines.lines input rest before store
     (held.progress observable seen.0 seen.1)
     (c.in_err-next.ensures.amid (ap Err (input-of_lines c.in_err-next.field-0.0 same)) seen.1))
-    (held.leaves observable rests settled) (held.settled observable rests settled))
+    (held.leaves observable rests settled) (held.settled observable rests settled)
+    (λ e. let failed : lines_fault c.in_err-next.field-0.0 ≡ Disk = cc in
+    lines-no_disk c.in_err-next.field-0.0 failed))
 
 pub returns-in_err-next-clause-unrefused : goal.returns-in_err-next-clause-unrefused
 returns-in_err-next-clause-unrefused g c =
@@ -261,7 +268,7 @@ returns-in_err-apply_line-clause-leaves g c =
           (lines-leave start disk moments input rest (g.C.Clock.observable × g.I.Source.observable) _ _ opened store before
           (held.added observable rests) held.calls made (λ stop. absurd (none stop))
           (held.leaves observable rests settled)
-          (held.settled observable rests settled))
+          (held.settled observable rests settled) (λ e. other cc))
     ])
 
 pub returns-clause-made : goal.returns-clause-made
@@ -286,4 +293,30 @@ returns-clause-leaves g c = λ observable rests settled.
     (λ seen. Progress-made (stored_step moments) opened start.left c.loop-lines.lines
     (g.I.Source.state c.loop-lines.input) before store
     (held.progress observable seen.0 seen.1))
-    (λ stop. cc) (held.leaves observable rests settled) (held.settled observable rests settled)
+    (λ stop. cc) (held.leaves observable rests settled) (held.settled observable rests settled) (λ e. cc)
+
+pub returns-in_err-next-clause-read : goal.returns-in_err-next-clause-read
+returns-in_err-next-clause-read g c =
+    let first = (g.I.Source.state c.args.input.now).bytes_read in
+    let now = (g.I.Source.state c.loop-lines.input).bytes_read in
+    let rest = (g.I.Source.state c.next.new.input).bytes_read in
+    read-ends c.loop-lines.lines first now c.loop-lines.invariant.read c.next.new.self rest c.next.result
+    c.next.ensures.read
+
+pub returns-in_err-apply_line-clause-read : goal.returns-in_err-apply_line-clause-read
+returns-in_err-apply_line-clause-read g c =
+    let first = (g.I.Source.state c.args.input.now).bytes_read in
+    let now = (g.I.Source.state c.loop-lines.input).bytes_read in
+    let rest = (g.I.Source.state c.next.new.input).bytes_read in
+    read-within c.next.new.self first rest
+    (read-next c.loop-lines.lines first now c.loop-lines.invariant.read c.next.new.self rest
+    c.in_ok-next.ensures.read)
+
+pub returns-clause-read : goal.returns-clause-read
+returns-clause-read g c =
+    let first = (g.I.Source.state c.args.input.now).bytes_read in
+    let now = (g.I.Source.state c.loop-lines.input).bytes_read in
+    let rest = (g.I.Source.state c.next.new.input).bytes_read in
+    read-within c.next.new.self first rest
+    (read-next c.loop-lines.lines first now c.loop-lines.invariant.read c.next.new.self rest
+    c.in_ok-next.ensures.read)

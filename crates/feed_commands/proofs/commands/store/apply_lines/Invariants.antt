@@ -8,6 +8,7 @@ use Rattle.feed_recovery.specs.Stored.{stored_of}
 use Rattle.feed_commands.specs.Lines.{KnowsEnd, allowance}
 use Rattle.feed_commands.specs.Stored.{stored_step}
 use Rattle.feed_commands.proofs.ProgressLemmas.{Progress}
+use Rattle.feed_commands.proofs.ReadLemmas.{HasReadAllowed}
 use Rattle.feed_commands.proofs.commands.store.apply_lines.Given as goal
 use Rattle.member_rules.specs.declared.operation.Op.{Op}
 
@@ -31,6 +32,7 @@ invariant-loop-lines g l =
           g.C.Clock.coming l.clock k ≡ coming (k + (length l.store.history - length old.history));
       knows : g.I.Source.observable → KnowsEnd l.lines (g.I.Source.state l.input);
       faults : (g.I.Source.state l.input).faults ≡ input.faults;
+      read : HasReadAllowed l.lines input.bytes_read (g.I.Source.state l.input).bytes_read;
       disk_faults : disk.faults ≡ before.faults;
       calls : disk.clock < counter_limit →
           before.clock + 4 * (length l.store.history - length old.history) ≤ disk.clock;
