@@ -31,7 +31,7 @@ half=$((count / 2))
 for part in 1 2; do
     operations=$((half * part))
     seq "$half" | sed 's/^/add Advisory number /' | "$tool" apply >/dev/null || exit 1
-    "$tool" show pile >pile || exit 1
+    "$tool" show pile >./pile || exit 1
     rm -f mirror
     measure 'mirror' pile "$tool" mirror --base http://feed.example/ --capacity 68719476736
     cat printed pile >audited

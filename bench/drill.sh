@@ -10,7 +10,7 @@ trap 'exit 1' HUP INT TERM
 "$top/prove" || exit 1
 tool=$top/out/feed_tool
 for count in 1000 2000; do
-    for run in 1 2 3; do
+    for _ in 1 2 3; do
         /usr/bin/time -o "$work/took" -f '%e %M' "$tool" drill 7 $count >"$work/printed" || exit 1
         read -r seconds memory <"$work/took"
         echo "drill 7 $count: $seconds seconds, $memory KiB"

@@ -64,7 +64,7 @@ measure() {
     "$tool" init --base http://feed.example/ --uuid 6d1f0c5a-93be-4c27-8d10-2b7f9e4a5c36 --title Feed --author Editor \
         --window 100 --capacity 68719476736 >/dev/null || exit 1
     "$tool" apply >/dev/null || exit 1
-    "$tool" show pile >pile || exit 1
+    "$tool" show pile >./pile || exit 1
     for _ in $(seq "$rounds"); do
         rm -f mirror
         timed first pile "$tool" mirror --base http://feed.example/ --capacity 68719476736 || exit 1

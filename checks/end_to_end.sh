@@ -455,6 +455,7 @@ if [ -e /dev/full ]; then
 fi
 # memory runs out: the shell gives the program 40,000 KiB, and the input needs more
 head -c 60000000 /dev/zero >"$work/input"
+# shellcheck disable=SC3045 # The shells of Linux have this limit.
 (ulimit -v 40000 && "$top/out/feed_tool" show <"$work/input" >"$work/output" 2>"$work/errors"; echo $? >"$work/status")
 echo 'no memory' | compare 'out of memory' 5
 
