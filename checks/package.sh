@@ -66,8 +66,8 @@ right 'a second package is the same' cmp "$work/first.deb" "$package"
 # A port below those that the system gives to clients, so that no client of this machine has it by chance.
 port=$(awk -v seed=$$ 'BEGIN { srand(seed); print 10000 + int(rand() * 20000) }')
 awk '/^## / { inside = $0 == "## A worked example" } inside && /^```/ { code++; next } inside && code == 1' \
-    "$top/README.md" | sed -e 's|\.\./feed_tool|feed_tool|g' -e "s|127\.0\.0\.1:8080|127.0.0.1:$port|g" >"$work/example"
-(cd "$work" && PATH=$root/usr/bin:$PATH timeout 60 sh -e ./example >"$work/printed" 2>"$work/errors")
+    "$top/README.md" | sed -e 's|\.\./feed_tool|feed_tool|g' -e "s|127\.0\.0\.1:8080|127.0.0.1:$port|g" >"$work/lines"
+(cd "$work" && PATH=$root/usr/bin:$PATH timeout 60 sh -e ./lines >"$work/printed" 2>"$work/errors")
 status=$?
 right 'the example ends with 0' [ "$status" -eq 0 ]
 # usage: printed LINE
@@ -75,6 +75,11 @@ printed() { grep -Fqx -e "$1" "$work/printed" || { cat "$work/printed" "$work/er
 for line in ready '201 1' '200 1' 'archive 1' 'complete 4 2' 'accepted 4 2' 'operations 60'; do
     right "the example prints '$line'" printed "$line"
 done
+
+# The scripts find the program on the path.
+right 'the demonstration' env PATH="$root/usr/bin:$PATH" timeout 60 "$root/usr/share/feed-tool/demo"
+(cd "$work/example" && PATH=$root/usr/bin:$PATH "$root/usr/share/feed-tool/export" "$work/folder") >"$work/exported" 2>&1
+right 'the export of the example' grep -qx 'exported 1 new, 0 kept' "$work/exported"
 
 # The manual page, whole
 page=$root/usr/share/man/man1/feed_tool.1.gz
