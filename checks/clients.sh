@@ -227,7 +227,7 @@ init_words="init --base $base/ --uuid 6d1f0c5a-93be-4c27-8d10-2b7f9e4a5c36 --tit
 
 # Commands that don't come to serve
 
-mkdir "$work/store" "$work/other" "$work/empty" "$work/full" || exit 1
+mkdir "$work/store" "$work/other" "$work/empty" "$work/full" "$work/example_store" || exit 1
 ran "$work/empty" serve --listen "127.0.0.1:$port" --requests 1
 echo 'not init' | compare 'serve without a store' 6
 for folder in store other; do
@@ -526,5 +526,59 @@ line_of '507 Insufficient Storage' 'full journal 4096 26 4096' | ask 'delete in 
 member '200 OK' 1 "$title" "$none" | ask 'read of a full store' 1 $base/member/1
 await_end
 compare 'the lines of a full store' 0 <"$work/lines"
+
+# The example entry of RFC 4287 section 1.1, whose content is xhtml with a base, and a relative link in it: it is refused as
+# it is, and taken as what deploy/entry-as-html.xsl makes of it
+
+cat >"$work/example" <<'TEXT'
+<entry xmlns="http://www.w3.org/2005/Atom">
+  <title>Atom draft-07 snapshot</title>
+  <link rel="alternate" type="text/html" href="http://example.org/2005/04/02/atom"/>
+  <link rel="enclosure" type="audio/mpeg" length="1337" href="http://example.org/audio/ph34r_my_podcast.mp3"/>
+  <id>tag:example.org,2003:3.2397</id>
+  <updated>2005-07-31T12:29:29Z</updated>
+  <published>2003-12-13T08:29:29-04:00</published>
+  <author>
+    <name>Mark Pilgrim</name>
+    <uri>http://example.org/</uri>
+    <email>f8dy@example.com</email>
+  </author>
+  <contributor><name>Sam Ruby</name></contributor>
+  <contributor><name>Joe Gregorio</name></contributor>
+  <content type="xhtml" xml:lang="en" xml:base="http://diveintomark.org/">
+    <div xmlns="http://www.w3.org/1999/xhtml"><p><i>[Update: The <a href="draft">Atom draft</a> is finished.]</i></p></div>
+  </content>
+</entry>
+TEXT
+# shellcheck disable=SC2086
+ran "$work/example_store" $init_words
+echo 'ready' | compare 'init of a store for an example' 0
+start "$work/example_store" 3 0
+offset=$(LC_ALL=C grep -abo '<content' "$work/example" | cut -d : -f 1)
+line_of '400 Bad Request' "entry $offset Xhtml" |
+    ask 'an entry with xhtml' 0 -H "$atom" --data-binary "@$work/example" $base/feed
+if command -v xsltproc >/dev/null; then
+    xsltproc "$top/deploy/entry-as-html.xsl" "$work/example" >"$work/as_html"
+    {
+        head_of '201 Created' 'application/atom+xml;type=entry' "Location: $base/member/1"
+        echo '<?xml version="1.0" encoding="utf-8"?>'
+        sed -e ':all' -e 'N' -e '$!b all' -e 's/\n//g' <<'TEXT'
+<entry xmlns="http://www.w3.org/2005/Atom" xmlns:app="http://www.w3.org/2007/app">
+<id>urn:uuid:6d1f0c5a-93be-8c27-8000-000000000001</id><title>Atom draft-07 snapshot</title><updated>NOW</updated>
+<published>NOW</published><app:edited>NOW</app:edited>
+<author><name>Mark Pilgrim</name><uri>http://example.org/</uri><email>f8dy@example.com</email></author>
+<contributor><name>Sam Ruby</name></contributor><contributor><name>Joe Gregorio</name></contributor>
+<link rel="edit" href="http://feed.example/member/1"/><link href="http://example.org/2005/04/02/atom" type="text/html"/>
+<link rel="enclosure" href="http://example.org/audio/ph34r_my_podcast.mp3" type="audio/mpeg" length="1337"/>
+<content type="html">&lt;p&gt;&lt;i&gt;[Update: The &lt;a href="http://diveintomark.org/draft"&gt;Atom draft
+&lt;/a&gt; is finished.]&lt;/i&gt;&lt;/p&gt;</content></entry>
+TEXT
+    } | ask 'the entry as html' 1 -H "$atom" --data-binary "@$work/as_html" $base/feed
+else
+    echo 'passed over: there is no xsltproc, so an entry with xhtml is not posted as html'
+    use_up 0
+fi
+await_end
+compare 'the lines of the example' 0 <"$work/lines"
 
 counts

@@ -197,9 +197,9 @@ def play():
     for _ in range(rounds):
         change(random.randrange(1, 100))
         mirror_killed(seconds)
-        if random.randrange(2):
-            seconds = max(mirror_whole("mirror"), 0.05)
-    mirror_whole("mirror")
+        # The next one has about as much to fetch.
+        change(50)
+        seconds = max(mirror_whole("mirror"), 0.05)
     try_ends()
 
 

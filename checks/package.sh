@@ -123,8 +123,7 @@ if with shellcheck; then
 fi
 
 if with lintian; then
-    # Debian 12 and 13 ask for the units in folders of different names, which are one folder.
-    right 'lintian finds no error' lintian --fail-on error --suppress-tags systemd-service-in-odd-location "$package"
+    right 'lintian finds no error' lintian --fail-on error "$package"
 fi
 
 echo "$passed passed, $passed_over tools not there, $failed failed"
