@@ -4,9 +4,10 @@
 usage: bench/instructions.py PROGRAM..
 
 For each program it prints a line with the instructions of a POST of an entry of some 450 bytes, of a GET of the feed, and of
-`show feed` on a store of 15,000 operations, which is mostly the load. A count differs by less than one in a hundred between
-two runs, whatever else the machine does. So two builds can be compared on a busy machine, where times can't. The first
-program makes both stores: let it be the oldest one, since a later build loads the store of an earlier one.
+`show feed` on a store of 15,000 operations, which is mostly the load. The count of the load differs by less than one in a
+hundred between two runs, whatever else the machine does. Those of requests differ by a few in a hundred on a busy machine,
+where the door takes more turns. So two builds can be compared on a busy machine, where times can't. The first program
+makes both stores: let it be the oldest one, since a later build loads the store of an earlier one.
 
 The cost of a request is the difference between two sessions of `serve`, divided by the requests that one has more. The time of
 system calls, of the disk and of the network isn't counted. It takes a minute for each program.
