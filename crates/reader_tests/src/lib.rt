@@ -1,4 +1,4 @@
-//! Tests of the public calls of `xml_tokens` and `entry_reader`.
+//! Tests of the public calls of `xml_tokens`, `entry_reader` and `feed_reader`.
 //!
 //! They are in a crate of their own, so that it is proved once, without its tests.
 //! A test drops large values by `drop`: a value that goes out of scope is proved to be dropped field by field,
@@ -7,6 +7,10 @@
 
 #[cfg(test)]
 mod entries;
+#[cfg(test)]
+mod feed_refusals;
+#[cfg(test)]
+mod feeds;
 #[cfg(test)]
 mod refusals;
 #[cfg(test)]
