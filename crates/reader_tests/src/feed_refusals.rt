@@ -73,7 +73,7 @@ static DOCUMENTS: [(&[u8], &[u8], FeedWhy); 27] = [
         b"<feed xmlns=\"http://www.w3.org/2005/Atom\"><updated>2020-01-01T00:00:00Z</updated></feed>",
         FeedWhy::Missing,
     ),
-    // What the feed lacks comes before all that its children are refused for.
+    // A feed that lacks a part is refused for that, before any of its children.
     (
         b"",
         b"<feed xmlns=\"http://www.w3.org/2005/Atom\"><entry/><id/><id/><link rel=\"prev-archive\"/></feed>",
@@ -169,7 +169,7 @@ static CONTENTS: [(&[u8], &[u8], FeedWhy); 44] = [
         b"<entry><title/><x><id/></x></entry>",
         FeedWhy::Missing,
     ),
-    // What an entry lacks comes before all that its children are refused for.
+    // An entry that lacks a part is refused for that, before any of its children.
     (
         b"",
         b"<entry><id>a</id><id>b</id></entry>",
@@ -374,7 +374,7 @@ struct Repeated {
     refused: Option<(Place, usize, FeedWhy)>,
 }
 
-/// What an offset is counted from.
+/// The part of a document from which an offset is counted.
 #[derive(Clone, Copy, PartialEq, Eq)]
 enum Place {
     Opening,
