@@ -1,0 +1,5 @@
+pub mod Occurrence
+pub mod Counts
+pub mod Live
+pub mod Laws
+pub mod Tally
