@@ -4,9 +4,9 @@ use Rattle.std.proofs.Common.{inl, ap, codes, bytes_eq, Bool, false, refl, sym, 
 use Rattle.std.proofs.lemmas.Bool.{true≢false}
 use Rattle.std.proofs.lemmas.Slice.Eq.{bytes_eq-Decides}
 use Rattle.atom_writer.specs.declared.doc.FeedName.{FeedName}
-use Rattle.tool_words.specs.Words.{IsApply, IsCommandOf, IsDrill, IsInit, IsMirror, IsServe, IsShow}
+use Rattle.tool_words.specs.Words.{IsApply, IsCommandOf, IsDrill, IsForeign, IsInit, IsMirror, IsServe, IsShow}
 use Rattle.tool_words.specs.declared.command.Command.{Command}
-use Rattle.tool_words.specs.declared.command.Command.TheVariants.{Init, Apply, Show, Serve, Mirror, Audit, Drill}
+use Rattle.tool_words.specs.declared.command.Command.TheVariants.{Init, Apply, Show, Serve, Mirror, Audit, Drill, Foreign}
 use Rattle.tool_words.specs.declared.command.Show.{Show as Shown}
 use Rattle.tool_words.specs.declared.fault.WordsFault.{WordsFault}
 use Rattle.tool_words.specs.declared.fault.WordsFault.TheVariants.{NoMemory}
@@ -35,6 +35,8 @@ module _ (words rest : List (List ℕ)) (r : Result Command WordsFault) where
       absurd (other_first (codes "init") (codes "audit") rest [] refl (sym spelt ∙ e))
   init_only spelt only (Drill seed count) (behind, e, i) =
       absurd (other_first (codes "init") (codes "drill") rest behind refl (sym spelt ∙ e))
+  init_only spelt only (Foreign from) (behind, e, i) =
+      absurd (other_first (codes "init") (codes "foreign") rest behind refl (sym spelt ∙ e))
 
   pub apply_only : words ≡ codes "apply" ∷ rest →
       ((window : Option ℕ) → IsApply rest window → (r ≡ Ok (Apply window)) ⊎ (r ≡ Err NoMemory)) →
@@ -53,6 +55,8 @@ module _ (words rest : List (List ℕ)) (r : Result Command WordsFault) where
       absurd (other_first (codes "apply") (codes "audit") rest [] refl (sym spelt ∙ e))
   apply_only spelt only (Drill seed count) (behind, e, i) =
       absurd (other_first (codes "apply") (codes "drill") rest behind refl (sym spelt ∙ e))
+  apply_only spelt only (Foreign from) (behind, e, i) =
+      absurd (other_first (codes "apply") (codes "foreign") rest behind refl (sym spelt ∙ e))
 
   pub show_only : words ≡ codes "show" ∷ rest →
       ((shown : Shown) → IsShow rest shown → (r ≡ Ok (Show shown)) ⊎ (r ≡ Err NoMemory)) →
@@ -71,6 +75,8 @@ module _ (words rest : List (List ℕ)) (r : Result Command WordsFault) where
       absurd (other_first (codes "show") (codes "audit") rest [] refl (sym spelt ∙ e))
   show_only spelt only (Drill seed count) (behind, e, i) =
       absurd (other_first (codes "show") (codes "drill") rest behind refl (sym spelt ∙ e))
+  show_only spelt only (Foreign from) (behind, e, i) =
+      absurd (other_first (codes "show") (codes "foreign") rest behind refl (sym spelt ∙ e))
 
   pub serve_only : words ≡ codes "serve" ∷ rest →
       ((listen : List ℕ) (requests : ℕ) → IsServe rest listen requests →
@@ -90,6 +96,8 @@ module _ (words rest : List (List ℕ)) (r : Result Command WordsFault) where
       absurd (other_first (codes "serve") (codes "audit") rest [] refl (sym spelt ∙ e))
   serve_only spelt only (Drill seed count) (behind, e, i) =
       absurd (other_first (codes "serve") (codes "drill") rest behind refl (sym spelt ∙ e))
+  serve_only spelt only (Foreign from) (behind, e, i) =
+      absurd (other_first (codes "serve") (codes "foreign") rest behind refl (sym spelt ∙ e))
 
   pub mirror_only : words ≡ codes "mirror" ∷ rest →
       ((base : List ℕ) (fetch report : Bool) (capacity : ℕ) → IsMirror rest base fetch report capacity →
@@ -110,6 +118,8 @@ module _ (words rest : List (List ℕ)) (r : Result Command WordsFault) where
       absurd (other_first (codes "mirror") (codes "audit") rest [] refl (sym spelt ∙ e))
   mirror_only spelt only (Drill seed count) (behind, e, i) =
       absurd (other_first (codes "mirror") (codes "drill") rest behind refl (sym spelt ∙ e))
+  mirror_only spelt only (Foreign from) (behind, e, i) =
+      absurd (other_first (codes "mirror") (codes "foreign") rest behind refl (sym spelt ∙ e))
 
   pub drill_only : words ≡ codes "drill" ∷ rest →
       ((seed count : ℕ) → IsDrill rest seed count → (r ≡ Ok (Drill seed count)) ⊎ (r ≡ Err NoMemory)) →
@@ -128,6 +138,28 @@ module _ (words rest : List (List ℕ)) (r : Result Command WordsFault) where
       absurd (other_first (codes "drill") (codes "mirror") rest behind refl (sym spelt ∙ e))
   drill_only spelt only Audit e =
       absurd (other_first (codes "drill") (codes "audit") rest [] refl (sym spelt ∙ e))
+  drill_only spelt only (Foreign from) (behind, e, i) =
+      absurd (other_first (codes "drill") (codes "foreign") rest behind refl (sym spelt ∙ e))
+
+  pub foreign_only : words ≡ codes "foreign" ∷ rest →
+      ((from : List ℕ) → IsForeign rest from → (r ≡ Ok (Foreign from)) ⊎ (r ≡ Err NoMemory)) →
+      (command : Command) → IsCommandOf words command → (r ≡ Ok command) ⊎ (r ≡ Err NoMemory)
+  foreign_only spelt only (Foreign from) (behind, e, i) =
+      let same : behind ≡ rest = cc in only from (subst (λ b. IsForeign b from) same i)
+  foreign_only spelt only (Init name window capacity) (behind, e, i) =
+      absurd (other_first (codes "foreign") (codes "init") rest behind refl (sym spelt ∙ e))
+  foreign_only spelt only (Apply window) (behind, e, i) =
+      absurd (other_first (codes "foreign") (codes "apply") rest behind refl (sym spelt ∙ e))
+  foreign_only spelt only (Show shown) (behind, e, i) =
+      absurd (other_first (codes "foreign") (codes "show") rest behind refl (sym spelt ∙ e))
+  foreign_only spelt only (Serve listen requests) (behind, e, i) =
+      absurd (other_first (codes "foreign") (codes "serve") rest behind refl (sym spelt ∙ e))
+  foreign_only spelt only (Mirror base fetch report capacity) (behind, e, i) =
+      absurd (other_first (codes "foreign") (codes "mirror") rest behind refl (sym spelt ∙ e))
+  foreign_only spelt only Audit e =
+      absurd (other_first (codes "foreign") (codes "audit") rest [] refl (sym spelt ∙ e))
+  foreign_only spelt only (Drill seed count) (behind, e, i) =
+      absurd (other_first (codes "foreign") (codes "drill") rest behind refl (sym spelt ∙ e))
 
 pub apply_found : (words rest : List (List ℕ)) (r : Result Command WordsFault) → words ≡ codes "apply" ∷ rest →
     IfOk r (λ command. (window : Option ℕ) × (command ≡ Apply window) × IsApply rest window) →
@@ -162,3 +194,5 @@ audit_only words rest r spelt only (Mirror base fetch report capacity) (behind, 
     absurd (other_first (codes "audit") (codes "mirror") rest behind refl (sym spelt ∙ e))
 audit_only words rest r spelt only (Drill seed count) (behind, e, i) =
     absurd (other_first (codes "audit") (codes "drill") rest behind refl (sym spelt ∙ e))
+audit_only words rest r spelt only (Foreign from) (behind, e, i) =
+    absurd (other_first (codes "audit") (codes "foreign") rest behind refl (sym spelt ∙ e))

@@ -6,6 +6,8 @@ pub mod CommandOfLemmas
 pub mod DrillLemmas
 -- serves `read_words`, the clause `only`: a fault that isn't `Usage`
 pub mod FaultLemmas
+-- serves `read_words`, for `foreign`
+pub mod ForeignLemmas
 -- serves `read_words`, for `init`
 pub mod InitLemmas
 -- serves `read_line`

@@ -6,19 +6,21 @@ use Rattle.uuid.specs.Text.{parsed}
 use Rattle.atom_writer.specs.declared.doc.FeedName.{FeedName}
 use Rattle.tool_words.specs.Numbers.{IsNumber, number_value}
 use Rattle.tool_words.specs.Options.{value_of}
-use Rattle.tool_words.specs.Words.{IsApply, IsBaseText, IsDrill, IsFeedIdText, IsInit, IsListen, IsMirror, IsNamed}
+use Rattle.tool_words.specs.Words.{IsApply, IsBaseText, IsDrill, IsFeedIdText, IsForeign, IsHttpText, IsInit, IsListen}
+use Rattle.tool_words.specs.Words.{IsMirror, IsNamed, foreign_options}
 use Rattle.tool_words.specs.Words.{IsNameText, IsNumberOr, IsRequests, IsServe, IsShow, init_options, mirror_flags}
 use Rattle.tool_words.specs.Words.{mirror_options, serve_options, capacity_floor, capacity_limit, count_limit}
 use Rattle.tool_words.specs.Words.{default_capacity, default_window, request_limit, seed_limit, window_limit}
 use Rattle.tool_words.specs.Laws.{WordsSpellOneCommand}
 use Rattle.tool_words.specs.declared.command.Command.{Command}
-use Rattle.tool_words.specs.declared.command.Command.TheVariants.{Init, Apply, Show, Serve, Mirror, Audit, Drill}
+use Rattle.tool_words.specs.declared.command.Command.TheVariants.{Init, Apply, Show, Serve, Mirror, Audit, Drill, Foreign}
 use Rattle.tool_words.specs.declared.command.Show.{Show as Shown}
 use Rattle.tool_words.specs.declared.command.Show.TheVariants.{Document, Feed, Archive, Member, Pile}
 use Rattle.tool_words.specs.declared.fault.WordsFault.{WordsFault}
 use Rattle.tool_words.specs.declared.fault.WordsFault.TheVariants.{NoMemory}
-use Rattle.tool_words.proofs.CommandLemmas.{apply_only, audit_only, drill_only, init_only, mirror_only, serve_only}
-use Rattle.tool_words.proofs.CommandLemmas.{show_only}
+use Rattle.tool_words.proofs.CommandLemmas.{apply_only, audit_only, drill_only, foreign_only, init_only, mirror_only}
+use Rattle.tool_words.proofs.CommandLemmas.{serve_only, show_only}
+use Rattle.tool_words.proofs.ForeignLemmas as foreign
 use Rattle.tool_words.proofs.InitLemmas as init
 use Rattle.tool_words.proofs.MirrorLemmas as mirror
 use Rattle.tool_words.proofs.ServeLemmas as serve
@@ -64,6 +66,9 @@ one_requests : (value : Option (List ℕ)) (m n : ℕ) → IsRequests value m �
 one_requests value m n x y =
     let word = one_some value x.word y.word x.there y.there in
     one_number 1 request_limit y.word m n (subst (λ w. IsNumber 1 request_limit w m) word x.is_number) y.is_number
+
+one_http : (value : Option (List ℕ)) (a b : List ℕ) → IsHttpText value a → IsHttpText value b → a ≡ b
+one_http value a b x y = one_some value a b x.there y.there
 
 -- ---- commands
 
@@ -140,6 +145,12 @@ one_drill words m n c d x y =
     (subst (λ w. IsNumber 1 count_limit w c) count_word x.is_count) y.is_count in
     λ i. Drill (seed i) (count i)
 
+one_foreign : (words : List (List ℕ)) (a b : List ℕ) → IsForeign words a → IsForeign words b → Foreign a ≡ Foreign b
+one_foreign words a b x y =
+    let given = foreign.from_same (λ key. value_of key x.options) (λ key. value_of key y.options) a
+    (one_value foreign_options [] words refl x.options y.options x.are_options y.are_options) x.is_from in
+    ap Foreign (one_http (value_of (codes "from") y.options) a b given y.is_from)
+
 -- of two results one of which is a command
 same_command : (one other : Command) → (◌≡◌ {A = Result Command WordsFault} (Ok one) (Ok other))
     ⊎ (◌≡◌ {A = Result Command WordsFault} (Ok one) (Err NoMemory)) → one ≡ other
@@ -167,3 +178,6 @@ one_command words Audit other e y =
 one_command words (Drill m c) other (rest, e, x) y =
     same_command (Drill m c) other (drill_only words rest (Ok (Drill m c)) e
     (λ n d z. inl (ap Ok (one_drill rest m n c d x z))) other y)
+one_command words (Foreign a) other (rest, e, x) y =
+    same_command (Foreign a) other (foreign_only words rest (Ok (Foreign a)) e
+    (λ b z. inl (ap Ok (one_foreign rest a b x z))) other y)

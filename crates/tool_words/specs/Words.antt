@@ -1,5 +1,6 @@
 -- The words of each command.
-use Rattle.std.specs.Prelude.{◌≡◌, ◌≢◌, ℕ, ◌-◌, ◌≤◌, ◌^◌, List, [], ◌∷◌, Option, Some, None, Bool, codes, length}
+use Rattle.std.specs.Prelude.{◌≡◌, ◌≢◌, ℕ, ◌-◌, ◌≤◌, ◌^◌, List, [], ◌∷◌, Option, Some, None, Bool, IsTrue, codes, length}
+use Rattle.std.specs.Prelude.{bytes_eq, take}
 use Rattle.uuid.specs.Text.{parsed}
 use Rattle.atom_values.specs.XmlText.{IsAtomText}
 use Rattle.atom_writer.specs.declared.doc.FeedName.{FeedName}
@@ -9,7 +10,7 @@ use Rattle.deleted_entries.specs.FeedId.{version, member_version}
 use Rattle.tool_words.specs.Numbers.{IsNumber}
 use Rattle.tool_words.specs.Options.{Given, AreOptions, is_given, value_of}
 use Rattle.tool_words.specs.declared.command.Command.{Command}
-use Rattle.tool_words.specs.declared.command.Command.TheVariants.{Init, Apply, Show, Serve, Mirror, Audit, Drill}
+use Rattle.tool_words.specs.declared.command.Command.TheVariants.{Init, Apply, Show, Serve, Mirror, Audit, Drill, Foreign}
 use Rattle.tool_words.specs.declared.command.Show.{Show as Shown}
 use Rattle.tool_words.specs.declared.command.Show.TheVariants.{Document, Feed, Archive, Member, Pile}
 
@@ -61,6 +62,9 @@ mirror_options = codes "base" ∷ codes "capacity" ∷ []
 
 abbrev pub mirror_flags : List (List ℕ)
 mirror_flags = codes "fetch" ∷ codes "report" ∷ []
+
+abbrev pub foreign_options : List (List ℕ)
+foreign_options = codes "from" ∷ []
 
 -- the value is this number in the range, or is left out and the number is the default
 abbrev pub IsNumberOr : ℕ → ℕ → ℕ → Option (List ℕ) → ℕ → Type 0
@@ -157,6 +161,18 @@ pub record IsDrill (words : List (List ℕ)) (seed count : ℕ) : Type 0 where
   pub is_seed : IsNumber 0 seed_limit seed_word seed
   pub is_count : IsNumber 1 count_limit count_word count
 
+-- the value is an `http` URL that the parser of the URL Standard leaves as it is
+pub record IsHttpText (value : Option (List ℕ)) (address : List ℕ) : Type 0 where
+  pub there : value ≡ Some address
+  pub is_url : IsUrlText address
+  pub http : IsTrue (bytes_eq (take 5 address) (codes "http:"))
+
+-- the words after `foreign`
+pub record IsForeign (words : List (List ℕ)) (from : List ℕ) : Type 0 where
+  pub options : List Given
+  pub are_options : AreOptions foreign_options [] words options
+  pub is_from : IsHttpText (value_of (codes "from") options) from
+
 abbrev pub IsCommandOf : List (List ℕ) → Command → Type 0
 IsCommandOf words (Init name window capacity) =
     (rest : List (List ℕ)) × (words ≡ codes "init" ∷ rest) × IsInit rest name window capacity
@@ -171,3 +187,5 @@ IsCommandOf words (Mirror base fetch report capacity) =
 IsCommandOf words Audit = words ≡ codes "audit" ∷ []
 IsCommandOf words (Drill seed count) =
     (rest : List (List ℕ)) × (words ≡ codes "drill" ∷ rest) × IsDrill rest seed count
+IsCommandOf words (Foreign from) =
+    (rest : List (List ℕ)) × (words ≡ codes "foreign" ∷ rest) × IsForeign rest from

@@ -45,6 +45,11 @@ pub enum Command {
         seed: u64,
         count: u32,
     },
+    /// `foreign`: walks the archived feed of any server and prints its live entries. `from` is the address of the feed's
+    /// newest document, an `http` URL that the parser of the URL Standard leaves as it is.
+    Foreign {
+        from: Bytes,
+    },
 }
 
 /// The document or listing that `show` prints.

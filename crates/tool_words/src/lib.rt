@@ -11,6 +11,7 @@
 //!     Ok(Command::Mirror { base, fetch, report, capacity }) => ..,
 //!     Ok(Command::Audit) => ..,
 //!     Ok(Command::Drill { seed, count }) => ..,
+//!     Ok(Command::Foreign { from }) => ..,
 //!     Err(WordsFault::Usage) => println!(rt; "usage: ..")?,
 //!     Err(WordsFault::NoMemory) => ..,
 //! }
@@ -26,7 +27,7 @@
 //!
 //! [`read_line`] reads one line of the input of `apply` as a [`LineAsk`].
 //!
-//! Stands on `clap`, on `atom_writer` for the name of a feed, and on the crates below it.
+//! Stands on `clap`, on `url` for addresses, on `atom_writer` for the name of a feed, and on the crates below it.
 #![tactic(auto)]
 
 mod base;
@@ -34,6 +35,7 @@ mod capacity;
 mod command;
 mod drill;
 mod fault;
+mod foreign;
 mod init;
 mod laws;
 mod line;

@@ -8,6 +8,7 @@ ghost use Rattle.tool_words.specs.declared.command.Show.{Show as ShowValue};
 use crate::command::{Command, Show, WINDOW_LIMIT};
 use crate::drill::drill;
 use crate::fault::WordsFault;
+use crate::foreign::foreign;
 use crate::init::init;
 use crate::mirror::mirror;
 use crate::number::number;
@@ -45,6 +46,7 @@ pub fn read_words(alloc: Global, words: &[String]) -> Result<Command, WordsFault
         "mirror" => mirror(alloc, rest),
         "audit" => audit(rest),
         "drill" => drill(alloc, rest),
+        "foreign" => foreign(alloc, rest),
         _ => Err(WordsFault::Usage),
     }
 }

@@ -1,6 +1,6 @@
 use Rattle.std.proofs.Common.{◌∷◌, Global, map, string_bytes, sym, ap, ◌∙◌}
 use Rattle.tool_words.proofs.CommandLemmas.{init_only, apply_found, apply_only, show_found, show_only, audit_found}
-use Rattle.tool_words.proofs.CommandLemmas.{audit_only, drill_only, mirror_only, serve_only}
+use Rattle.tool_words.proofs.CommandLemmas.{audit_only, drill_only, foreign_only, mirror_only, serve_only}
 use Rattle.tool_words.proofs.words.read_words.Goals as goal
 
 pub returns-in-init-clause-only : goal.returns-in-init-clause-only
@@ -72,3 +72,10 @@ returns-in-drill-clause-only c =
     let spelt = ap (map (string_bytes {Z = Global})) c.in-Some.ensures.cases.0
     ∙ ap (λ word. word ∷ rest) (sym c.as_str.ensures.value ∙ c.in-drill.is) in
     drill_only (map (string_bytes {Z = Global}) c.args.words.now) rest c.drill.result spelt c.drill.ensures.only
+
+pub returns-in-foreign-clause-only : goal.returns-in-foreign-clause-only
+returns-in-foreign-clause-only c =
+    let rest = map (string_bytes {Z = Global}) c.in-Some.rest.now in
+    let spelt = ap (map (string_bytes {Z = Global})) c.in-Some.ensures.cases.0
+    ∙ ap (λ word. word ∷ rest) (sym c.as_str.ensures.value ∙ c.in-foreign.is) in
+    foreign_only (map (string_bytes {Z = Global}) c.args.words.now) rest c.foreign.result spelt c.foreign.ensures.only
