@@ -10,20 +10,20 @@ use Rattle.command_ends.specs.Answer.{Answer}
 use Rattle.command_ends.specs.declared.status.Status.TheVariants.{Done, Incomplete}
 
 -- a live entry by its identifier, its `updated` and its title, which are escaped as in an attribute
-unfoldable pub entry_line : ForeignEntry → List ℕ
+abbrev pub entry_line : ForeignEntry → List ℕ
 entry_line e =
     codes "entry " ++ escaped true e.id ++ codes " " ++ printed e.updated ++ codes " " ++ escaped true e.title
     ++ codes "\n"
 
 -- the number of documents, and that of live entries
-unfoldable pub complete_line : ℕ → ℕ → List ℕ
+abbrev pub complete_line : ℕ → ℕ → List ℕ
 complete_line docs live = codes "complete " ++ decimal docs ++ codes " " ++ decimal live ++ codes "\n"
 
 -- words and an address
-unfoldable pub address_line : List ℕ → List ℕ → List ℕ
+abbrev pub address_line : List ℕ → List ℕ → List ℕ
 address_line words address = words ++ address ++ codes "\n"
 
-unfoldable pub not_read_line : List ℕ → ℕ → List ℕ
+abbrev pub not_read_line : List ℕ → ℕ → List ℕ
 not_read_line address at = codes "not read " ++ address ++ codes " " ++ decimal at ++ codes "\n"
 
 -- what a walk that took these documents prints, by its end, and the status

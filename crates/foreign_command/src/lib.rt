@@ -12,10 +12,10 @@
 //! `command_ends` for the exit statuses.
 #![tactic(auto)]
 
-mod foreign;
+mod command;
 mod laws;
 mod lines;
 mod printed;
 
-pub use foreign::foreign;
+pub use command::foreign;
 pub use laws::foreign_has_one_answer;

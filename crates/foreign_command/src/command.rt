@@ -8,11 +8,13 @@ ghost use Rattle.foreign_mirror.specs.Walk.{IsStart};
 ghost use Rattle.foreign_command.specs.Answer.{IsForeignAnswer, printed_answer};
 ghost use Rattle.foreign_command.specs.Ends.{EndsForeign, GoesWalk, MayEndForeign, status_of_fault};
 
+use crate::laws::foreign_has_one_answer;
 use crate::lines::printed_of;
 use crate::printed::{Printed, end_printed};
 use command_ends::{Fault, Status, print_fault};
 use doc_source::{Fetch, Sink, write_all};
 use foreign_mirror::{ForeignFault, foreign_walk};
+use own_chain::own_chains_are_read;
 use std::alloc::Global;
 
 /// Walks the archived feed of any server from its newest document on, and prints its live entries and the number of its
@@ -44,6 +46,9 @@ pub fn foreign<F: Fetch, O: Sink>(
     ensures walks { F.observable → EndsForeign from.now (F.state fetch.old) (F.state fetch.new) O.observable
         (O.state output.old) (O.state output.new) (code_of result) }
 {
+    // Their contracts are laws that the proof uses.
+    foreign_has_one_answer();
+    own_chains_are_read();
     match walked(alloc, from, fetch) {
         Ok(printed) => end_printed(output, printed),
         Err(fault) => print_walk_fault(output, fault),
