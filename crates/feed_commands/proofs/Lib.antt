@@ -8,7 +8,7 @@ pub mod AnswerOnLemmas
 pub mod CommandLemmas
 -- serves `run`, `faults`: the counts of faults, by how a function ended
 pub mod CountLemmas
--- serves `run`, `made` and `applied`: a command that makes no store, or that failed
+-- serves `run`, `ends`: a command that makes no store, or that failed
 pub mod DiskLemmas
 -- serves `run`, `answered` and `first_fault`: the faults that end the lines of `apply`
 pub mod FaultLemmas
@@ -44,3 +44,5 @@ pub mod StepLemmas
 pub mod StoreLemmas
 -- serves `run`, `answered` and `drills`: how `drill` ends
 pub mod DrillEndLemmas
+-- serves `run`, `ends`: a run whose command wasn't read, or prints a text alone
+pub mod EndsLemmas

@@ -3,7 +3,7 @@ use Rattle.std.proofs.Common.{◌≡◌, ◌⊎◌, inl, inr, ⊎_elim, ℕ, Boo
 use Rattle.tool_words.specs.Words.{IsCommandOf}
 use Rattle.tool_words.specs.declared.command.Command.{Command}
 use Rattle.tool_words.specs.declared.fault.WordsFault.{WordsFault}
-use Rattle.tool_words.specs.declared.command.Command.TheVariants.{Drill, Serve, Show, Mirror}
+use Rattle.tool_words.specs.declared.command.Command.TheVariants.{Foreign, Show, Mirror}
 use Rattle.tool_words.specs.declared.command.Show.{Show as Shown}
 use Rattle.tool_words.specs.declared.command.Show.TheVariants.{Pile}
 use Rattle.tool_words.specs.declared.fault.WordsFault.TheVariants.{NoMemory, Usage}
@@ -12,6 +12,8 @@ use Rattle.document_server.specs.declared.line.Line.{Line}
 use Rattle.feed_disk.specs.Disk.{DiskState}
 use Rattle.feed_life.specs.Life.{LifeValue}
 use Rattle.doc_source.specs.Fetch.{FetchState}
+use Rattle.foreign_command.specs.Ends.{MayEndForeign}
+use Rattle.foreign_mirror.specs.Walk.{IsStart}
 use Rattle.command_ends.specs.declared.fault.Fault.{Fault}
 use Rattle.command_ends.specs.declared.status.Status.TheVariants.{Done}
 use Rattle.command_ends.specs.declared.status.Status.TheVariants as ends
@@ -210,20 +212,11 @@ fetched-other n may = (λ e. omega arith, λ e. omega arith)
 pub audit-other : (n : ℕ) → MayEndAudit n → (n ≡ 2 → ⊥) × (n ≡ 4 → ⊥) × (n ≡ 7 → ⊥)
 audit-other n may = (λ e. omega arith, λ e. omega arith, λ e. omega arith)
 
+pub foreign-other : (n : ℕ) → MayEndForeign n → (n ≡ 2 → ⊥) × (n ≡ 4 → ⊥) × (n ≡ 9 → ⊥)
+foreign-other n may = (λ e. omega arith, λ e. omega arith, λ e. omega arith)
+
 pub drill-other : (n : ℕ) → MayEndDrill n → (n ≡ 2 → ⊥) × (n ≡ 4 → ⊥) × (n ≡ 7 → ⊥) × (n ≡ 9 → ⊥)
 drill-other n may = (λ e. omega arith, λ e. omega arith, λ e. omega arith, λ e. omega arith)
-
--- words of `serve` have one address and one number of requests
-pub same_serve : (P : List ℕ → ℕ → Type 0) {words : List (List ℕ)} {result : Result Command WordsFault} {read : Command}
-    {listen : List ℕ} {requests : ℕ} → result ≡ Ok read → read ≡ Serve listen requests
-    → ((command : Command) → IsCommandOf words command → (result ≡ Ok command) ⊎ (result ≡ Err NoMemory))
-    → P listen requests → (other : List ℕ) (number : ℕ) → IsCommandOf words (Serve other number) → P other number
-same_serve P {listen = listen} {requests = requests} is serves only holds other number of_words =
-    let same : Serve listen requests ≡ Serve other number =
-    sym serves ∙ read_is is only (Serve other number) of_words in
-    let address : listen ≡ other = cc in
-    let count : requests ≡ number = cc in
-    subst (P other) count (subst (λ (at : List ℕ). P at requests) address holds)
 
 -- a session's status is one of the program's
 pub serve-status : (n : ℕ) → IsServeCode n → IsStatus n
@@ -273,33 +266,14 @@ drill-status n (inl e) = (ends.Done, e)
 drill-status n (inr (inl e)) = (ends.OutputFault, e)
 drill-status n (inr (inr e)) = (ends.NoMemory, e)
 
--- the words of `drill` have one seed and one count
-pub same_drill : (P : ℕ → ℕ → Type 0) {words : List (List ℕ)} {result : Result Command WordsFault} {read : Command}
-    {seed count : ℕ} → result ≡ Ok read → read ≡ Drill seed count
-    → ((command : Command) → IsCommandOf words command → (result ≡ Ok command) ⊎ (result ≡ Err NoMemory))
-    → P seed count → (other number : ℕ) → IsCommandOf words (Drill other number) → P other number
-same_drill P {seed = seed} {count = count} is drills only holds other number of_words =
-    let same : Drill seed count ≡ Drill other number =
-    sym drills ∙ read_is is only (Drill other number) of_words in
-    let seed_is : seed ≡ other = cc in
-    let count_is : count ≡ number = cc in
-    subst (λ (s : ℕ). P s number) seed_is (subst (P seed) count_is holds)
+-- the status of `foreign` is one of the program's
+pub foreign-status : (n : ℕ) → MayEndForeign n → IsStatus n
+foreign-status n (inl e) = (ends.Done, e)
+foreign-status n (inr (inl e)) = (ends.Incomplete, e)
+foreign-status n (inr (inr (inl e))) = (ends.NoMemory, e)
+foreign-status n (inr (inr (inr (inl e)))) = (ends.FetchFault, e)
+foreign-status n (inr (inr (inr (inr e)))) = (ends.OutputFault, e)
 
--- the words of `mirror` have one base and one capacity, and say in one way whether to fetch and to report
-pub same_mirror : (P : List ℕ → Bool → Bool → ℕ → Type 0) {words : List (List ℕ)} {result : Result Command WordsFault}
-    {read : Command} {base : List ℕ} {fetch report : Bool} {capacity : ℕ} → result ≡ Ok read
-    → read ≡ Mirror base fetch report capacity
-    → ((command : Command) → IsCommandOf words command → (result ≡ Ok command) ⊎ (result ≡ Err NoMemory))
-    → P base fetch report capacity → (other : List ℕ) (asked shown : Bool) (limit : ℕ)
-    → IsCommandOf words (Mirror other asked shown limit) → P other asked shown limit
-same_mirror P {base = base} {fetch = fetch} {report = report} {capacity = capacity} is mirrors only holds other asked shown
-    limit of_words =
-    let same : Mirror base fetch report capacity ≡ Mirror other asked shown limit =
-    sym mirrors ∙ read_is is only (Mirror other asked shown limit) of_words in
-    let base_is : base ≡ other = cc in
-    let fetch_is : fetch ≡ asked = cc in
-    let report_is : report ≡ shown = cc in
-    let capacity_is : capacity ≡ limit = cc in
-    subst (λ (b : List ℕ). P b asked shown limit) base_is
-    (subst (λ (f : Bool). P base f shown limit) fetch_is
-    (subst (λ (r : Bool). P base fetch r limit) report_is (subst (P base fetch report) capacity_is holds)))
+-- the address of the words of `foreign` is one that a walk may begin at
+pub start-of : {words : List (List ℕ)} {from : List ℕ} → IsCommandOf words (Foreign from) → IsStart from
+start-of (rest, spelt, is) = record { is_url = is.is_from.is_url; http = is.is_from.http }

@@ -11,3 +11,4 @@ pub mod Run
 pub mod Crash
 pub mod Loaded
 pub mod Serve
+pub mod Ran

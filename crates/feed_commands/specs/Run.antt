@@ -18,6 +18,8 @@ use Rattle.feed_commands.specs.Apply.{answer, history_step, test_head}
 use Rattle.mirror_commands.specs.Audit.{IsAuditUnrefused, IsAudited, audit_limit}
 use Rattle.feed_commands.specs.Drill.{drill_answer}
 use Rattle.feed_life.specs.Life.{LifeValue}
+use Rattle.foreign_command.specs.Answer.{IsForeignAnswer}
+use Rattle.foreign_mirror.specs.Walk.{IsStart}
 use Rattle.mirror_commands.specs.FetchEnds.{IsWalkAnswer, IsWalkEnd}
 use Rattle.mirror_commands.specs.MirrorEnds.{IsMirrorUnrefused, IsPileAnswer, IsPileEnd}
 use Rattle.feed_commands.specs.Lines.{input_limit}
@@ -30,7 +32,7 @@ use Rattle.feed_commands.specs.Stored.{IsBadStore, IsInitAnswer, apply_answer, a
 use Rattle.member_rules.specs.Head.{window_limit, capacity_floor, capacity_limit, title_limit}
 use Rattle.tool_words.specs.Words.{IsCommandOf, request_limit}
 use Rattle.tool_words.specs.declared.command.Command.{Command}
-use Rattle.tool_words.specs.declared.command.Command.TheVariants.{Init, Apply, Serve, Show, Mirror, Audit, Drill}
+use Rattle.tool_words.specs.declared.command.Command.TheVariants.{Init, Apply, Serve, Show, Mirror, Audit, Drill, Foreign}
 use Rattle.tool_words.specs.declared.command.Show.TheVariants.{Document, Feed, Archive, Member, Pile}
 
 -- the ranges of a command's values
@@ -40,6 +42,7 @@ HasRange (Init name window capacity) =
     × (length name.title ≤ title_limit) × (length name.author ≤ title_limit)
 HasRange (Apply (Some window)) = (1 ≤ window) × (window ≤ window_limit)
 HasRange (Serve listen requests) = (1 ≤ requests) × (requests ≤ request_limit)
+HasRange (Foreign from) = IsStart from
 HasRange _ = Unit {0}
 
 -- The objects that each command depends on
@@ -71,6 +74,7 @@ UsesDisk (Apply (Some window)) = ⊥
 UsesDisk (Show Document) = ⊥
 UsesDisk Audit = ⊥
 UsesDisk (Drill seed count) = ⊥
+UsesDisk (Foreign from) = ⊥
 UsesDisk _ = Unit {0}
 
 -- whether the command uses the clock
@@ -83,6 +87,7 @@ UsesClock _ = ⊥
 -- whether the command asks the source of documents
 abbrev pub Fetches : Command → Type 0
 Fetches (Mirror base true report capacity) = Unit {0}
+Fetches (Foreign from) = Unit {0}
 Fetches _ = ⊥
 
 -- whether the command has an answer that disk, clock, input and source determine: each but `serve`, which depends on
@@ -98,11 +103,12 @@ IsAtOnce (Show Pile) = ⊥
 IsAtOnce _ = Unit {0}
 
 -- whether the command has one defined end, with the status 0, and returns nothing but what it prints: each but
--- `mirror`, `audit` and `drill`
+-- `mirror`, `audit`, `drill` and `foreign`
 abbrev pub IsTextual : Command → Type 0
 IsTextual (Mirror base fetch report capacity) = ⊥
 IsTextual Audit = ⊥
 IsTextual (Drill seed count) = ⊥
+IsTextual (Foreign from) = ⊥
 IsTextual _ = Unit {0}
 
 -- the words are those of a command that prints at once, or of none
@@ -222,6 +228,7 @@ IsAnswer (Mirror base true report capacity) outside given =
     IsWalkAnswer report capacity base outside.content outside.answers given
 IsAnswer Audit outside given = IsAudited outside.input given
 IsAnswer (Drill seed count) outside given = given ≡ drill_answer seed count
+IsAnswer (Foreign from) outside given = IsForeignAnswer outside.answers from given
 IsAnswer (Serve listen requests) outside given = ⊥
 IsAnswer command outside given = IsOfStore command outside given ⊎ IsBadStore outside.content given
 
@@ -237,6 +244,7 @@ IsDueAnswer (Mirror base true report capacity) outside given =
     IsWalkEnd report capacity base outside.content outside.answers given
 IsDueAnswer Audit outside given = IsAudited outside.input given
 IsDueAnswer (Drill seed count) outside given = given ≡ drill_answer seed count
+IsDueAnswer (Foreign from) outside given = IsForeignAnswer outside.answers from given
 IsDueAnswer (Serve listen requests) outside given = ⊥
 IsDueAnswer command outside given = IsOfStore command outside given
 

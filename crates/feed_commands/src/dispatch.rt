@@ -6,30 +6,23 @@ ghost use Rattle.feed_disk.specs.Raised.{RisesAtMost};
 ghost use Rattle.feed_disk.specs.declared.area.Area.TheVariants.{Mirror};
 ghost use Rattle.command_ends.specs.declared.status.Status.TheVariants as status;
 ghost use Rattle.command_ends.specs.Answer.{Answer, Prints};
-ghost use Rattle.mirror_commands.specs.Audit.{EndsAuditing};
 ghost use Rattle.doc_source.specs.Fetch.{FetchState};
 ghost use Rattle.feed_recovery.specs.Settled.{KeepsPayloads};
-ghost use Rattle.feed_commands.specs.Crash.{AddsNoOperation, AddsNothing, EndsAfterLoad, EndsApplying, IsStatusAfterLoad};
+ghost use Rattle.feed_commands.specs.Crash.{AddsNoOperation, AddsNothing, EndsAfterLoad, EndsApplying};
 ghost use Rattle.feed_commands.specs.Crash.{MakesStoreAt};
-ghost use Rattle.feed_commands.specs.Drill.{EndsDrilling};
 ghost use Rattle.command_ends.specs.Fault.{fault_answer, HasAnswer, IsRefusal};
 ghost use Rattle.feed_commands.specs.Run.{HasRange, IsDueAnswer, IsGiven, IsSeen, IsUnrefusedBy};
 ghost use Rattle.command_ends.specs.Ends.{IsStatus, IsAnswered};
-ghost use Rattle.mirror_commands.specs.Mirroring.{EndsFetching, EndsMirroring};
 ghost use Rattle.feed_commands.specs.Outside.{outside_of};
-ghost use Rattle.feed_commands.specs.Pile.{EndsCut};
 ghost use Rattle.feed_commands.specs.Run.{CountsFaults, EndsWith, IsAtOnce, IsBare, IsComplete, IsSeenUnfetched};
 ghost use Rattle.feed_commands.specs.Run.{IsTextual, IsUsageOf, LeavesUnused, MirrorsNot, PrintsAtOnce, ReadsInput};
 ghost use Rattle.feed_commands.specs.Run.{UsesClock, UsesDisk, read_limit};
 ghost use Rattle.command_ends.specs.Ends.{IsAlone, alone_line};
-ghost use Rattle.feed_commands.specs.Serve.{EndsServing};
+ghost use Rattle.feed_commands.specs.Ran.{EndsOf};
 ghost use Rattle.command_ends.specs.Status.{code_of};
 ghost use Rattle.tool_words.specs.Words.{IsCommandOf};
 ghost use Rattle.tool_words.specs.declared.command.Command.{Command as CommandValue};
-ghost use Rattle.tool_words.specs.declared.command.Command.TheVariants.{Init, Apply, Audit, Drill, Serve};
-ghost use Rattle.tool_words.specs.declared.command.Command.TheVariants.{Show as ShowOf};
-ghost use Rattle.tool_words.specs.declared.command.Command.TheVariants.{Mirror as MirrorOf};
-ghost use Rattle.tool_words.specs.declared.command.Show.TheVariants.{Pile};
+ghost use Rattle.tool_words.specs.declared.command.Command.TheVariants.{Init, Apply};
 
 use crate::commands::apply::apply;
 use crate::commands::drill::drill;
@@ -44,6 +37,7 @@ use doc_source::{Fetch, Sink, Source, write_all};
 use document_server::{Clock, Door, Line, MAX_CONNECTIONS};
 use feed_disk::Disk;
 use feed_life::Life;
+use foreign_command::foreign;
 use mirror_commands::{audit, mirror, mirror_fetched};
 use std::alloc::Global;
 use tool_words::{Command, Show, WordsFault, read_words};
@@ -91,6 +85,8 @@ impl Ended {
 ///   certificate.
 /// - `drill` runs a store and a mirror with generated requests, crashes and gifts on disks in memory, and prints a
 ///   summary of their life.
+/// - `foreign` walks the archived feed of any server and prints its live entries, or the line of the address at which its
+///   chain breaks off.
 ///
 /// At any other end the line of that end is printed. A failure to print that line changes no status.
 pub fn run<D: Disk, C: Clock, L: Door, F: Fetch, I: Source, O: Sink>(
@@ -118,11 +114,6 @@ pub fn run<D: Disk, C: Clock, L: Door, F: Fetch, I: Source, O: Sink>(
     ensures alone { O.observable → PrintsAtOnce (map string_bytes words.now) → IsAlone result.status
         → Prints (O.state output.old) (O.state output.new) (alone_line result.status) }
 
-    // `show pile` prints its documents as they are made. The line of a fault comes after those that were printed.
-    ensures cut { IsCommandOf (map string_bytes words.now) (ShowOf Pile) → O.observable
-        → result.status ≢ code_of status.Done → result.status ≢ code_of status.OutputFault
-        → EndsCut (D.state disk.old).content D.observable (O.state output.old) (O.state output.new) result.status }
-
     // A fault comes only if the object's count of faults rose, and nothing that was read before it is refused. The input
     // is read up to the command's limit, and one byte past it.
     ensures faults { CountsFaults (map string_bytes words.now) (D.state disk.old) (D.state disk.new)
@@ -143,57 +134,40 @@ pub fn run<D: Disk, C: Clock, L: Door, F: Fetch, I: Source, O: Sink>(
         (I.state input.old) (I.state input.new) (O.state output.old) (O.state output.new)
         result.status given.status }
 
-    // A crash within the command, or after it: the commands that add nothing to a store, and words that name
-    // none, leave the payloads that a crash could leave before. `init` leaves an unused disk as it is or with
-    // the new store, and of a store what a crash could leave before. `apply` leaves the history before, with
-    // some of the lines' operations, and with all of them at its end. Its lines are those that were read.
-    // `mirror` alone reaches the mirror's area.
+    // A crash within the command, or after it: the commands that add nothing to a store, and words that name none, leave
+    // the payloads that a crash could leave before. `mirror` alone reaches the mirror's area.
     ensures safe { AddsNoOperation (map string_bytes words.now) → D.observable
         → KeepsPayloads (D.state disk.old) (D.state disk.new) }
-    ensures made { (name : FeedName) (window capacity : ℕ)
-        → IsCommandOf (map string_bytes words.now) (Init name window capacity) → D.observable
-        → MakesStoreAt (D.state disk.old) (D.state disk.new) name window capacity C.observable
-        (C.coming clock.old 0)
-        ((result.status ≡ code_of status.Done) ⊎ (result.status ≡ code_of status.OutputFault)) }
-    ensures applied { IsCommandOf (map string_bytes words.now) (Apply None) → D.observable
-        → EndsApplying (D.state disk.old) (D.state disk.new) (C.coming clock.old)
-        (I.state input.old) (I.state input.new) C.observable I.observable
-        (result.status ≡ code_of status.DiskFault) (result.status ≡ code_of status.InputFault)
-        (IsStatusAfterLoad result.status) (IsAnswered result.status) }
     ensures mirror { MirrorsNot (map string_bytes words.now)
         → LeavesAlone (D.state disk.old) (D.state disk.new) Mirror }
 
-    // `serve`: the session over the connections that the door gave, its lines, and what a crash leaves.
-    ensures serves { (listen : List ℕ) (requests : ℕ)
-        → IsCommandOf (map string_bytes words.now) (Serve listen requests)
-        → EndsServing requests (D.state disk.old) (D.state disk.new) (C.coming clock.old)
-        (L.state door.old) (L.state door.new) D.observable C.observable L.observable O.observable
-        (O.state output.old) (O.state output.new) result.lines.items result.status }
-    ensures address { (listen : List ℕ) (requests : ℕ)
-        → IsCommandOf (map string_bytes words.now) (Serve listen requests)
-        → L.only_at door.old listen → L.only_at door.new listen }
-
-    // `mirror`: the offers that were given to it, what a crash leaves of its area, and the report or the
-    // certificate of documents that one feed served.
-    ensures mirrors { (base : List ℕ) (report : Bool) (capacity : ℕ)
-        → IsCommandOf (map string_bytes words.now) (MirrorOf base false report capacity) → D.observable → I.observable
-        → EndsMirroring report capacity base (D.state disk.old) (D.state disk.new)
-        (I.state input.old) (I.state input.new) O.observable
-        (O.state output.old) (O.state output.new) result.status }
-
-    // `mirror --fetch`: the addresses that it asks, how its walk ended, and the same.
-    ensures fetches { (base : List ℕ) (report : Bool) (capacity : ℕ)
-        → IsCommandOf (map string_bytes words.now) (MirrorOf base true report capacity) → D.observable → F.observable
-        → EndsFetching report capacity base (D.state disk.old) (D.state disk.new) (F.state fetch.old)
-        (F.state fetch.new) O.observable (O.state output.old) (O.state output.new) result.status }
-
-    // `audit`: what the status says of the certificate and the documents.
-    ensures audits { IsCommandOf (map string_bytes words.now) Audit → I.observable
-        → EndsAuditing (I.state input.old).left result.status }
-
-    // `drill`: the life whose summary is printed.
-    ensures drills { (seed count : ℕ) → IsCommandOf (map string_bytes words.now) (Drill seed count)
-        → EndsDrilling seed count result.life result.status }
+    // What is said of the command beside its answer. `init` and `apply`: what a crash leaves. `show pile`: the documents
+    // that were printed before a fault. `serve`: the session. `mirror`: what a crash leaves of its area, and its output
+    // over documents that one feed served. `audit`: the meaning of its status. `drill`: its life. `foreign`: the
+    // addresses asked, and its output over one of this project's own feeds.
+    ensures ends { (command : CommandValue) → IsCommandOf (map string_bytes words.now) command → EndsOf command record {
+        disk = D.state disk.old;
+        left = D.state disk.new;
+        moments = C.coming clock.old;
+        door = L.state door.old;
+        shut = L.state door.new;
+        stays_at = λ listen. L.only_at door.old listen → L.only_at door.new listen;
+        fetch = F.state fetch.old;
+        fetched = F.state fetch.new;
+        input = I.state input.old;
+        rest = I.state input.new;
+        output = O.state output.old;
+        taken = O.state output.new;
+        sees_disk = D.observable;
+        sees_clock = C.observable;
+        sees_door = L.observable;
+        sees_fetch = F.observable;
+        sees_input = I.observable;
+        sees_output = O.observable;
+        lines = result.lines.items;
+        life = result.life;
+        ended = result.status;
+    } }
 
     // A command leaves each object that it has no use for as it is. So do words that name no command. Only `serve`
     // returns lines, and only `drill` a life.
@@ -237,6 +211,9 @@ pub fn run<D: Disk, C: Clock, L: Door, F: Fetch, I: Source, O: Sink>(
         }
         Command::Audit => Ended::with_status(alloc, audit(alloc, input, output)),
         Command::Drill { seed, count } => drill(alloc, seed, count, output),
+        Command::Foreign { from } => {
+            Ended::with_status(alloc, foreign(alloc, from.slice(), fetch, output))
+        }
         command => match answer(alloc, command, disk, clock, input) {
             Ok(text) => match write_all(output, text.as_slice()) {
                 Ok(()) => Ended::with_status(alloc, Status::Done),
@@ -248,10 +225,10 @@ pub fn run<D: Disk, C: Clock, L: Door, F: Fetch, I: Source, O: Sink>(
 }
 
 /// The line for words that name no command. Its names are those of the finished program.
-const USAGE: &[u8] = b"usage: feed_tool init, apply, show, serve, mirror, audit, drill\n";
+const USAGE: &[u8] = b"usage: feed_tool init, apply, show, serve, mirror, audit, drill, foreign\n";
 
-/// Returns what the command prints at its defined end. `serve`, `show pile`, `mirror`, `audit` and `drill` print by
-/// themselves.
+/// Returns what the command prints at its defined end. `serve`, `show pile`, `mirror`, `audit`, `drill` and
+/// `foreign` print by themselves.
 fn answer<D: Disk, C: Clock, I: Source>(
     alloc: Global,
     command: Command,
@@ -262,6 +239,7 @@ fn answer<D: Disk, C: Clock, I: Source>(
     requires range { HasRange command }
     requires prints { IsAtOnce command }
     requires text { IsTextual command }
+    ensures kind { IsAtOnce command × IsTextual command }
     ensures answer { (source : FetchState)
         → IfOk result (λ written. IsSeenUnfetched command D.observable C.observable I.observable
         → IsGiven command (outside_of (C.coming clock.old) (I.state input.old) (D.state disk.old) source)
@@ -311,7 +289,10 @@ fn answer<D: Disk, C: Clock, I: Source>(
             Show::Pile => unreachable!(),
         },
         // `run` calls the functions of these commands itself.
-        Command::Serve { .. } | Command::Mirror { .. } | Command::Audit | Command::Drill { .. } =>
-            unreachable!(),
+        Command::Serve { .. }
+        | Command::Mirror { .. }
+        | Command::Audit
+        | Command::Drill { .. }
+        | Command::Foreign { .. } => unreachable!(),
     }
 }

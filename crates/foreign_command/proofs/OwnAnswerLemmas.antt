@@ -16,6 +16,7 @@ use Rattle.foreign_mirror.specs.declared.walk.ChainEnd.{ChainEnd}
 use Rattle.foreign_mirror.specs.Walk.{WalksFrom}
 use Rattle.foreign_mirror.specs.Walk.Ending.{over}
 use Rattle.member_rules.specs.Chain.{chain, chain_of, down_from}
+use Rattle.member_rules.specs.Documents.{archive_of}
 use Rattle.member_rules.specs.Head.{HeadValue}
 use Rattle.member_rules.specs.Windows.{windows_of}
 use Rattle.member_rules.specs.declared.operation.Op.{Op}
@@ -35,7 +36,8 @@ length_down f (suc n) = let e = length_down f n in omega (arith, e)
 chain_length : (head : HeadValue) (history : List Op) → length (chain head history) ≡ (windows_of head history).sealed + 1
 unfolding chain chain_of
 chain_length head history =
-    let e = length_down _ (windows_of head history).sealed in omega (arith, e)
+    let windows = windows_of head history in
+    let e = length_down (archive_of windows.ends head history) windows.sealed in omega (arith, e)
 
 -- a defined end isn't a failure of the source
 not_fetch : (ended status : ℕ) → IsDone status → (ended ≡ status) ⊎ (ended ≡ 8) → ended ≡ code_of FetchFault → ⊥
@@ -66,7 +68,7 @@ own_answer law answers from given head history x serves same =
     subst (λ (f : List ℕ). WalksFrom answers f x.asked x.documents (over x.end)) same x.walks in
     let reads = law head history answers x.asked x.documents x.end serves walks in
     let count : length x.documents ≡ (windows_of head history).sealed + 1 =
-    ap length reads.documents_are ∙ length-map foreign_document (chain head history) ∙ chain_length head history in
+    ap length reads.documents_are ∙ length-map (chain head history) foreign_document ∙ chain_length head history in
     record {
       live = x.live;
       are_live = reads.live x.live x.is_live;

@@ -1,33 +1,31 @@
 use Rattle.std.proofs.Common.{rules, ◌≡◌, ◌⊎◌, inl, inr, ⊎_elim, ℕ, None, Err, true, false, refl, sym, subst, ap, ◌∙◌, arith}
 use Rattle.std.proofs.lemmas.Result.{on_ok_weaker}
-use Rattle.tool_words.specs.declared.command.Command.TheVariants.{Init, Apply, Audit, Drill, Mirror, Serve, Show}
+use Rattle.tool_words.specs.declared.command.Command.TheVariants.{Audit, Drill, Foreign, Mirror, Serve, Show}
 use Rattle.tool_words.specs.declared.command.Show.TheVariants.{Pile}
 use Rattle.mirror_commands.specs.declared.report_fault.ReportFault.TheVariants.{Other}
 use Rattle.command_ends.specs.declared.fault.Fault.TheVariants.{Disk, Input, NoMemory}
 use Rattle.command_ends.specs.Answer.{Answer}
 use Rattle.feed_commands.specs.Crash.{IsStatusAfterLoad}
-use Rattle.feed_commands.specs.Drill.{EndsDrilling}
 use Rattle.command_ends.specs.Fault.{fault_answer}
-use Rattle.mirror_commands.specs.Mirroring.{EndsFetching, EndsMirroring}
 use Rattle.feed_commands.specs.Outside.{outside_of}
 use Rattle.command_ends.specs.Ends.{IsAnswered}
 use Rattle.command_ends.specs.Status.{code_of}
 use Rattle.command_ends.proofs.AnsweredLemmas.{done-sent}
 use Rattle.feed_commands.proofs.CountLemmas.{counts-none, counts-of_ok, disk-of_fault, disk_end, input-of_fault, no_usage}
 use Rattle.feed_commands.proofs.CountLemmas.{output-later, output-of_fault, shared-counts, shared-other}
-use Rattle.feed_commands.proofs.DiskLemmas.{applies-none, applies-weaker, keeps-none, makes-none, makes-weaker}
+use Rattle.feed_commands.proofs.DiskLemmas.{applies-weaker, keeps-none, makes-weaker}
+use Rattle.feed_commands.proofs.EndsLemmas.{text-ends, unread-ends}
 use Rattle.command_ends.proofs.EndLemmas.{answered-refusal, input_end, no_door, no_end, no_output}
 use Rattle.feed_commands.proofs.LoadedFaultLemmas.{loaded_fault}
-use Rattle.command_ends.proofs.EndLemmas.{no_three}
-use Rattle.feed_commands.proofs.LoadedFaultLemmas.{unloaded_five}
 use Rattle.mirror_commands.proofs.MirrorEndLemmas.{fault-complete}
-use Rattle.feed_commands.proofs.PileEndLemmas.{cut-at-once, pile-is_status}
+use Rattle.feed_commands.proofs.PileEndLemmas.{pile-is_status}
 use Rattle.command_ends.proofs.PrintLemmas.{alone-fault, prints-from}
-use Rattle.feed_commands.proofs.RunLemmas.{ends-done, ends-refused, ends-unsent, no_command, read_all, read_as, read_is, same_serve}
-use Rattle.feed_commands.proofs.RunLemmas.{audit-status, fetched-status, mirror-status, read_words-of, same_mirror}
-use Rattle.feed_commands.proofs.RunLemmas.{audit-other, bare-none, drill-other, faults-none, fetched-other, mirror-other}
+use Rattle.feed_commands.proofs.RunLemmas.{ends-done, ends-refused, ends-unsent, no_command, read_all, read_as}
+use Rattle.feed_commands.proofs.RunLemmas.{audit-status, fetched-status, foreign-status, mirror-status, read_words-of}
+use Rattle.feed_commands.proofs.RunLemmas.{audit-other, bare-none, drill-other, faults-none, fetched-other, foreign-other}
+use Rattle.feed_commands.proofs.RunLemmas.{mirror-other, start-of}
 use Rattle.feed_commands.proofs.RunLemmas.{pile-other, serve-other, unused-all, unused-by, words-of, words-refused, words-unread}
-use Rattle.feed_commands.proofs.RunLemmas.{drill-status, same_drill, mirror-is, seen-unfetched, serve-status, show-pile, usage}
+use Rattle.feed_commands.proofs.RunLemmas.{drill-status, mirror-is, seen-unfetched, serve-status, show-pile, usage}
 use Rattle.feed_commands.proofs.dispatch.run.Goals as goal
 
 -- words that name no command
@@ -36,11 +34,6 @@ pub returns-in-Err-Usage-clause-words : goal.returns-in-Err-Usage-clause-words
 returns-in-Err-Usage-clause-words g c = words-refused
     (no_command (usage c.in-Err-Usage.is c.in-Err-Usage.field-0-is) c.read_words.ensures.only)
     c.with_status.ensures.status
-
-pub returns-in-Err-Usage-clause-cut : goal.returns-in-Err-Usage-clause-cut
-returns-in-Err-Usage-clause-cut g c = λ of_words.
-    absurd (no_command (usage c.in-Err-Usage.is c.in-Err-Usage.field-0-is)
-    c.read_words.ensures.only (Show Pile) of_words)
 
 pub returns-in-Err-Usage-clause-faults : goal.returns-in-Err-Usage-clause-faults
 returns-in-Err-Usage-clause-faults g c =
@@ -52,28 +45,16 @@ returns-in-Err-Usage-clause-faults g c =
 pub returns-in-Err-Usage-clause-safe : goal.returns-in-Err-Usage-clause-safe
 returns-in-Err-Usage-clause-safe g c = λ others observable. keeps-none (g.D.Disk.state c.args.disk.now)
 
-pub returns-in-Err-Usage-clause-made : goal.returns-in-Err-Usage-clause-made
-returns-in-Err-Usage-clause-made g c = λ name window capacity of_words observable.
-    makes-none (g.D.Disk.state c.args.disk.now) name window capacity g.C.Clock.observable
-    (g.C.Clock.coming c.args.clock.now 0) _ (g.met.D.Disk.is_disk c.args.disk.now)
-    (⊎_elim (λ e. omega (arith, e, c.with_status.ensures.status))
-    (λ e. omega (arith, e, c.with_status.ensures.status)))
-
-pub returns-in-Err-Usage-clause-applied : goal.returns-in-Err-Usage-clause-applied
-returns-in-Err-Usage-clause-applied g c = λ of_words.
-    absurd (no_command (usage c.in-Err-Usage.is c.in-Err-Usage.field-0-is)
-    c.read_words.ensures.only (Apply None) of_words)
-
-pub returns-in-Err-Usage-clause-serves : goal.returns-in-Err-Usage-clause-serves
-returns-in-Err-Usage-clause-serves g c = λ listen requests of_words.
-    absurd (no_command (usage c.in-Err-Usage.is c.in-Err-Usage.field-0-is)
-    c.read_words.ensures.only (Serve listen requests) of_words)
-
 pub returns-in-Err-Usage-clause-unused : goal.returns-in-Err-Usage-clause-unused
 returns-in-Err-Usage-clause-unused g c = unused-all refl refl refl refl refl
 
 pub returns-in-Err-Usage-clause-bare : goal.returns-in-Err-Usage-clause-bare
 returns-in-Err-Usage-clause-bare g c = bare-none c.with_status.ensures.alone
+
+pub returns-in-Err-Usage-clause-ends : goal.returns-in-Err-Usage-clause-ends
+returns-in-Err-Usage-clause-ends g c = λ command of_words.
+    absurd (no_command (usage c.in-Err-Usage.is c.in-Err-Usage.field-0-is)
+    c.read_words.ensures.only command of_words)
 
 -- no memory for the command
 
@@ -86,12 +67,6 @@ returns-in-Err-NoMemory-clause-alone g c = λ sink once alone.
     rw (c.with_status-in-Err-NoMemory.ensures.status ∙ ap code_of c.print_fault.ensures.status)
     (rw (alone-fault NoMemory (inr (inr (inl refl)))) (c.print_fault.ensures.prints sink))
 
-pub returns-in-Err-NoMemory-clause-cut : goal.returns-in-Err-NoMemory-clause-cut
-returns-in-Err-NoMemory-clause-cut g c = λ of_words sink done output.
-    cut-at-once _ _ _ _ NoMemory _ (c.with_status-in-Err-NoMemory.ensures.status ∙ ap code_of
-    c.print_fault.ensures.status)
-    (c.print_fault.ensures.prints sink)
-
 pub returns-in-Err-NoMemory-clause-faults : goal.returns-in-Err-NoMemory-clause-faults
 returns-in-Err-NoMemory-clause-faults g c =
     let is : c.with_status-in-Err-NoMemory.result.status ≡ 5 =
@@ -102,29 +77,22 @@ returns-in-Err-NoMemory-clause-faults g c =
 pub returns-in-Err-NoMemory-clause-safe : goal.returns-in-Err-NoMemory-clause-safe
 returns-in-Err-NoMemory-clause-safe g c = λ others observable. keeps-none (g.D.Disk.state c.args.disk.now)
 
-pub returns-in-Err-NoMemory-clause-made : goal.returns-in-Err-NoMemory-clause-made
-returns-in-Err-NoMemory-clause-made g c = λ name window capacity of_words observable.
-    let is : c.with_status-in-Err-NoMemory.result.status ≡ 5 =
-    (c.with_status-in-Err-NoMemory.ensures.status ∙ ap code_of c.print_fault.ensures.status) in
-    makes-none (g.D.Disk.state c.args.disk.now) name window capacity g.C.Clock.observable
-    (g.C.Clock.coming c.args.clock.now 0) _ (g.met.D.Disk.is_disk c.args.disk.now)
-    (⊎_elim (λ e. omega (arith, e, is)) (λ e. omega (arith, e, is)))
-
-pub returns-in-Err-NoMemory-clause-applied : goal.returns-in-Err-NoMemory-clause-applied
-returns-in-Err-NoMemory-clause-applied g c = λ of_words observable.
-    let is : c.with_status-in-Err-NoMemory.result.status ≡ 5 =
-    (c.with_status-in-Err-NoMemory.ensures.status ∙ ap code_of c.print_fault.ensures.status) in
-    record {
-      safe = applies-none (g.D.Disk.state c.args.disk.now) _ _ _ _ _ _ _ (g.met.D.Disk.is_disk c.args.disk.now)
-          (λ ends. unloaded_five (subst IsStatusAfterLoad is ends));
-      opens = λ clock source answered. absurd (answered-refusal NoMemory (subst IsAnswered is answered));
-    }
-
 pub returns-in-Err-NoMemory-clause-unused : goal.returns-in-Err-NoMemory-clause-unused
 returns-in-Err-NoMemory-clause-unused g c = unused-all refl refl refl refl refl
 
 pub returns-in-Err-NoMemory-clause-bare : goal.returns-in-Err-NoMemory-clause-bare
 returns-in-Err-NoMemory-clause-bare g c = bare-none c.with_status-in-Err-NoMemory.ensures.alone
+
+pub returns-in-Err-NoMemory-clause-ends : goal.returns-in-Err-NoMemory-clause-ends
+returns-in-Err-NoMemory-clause-ends g c = λ command of_words.
+    unread-ends (g.D.Disk.state c.args.disk.now) (g.C.Clock.coming c.args.clock.now) (g.L.Door.state c.args.door.now)
+    _ (g.F.Fetch.state c.args.fetch.now) (g.I.Source.state c.args.input.now) (g.O.Sink.state c.args.output.now)
+    (g.O.Sink.state c.print_fault.new.output) g.D.Disk.observable g.C.Clock.observable g.L.Door.observable
+    g.F.Fetch.observable g.I.Source.observable g.O.Sink.observable
+    c.with_status-in-Err-NoMemory.result.lines.items c.with_status-in-Err-NoMemory.result.life
+    c.with_status-in-Err-NoMemory.result.status (g.met.D.Disk.is_disk c.args.disk.now) (λ listen stays. stays)
+    c.print_fault.ensures.prints c.with_status-in-Err-NoMemory.ensures.alone
+    (c.with_status-in-Err-NoMemory.ensures.status ∙ ap code_of c.print_fault.ensures.status) command
 
 -- `serve`
 
@@ -156,16 +124,6 @@ returns-in-Serve-clause-safe g c = λ others.
     absurd (others (Serve c.in-Serve.listen c.in-Serve.requests)
     (read_as _ c.in-Ok.is c.in-Serve.is c.read_words.ensures.found))
 
-pub returns-in-Serve-clause-serves : goal.returns-in-Serve-clause-serves
-returns-in-Serve-clause-serves g c =
-    same_serve _ c.in-Ok.is c.in-Serve.is c.read_words.ensures.only
-    c.serve.ensures.serves
-
-pub returns-in-Serve-clause-address : goal.returns-in-Serve-clause-address
-returns-in-Serve-clause-address g c =
-    same_serve _ c.in-Ok.is c.in-Serve.is c.read_words.ensures.only
-    (rw c.slice.ensures at c.serve.ensures.address)
-
 pub returns-in-Serve-clause-unused : goal.returns-in-Serve-clause-unused
 returns-in-Serve-clause-unused g c =
     let of_words = read_as _ c.in-Ok.is c.in-Serve.is c.read_words.ensures.found in
@@ -177,6 +135,10 @@ returns-in-Serve-clause-bare g c = record {
   no_lines = λ others. absurd (others _ _ (read_as _ c.in-Ok.is c.in-Serve.is c.read_words.ensures.found));
   no_life = λ _. c.serve.ensures.life;
 }
+
+pub returns-in-Serve-clause-ends : goal.returns-in-Serve-clause-ends
+returns-in-Serve-clause-ends g c = read_all _ c.in-Ok.is c.read_words.ensures.only
+    (rw c.in-Serve.is (c.serve.ensures.serves, rw c.slice.ensures at c.serve.ensures.address))
 
 -- `show pile`
 
@@ -197,9 +159,6 @@ returns-in-Show-Pile-clause-answered g c =
     (rw is (λ seen. rw c.with_status-in-Show-Pile.ensures.status (λ answered.
     c.show_pile.ensures.answered (seen.disk tt) answered (g.C.Clock.coming c.args.clock.now)
     (g.I.Source.state c.args.input.now) (g.F.Fetch.state c.args.fetch.now))))
-
-pub returns-in-Show-Pile-clause-cut : goal.returns-in-Show-Pile-clause-cut
-returns-in-Show-Pile-clause-cut g c = λ of_words. rw c.with_status-in-Show-Pile.ensures.status c.show_pile.ensures.cut
 
 pub returns-in-Show-Pile-clause-faults : goal.returns-in-Show-Pile-clause-faults
 returns-in-Show-Pile-clause-faults g c =
@@ -231,6 +190,12 @@ returns-in-Show-Pile-clause-unused g c =
 
 pub returns-in-Show-Pile-clause-bare : goal.returns-in-Show-Pile-clause-bare
 returns-in-Show-Pile-clause-bare g c = bare-none c.with_status-in-Show-Pile.ensures.alone
+
+pub returns-in-Show-Pile-clause-ends : goal.returns-in-Show-Pile-clause-ends
+returns-in-Show-Pile-clause-ends g c =
+    let is = show-pile c.in-Show-Pile.is (rw c.in-Show-Pile.is at c.in-Show-Pile.field-0-is) in
+    read_all _ c.in-Ok.is c.read_words.ensures.only
+    (rw is (rw c.with_status-in-Show-Pile.ensures.status c.show_pile.ensures.cut))
 
 -- `mirror --fetch`
 
@@ -298,30 +263,6 @@ returns-in-Mirror-default-true-default-default-clause-mirror g c = λ others.
     let is = mirror-is arm.is arm.fetch-test in
     absurd (others _ true _ _ (read_as _ c.in-Ok.is is c.read_words.ensures.found))
 
-pub returns-in-Mirror-default-true-default-default-clause-mirrors :
-    goal.returns-in-Mirror-default-true-default-default-clause-mirrors
-returns-in-Mirror-default-true-default-default-clause-mirrors g c = λ base report capacity of_words.
-    let arm = c.in-Mirror-default-true-default-default in
-    let is = mirror-is arm.is arm.fetch-test in
-    let other : false ≡ true =
-    same_mirror (λ b fetch report c. fetch ≡ true) c.in-Ok.is
-    is c.read_words.ensures.only refl base false report capacity of_words in
-    absurd (cc)
-
-pub returns-in-Mirror-default-true-default-default-clause-fetches :
-    goal.returns-in-Mirror-default-true-default-default-clause-fetches
-returns-in-Mirror-default-true-default-default-clause-fetches g c = λ base report capacity of_words.
-    let arm = c.in-Mirror-default-true-default-default in
-    let is = mirror-is arm.is arm.fetch-test in
-    same_mirror (λ b fetch report most. g.D.Disk.observable → g.F.Fetch.observable
-    → EndsFetching report most b (g.D.Disk.state c.args.disk.now) (g.D.Disk.state c.mirror_fetched-status.new.disk)
-    (g.F.Fetch.state c.args.fetch.now) (g.F.Fetch.state c.mirror_fetched-status.new.fetch) g.O.Sink.observable
-    (g.O.Sink.state c.args.output.now) (g.O.Sink.state c.mirror_fetched-status.new.output)
-    c.with_status-in-Mirror-default-true-default-default.result.status)
-    c.in-Ok.is is
-    c.read_words.ensures.only (rw c.with_status-in-Mirror-default-true-default-default.ensures.status
-    c.mirror_fetched-status.ensures.fetches) base true report capacity of_words
-
 pub returns-in-Mirror-default-true-default-default-clause-unused :
     goal.returns-in-Mirror-default-true-default-default-clause-unused
 returns-in-Mirror-default-true-default-default-clause-unused g c =
@@ -334,6 +275,15 @@ pub returns-in-Mirror-default-true-default-default-clause-bare :
     goal.returns-in-Mirror-default-true-default-default-clause-bare
 returns-in-Mirror-default-true-default-default-clause-bare g c = bare-none
     c.with_status-in-Mirror-default-true-default-default.ensures.alone
+
+pub returns-in-Mirror-default-true-default-default-clause-ends :
+    goal.returns-in-Mirror-default-true-default-default-clause-ends
+returns-in-Mirror-default-true-default-default-clause-ends g c =
+    let arm = c.in-Mirror-default-true-default-default in
+    let is = mirror-is arm.is arm.fetch-test in
+    read_all _ c.in-Ok.is c.read_words.ensures.only
+    (rw is (rw c.with_status-in-Mirror-default-true-default-default.ensures.status
+    c.mirror_fetched-status.ensures.fetches))
 
 -- `mirror` from a pile
 
@@ -409,30 +359,6 @@ returns-in-Mirror-default-false-default-default-clause-mirror g c = λ others.
     let is = mirror-is arm.is arm.fetch-test in
     absurd (others _ false _ _ (read_as _ c.in-Ok.is is c.read_words.ensures.found))
 
-pub returns-in-Mirror-default-false-default-default-clause-mirrors :
-    goal.returns-in-Mirror-default-false-default-default-clause-mirrors
-returns-in-Mirror-default-false-default-default-clause-mirrors g c = λ base report capacity of_words.
-    let arm = c.in-Mirror-default-false-default-default in
-    let is = mirror-is arm.is arm.fetch-test in
-    same_mirror (λ b fetch report most. g.D.Disk.observable → g.I.Source.observable
-    → EndsMirroring report most b (g.D.Disk.state c.args.disk.now) (g.D.Disk.state c.mirror-status.new.disk)
-    (g.I.Source.state c.args.input.now) (g.I.Source.state c.mirror-status.new.input) g.O.Sink.observable
-    (g.O.Sink.state c.args.output.now) (g.O.Sink.state c.mirror-status.new.output)
-    c.with_status-in-Mirror-default-false-default-default.result.status)
-    c.in-Ok.is is
-    c.read_words.ensures.only (rw c.with_status-in-Mirror-default-false-default-default.ensures.status
-    c.mirror-status.ensures.mirrors) base false report capacity of_words
-
-pub returns-in-Mirror-default-false-default-default-clause-fetches :
-    goal.returns-in-Mirror-default-false-default-default-clause-fetches
-returns-in-Mirror-default-false-default-default-clause-fetches g c = λ base report capacity of_words.
-    let arm = c.in-Mirror-default-false-default-default in
-    let is = mirror-is arm.is arm.fetch-test in
-    let other : true ≡ false =
-    same_mirror (λ b fetch report c. fetch ≡ false) c.in-Ok.is
-    is c.read_words.ensures.only refl base true report capacity of_words in
-    absurd (cc)
-
 pub returns-in-Mirror-default-false-default-default-clause-unused :
     goal.returns-in-Mirror-default-false-default-default-clause-unused
 returns-in-Mirror-default-false-default-default-clause-unused g c =
@@ -445,6 +371,15 @@ pub returns-in-Mirror-default-false-default-default-clause-bare :
     goal.returns-in-Mirror-default-false-default-default-clause-bare
 returns-in-Mirror-default-false-default-default-clause-bare g c = bare-none
     c.with_status-in-Mirror-default-false-default-default.ensures.alone
+
+pub returns-in-Mirror-default-false-default-default-clause-ends :
+    goal.returns-in-Mirror-default-false-default-default-clause-ends
+returns-in-Mirror-default-false-default-default-clause-ends g c =
+    let arm = c.in-Mirror-default-false-default-default in
+    let is = mirror-is arm.is arm.fetch-test in
+    read_all _ c.in-Ok.is c.read_words.ensures.only
+    (rw is (rw c.with_status-in-Mirror-default-false-default-default.ensures.status
+    c.mirror-status.ensures.mirrors))
 
 -- `audit`
 
@@ -495,8 +430,9 @@ returns-in-Audit-clause-unused g c = unused-by Audit (read_as _ c.in-Ok.is c.in-
 pub returns-in-Audit-clause-bare : goal.returns-in-Audit-clause-bare
 returns-in-Audit-clause-bare g c = bare-none c.with_status-in-Audit.ensures.alone
 
-pub returns-in-Audit-clause-audits : goal.returns-in-Audit-clause-audits
-returns-in-Audit-clause-audits g c = λ of_words. rw c.with_status-in-Audit.ensures.status c.audit.ensures.audits
+pub returns-in-Audit-clause-ends : goal.returns-in-Audit-clause-ends
+returns-in-Audit-clause-ends g c = read_all _ c.in-Ok.is c.read_words.ensures.only
+    (rw c.in-Audit.is (rw c.with_status-in-Audit.ensures.status c.audit.ensures.audits))
 
 -- `drill`
 
@@ -537,10 +473,66 @@ returns-in-Drill-clause-bare g c = record {
   no_life = λ others. absurd (others _ _ (read_as _ c.in-Ok.is c.in-Drill.is c.read_words.ensures.found));
 }
 
-pub returns-in-Drill-clause-drills : goal.returns-in-Drill-clause-drills
-returns-in-Drill-clause-drills g c =
-    same_drill (λ s n. EndsDrilling s n c.drill.result.life c.drill.result.status) c.in-Ok.is c.in-Drill.is
-    c.read_words.ensures.only c.drill.ensures.drills
+pub returns-in-Drill-clause-ends : goal.returns-in-Drill-clause-ends
+returns-in-Drill-clause-ends g c =
+    read_all _ c.in-Ok.is c.read_words.ensures.only (rw c.in-Drill.is c.drill.ensures.drills)
+
+-- `foreign`
+
+pub foreign-status-requires : goal.foreign-status-requires
+foreign-status-requires g c = start-of (read_as _ c.in-Ok.is c.in-Foreign.is c.read_words.ensures.found)
+
+pub returns-in-Foreign-clause-statuses : goal.returns-in-Foreign-clause-statuses
+returns-in-Foreign-clause-statuses g c = rw c.with_status-in-Foreign.ensures.status
+    (foreign-status _ c.foreign-status.ensures.statuses)
+
+pub returns-in-Foreign-clause-words : goal.returns-in-Foreign-clause-words
+returns-in-Foreign-clause-words g c = words-of (Foreign c.in-Foreign.from)
+    (read_as _ c.in-Ok.is c.in-Foreign.is c.read_words.ensures.found)
+    (rw c.with_status-in-Foreign.ensures.status (foreign-other _ c.foreign-status.ensures.statuses).0)
+
+pub returns-in-Foreign-clause-answered : goal.returns-in-Foreign-clause-answered
+returns-in-Foreign-clause-answered g c = read_all _ c.in-Ok.is c.read_words.ensures.only
+    (rw c.in-Foreign.is (λ seen. rw c.with_status-in-Foreign.ensures.status
+    (λ answered. rw c.slice-in-Foreign.ensures at (c.foreign-status.ensures.answered (seen.fetch tt) answered))))
+
+pub returns-in-Foreign-clause-alone : goal.returns-in-Foreign-clause-alone
+returns-in-Foreign-clause-alone g c = λ sink once. rw c.with_status-in-Foreign.ensures.status
+    (c.foreign-status.ensures.alone sink)
+
+pub returns-in-Foreign-clause-faults : goal.returns-in-Foreign-clause-faults
+returns-in-Foreign-clause-faults g c =
+    let other = foreign-other _ c.foreign-status.ensures.statuses in
+    let of_words = read_as _ c.in-Ok.is c.in-Foreign.is c.read_words.ensures.found in
+    rw c.with_status-in-Foreign.ensures.status (record {
+      disk_faults = counts-none other.1;
+      input_faults = counts-none other.2;
+      input_read = λ command of_words. omega arith;
+      output_faults = c.foreign-status.ensures.output_faults;
+      door_faults = shared-other (λ others. others (Foreign c.in-Foreign.from) of_words tt);
+      fetch_faults = shared-counts c.foreign-status.ensures.fetch_faults;
+    })
+
+pub returns-in-Foreign-clause-complete : goal.returns-in-Foreign-clause-complete
+returns-in-Foreign-clause-complete g c = read_all _ c.in-Ok.is c.read_words.ensures.only
+    (rw c.in-Foreign.is (λ seen given due. record {
+      ends = λ disk fetch input output.
+          rw c.with_status-in-Foreign.ensures.status
+          (c.foreign-status.ensures.complete (seen.fetch tt) given (rw (← c.slice-in-Foreign.ensures) due) fetch output);
+    }))
+
+pub returns-in-Foreign-clause-ends : goal.returns-in-Foreign-clause-ends
+returns-in-Foreign-clause-ends g c = read_all _ c.in-Ok.is c.read_words.ensures.only
+    (rw c.in-Foreign.is (rw c.with_status-in-Foreign.ensures.status (λ seen.
+    rw c.slice-in-Foreign.ensures at (c.foreign-status.ensures.walks seen))))
+
+pub returns-in-Foreign-clause-unused : goal.returns-in-Foreign-clause-unused
+returns-in-Foreign-clause-unused g c =
+    unused-by (Foreign c.in-Foreign.from) (read_as _ c.in-Ok.is c.in-Foreign.is c.read_words.ensures.found)
+    (λ _. refl) (λ _. refl) (λ _. refl) (λ _. refl) (λ unused. absurd (unused tt))
+
+pub returns-in-Foreign-clause-bare : goal.returns-in-Foreign-clause-bare
+returns-in-Foreign-clause-bare g c = bare-none c.with_status-in-Foreign.ensures.alone
 
 -- the other commands: the answer was printed
 
@@ -592,22 +584,6 @@ returns-in-Ok-write_all-clause-safe g c = λ others.
     c.answer.ensures.safe (others c.in-Ok.command
     (read_words-of _ c.in-Ok.is c.read_words.ensures.found))
 
-pub returns-in-Ok-write_all-clause-made : goal.returns-in-Ok-write_all-clause-made
-returns-in-Ok-write_all-clause-made g c = λ name window capacity of_words observable.
-    makes-weaker _ _ name window capacity _ _ _ _ (λ _. refl) (c.in-Ok-answer.ensures.made name window capacity
-    (read_is c.in-Ok.is c.read_words.ensures.only (Init name window capacity) of_words) observable)
-
-pub returns-in-Ok-write_all-clause-applied : goal.returns-in-Ok-write_all-clause-applied
-returns-in-Ok-write_all-clause-applied g c = λ of_words observable.
-    let applied = c.in-Ok-answer.ensures.applied (read_is c.in-Ok.is c.read_words.ensures.only (Apply None) of_words)
-    observable in
-    record {
-      safe = applies-weaker _ _ _ _ _ _ _ _ _ _ _ _ (λ e. cc)
-          (λ e. absurd (omega (arith, e, c.with_status-in-Ok-write_all.ensures.status)))
-          (λ e. absurd (omega (arith, e, c.with_status-in-Ok-write_all.ensures.status))) (λ e. tt) applied.safe;
-      opens = λ clock source answered. applied.opens clock source tt;
-    }
-
 pub returns-in-Ok-write_all-clause-unused : goal.returns-in-Ok-write_all-clause-unused
 returns-in-Ok-write_all-clause-unused g c =
     unused-by c.in-Ok.command (read_words-of _ c.in-Ok.is c.read_words.ensures.found)
@@ -616,11 +592,19 @@ returns-in-Ok-write_all-clause-unused g c =
 pub returns-in-Ok-write_all-clause-bare : goal.returns-in-Ok-write_all-clause-bare
 returns-in-Ok-write_all-clause-bare g c = bare-none c.with_status-in-Ok-write_all.ensures.alone
 
-pub returns-in-Ok-write_all-clause-audits : goal.returns-in-Ok-write_all-clause-audits
-returns-in-Ok-write_all-clause-audits g c = λ of_words observable.
-    let is : c.in-Ok.command ≡ Audit =
-    read_is c.in-Ok.is c.read_words.ensures.only Audit of_words in
-    absurd (search rules)
+pub returns-in-Ok-write_all-clause-ends : goal.returns-in-Ok-write_all-clause-ends
+returns-in-Ok-write_all-clause-ends g c = read_all _ c.in-Ok.is c.read_words.ensures.only
+    (text-ends _ c.in-Ok.command c.answer.ensures.kind.0 c.answer.ensures.kind.1
+    (λ name window capacity is observable.
+    makes-weaker _ _ name window capacity _ _ _ _ (λ _. refl)
+    (c.in-Ok-answer.ensures.made name window capacity is observable))
+    (λ is observable. let applied = c.in-Ok-answer.ensures.applied is observable in
+    record {
+      safe = applies-weaker _ _ _ _ _ _ _ _ _ _ _ _ (λ e. cc)
+          (λ e. absurd (omega (arith, e, c.with_status-in-Ok-write_all.ensures.status)))
+          (λ e. absurd (omega (arith, e, c.with_status-in-Ok-write_all.ensures.status))) (λ e. tt) applied.safe;
+      opens = λ clock source answered. applied.opens clock source tt;
+    }))
 
 -- the output failed
 
@@ -661,22 +645,6 @@ returns-in-Ok-answer-clause-safe g c = λ others.
     c.answer.ensures.safe (others c.in-Ok.command
     (read_words-of _ c.in-Ok.is c.read_words.ensures.found))
 
-pub returns-in-Ok-answer-clause-made : goal.returns-in-Ok-answer-clause-made
-returns-in-Ok-answer-clause-made g c = λ name window capacity of_words observable.
-    makes-weaker _ _ name window capacity _ _ _ _ (λ _. refl) (c.in-Ok-answer.ensures.made name window capacity
-    (read_is c.in-Ok.is c.read_words.ensures.only (Init name window capacity) of_words) observable)
-
-pub returns-in-Ok-answer-clause-applied : goal.returns-in-Ok-answer-clause-applied
-returns-in-Ok-answer-clause-applied g c = λ of_words observable.
-    let applied = c.in-Ok-answer.ensures.applied (read_is c.in-Ok.is c.read_words.ensures.only (Apply None) of_words)
-    observable in
-    record {
-      safe = applies-weaker _ _ _ _ _ _ _ _ _ _ _ _ (λ e. cc)
-          (λ e. absurd (omega (arith, e, c.with_status-in-Err-write_all.ensures.status)))
-          (λ e. absurd (omega (arith, e, c.with_status-in-Err-write_all.ensures.status))) (λ e. tt) applied.safe;
-      opens = λ clock source answered. applied.opens clock source tt;
-    }
-
 pub returns-in-Ok-answer-clause-unused : goal.returns-in-Ok-answer-clause-unused
 returns-in-Ok-answer-clause-unused g c =
     unused-by c.in-Ok.command (read_words-of _ c.in-Ok.is c.read_words.ensures.found)
@@ -684,6 +652,20 @@ returns-in-Ok-answer-clause-unused g c =
 
 pub returns-in-Ok-answer-clause-bare : goal.returns-in-Ok-answer-clause-bare
 returns-in-Ok-answer-clause-bare g c = bare-none c.with_status-in-Err-write_all.ensures.alone
+
+pub returns-in-Ok-answer-clause-ends : goal.returns-in-Ok-answer-clause-ends
+returns-in-Ok-answer-clause-ends g c = read_all _ c.in-Ok.is c.read_words.ensures.only
+    (text-ends _ c.in-Ok.command c.answer.ensures.kind.0 c.answer.ensures.kind.1
+    (λ name window capacity is observable.
+    makes-weaker _ _ name window capacity _ _ _ _ (λ _. refl)
+    (c.in-Ok-answer.ensures.made name window capacity is observable))
+    (λ is observable. let applied = c.in-Ok-answer.ensures.applied is observable in
+    record {
+      safe = applies-weaker _ _ _ _ _ _ _ _ _ _ _ _ (λ e. cc)
+          (λ e. absurd (omega (arith, e, c.with_status-in-Err-write_all.ensures.status)))
+          (λ e. absurd (omega (arith, e, c.with_status-in-Err-write_all.ensures.status))) (λ e. tt) applied.safe;
+      opens = λ clock source answered. applied.opens clock source tt;
+    }))
 
 -- the command has a fault
 
@@ -744,31 +726,6 @@ returns-clause-safe g c = λ others.
     c.answer.ensures.safe (others c.in-Ok.command
     (read_words-of _ c.in-Ok.is c.read_words.ensures.found))
 
-pub returns-clause-made : goal.returns-clause-made
-returns-clause-made g c = λ name window capacity of_words observable.
-    makes-weaker _ _ name window capacity _ _ _ _
-    (λ done. absurd (⊎_elim (λ e. no_end c.in-Err.fault
-    (sym (c.with_status-in-Err.ensures.status ∙ ap code_of c.print_fault-in-Err.ensures.status) ∙ e))
-    (λ e. no_output c.in-Err.fault (sym (c.with_status-in-Err.ensures.status ∙ ap code_of
-    c.print_fault-in-Err.ensures.status) ∙ e)) done))
-    (c.in-Err.ensures.made name window capacity
-    (read_is c.in-Ok.is c.read_words.ensures.only (Init name window capacity) of_words) observable)
-
-pub returns-clause-applied : goal.returns-clause-applied
-returns-clause-applied g c = λ of_words observable.
-    let is = c.with_status-in-Err.ensures.status ∙ ap code_of c.print_fault-in-Err.ensures.status in
-    let applied = c.in-Err.ensures.applied (read_is c.in-Ok.is c.read_words.ensures.only (Apply None) of_words)
-    observable in
-    record {
-      safe = applies-weaker _ _ _ _ _ _ _ _ _ _ _ _ (λ e. let same : c.in-Err.fault ≡ Disk = cc in
-          is ∙ ap (λ fault. code_of (fault_answer fault).status) same)
-          (λ e. let same : c.in-Err.fault ≡ Disk = disk_end c.in-Err.fault (sym is ∙ e) in ap Err same)
-          (λ e. let same : c.in-Err.fault ≡ Input = input_end c.in-Err.fault (sym is ∙ e) in ap Err same)
-          (λ ends. loaded_fault c.in-Err.fault (subst IsStatusAfterLoad is ends)) applied.safe;
-      opens = λ clock source answered.
-          applied.opens clock source (answered-refusal c.in-Err.fault (subst IsAnswered is answered));
-    }
-
 pub returns-clause-unused : goal.returns-clause-unused
 returns-clause-unused g c =
     unused-by c.in-Ok.command (read_words-of _ c.in-Ok.is c.read_words.ensures.found)
@@ -777,16 +734,25 @@ returns-clause-unused g c =
 pub returns-clause-bare : goal.returns-clause-bare
 returns-clause-bare g c = bare-none c.with_status-in-Err.ensures.alone
 
-pub returns-clause-audits : goal.returns-clause-audits
-returns-clause-audits g c = λ of_words observable.
+pub returns-clause-ends : goal.returns-clause-ends
+returns-clause-ends g c = read_all _ c.in-Ok.is c.read_words.ensures.only
+    (text-ends _ c.in-Ok.command c.answer.ensures.kind.0 c.answer.ensures.kind.1
+    (λ name window capacity same observable.
+    makes-weaker _ _ name window capacity _ _ _ _
+    (λ done. absurd (⊎_elim (λ e. no_end c.in-Err.fault
+    (sym (c.with_status-in-Err.ensures.status ∙ ap code_of c.print_fault-in-Err.ensures.status) ∙ e))
+    (λ e. no_output c.in-Err.fault (sym (c.with_status-in-Err.ensures.status ∙ ap code_of
+    c.print_fault-in-Err.ensures.status) ∙ e)) done))
+    (c.in-Err.ensures.made name window capacity same observable))
+    (λ same observable.
+    let is = c.with_status-in-Err.ensures.status ∙ ap code_of c.print_fault-in-Err.ensures.status in
+    let applied = c.in-Err.ensures.applied same observable in
     record {
-      accepted = λ certificate offers input ended.
-          absurd (no_end c.in-Err.fault (sym
-          (c.with_status-in-Err.ensures.status ∙ ap code_of c.print_fault-in-Err.ensures.status) ∙ ended));
-      rejected = λ certificate offers input ended.
-          absurd (no_three c.in-Err.fault
-          (sym (c.with_status-in-Err.ensures.status ∙ ap code_of c.print_fault-in-Err.ensures.status) ∙ ended));
-      served = λ head history certificate offers input served ended.
-          absurd (no_end c.in-Err.fault (sym
-          (c.with_status-in-Err.ensures.status ∙ ap code_of c.print_fault-in-Err.ensures.status) ∙ ended));
-    }
+      safe = applies-weaker _ _ _ _ _ _ _ _ _ _ _ _ (λ e. let failed : c.in-Err.fault ≡ Disk = cc in
+          is ∙ ap (λ fault. code_of (fault_answer fault).status) failed)
+          (λ e. let failed : c.in-Err.fault ≡ Disk = disk_end c.in-Err.fault (sym is ∙ e) in ap Err failed)
+          (λ e. let failed : c.in-Err.fault ≡ Input = input_end c.in-Err.fault (sym is ∙ e) in ap Err failed)
+          (λ ends. loaded_fault c.in-Err.fault (subst IsStatusAfterLoad is ends)) applied.safe;
+      opens = λ clock source answered.
+          applied.opens clock source (answered-refusal c.in-Err.fault (subst IsAnswered is answered));
+    }))
