@@ -2,6 +2,7 @@
 use Rattle.std.proofs.Common.{◌≡◌, ℕ, zero, suc, ◌+◌, ◌-◌, ◌≤◌, ◌<◌, ◌^◌, ◌==◌, List, [], ◌∷◌, ◌++◌, map, length, All}
 use Rattle.std.proofs.Common.{Option, Some, None, refl, ap, sym, subst, ◌∙◌, arith}
 use Rattle.std.specs.Prelude.{codes, if◌then◌else◌, IfSome}
+use Rattle.std.proofs.lemmas.Bool.{ne_eqb}
 use Rattle.std.proofs.lemmas.List.{length_push}
 use Rattle.std.proofs.lemmas.List.Elements.{All-head, All-tail}
 use Rattle.atom_writer.specs.Doc.{DocValue, IsDoc}
@@ -33,12 +34,18 @@ feed_id id = codes "urn:uuid:" ++ feed_text id
 
 -- the address of the archive with this number, if the number is one of an archive
 abbrev archive_address : List ℕ → ℕ → Option (List ℕ)
-archive_address base number = if number == 0 then None else Some (printed base (Archive number))
+archive_address base zero = None
+archive_address base (suc number) = Some (printed base (Archive (suc number)))
+
+address-is : (base : List ℕ) (number : ℕ)
+    → (if number == 0 then None else Some (printed base (Archive number))) ≡ archive_address base number
+address-is base zero = refl
+address-is base (suc number) = rw (ne_eqb (suc number) 0 (λ e. omega (arith, e))) refl
 
 -- the document is the feed's, has this address, and comes after the archive with this number
 record IsLinked (head : HeadValue) (address : Address) (prev : ℕ) (d : DocValue) : Type 0 where
   own : address_in head.name.base d ≡ printed head.name.base address
-  prev : prev_address d ≡ archive_address head.name.base prev
+  behind : prev_address d ≡ archive_address head.name.base prev
   id : (foreign_document d).id ≡ feed_id head.name.id
 
 archive-linked : (ends : ℕ → ℕ) (head : HeadValue) (history : List Op) (number : ℕ)
@@ -46,12 +53,17 @@ archive-linked : (ends : ℕ → ℕ) (head : HeadValue) (history : List Op) (nu
 unfolding archive_of document_of name_of
 archive-linked ends head history number =
     let same : suc number - 1 ≡ number = omega arith in
-    record { own = refl; prev = ap (archive_address head.name.base) same; id = refl }
+    record {
+      own = refl;
+      behind = address-is head.name.base (suc number - 1) ∙ ap (archive_address head.name.base) same;
+      id = refl;
+    }
 
 subscription-linked : (ends : ℕ → ℕ) (archives : ℕ) (head : HeadValue) (history : List Op)
     → IsLinked head Feed archives (subscription_of ends archives head history)
 unfolding subscription_of document_of name_of
-subscription-linked ends archives head history = record { own = refl; prev = refl; id = refl }
+subscription-linked ends archives head history =
+    record { own = refl; behind = address-is head.name.base archives; id = refl }
 
 module _ (canonical : CanonicalTextIsRead) (answers : List ℕ → Option (List ℕ)) (head : HeadValue)
     (base : IsBase head.name.base) where
@@ -75,17 +87,17 @@ module _ (canonical : CanonicalTextIsRead) (answers : List ℕ → Option (List 
   walk-on before feed address prev d asked documents linked is_doc answered is_url of_feed askable later = (
     ap (λ (a : List ℕ). Some a) (sym linked.own),
     subst (IsAskable before) (sym linked.own) askable,
-    document-read d is_doc answered (subst (λ (p : Option (List ℕ)). IfSome p IsUrlText) (sym linked.prev) is_url),
+    document-read d is_doc answered (subst (λ (p : Option (List ℕ)). IfSome p IsUrlText) (sym linked.behind) is_url),
     of_feed,
     subst (λ (a : List ℕ). Walks answers (before ++ a ∷ []) (feed_after feed (foreign_document d)) (prev_address d)
     asked documents (over Complete)) (sym linked.own)
     (subst (λ (p : Option (List ℕ)). Walks answers (before ++ printed head.name.base address ∷ [])
-    (feed_after feed (foreign_document d)) p asked documents (over Complete)) (sym linked.prev) later),
+    (feed_after feed (foreign_document d)) p asked documents (over Complete)) (sym linked.behind) later),
   )
 
   module _ (ends : ℕ → ℕ) (history : List Op) where
     -- the archives from this number down
-    archives : ℕ → List DocValue
+    abbrev archives : ℕ → List DocValue
     archives number = down_from (archive_of ends head history) number
 
     archive-url : (number : ℕ) → All (IsAnsweredWith answers head.name.base) (archives number)
