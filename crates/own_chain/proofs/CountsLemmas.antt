@@ -9,7 +9,7 @@ use Rattle.deleted_entries.specs.Item.{IsItem}
 use Rattle.deleted_entries.specs.Tombstone.{TombstoneValue}
 use Rattle.deleted_entries.specs.declared.item.Item.TheVariants.{Kept, Gone}
 use Rattle.deleted_entries.proofs.IdLemmas.{one_number}
-use Rattle.canonical_feed.specs.Reading.{foreign_document, foreign_entry, foreign_gone}
+use Rattle.canonical_feed.specs.Reading.{foreign_document, foreign_gone}
 use Rattle.feed_reader.specs.Feed.{DocumentValue}
 use Rattle.feed_reader.specs.declared.values.ForeignGone.{ForeignGone}
 use Rattle.foreign_entries.specs.Counts.{CountsById}

@@ -1,10 +1,9 @@
 -- The law from its parts.
-use Rattle.std.proofs.Common.{◌≡◌, ◌↔◌, ℕ, zero, suc, ◌≤◌, List, map, length, take, Some, refl, sym, subst, ◌∙◌, arith}
+use Rattle.std.proofs.Common.{◌≡◌, ◌↔◌, ℕ, zero, suc, List, map, length, take, Some, refl, sym, subst, ◌∙◌, arith}
 use Rattle.std.specs.Prelude.{All}
 use Rattle.std.proofs.lemmas.List.{take_all}
 use Rattle.std.proofs.lemmas.List.Elements.{All-cons, All-head, All-nil, All-tail}
-use Rattle.atom_values.specs.Entry.{EntryValue}
-use Rattle.atom_writer.specs.Doc.{DocValue, IsDoc}
+use Rattle.atom_writer.specs.Doc.{IsDoc}
 use Rattle.chain_links.specs.Address.{printed}
 use Rattle.chain_links.specs.declared.address.Address.TheVariants.{Feed}
 use Rattle.member_rules.specs.declared.operation.Op.{Op}

@@ -9,7 +9,6 @@ use Rattle.member_rules.specs.declared.operation.Op.{Op}
 use Rattle.member_rules.specs.Fold.{fold_of}
 use Rattle.member_rules.specs.Head.{HeadValue}
 use Rattle.canonical_feed.specs.Reading.{foreign_document, foreign_entry}
-use Rattle.feed_reader.specs.Feed.{DocumentValue}
 use Rattle.feed_reader.specs.declared.values.ForeignEntry.{ForeignEntry}
 use Rattle.foreign_entries.specs.Counts.{CountsById}
 use Rattle.foreign_entries.specs.Live.{IsFirstCounting, IsForeignLive}

@@ -1,6 +1,6 @@
 -- The entries and tombstones of documents, as a reader of any feed takes them.
-use Rattle.std.proofs.Common.{◌≡◌, inl, inr, List, [], ◌∷◌, map, refl, ap, sym, subst, ◌∙◌}
-use Rattle.std.specs.Prelude.{Contains, flat_map}
+use Rattle.std.proofs.Common.{◌≡◌, inl, inr, List, [], ◌∷◌, map, refl, sym, subst}
+use Rattle.std.specs.Prelude.{Contains}
 use Rattle.atom_values.specs.Entry.{EntryValue}
 use Rattle.atom_writer.specs.Doc.{DocValue}
 use Rattle.atom_writer.specs.declared.doc.FeedName.{FeedName}
@@ -20,7 +20,7 @@ abbrev pub occurrence_of : DocValue → EntryValue → Occurrence
 occurrence_of d e = record { document = foreign_document d; entry = foreign_entry d.name e }
 
 only : {X : Type 0} (x y : X) → Contains (x ∷ []) y → x ≡ y
-only x y there = elim (Contains-split x y [] there) [ | inl same ↦ same | inr behind ↦ absurd (Contains-none y behind) ]
+only x y there = elim (Contains-split x y [] there) [ inl same ↦ same | inr behind ↦ absurd (Contains-none y behind) ]
 
 -- a document of the list has the entry that occurs
 pub record IsOccurrence (documents : List DocValue) (o : Occurrence) : Type 0 where

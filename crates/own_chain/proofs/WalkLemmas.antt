@@ -6,7 +6,7 @@ use Rattle.std.proofs.lemmas.Bool.{ne_eqb}
 use Rattle.std.proofs.lemmas.List.{length_push}
 use Rattle.std.proofs.lemmas.List.Elements.{All-head, All-tail}
 use Rattle.atom_writer.specs.Doc.{DocValue, IsDoc}
-use Rattle.atom_writer.specs.Pieces.{own_address, text}
+use Rattle.atom_writer.specs.Pieces.{text}
 use Rattle.chain_links.specs.Address.{printed}
 use Rattle.chain_links.specs.Base.{IsBase}
 use Rattle.chain_links.specs.Checked.{IsUrlText}
@@ -90,9 +90,9 @@ module _ (canonical : CanonicalTextIsRead) (answers : List ℕ → Option (List 
     document-read d is_doc answered (subst (λ (p : Option (List ℕ)). IfSome p IsUrlText) (sym linked.behind) is_url),
     of_feed,
     subst (λ (a : List ℕ). Walks answers (before ++ a ∷ []) (feed_after feed (foreign_document d)) (prev_address d)
-    asked documents (over Complete)) (sym linked.own)
-    (subst (λ (p : Option (List ℕ)). Walks answers (before ++ printed head.name.base address ∷ [])
-    (feed_after feed (foreign_document d)) p asked documents (over Complete)) (sym linked.behind) later),
+        asked documents (over Complete)) (sym linked.own)
+        (subst (λ (p : Option (List ℕ)). Walks answers (before ++ printed head.name.base address ∷ [])
+        (feed_after feed (foreign_document d)) p asked documents (over Complete)) (sym linked.behind) later),
   )
 
   module _ (ends : ℕ → ℕ) (history : List Op) where
