@@ -77,10 +77,10 @@ own-read canonical one_way head history answers asked documents end serves walks
     let same = one_way answers (printed head.name.base Feed) asked (map (address_in head.name.base) served) documents
     (map foreign_document served) end Complete walks (chain-walk canonical head history answers serves rules) in
     record {
-      complete = same.same_end;
-      asked_are = same.same_asked;
-      documents_are = same.same_documents;
+      complete = same.end;
+      asked_are = same.asked;
+      documents_are = same.documents;
       live = λ live is_live. live-entries head history served serves.is_head.name.id
           (chain-of_feed head history rules) (chain-counts head history serves.is_head serves.is_lawful) live
-          (subst (λ (ds : List DocumentValue). IsForeignLive ds live) same.same_documents is_live);
+          (subst (λ (ds : List DocumentValue). IsForeignLive ds live) same.documents is_live);
     }
