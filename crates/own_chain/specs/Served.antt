@@ -1,11 +1,10 @@
 -- A source that serves the chain of one of this project's feeds, and what a foreign walk finds there.
-use Rattle.std.specs.Prelude.{◌≡◌, ◌↔◌, ℕ, ◌≤◌, ◌+◌, List, Option, Some, All, Contains, IsTrue, length, map}
+use Rattle.std.specs.Prelude.{◌≡◌, ◌↔◌, ℕ, ◌≤◌, List, Option, Some, All, Contains, IsTrue}
 use Rattle.atom_values.specs.Entry.{EntryValue}
 use Rattle.atom_writer.specs.Doc.{DocValue}
 use Rattle.atom_writer.specs.Pieces.{own_address, text}
 use Rattle.chain_links.specs.Address.{printed}
 use Rattle.chain_links.specs.Checked.{IsUrlText}
-use Rattle.chain_links.specs.declared.address.Address.TheVariants.{Feed}
 use Rattle.member_rules.specs.Chain.{chain}
 use Rattle.member_rules.specs.Fold.{fold_of}
 use Rattle.member_rules.specs.Head.{HeadValue, IsHead}
