@@ -7,11 +7,11 @@ use Rattle.foreign_mirror.specs.Walk.{Ending, WalksFrom}
 use Rattle.foreign_mirror.specs.Walk.Ending.{over}
 
 -- what the source answers determines the addresses asked, the documents and the end
-pub record IsSameWalk (asked other_asked : List (List ℕ)) (documents other_documents : List DocumentValue)
-    (end other_end : ChainEnd) : Type 0 where
-  pub asked : asked ≡ other_asked
-  pub documents : documents ≡ other_documents
-  pub end : end ≡ other_end
+pub record IsSameWalk (addresses other_addresses : List (List ℕ)) (values other_values : List DocumentValue)
+    (ending other_ending : ChainEnd) : Type 0 where
+  pub asked : addresses ≡ other_addresses
+  pub documents : values ≡ other_values
+  pub end : ending ≡ other_ending
 
 abbrev pub WalksEndInOneWay : Type 0
 WalksEndInOneWay =
