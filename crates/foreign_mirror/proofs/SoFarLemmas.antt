@@ -4,6 +4,10 @@ use Rattle.std.proofs.Common.{refl, sym, ap, subst, ◌∙◌, append_assoc, app
 use Rattle.std.proofs.Common.{◌+◌, ◌<◌, ◌≤◌, length, length-append, bytes_eq, arith}
 use Rattle.std.specs.Prelude.{unwrap_or, option_map, IfOk, IfErr, IsErrAnd}
 use Rattle.std.specs.List.{list_any}
+use Rattle.feed_reader.specs.declared.fault.FeedWhy.{FeedWhy}
+use Rattle.feed_reader.specs.declared.fault.ForeignRead.{ForeignRead}
+use Rattle.feed_reader.specs.declared.fault.ForeignRead.TheVariants.{NotRead as NotReadAt, NoMemory as OutOfMemory}
+use Rattle.feed_reader.specs.FeedDocument.{IsFeedRefusedAt}
 use Rattle.foreign_entries.specs.Tally.{Tallies}
 use Rattle.foreign_mirror.specs.declared.walk.Foreign.{Foreign}
 use Rattle.doc_source.specs.Fetch.{FetchState}
@@ -17,7 +21,7 @@ use Rattle.foreign_mirror.specs.declared.walk.Visit.TheVariants.{Taken, Ended}
 use Rattle.foreign_mirror.specs.Walk.{EndsAt, EndsBefore, Ending, IsAskable, IsOfFeed, IsReadAt, Walks, WalksFrom, feed_after}
 use Rattle.foreign_mirror.specs.Walk.Ending.{over, fetch_failed, cut_short}
 use Rattle.foreign_mirror.specs.Walk.{HasWalked, IsForeign, document_limit}
-use Rattle.foreign_mirror.specs.Steps.{HasAsked, HasRun, HasTaken, IsRunResult, IsTakenVisit, IsVisit, Keeps, Knows}
+use Rattle.foreign_mirror.specs.Steps.{HasAsked, HasRun, HasTaken, IsRunResult, IsTakenVisit, IsVisit, Keeps, Knows, refused}
 use Rattle.foreign_mirror.specs.Steps.{feed_of}
 
 -- each way to go on after these addresses and documents makes a whole walk
@@ -232,6 +236,29 @@ visit-read observable before after asked documents address d old marked walk (En
       );
       addresses = asks;
     }
+
+-- `Progress::visit`: the document can't be read
+pub visit-refused : (observable : Type 0) (before after : FetchState) (asked : List (List ℕ))
+    (documents : List DocumentValue) (address bytes : List ℕ) (walk : Progress) (fault : ForeignRead)
+    (read : Result DocumentValue ForeignRead) (given : Result Visit ForeignFault) → given ≡ refused address fault
+    → read ≡ Err fault
+    → ((at : ℕ) (why : FeedWhy) → read ≡ Err (NotReadAt at why) → IsFeedRefusedAt bytes address at why)
+    → HasTaken documents walk → (observable → before.answers address ≡ Some bytes)
+    → (observable → after.asked ≡ before.asked ++ address ∷ [])
+    → IsVisit observable before after asked documents address walk given
+visit-refused observable before after asked documents address bytes walk fault read given result is why taken there asks
+    = subst (IsVisit observable before after asked documents address walk) (sym result) (of fault is)
+  where
+    of : (fault : ForeignRead) → read ≡ Err fault
+        → IsVisit observable before after asked documents address walk (refused address fault)
+    of (NotReadAt at cause) is = record {
+      outcome = (
+        λ sees. (refl, record { bytes = bytes; there = there sees; refused = why at cause is }),
+        taken,
+      );
+      addresses = asks;
+    }
+    of OutOfMemory is = record { outcome = tt; addresses = λ sees. inr (asks sees) }
 
 -- `Progress::take`: the document is of the feed
 pub record Joins (old new : Progress) (d : DocumentValue) : Type 0 where

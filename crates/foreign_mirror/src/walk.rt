@@ -3,7 +3,7 @@ ghost use Rattle.atom_values.specs.Counts.{CountsFault};
 ghost use Rattle.feed_reader.specs.Feed.{DocumentValue};
 ghost use Rattle.foreign_mirror.specs.Walk.{HasWalked, IsForeign, IsStart, document_limit, is_http};
 ghost use Rattle.foreign_mirror.specs.Walk.Ending.{over};
-ghost use Rattle.foreign_mirror.specs.Steps.{HasRun, HasTaken, IsChecked, IsTakenVisit, IsVisit, Keeps, Knows};
+ghost use Rattle.foreign_mirror.specs.Steps.{HasRun, HasTaken, IsChecked, IsTakenVisit, IsVisit, Keeps, Knows, refused};
 
 use crate::fault::ForeignFault;
 use atom_values::{AtomText, Bytes, Copies, Many, NoMemory};
@@ -22,13 +22,19 @@ pub enum ChainEnd {
     /// The last document has no archive before it.
     Complete,
     /// The next address was asked before.
-    Again { address: Bytes },
+    Again {
+        address: Bytes,
+    },
     /// The scheme of the next address isn't `http`.
-    NotHttp { address: Bytes },
+    NotHttp {
+        address: Bytes,
+    },
     /// [`MAX_DOCUMENTS`] were taken, and there is a next address.
     TooMany,
     /// The source has no document at the address.
-    Missing { address: Bytes },
+    Missing {
+        address: Bytes,
+    },
     /// The document at the address is refused, at an offset in it.
     NotRead {
         address: Bytes,
@@ -36,7 +42,9 @@ pub enum ChainEnd {
         why: FeedWhy,
     },
     /// The document at the address has another identifier than the first document.
-    OtherFeed { address: Bytes },
+    OtherFeed {
+        address: Bytes,
+    },
 }
 
 /// What a walk found.
@@ -76,6 +84,20 @@ fn is_http(address: &[u8]) -> bool
     ensures { result ≡ is_http address.now }
 {
     address.starts_with(b"http:")
+}
+
+/// The outcome if the document at the address can't be read.
+fn visit_refused(address: Bytes, fault: ForeignRead) -> Result<Visit, ForeignFault>
+    ensures { result ≡ refused address fault }
+{
+    match fault {
+        ForeignRead::NotRead { at, why } => Ok(Visit::Ended(ChainEnd::NotRead {
+            address,
+            at,
+            why,
+        })),
+        ForeignRead::NoMemory => Err(ForeignFault::NoMemory),
+    }
 }
 
 impl Progress {
@@ -154,10 +176,7 @@ impl Progress {
         drop(bytes);
         match read {
             Ok(document) => Ok(self.take(address, document)?),
-            Err(ForeignRead::NotRead { at, why }) => Ok(
-                Visit::Ended(ChainEnd::NotRead { address, at, why }),
-            ),
-            Err(ForeignRead::NoMemory) => Err(ForeignFault::NoMemory),
+            Err(fault) => visit_refused(address, fault),
         }
     }
 
@@ -181,9 +200,9 @@ impl Progress {
             → IfOk result (IsTakenVisit documents address document self.old self.new) }
     {
         match &self.feed {
-            Some(id) if *id != document.id => return Ok(
-                Visit::Ended(ChainEnd::OtherFeed { address }),
-            ),
+            Some(id) if *id != document.id => return Ok(Visit::Ended(ChainEnd::OtherFeed {
+                address,
+            })),
             Some(_) => {}
             None => self.feed = Some(document.id.copy(self.alloc)?),
         }

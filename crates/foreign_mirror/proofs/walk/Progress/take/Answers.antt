@@ -17,7 +17,7 @@ returns c = λ documents taken.
     let id : c.document.inside.id ≡ d.id = ap (λ (v : DocumentValue). v.id) c.document.view_is in
     let joins : Joins old new d =
     elim c.match-self.branch [
-      in-Some+else-ne w ↦
+      | in-Some+else-ne w ↦
           joins-later old new d w.in-Some.id w.in-Some.is
           ((bytes_eq-Decides w.in-Some.id c.document.inside.id).0 (not-false _ (sym w.ne.ensures ∙ w.if-ne.false)) ∙ id)
           w.self-is

@@ -1,9 +1,8 @@
 use Rattle.std.proofs.Common.{◌≡◌, ◌≢◌, ℕ, List, [], ◌∷◌, ◌++◌, Some, Ok, Err, refl, sym, ap, subst, ◌∙◌}
 use Rattle.std.specs.Prelude.{option_map}
-use Rattle.feed_reader.specs.declared.fault.ForeignRead.TheVariants.{NotRead as NotReadAt}
 use Rattle.feed_reader.specs.FeedDocument.{IsFeedRefusedAt, SpellsFeed}
 use Rattle.foreign_mirror.specs.Steps.{Knows}
-use Rattle.foreign_mirror.proofs.SoFarLemmas.{visit-read}
+use Rattle.foreign_mirror.proofs.SoFarLemmas.{visit-read, visit-refused}
 use Rattle.foreign_mirror.proofs.walk.Progress.visit.Goals as goal
 
 pub returns-in_ok-take-in-Ok-clause-visited : goal.returns-in_ok-take-in-Ok-clause-visited
@@ -28,33 +27,19 @@ returns-in_ok-take-in-Ok-clause-visited g c = λ asked documents keeps.
     (λ sees. c.in_ok-bytes.ensures.asked (λ e. cc) sees
     ∙ ap (λ (l : List ℕ). before.asked ++ l ∷ []) c.slice-2.ensures)
 
-pub returns-in-Err-NotRead-clause-visited : goal.returns-in-Err-NotRead-clause-visited
-returns-in-Err-NotRead-clause-visited g c = λ asked documents keeps.
+pub returns-in-Err-clause-visited : goal.returns-in-Err-clause-visited
+returns-in-Err-clause-visited g c = λ asked documents keeps.
     let before = g.F.Fetch.state c.args.fetch.now in
     let address = c.args.address in
-    let at = c.in-Err-NotRead.at in
-    let why = c.in-Err-NotRead.why in
-    let a = c.in-Err-NotRead.is in
-    let b = c.in-Err-NotRead.field-0-is in
-    let e = c.in-Err-NotRead.at-is in
-    let f = c.in-Err-NotRead.why-is in
-    let is : c.read_feed-read.result ≡ Err (NotReadAt at why) = ? in
-    record {
-      outcome = (
-        λ sees. (
-          refl,
-          record {
-            bytes = c.in-Some.bytes.items;
-            there = ap before.answers (sym c.slice-2.ensures)
-                ∙ sym (c.in_ok-bytes.ensures.answer sees)
-                ∙ ap (option_map (λ b. b.items)) c.in-Some.is;
-            refused = subst (λ (b : List ℕ). IsFeedRefusedAt b address at why) c.as_slice.ensures.value
-                (subst (λ (a : List ℕ). IsFeedRefusedAt c.as_slice.result.now a at why) c.slice-3.ensures
-                (c.read_feed-read.ensures.refused at why is));
-          },
-        ),
-        c.mark.ensures.taken documents keeps.taken,
-      );
-      addresses = λ sees. c.in_ok-bytes.ensures.asked (λ e. cc) sees
-          ∙ ap (λ (l : List ℕ). before.asked ++ l ∷ []) c.slice-2.ensures;
-    }
+    visit-refused g.F.Fetch.observable before (g.F.Fetch.state c.get.new.self) asked documents address
+    c.in-Some.bytes.items c.mark.new.self c.in-Err.fault c.read_feed-read.result c.visit_refused.result
+    c.visit_refused.ensures c.in-Err.is
+    (λ at why is. subst (λ (b : List ℕ). IsFeedRefusedAt b address at why) c.as_slice.ensures.value
+    (subst (λ (a : List ℕ). IsFeedRefusedAt c.as_slice.result.now a at why) c.slice-3.ensures
+    (c.read_feed-read.ensures.refused at why is)))
+    (c.mark.ensures.taken documents keeps.taken)
+    (λ sees. ap before.answers (sym c.slice-2.ensures)
+    ∙ sym (c.in_ok-bytes.ensures.answer sees)
+    ∙ ap (option_map (λ b. b.items)) c.in-Some.is)
+    (λ sees. c.in_ok-bytes.ensures.asked (λ e. cc) sees
+    ∙ ap (λ (l : List ℕ). before.asked ++ l ∷ []) c.slice-2.ensures)
