@@ -1,18 +1,21 @@
 -- The steps of a walk, and what it keeps between them.
-use Rattle.std.specs.Prelude.{◌≡◌, ◌≢◌, ◌⊎◌, ℕ, List, [], ◌∷◌, ◌++◌, length, map, Option, Some, None, Result, Ok, Err}
+use Rattle.std.specs.Prelude.{◌≡◌, ◌⊎◌, ◌≤◌, ℕ, List, [], ◌∷◌, ◌++◌, length, Option, Some, None, Result, Ok, Err}
 use Rattle.std.specs.Prelude.{bytes_eq}
 use Rattle.std.specs.List.{list_any}
 use Rattle.doc_source.specs.Fetch.{FetchState}
 use Rattle.feed_reader.specs.Feed.{DocumentValue}
+use Rattle.feed_reader.specs.declared.fault.ForeignRead.{ForeignRead}
+use Rattle.feed_reader.specs.declared.fault.ForeignRead.TheVariants.{NotRead as NotReadAt, NoMemory as OutOfMemory}
 use Rattle.foreign_entries.specs.Tally.{Tallies}
 use Rattle.foreign_mirror.specs.declared.fault.ForeignFault.{ForeignFault}
 use Rattle.foreign_mirror.specs.declared.fault.ForeignFault.TheVariants.{FetchFault, NoMemory}
 use Rattle.foreign_mirror.specs.declared.walk.ChainEnd.{ChainEnd}
-use Rattle.foreign_mirror.specs.declared.walk.ChainEnd.TheVariants.{OtherFeed}
+use Rattle.foreign_mirror.specs.declared.walk.ChainEnd.TheVariants.{NotRead, OtherFeed}
 use Rattle.foreign_mirror.specs.declared.walk.Progress.{Progress}
 use Rattle.foreign_mirror.specs.declared.walk.Visit.{Visit}
 use Rattle.foreign_mirror.specs.declared.walk.Visit.TheVariants.{Taken, Ended}
 use Rattle.foreign_mirror.specs.Walk.{EndsAt, EndsBefore, Ending, IsAskable, IsOfFeed, IsReadAt, WalksFrom}
+use Rattle.foreign_mirror.specs.Walk.{document_limit}
 use Rattle.foreign_mirror.specs.Walk.Ending.{over, fetch_failed, cut_short}
 
 -- the identifier of the feed that these documents are of
@@ -36,6 +39,7 @@ pub record Keeps (asked : List (List ℕ)) (documents : List DocumentValue) (wal
   pub knows : Knows asked walk
   pub taken : HasTaken documents walk
   pub each : length asked ≡ length documents
+  pub few : length asked ≤ document_limit
 
 -- the next address is to be asked, or the walk ends before it
 abbrev pub IsChecked : List (List ℕ) → Option (List ℕ) → Result (List ℕ) ChainEnd → Type 0
@@ -49,6 +53,11 @@ IsTakenVisit documents address d before after (Taken prev) =
     × (after.asked.keys ≡ before.asked.keys)
 IsTakenVisit documents address d before after (Ended end) =
     (end ≡ OtherFeed address) × (¬ IsOfFeed (feed_of documents) d) × HasTaken documents after
+
+-- the outcome if the document at the address can't be read
+abbrev pub refused : List ℕ → ForeignRead → Result Visit ForeignFault
+refused address (NotReadAt at why) = Ok (Ended (NotRead address at why))
+refused address OutOfMemory = Err NoMemory
 
 -- the address was asked; if memory ran out, maybe not
 abbrev pub HasAsked : {A : Type 0} → FetchState → FetchState → List ℕ → Result A ForeignFault → Type 0
