@@ -1,13 +1,13 @@
 -- Documents have one list of live entries.
-use Rattle.std.proofs.Common.{◌≡◌, ◌≢◌, ℕ, List, [], ◌∷◌, ◌++◌, All, Any, Contains, refl, sym, ap, subst, ◌∙◌, ◌⊎◌, inl, inr}
-use Rattle.std.proofs.Common.{⊎_elim, Less, Equal, Greater, length, get_or, suc, zero, ◌<◌, arith, zero-lt-suc}
+use Rattle.std.proofs.Common.{◌≡◌, ℕ, List, [], ◌∷◌, ◌++◌, All, Contains, refl, sym, ap, subst, ◌∙◌, ◌⊎◌, inl, inr}
+use Rattle.std.proofs.Common.{⊎_elim, Equal, length, suc, zero, ◌<◌, arith, zero-lt-suc}
 use Rattle.std.specs.Cmp.Lexicographic.{slice_cmp, nat_list_cmp_total}
 use Rattle.std.specs.Ordering.{nat_cmp}
 use Rattle.std.proofs.lemmas.Cmp.{tied_itself}
 use Rattle.std.proofs.lemmas.List.Elements.{All-head, All-tail, All-contains, Contains-append_right}
 use Rattle.feed_reader.specs.Feed.{DocumentValue}
 use Rattle.feed_reader.specs.declared.values.ForeignEntry.{ForeignEntry}
-use Rattle.foreign_entries.specs.Occurrence.{Occurrence, occurrences}
+use Rattle.foreign_entries.specs.Occurrence.{Occurrence}
 use Rattle.foreign_entries.specs.Counts.{CountsById}
 use Rattle.foreign_entries.specs.Laws.{DocumentsHaveOneLive}
 use Rattle.foreign_entries.specs.Live.{IsFirstCounting, IsForeignLive, IsRising, IsBefore}

@@ -1,7 +1,7 @@
 -- The live entries of the members of a map.
-use Rattle.std.proofs.Common.{◌≡◌, ◌≢◌, ℕ, List, [], ◌∷◌, ◌++◌, All, Any, Contains, Option, Some, None, MatchOption, ℤ}
-use Rattle.std.proofs.Common.{◌<ℤ◌, ◌≤ℤ◌, ◌⊎◌, inl, inr, Bool, true, false, cond, refl, sym, ap, subst, ◌∙◌, flat_map}
-use Rattle.std.proofs.Common.{filter_map, Vec, Global, Less, int_le, arith, if◌then◌else◌, ⊎_elim, length, zero-lt-suc, ◌<◌, suc, get_or, suc-le-suc, Ordering}
+use Rattle.std.proofs.Common.{◌≡◌, ◌≢◌, ℕ, List, [], ◌∷◌, All, Any, Contains, Option, Some, None, MatchOption, ℤ}
+use Rattle.std.proofs.Common.{◌<ℤ◌, ◌≤ℤ◌, ◌⊎◌, Bool, true, false, cond, refl, sym, ap, subst, ◌∙◌}
+use Rattle.std.proofs.Common.{filter_map, Vec, Global, Less, int_le, arith, if◌then◌else◌, ⊎_elim, length, zero-lt-suc, ◌<◌, suc, suc-le-suc, Ordering}
 use Rattle.std.proofs.Common.{option_and_then}
 use Rattle.std.specs.BTreeMap.{is_at, IsOrdered}
 use Rattle.std.specs.Cmp.Lexicographic.{slice_cmp, nat_list_cmp_total}
@@ -21,7 +21,7 @@ use Rattle.feed_reader.specs.declared.values.ForeignGone.{ForeignGone}
 use Rattle.foreign_entries.specs.Occurrence.{Occurrence, HasTombstone, occurrences}
 use Rattle.foreign_entries.specs.Counts.{CountsById}
 use Rattle.foreign_entries.specs.Live.{IsFirstCounting, IsForeignLive, IsRising, IsBefore}
-use Rattle.foreign_entries.specs.Tally.{Tallies, TalliesIn, IsNewer, IsNewestOf, IsLatestOf, IsMemberOf, HasNoEntry}
+use Rattle.foreign_entries.specs.Tally.{Tallies, IsNewer, IsNewestOf, IsLatestOf, IsMemberOf, HasNoEntry}
 use Rattle.foreign_entries.specs.Tally.{HasNoTombstone, tombstones, member_of}
 use Rattle.foreign_entries.specs.Added.{live_entry, is_removed}
 use Rattle.foreign_entries.specs.declared.live.LiveEntries.{LiveEntries}

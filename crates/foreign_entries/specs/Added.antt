@@ -1,6 +1,6 @@
 -- What one more entry or tombstone changes.
 use Rattle.std.specs.Prelude.{◌≡◌, ℕ, List, Option, Some, None, ◌∷◌, [], ◌++◌, map, ℤ, ◌<ℤ◌, int_le, ◌⊎◌, if◌then◌else◌}
-use Rattle.std.specs.Prelude.{option_and_then, bytes_eq, cond, Bool, false, Vec}
+use Rattle.std.specs.Prelude.{option_and_then, bytes_eq, cond, Bool, false}
 use Rattle.feed_reader.specs.Feed.{DocumentValue}
 use Rattle.feed_reader.specs.declared.values.ForeignEntry.{ForeignEntry}
 use Rattle.feed_reader.specs.declared.values.ForeignGone.{ForeignGone}

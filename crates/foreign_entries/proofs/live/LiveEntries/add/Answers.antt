@@ -1,4 +1,4 @@
-use Rattle.std.proofs.Common.{List, [], ◌∷◌, ◌++◌, OnOk, subst}
+use Rattle.std.proofs.Common.{[], ◌∷◌, ◌++◌, OnOk, subst}
 use Rattle.std.proofs.lemmas.Result.{on_ok_weaker}
 use Rattle.feed_reader.specs.contracts.values.ForeignDoc.{the_view}
 use Rattle.foreign_entries.specs.Tally.{Tallies}

@@ -1,4 +1,4 @@
-use Rattle.std.proofs.Common.{sym, ◌∙◌, Some, None, rules, IsSome, Vec, Global, OnOk}
+use Rattle.std.proofs.Common.{◌∙◌, Some, rules}
 use Rattle.std.proofs.lemmas.Result.{on_ok_weaker}
 use Rattle.foreign_entries.proofs.MembersLemmas.{puts_member, tombstone_known, tombstone_new}
 use Rattle.foreign_entries.proofs.live.LiveEntries.add_tombstone.Goals as goal

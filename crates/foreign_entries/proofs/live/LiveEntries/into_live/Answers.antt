@@ -1,4 +1,4 @@
-use Rattle.std.proofs.Common.{ap, ◌∙◌, ◌++◌, append-nil, filter_map, subst, sym}
+use Rattle.std.proofs.Common.{ap, filter_map, subst, sym}
 use Rattle.foreign_entries.specs.Added.{live_entry}
 use Rattle.foreign_entries.specs.Live.{IsForeignLive}
 use Rattle.foreign_entries.proofs.AddedLemmas.{none_left}

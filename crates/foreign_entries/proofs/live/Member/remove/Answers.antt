@@ -1,4 +1,4 @@
-use Rattle.std.proofs.Common.{sym, ◌∙◌, true≢false, ◌<ℤ◌, ◌≤ℤ◌, arith, true, false, ◌≡◌}
+use Rattle.std.proofs.Common.{sym, ◌∙◌, true≢false, ◌<ℤ◌, ◌≤ℤ◌, arith}
 use Rattle.std.proofs.lemmas.Int.{ints}
 use Rattle.foreign_entries.proofs.NewestLemmas.{remove_first, remove_later, remove_earlier}
 use Rattle.foreign_entries.proofs.live.Member.remove.Goals.{in-Some, in-None}
