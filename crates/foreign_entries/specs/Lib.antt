@@ -3,3 +3,4 @@ pub mod Counts
 pub mod Live
 pub mod Laws
 pub mod Tally
+pub mod Added

@@ -1,9 +1,10 @@
-ghost use Rattle.std.specs.Prelude.{◌≡◌, List, [], ◌∷◌, ◌++◌, IfOk, OnOk};
+ghost use Rattle.std.specs.Prelude.{◌≡◌, List, [], ◌∷◌, ◌++◌, IfOk, OnOk, Decides, option_to_list};
 ghost use Rattle.feed_reader.specs.Feed.{DocumentValue};
 ghost use Rattle.foreign_entries.specs.Live.{IsForeignLive};
+ghost use Rattle.foreign_entries.specs.Added.{live_entry, AddsEntry, AddsEntries, AddsTombstone, AddsTombstones, OffersEntry, OffersTombstone, PutsMember, IsNewerKept};
 ghost use Rattle.foreign_entries.specs.Tally.{Tallies};
 
-use atom_values::{AtomText, Many, NoMemory, Stamp};
+use atom_values::{Many, NoMemory, Stamp};
 use feed_reader::{ForeignDoc, ForeignEntry, ForeignGone};
 use std::alloc::Global;
 use std::collections::BTreeMap;
@@ -13,13 +14,16 @@ pub const MAX_LIVE: u32 = 4_294_967_295;
 
 /// The live entries of a feed's documents, which are added newest first.
 ///
-/// It keeps one entry and one timestamp for each identifier, whatever the number of documents.
+/// It keeps one entry and one timestamp for each identifier, whatever the number of documents, and a copy of the
+/// identifier.
 #[derive(Drop)]
 pub struct LiveEntries {
+    /// By the bytes of their identifiers.
     members: BTreeMap<Vec<u8>, Member>,
+    alloc: Global,
 }
 
-/// What the documents say of an identifier so far.
+/// The entry and the tombstone that count among those of an identifier so far. It has one of both at least.
 #[derive(Drop)]
 struct Member {
     /// The entry that counts unless a tombstone removes it.
@@ -35,12 +39,67 @@ struct Kept {
     document_updated: Stamp,
 }
 
+impl Kept {
+    /// Whether the entry counts before the other one of its identifier, which was added earlier.
+    fn is_newer(&self, other: &Kept) -> bool
+        ensures { Decides result (IsNewerKept self.now other.now) }
+    {
+        let updated = self.entry.updated.millis();
+        let other_updated = other.entry.updated.millis();
+        other_updated < updated
+            || other_updated == updated
+                && other.document_updated.millis() < self.document_updated.millis()
+    }
+}
+
+impl Member {
+    /// Keeps the entry if it counts before the one that is kept. The first of equal entries stays.
+    fn offer(&mut self, kept: Kept)
+        ensures { OffersEntry kept self.old self.new }
+    {
+        let replaces = match &self.kept {
+            Some(before) => kept.is_newer(before),
+            None => true,
+        };
+        if replaces {
+            self.kept = Some(kept);
+        }
+    }
+
+    /// Keeps the `when` of a tombstone if it is the latest.
+    fn remove(&mut self, when: Stamp)
+        ensures { OffersTombstone when self.old self.new }
+    {
+        let replaces = match &self.gone {
+            Some(before) => before.millis() < when.millis(),
+            None => true,
+        };
+        if replaces {
+            self.gone = Some(when);
+        }
+    }
+
+    /// The entry, unless a tombstone removes it.
+    fn into_live(self) -> Option<ForeignEntry>
+        ensures { result ≡ live_entry self }
+    {
+        let kept = self.kept?;
+        match self.gone {
+            Some(when) if kept.entry.updated.millis() <= when.millis() => None,
+            _ => Some(kept.entry),
+        }
+    }
+}
+
 impl LiveEntries {
     /// Those of no documents.
     pub fn new(alloc: Global) -> LiveEntries
         ensures { Tallies [] result }
     {
-        todo
+        LiveEntries {
+            members: BTreeMap::new(alloc),
+            alloc,
+        }
     }
 
     /// Adds the next older document. `NoMemory` if memory runs out. After that the documents that are added are
@@ -51,7 +110,93 @@ impl LiveEntries {
         ensures { (documents : List DocumentValue) → Tallies documents self.old
             → OnOk result (Tallies (documents ++ document ∷ []) self.new) }
     {
-        todo
+        let ForeignDoc {
+            updated,
+            entries,
+            gone,
+            ..
+        } = document;
+        self.add_entries(entries.into_vec(), updated)?;
+        self.add_tombstones(gone.into_vec())
+    }
+
+    /// Adds the entries of a document with this `updated`.
+    fn add_entries(
+        &mut self,
+        entries: Vec<ForeignEntry>,
+        document_updated: Stamp,
+    ) -> Result<(), NoMemory>
+        ensures { OnOk result (AddsEntries entries.items document_updated self.old self.new) }
+    {
+        for entry in entries {
+            self.add_entry(Kept {
+                entry,
+                document_updated,
+            })?;
+        }
+        Ok(())
+    }
+
+    /// Adds an entry.
+    fn add_entry(&mut self, kept: Kept) -> Result<(), NoMemory>
+        ensures { OnOk result (AddsEntry kept self.old self.new) }
+    {
+        match self.members.get_mut(kept.entry.id.bytes()) {
+            Some(member) => {
+                member.offer(kept);
+                Ok(())
+            }
+            None => {
+                let key = Vec::from_slice(self.alloc, kept.entry.id.bytes())?;
+                self.insert(
+                    key,
+                    Member {
+                        kept: Some(kept),
+                        gone: None,
+                    },
+                )
+            }
+        }
+    }
+
+    /// Adds the tombstones of a document.
+    fn add_tombstones(&mut self, gone: Vec<ForeignGone>) -> Result<(), NoMemory>
+        ensures { OnOk result (AddsTombstones gone.items self.old self.new) }
+    {
+        for gone in gone {
+            self.add_tombstone(&gone)?;
+        }
+        Ok(())
+    }
+
+    /// Adds a tombstone.
+    fn add_tombstone(&mut self, gone: &ForeignGone) -> Result<(), NoMemory>
+        ensures { OnOk result (AddsTombstone gone.now self.old self.new) }
+    {
+        match self.members.get_mut(gone.id.bytes()) {
+            Some(member) => {
+                member.remove(gone.when);
+                Ok(())
+            }
+            None => {
+                let key = Vec::from_slice(self.alloc, gone.id.bytes())?;
+                self.insert(
+                    key,
+                    Member {
+                        kept: None,
+                        gone: Some(gone.when),
+                    },
+                )
+            }
+        }
+    }
+
+    /// Adds a member with a new identifier.
+    fn insert(&mut self, key: Vec<u8>, member: Member) -> Result<(), NoMemory>
+        ensures { OnOk result (PutsMember key.items member self.old self.new) }
+    {
+        self.members.insert(key, member)?;
+        Ok(())
     }
 
     /// The live entries of the documents, in the order of their identifiers' bytes. `NoMemory` if memory runs out, or
@@ -60,6 +205,23 @@ impl LiveEntries {
         ensures { (documents : List DocumentValue) → Tallies documents self
             → IfOk result (λ live. IsForeignLive documents live.items) }
     {
-        todo
+        let mut live = Many::new(alloc);
+        for (_, member) in self.members {
+            push_live(&mut live, member)?;
+        }
+        Ok(live)
+    }
+}
+
+/// Adds the member's entry, unless a tombstone removes it.
+fn push_live(live: &mut Many<ForeignEntry, MAX_LIVE>, member: Member) -> Result<(), NoMemory>
+    ensures { OnOk result (live.new.items ≡ live.old.items ++ option_to_list (live_entry member)) }
+{
+    let Some(entry) = member.into_live() else {
+        return Ok(());
+    };
+    match live.push(entry) {
+        Ok(()) => Ok(()),
+        Err(_) => Err(NoMemory),
     }
 }
