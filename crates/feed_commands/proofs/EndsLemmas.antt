@@ -46,7 +46,7 @@ text-ends r (Drill seed count) once textual made applied = absurd textual
 text-ends r (Foreign from) once textual made applied = absurd textual
 
 -- a run whose command wasn't read for want of memory: each object but the output is as it was
-module _ {T : Type 0} (disk : DiskState) (moments : ℕ → ℕ) (door : DoorState) (stays_at : List ℕ → Type 0)
+module _ (disk : DiskState) (moments : ℕ → ℕ) (door : DoorState) (stays_at : List ℕ → Type 0)
     (fetch : FetchState) (input : SourceState) (output taken : SinkState)
     (sees_disk sees_clock sees_door sees_fetch sees_input sees_output : Type 0) (lines : List Line)
     (life : Option LifeValue) (ended : ℕ) where
@@ -75,7 +75,7 @@ module _ {T : Type 0} (disk : DiskState) (moments : ℕ → ℕ) (door : DoorSta
     ended = ended;
   }
 
-  pub unread-ends : IsDisk T disk → ((listen : List ℕ) → stays_at listen)
+  pub unread-ends : {T : Type 0} → IsDisk T disk → ((listen : List ℕ) → stays_at listen)
       → (sees_output → Prints output taken (fault_answer NoMemory).printed) → (lines ≡ []) × (life ≡ None) → ended ≡ 5
       → (command : Command) → EndsOf command unread_ran
   unread-ends is_disk stays prints none is (Init name window capacity) = λ seen.
