@@ -479,38 +479,39 @@ returns-in-Drill-clause-ends g c =
 
 -- `foreign`
 
-pub foreign-status-requires : goal.foreign-status-requires
-foreign-status-requires g c = start-of (read_as _ c.in-Ok.is c.in-Foreign.is c.read_words.ensures.found)
+pub foreign-requires : goal.foreign-requires
+foreign-requires g c = rw c.slice-in-Foreign.ensures
+    (start-of (read_as _ c.in-Ok.is c.in-Foreign.is c.read_words.ensures.found))
 
 pub returns-in-Foreign-clause-statuses : goal.returns-in-Foreign-clause-statuses
 returns-in-Foreign-clause-statuses g c = rw c.with_status-in-Foreign.ensures.status
-    (foreign-status _ c.foreign-status.ensures.statuses)
+    (foreign-status _ c.foreign.ensures.statuses)
 
 pub returns-in-Foreign-clause-words : goal.returns-in-Foreign-clause-words
 returns-in-Foreign-clause-words g c = words-of (Foreign c.in-Foreign.from)
     (read_as _ c.in-Ok.is c.in-Foreign.is c.read_words.ensures.found)
-    (rw c.with_status-in-Foreign.ensures.status (foreign-other _ c.foreign-status.ensures.statuses).0)
+    (rw c.with_status-in-Foreign.ensures.status (foreign-other _ c.foreign.ensures.statuses).0)
 
 pub returns-in-Foreign-clause-answered : goal.returns-in-Foreign-clause-answered
 returns-in-Foreign-clause-answered g c = read_all _ c.in-Ok.is c.read_words.ensures.only
     (rw c.in-Foreign.is (λ seen. rw c.with_status-in-Foreign.ensures.status
-    (λ answered. rw c.slice-in-Foreign.ensures at (c.foreign-status.ensures.answered (seen.fetch tt) answered))))
+    (λ answered. rw c.slice-in-Foreign.ensures at (c.foreign.ensures.answered (seen.fetch tt) answered))))
 
 pub returns-in-Foreign-clause-alone : goal.returns-in-Foreign-clause-alone
 returns-in-Foreign-clause-alone g c = λ sink once. rw c.with_status-in-Foreign.ensures.status
-    (c.foreign-status.ensures.alone sink)
+    (c.foreign.ensures.alone sink)
 
 pub returns-in-Foreign-clause-faults : goal.returns-in-Foreign-clause-faults
 returns-in-Foreign-clause-faults g c =
-    let other = foreign-other _ c.foreign-status.ensures.statuses in
+    let other = foreign-other _ c.foreign.ensures.statuses in
     let of_words = read_as _ c.in-Ok.is c.in-Foreign.is c.read_words.ensures.found in
     rw c.with_status-in-Foreign.ensures.status (record {
       disk_faults = counts-none other.1;
       input_faults = counts-none other.2;
       input_read = λ command of_words. omega arith;
-      output_faults = c.foreign-status.ensures.output_faults;
+      output_faults = c.foreign.ensures.output_faults;
       door_faults = shared-other (λ others. others (Foreign c.in-Foreign.from) of_words tt);
-      fetch_faults = shared-counts c.foreign-status.ensures.fetch_faults;
+      fetch_faults = shared-counts c.foreign.ensures.fetch_faults;
     })
 
 pub returns-in-Foreign-clause-complete : goal.returns-in-Foreign-clause-complete
@@ -518,13 +519,13 @@ returns-in-Foreign-clause-complete g c = read_all _ c.in-Ok.is c.read_words.ensu
     (rw c.in-Foreign.is (λ seen given due. record {
       ends = λ disk fetch input output.
           rw c.with_status-in-Foreign.ensures.status
-          (c.foreign-status.ensures.complete (seen.fetch tt) given (rw (← c.slice-in-Foreign.ensures) due) fetch output);
+          (c.foreign.ensures.complete (seen.fetch tt) given (rw c.slice-in-Foreign.ensures due) fetch output);
     }))
 
 pub returns-in-Foreign-clause-ends : goal.returns-in-Foreign-clause-ends
 returns-in-Foreign-clause-ends g c = read_all _ c.in-Ok.is c.read_words.ensures.only
     (rw c.in-Foreign.is (rw c.with_status-in-Foreign.ensures.status (λ seen.
-    rw c.slice-in-Foreign.ensures at (c.foreign-status.ensures.walks seen))))
+    rw c.slice-in-Foreign.ensures at (c.foreign.ensures.walks seen))))
 
 pub returns-in-Foreign-clause-unused : goal.returns-in-Foreign-clause-unused
 returns-in-Foreign-clause-unused g c =
