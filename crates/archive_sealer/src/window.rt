@@ -109,6 +109,14 @@ impl Window {
         self.before + self.count
     }
 
+    /// The feed's title after the last operation.
+    pub fn title(&self) -> &AtomText
+        ensures { (head : HeadValue) → IsOfFeed self.now head
+            → result.now ≡ (documents.name_of head self.now.history).title }
+    {
+        &self.title
+    }
+
     /// How many windows are sealed: each full one but the last.
     pub fn sealed(&self) -> u32
         ensures { (head : HeadValue) → IsOfFeed self.now head

@@ -3,11 +3,13 @@ ghost use Rattle.feed_journal.specs.Log.{IsLog};
 ghost use Rattle.feed_recovery.specs.Documents.{sealed_count};
 ghost use Rattle.feed_recovery.specs.Prepare.{IsMissing};
 ghost use Rattle.feed_recovery.specs.Store.{call_count, is_spent};
+ghost use Rattle.member_rules.specs.Documents.{name_of};
 ghost use Rattle.member_rules.specs.Fold.{state_of};
+ghost use Rattle.member_rules.specs.Table.{IsTableOf};
 
 use crate::places::Places;
 use archive_sealer::Window;
-use atom_values::Bytes;
+use atom_values::{AtomText, Bytes};
 use feed_journal::{Frames, Log};
 use member_rules::{Head, Members, State};
 use std::alloc::Global;
@@ -68,6 +70,23 @@ impl Store {
         ensures { result ≡ length self.now.history }
     {
         self.window.operations()
+    }
+
+    /// Returns the table of the members, by which they are listed, newest operation first.
+    pub fn members(&self) -> &Members
+        requires { is_spent self.now ≡ false }
+        ensures members { result.now ≡ self.now.members }
+        ensures table { IsTableOf self.now.members self.now.head.created self.now.history }
+    {
+        &self.members
+    }
+
+    /// Returns the feed's title after the last operation.
+    pub fn title(&self) -> &AtomText
+        requires { is_spent self.now ≡ false }
+        ensures { result.now ≡ (name_of self.now.head self.now.history).title }
+    {
+        self.window.title()
     }
 
     /// Returns how many archives are sealed. Each has a number from 1 to this one.

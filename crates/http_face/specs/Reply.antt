@@ -9,13 +9,14 @@ use Rattle.http_face.specs.declared.reply.Body.TheVariants.{Made, Fixed}
 use Rattle.http_face.specs.declared.reply.Line7.{Line7}
 use Rattle.http_face.specs.declared.reply.Line7.TheVariants as line
 use Rattle.http_face.specs.declared.reply.Media.{Media}
-use Rattle.http_face.specs.declared.reply.Media.TheVariants.{Feed, Entry, Plain}
+use Rattle.http_face.specs.declared.reply.Media.TheVariants.{Feed, Entry, Service, Plain}
 use Rattle.http_face.specs.declared.reply.Reply.{Reply}
 
 -- the value of `Content-Type`
 abbrev pub media_text : Media → List ℕ
 media_text Feed = codes "application/atom+xml;type=feed"
 media_text Entry = codes "application/atom+xml;type=entry"
+media_text Service = codes "application/atomsvc+xml"
 media_text Plain = codes "text/plain;charset=utf-8"
 
 -- the value of `Allow`

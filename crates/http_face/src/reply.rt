@@ -11,7 +11,9 @@ pub enum Media {
     Feed,
     /// An entry document (RFC 4287).
     Entry,
-    /// A line of text in UTF-8.
+    /// A service document (RFC 5023 section 8).
+    Service,
+    /// Lines of text in UTF-8.
     Plain,
 }
 
@@ -110,6 +112,7 @@ impl Media {
         match self {
             Media::Feed => b"application/atom+xml;type=feed",
             Media::Entry => b"application/atom+xml;type=entry",
+            Media::Service => b"application/atomsvc+xml",
             Media::Plain => b"text/plain;charset=utf-8",
         }
     }
