@@ -146,27 +146,27 @@ pub fn run<D: Disk, C: Clock, L: Door, F: Fetch, I: Source, O: Sink>(
     // over documents that one feed served. `audit`: the meaning of its status. `drill`: its life. `foreign`: the
     // addresses asked, and its output over one of this project's own feeds.
     ensures ends { (command : CommandValue) → IsCommandOf (map string_bytes words.now) command → EndsOf command record {
-        disk = D.state disk.old;
-        left = D.state disk.new;
-        moments = C.coming clock.old;
-        door = L.state door.old;
-        shut = L.state door.new;
-        stays_at = λ listen. L.only_at door.old listen → L.only_at door.new listen;
-        fetch = F.state fetch.old;
-        fetched = F.state fetch.new;
-        input = I.state input.old;
-        rest = I.state input.new;
-        output = O.state output.old;
-        taken = O.state output.new;
-        sees_disk = D.observable;
-        sees_clock = C.observable;
-        sees_door = L.observable;
-        sees_fetch = F.observable;
-        sees_input = I.observable;
-        sees_output = O.observable;
-        lines = result.lines.items;
-        life = result.life;
-        ended = result.status;
+      disk = D.state disk.old;
+      left = D.state disk.new;
+      moments = C.coming clock.old;
+      door = L.state door.old;
+      shut = L.state door.new;
+      stays_at = λ listen. L.only_at door.old listen → L.only_at door.new listen;
+      fetch = F.state fetch.old;
+      fetched = F.state fetch.new;
+      input = I.state input.old;
+      rest = I.state input.new;
+      output = O.state output.old;
+      taken = O.state output.new;
+      sees_disk = D.observable;
+      sees_clock = C.observable;
+      sees_door = L.observable;
+      sees_fetch = F.observable;
+      sees_input = I.observable;
+      sees_output = O.observable;
+      lines = result.lines.items;
+      life = result.life;
+      ended = result.status;
     } }
 
     // A command leaves each object that it has no use for as it is. So do words that name no command. Only `serve`

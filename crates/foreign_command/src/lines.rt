@@ -132,4 +132,3 @@ fn push_count(out: &mut Vec<u8>, number: usize) -> Result<(), NoMemory>
     out.extend_from_slice(b"\n")?;
     Ok(())
 }
-
