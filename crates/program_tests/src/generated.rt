@@ -20,8 +20,8 @@ struct Item {
 
 /// The lines so far, and the feed after them.
 #[derive(Drop)]
-struct Fold {
-    lines: String,
+pub struct Fold {
+    pub lines: String,
     /// How many lines there are, and how many of them come before the open window.
     count: u32,
     before: u32,
@@ -29,17 +29,17 @@ struct Fold {
     size: u32,
     next_size: u32,
     /// How many windows are sealed.
-    sealed: u32,
+    pub sealed: u32,
     /// The line that last set the title.
     title: Option<u32>,
     made: u32,
-    live: Vec<u32>,
+    pub live: Vec<u32>,
     /// The items of the open window, the newest last.
     items: Vec<Item>,
 }
 
 /// No lines yet, with windows of 4 operations.
-fn empty(alloc: Global) -> Fold {
+pub fn empty(alloc: Global) -> Fold {
     Fold {
         lines: String::new(alloc),
         count: 0,
@@ -207,7 +207,7 @@ fn next(seed: u64) -> u64 {
 }
 
 /// Appends this number of lines. Returns the next seed.
-fn push_lines(rt: &impl Abort, alloc: Global, fold: &mut Fold, seed: u64, count: u32) -> u64 {
+pub fn push_lines(rt: &impl Abort, alloc: Global, fold: &mut Fold, seed: u64, count: u32) -> u64 {
     let mut seed = seed;
     for _ in 0..count {
         seed = next(seed);

@@ -23,6 +23,8 @@ mod faults;
 #[cfg(test)]
 mod fetches;
 #[cfg(test)]
+mod foreign;
+#[cfg(test)]
 mod generated;
 #[cfg(test)]
 mod hostile;

@@ -338,6 +338,42 @@ static MIRROR: [(&str, &str); 46] = [
     ("Mirror *base --report", "usage"),
 ];
 
+/// Words of `foreign` and words like them, in the same form.
+static FOREIGN: [(&str, &str); 32] = [
+    ("foreign --from http://a.example/f.xml", "foreign http://a.example/f.xml"),
+    ("foreign --from=http://a.example/", "foreign http://a.example/"),
+    ("foreign --from http://127.0.0.1:8080/feed", "foreign http://127.0.0.1:8080/feed"),
+    ("foreign --from http://[::1]/", "foreign http://[::1]/"),
+    ("foreign --from http://a.example/%C3%A4?q=1#f", "foreign http://a.example/%C3%A4?q=1#f"),
+    ("foreign --from http://a.example", "usage"),
+    ("foreign --from http://a.example:80/", "usage"),
+    ("foreign --from http://A.example/", "usage"),
+    ("foreign --from HTTP://a.example/", "usage"),
+    ("foreign --from http:a.example/", "usage"),
+    ("foreign --from http://127.1/", "usage"),
+    ("foreign --from http://a.example/a/../b", "usage"),
+    ("foreign --from http://a.example/a_b", "usage"),
+    ("foreign --from http://a.example/\u{E4}", "usage"),
+    ("foreign --from https://a.example/", "usage"),
+    ("foreign --from ftp://a.example/", "usage"),
+    ("foreign --from httpx://a.example/", "usage"),
+    ("foreign --from http:", "usage"),
+    ("foreign --from a.example/f.xml", "usage"),
+    ("foreign --from /f.xml", "usage"),
+    ("foreign", "usage"),
+    ("foreign --from", "usage"),
+    ("foreign --from=", "usage"),
+    ("foreign --from ", "usage"),
+    ("foreign http://a.example/", "usage"),
+    ("foreign --from http://a.example/ http://a.example/", "usage"),
+    ("foreign --from http://a.example/ --from http://a.example/", "usage"),
+    ("foreign --from http://a.example/ --fetch", "usage"),
+    ("foreign --from http://a.example/ --", "usage"),
+    ("foreign *base", "usage"),
+    ("foreign --From http://a.example/", "usage"),
+    ("Foreign --from http://a.example/", "usage"),
+];
+
 /// Each row has words as above, a letter, how many times it replaces each `%`, and whether the words are read.
 static LENGTHS: [(&str, &str, usize, bool); 9] = [
     ("init *base *uuid --title % --author=%", "x", 1_024, true),
@@ -502,6 +538,7 @@ fn printed(rt: &impl Abort, alloc: Global, command: &Command) -> String {
             let words = numbered(rt, alloc, "drill", *seed);
             numbered(rt, alloc, words.as_str(), u64::from(*count))
         }
+        Command::Foreign { from } => titled(rt, alloc, "foreign", from.slice()),
         Command::Init {
             name,
             window,
@@ -603,6 +640,11 @@ fn reads_words_of_serve(rt: HostRuntime) {
 #[test]
 fn reads_words_of_mirror(rt: HostRuntime) {
     reads_rows(&rt, rt.alloc(), &MIRROR);
+}
+
+#[test]
+fn reads_words_of_foreign(rt: HostRuntime) {
+    reads_rows(&rt, rt.alloc(), &FOREIGN);
 }
 
 /// Returns what a line is read as.
