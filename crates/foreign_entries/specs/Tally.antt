@@ -1,4 +1,4 @@
--- The entries and tombstones that a map of identifiers keeps of a list of documents.
+-- What `LiveEntries` keeps for each identifier in a list of documents.
 use Rattle.std.specs.Prelude.{◌≡◌, ◌≢◌, ℕ, List, Option, IsSome, MatchOption, All, Contains, flat_map, ◌++◌, ◌∷◌}
 use Rattle.std.specs.Prelude.{ℤ, ◌<ℤ◌, ◌≤ℤ◌, ◌⊎◌}
 use Rattle.std.specs.BTreeMap.{get_by}
@@ -49,23 +49,23 @@ HasNoEntry all id = All (λ (o : Occurrence). o.entry.id ≢ id) all
 abbrev pub HasNoTombstone : List ForeignGone → List ℕ → Type 0
 HasNoTombstone all id = All (λ (g : ForeignGone). g.id ≢ id) all
 
--- a member of these entries and tombstones, which has one of both at least
-pub record IsMemberOf (entries : List Occurrence) (gone : List ForeignGone) (id : List ℕ) (member : Member) : Type 0 where
-  pub kept : MatchOption member.kept (HasNoEntry entries id) (IsNewestOf entries id)
-  pub removed : MatchOption member.gone (HasNoTombstone gone id) (IsLatestOf gone id)
-  pub some : IsSome member.kept ⊎ IsSome member.gone
+-- the newest entry and the latest tombstone of an identifier, of which at least one is present
+pub record IsMemberOf (entries : List Occurrence) (gone : List ForeignGone) (id : List ℕ) (m : Member) : Type 0 where
+  pub kept : MatchOption m.kept (HasNoEntry entries id) (IsNewestOf entries id)
+  pub removed : MatchOption m.gone (HasNoTombstone gone id) (IsLatestOf gone id)
+  pub some : IsSome m.kept ⊎ IsSome m.gone
 
 -- the member of an identifier, whose key has the same bytes
 abbrev pub member_of : LiveEntries → List ℕ → Option Member
 member_of live id = get_by (λ k. slice_cmp nat_cmp id k.items) live.members
 
--- the map has the members of these entries and tombstones
+-- each identifier in these entries and tombstones has its member in the map, and no other identifier has one
 abbrev pub TalliesIn : List Occurrence → List ForeignGone → LiveEntries → Type 0
 TalliesIn entries gone live =
     (id : List ℕ) → MatchOption (member_of live id) (HasNoEntry entries id × HasNoTombstone gone id)
     (IsMemberOf entries gone id)
 
--- the map has a member for each identifier in the documents: the first of the identifier's newest entries, and the
--- latest `when` of its tombstones
+-- For each identifier in the documents, the map has the newest entry, which is the first one of which no other is newer,
+-- and the latest `when` of the tombstones.
 pub record Tallies (documents : List DocumentValue) (live : LiveEntries) : Type 0 where
   pub members : TalliesIn (occurrences documents) (tombstones documents) live

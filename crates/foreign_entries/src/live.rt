@@ -14,19 +14,18 @@ pub const MAX_LIVE: u32 = 4_294_967_295;
 
 /// The live entries of a feed's documents, which are added newest first.
 ///
-/// It keeps one entry and one timestamp for each identifier, whatever the number of documents, and a copy of the
-/// identifier.
+/// For each identifier it keeps a copy of the identifier, one entry and one timestamp, whatever the number of documents.
 #[derive(Drop)]
 pub struct LiveEntries {
-    /// By the bytes of their identifiers.
+    /// The members, by the bytes of their identifiers.
     members: BTreeMap<Vec<u8>, Member>,
     alloc: Global,
 }
 
-/// The entry and the tombstone that count among those of an identifier so far. It has one of both at least.
+/// The newest entry and the latest tombstone of an identifier. At least one of the two is present.
 #[derive(Drop)]
 struct Member {
-    /// The entry that counts unless a tombstone removes it.
+    /// The entry that is live unless a tombstone removes it.
     kept: Option<Kept>,
     /// The latest `when` of the identifier's tombstones.
     gone: Option<Stamp>,
@@ -40,7 +39,7 @@ struct Kept {
 }
 
 impl Kept {
-    /// Whether the entry counts before the other one of its identifier, which was added earlier.
+    /// Whether the entry's `updated` is later, or is the same with a later `updated` of its document.
     fn is_newer(&self, other: &Kept) -> bool
         ensures { Decides result (IsNewerKept self.now other.now) }
     {
@@ -53,7 +52,7 @@ impl Kept {
 }
 
 impl Member {
-    /// Keeps the entry if it counts before the one that is kept. The first of equal entries stays.
+    /// Keeps the entry if it is newer than the kept one. Of equal entries the first one stays.
     fn offer(&mut self, kept: Kept)
         ensures { OffersEntry kept self.old self.new }
     {
@@ -66,7 +65,7 @@ impl Member {
         }
     }
 
-    /// Keeps the `when` of a tombstone if it is the latest.
+    /// Keeps the `when` of a tombstone if it is the latest one.
     fn remove(&mut self, when: Stamp)
         ensures { OffersTombstone when self.old self.new }
     {
@@ -79,7 +78,7 @@ impl Member {
         }
     }
 
-    /// The entry, unless a tombstone removes it.
+    /// The entry. `None` if there is no entry or if a tombstone removes it.
     fn into_live(self) -> Option<ForeignEntry>
         ensures { result ≡ live_entry self }
     {
@@ -92,7 +91,7 @@ impl Member {
 }
 
 impl LiveEntries {
-    /// Those of no documents.
+    /// The live entries before any document is added, which are none. Takes no memory.
     pub fn new(alloc: Global) -> LiveEntries
         ensures { Tallies [] result }
     {
@@ -137,7 +136,7 @@ impl LiveEntries {
         Ok(())
     }
 
-    /// Adds an entry.
+    /// Adds an entry to the member of its identifier.
     fn add_entry(&mut self, kept: Kept) -> Result<(), NoMemory>
         ensures { OnOk result (AddsEntry kept self.old self.new) }
     {
@@ -169,7 +168,7 @@ impl LiveEntries {
         Ok(())
     }
 
-    /// Adds a tombstone.
+    /// Adds a tombstone to the member of its identifier.
     fn add_tombstone(&mut self, gone: &ForeignGone) -> Result<(), NoMemory>
         ensures { OnOk result (AddsTombstone gone.now self.old self.new) }
     {
@@ -191,7 +190,7 @@ impl LiveEntries {
         }
     }
 
-    /// Adds a member with a new identifier.
+    /// Adds the first member of an identifier.
     fn insert(&mut self, key: Vec<u8>, member: Member) -> Result<(), NoMemory>
         ensures { OnOk result (PutsMember key.items member self.old self.new) }
     {
@@ -213,7 +212,7 @@ impl LiveEntries {
     }
 }
 
-/// Adds the member's entry, unless a tombstone removes it.
+/// Appends the member's live entry, if it has one.
 fn push_live(live: &mut Many<ForeignEntry, MAX_LIVE>, member: Member) -> Result<(), NoMemory>
     ensures { OnOk result (live.new.items ≡ live.old.items ++ option_to_list (live_entry member)) }
 {
