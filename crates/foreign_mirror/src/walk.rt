@@ -220,11 +220,13 @@ impl Progress {
     {
         let Progress {
             alloc,
-            asked: _,
-            feed: _,
+            asked,
+            feed,
             entries,
             docs,
         } = self;
+        drop(asked);
+        drop(feed);
         let live = entries.into_live(alloc)?;
         Ok(Foreign { docs, live, end })
     }
