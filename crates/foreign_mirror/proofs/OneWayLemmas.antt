@@ -1,4 +1,4 @@
--- What a source answers determines a walk.
+-- The answers of a source determine a walk.
 use Rattle.std.proofs.Common.{◌≡◌, ◌≢◌, ℕ, ◌<◌, Bool, true, false, cond, List, [], ◌∷◌, ◌++◌, Option, Some, None}
 use Rattle.std.proofs.Common.{refl, sym, ap, subst, ◌∙◌, length, bytes_eq, arith}
 use Rattle.std.specs.Prelude.{Contains}

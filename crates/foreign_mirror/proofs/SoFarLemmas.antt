@@ -1,9 +1,12 @@
 -- A walk so far, of which the document of each address was taken, and how it goes on.
 use Rattle.std.proofs.Common.{◌≡◌, ◌≢◌, inl, inr, ℕ, List, [], ◌∷◌, ◌++◌, Option, Some, None, Result, Ok, Err}
 use Rattle.std.proofs.Common.{refl, sym, ap, subst, ◌∙◌, append_assoc, append-nil}
-use Rattle.std.proofs.Common.{◌+◌, ◌<◌, ◌≤◌, length, length-append, bytes_eq, arith}
+use Rattle.std.proofs.Common.{Bool, true, false, ◌+◌, ◌<◌, ◌≤◌, length, length-append, bytes_eq, arith}
 use Rattle.std.specs.Prelude.{unwrap_or, option_map, IfOk, IfErr, IsErrAnd}
+use Rattle.std.specs.Bool.{Decides}
 use Rattle.std.specs.List.{list_any}
+use Rattle.std.proofs.lemmas.Bool.{both_ways}
+use Rattle.std.proofs.lemmas.Slice.Eq.{bytes_eq-Decides}
 use Rattle.feed_reader.specs.declared.fault.FeedWhy.{FeedWhy}
 use Rattle.feed_reader.specs.declared.fault.ForeignRead.{ForeignRead}
 use Rattle.feed_reader.specs.declared.fault.ForeignRead.TheVariants.{NotRead as NotReadAt, NoMemory as OutOfMemory}
@@ -21,7 +24,7 @@ use Rattle.foreign_mirror.specs.declared.walk.Visit.TheVariants.{Taken, Ended}
 use Rattle.foreign_mirror.specs.Walk.{EndsAt, EndsBefore, Ending, IsAskable, IsOfFeed, IsReadAt, Walks, WalksFrom, feed_after}
 use Rattle.foreign_mirror.specs.Walk.Ending.{over, fetch_failed, cut_short}
 use Rattle.foreign_mirror.specs.Walk.{HasWalked, IsForeign, document_limit}
-use Rattle.foreign_mirror.specs.Steps.{HasAsked, HasRun, HasTaken, IsRunResult, IsTakenVisit, IsVisit, Keeps, Knows, refused}
+use Rattle.foreign_mirror.specs.Steps.{HasAsked, HasRun, HasTaken, IsJoined, IsRunResult, IsTakenVisit, Joins, IsVisit, Keeps, Knows, refused}
 use Rattle.foreign_mirror.specs.Steps.{feed_of}
 
 -- each way to go on after these addresses and documents makes a whole walk
@@ -260,14 +263,7 @@ visit-refused observable before after asked documents address bytes walk fault r
     }
     of OutOfMemory is = record { outcome = tt; addresses = λ sees. inr (asks sees) }
 
--- `Progress::take`: the document is of the feed
-pub record Joins (old new : Progress) (d : DocumentValue) : Type 0 where
-  pub of_feed : IsOfFeed old.feed d
-  pub feed : new.feed ≡ feed_after old.feed d
-  pub live : new.entries ≡ old.entries
-  pub docs : new.docs ≡ old.docs
-  pub keys : new.asked.keys ≡ old.asked.keys
-
+-- `Progress::joins`
 pub joins-first : (old new : Progress) (d : DocumentValue) (id : List ℕ) → old.feed ≡ None → id ≡ d.id
     → new ≡ record old { feed = Some id } → Joins old new d
 joins-first old new d id none same is = record {
@@ -280,22 +276,25 @@ joins-first old new d id none same is = record {
   keys = ap (λ (p : Progress). p.asked.keys) is;
 }
 
-pub joins-later : (old new : Progress) (d : DocumentValue) (id : List ℕ) → old.feed ≡ Some id → id ≡ d.id
-    → new ≡ old → Joins old new d
-joins-later old new d id first same is = record {
-  of_feed = subst (λ (f : Option (List ℕ)). IsOfFeed f d) (sym first) (sym same);
-  feed = ap (λ (p : Progress). p.feed) is
-      ∙ first
-      ∙ sym (ap (λ (f : Option (List ℕ)). feed_after f d) first);
-  live = ap (λ (p : Progress). p.entries) is;
-  docs = ap (λ (p : Progress). p.docs) is;
-  keys = ap (λ (p : Progress). p.asked.keys) is;
-}
+pub joins-later : (old : Progress) (d : DocumentValue) (id own : List ℕ) → old.feed ≡ Some id → own ≡ d.id
+    → IsJoined old old d (bytes_eq id own)
+joins-later old d id own first is = go (bytes_eq id own) (bytes_eq-Decides id own)
+  where
+    go : (fits : Bool) → Decides fits (id ≡ own) → IsJoined old old d fits
+    go true decides = record {
+      of_feed = subst (λ (f : Option (List ℕ)). IsOfFeed f d) (sym first) (sym (decides.0 refl ∙ is));
+      feed = first ∙ sym (ap (λ (f : Option (List ℕ)). feed_after f d) first);
+      live = refl;
+      docs = refl;
+      keys = refl;
+    }
+    go false decides = (
+      λ of_feed. both_ways false refl (decides.1
+          (sym (is ∙ subst (λ (f : Option (List ℕ)). IsOfFeed f d) first of_feed))),
+      refl,
+    )
 
-pub same-option : (o : Option (List ℕ)) → option_map (λ v. v) o ≡ o
-same-option None = refl
-same-option (Some x) = refl
-
+-- `Progress::take`
 pub taken-feed : (documents : List DocumentValue) (d : DocumentValue) (old new : Progress) → Joins old new d
     → HasTaken documents old → new.feed ≡ feed_of (documents ++ d ∷ [])
 taken-feed documents d old new joins taken =

@@ -1,6 +1,6 @@
 -- The steps of a walk, and what it keeps between them.
 use Rattle.std.specs.Prelude.{◌≡◌, ◌⊎◌, ◌≤◌, ℕ, List, [], ◌∷◌, ◌++◌, length, Option, Some, None, Result, Ok, Err}
-use Rattle.std.specs.Prelude.{bytes_eq}
+use Rattle.std.specs.Prelude.{bytes_eq, Bool, true, false}
 use Rattle.std.specs.List.{list_any}
 use Rattle.doc_source.specs.Fetch.{FetchState}
 use Rattle.feed_reader.specs.Feed.{DocumentValue}
@@ -15,7 +15,7 @@ use Rattle.foreign_mirror.specs.declared.walk.Progress.{Progress}
 use Rattle.foreign_mirror.specs.declared.walk.Visit.{Visit}
 use Rattle.foreign_mirror.specs.declared.walk.Visit.TheVariants.{Taken, Ended}
 use Rattle.foreign_mirror.specs.Walk.{EndsAt, EndsBefore, Ending, IsAskable, IsOfFeed, IsReadAt, WalksFrom}
-use Rattle.foreign_mirror.specs.Walk.{document_limit}
+use Rattle.foreign_mirror.specs.Walk.{document_limit, feed_after}
 use Rattle.foreign_mirror.specs.Walk.Ending.{over, fetch_failed, cut_short}
 
 -- the identifier of the feed that these documents are of
@@ -45,6 +45,24 @@ pub record Keeps (asked : List (List ℕ)) (documents : List DocumentValue) (wal
 abbrev pub IsChecked : List (List ℕ) → Option (List ℕ) → Result (List ℕ) ChainEnd → Type 0
 IsChecked asked next (Ok address) = (next ≡ Some address) × IsAskable asked address
 IsChecked asked next (Err end) = EndsBefore asked next (over end)
+
+-- the document is of the feed, which the walk knows then
+pub record Joins (old new : Progress) (d : DocumentValue) : Type 0 where
+  pub of_feed : IsOfFeed old.feed d
+  pub feed : new.feed ≡ feed_after old.feed d
+  pub live : new.entries ≡ old.entries
+  pub docs : new.docs ≡ old.docs
+  pub keys : new.asked.keys ≡ old.asked.keys
+
+-- whether the document is of the feed
+abbrev pub IsJoined : Progress → Progress → DocumentValue → Bool → Type 0
+IsJoined old new d true = Joins old new d
+IsJoined old new d false = (¬ IsOfFeed old.feed d) × (new ≡ old)
+
+-- the outcome for a document that isn't counted yet
+abbrev pub IsFound : Progress → Progress → List ℕ → DocumentValue → Visit → Type 0
+IsFound old new address d (Taken prev) = (prev ≡ d.prev) × Joins old new d
+IsFound old new address d (Ended end) = (end ≡ OtherFeed address) × (¬ IsOfFeed old.feed d) × (new ≡ old)
 
 -- the document is of the feed and was taken, or it is of another feed
 abbrev pub IsTakenVisit : List DocumentValue → List ℕ → DocumentValue → Progress → Progress → Visit → Type 0

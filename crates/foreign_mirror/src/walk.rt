@@ -3,7 +3,7 @@ ghost use Rattle.atom_values.specs.Counts.{CountsFault};
 ghost use Rattle.feed_reader.specs.Feed.{DocumentValue};
 ghost use Rattle.foreign_mirror.specs.Walk.{HasWalked, IsForeign, IsStart, document_limit, is_http};
 ghost use Rattle.foreign_mirror.specs.Walk.Ending.{over};
-ghost use Rattle.foreign_mirror.specs.Steps.{HasRun, HasTaken, IsChecked, IsTakenVisit, IsVisit, Keeps, Knows, refused};
+ghost use Rattle.foreign_mirror.specs.Steps.{HasRun, HasTaken, IsChecked, IsFound, IsJoined, IsTakenVisit, IsVisit, Keeps, Knows, refused};
 
 use crate::fault::ForeignFault;
 use atom_values::{AtomText, Bytes, Copies, Many, NoMemory};
@@ -193,23 +193,52 @@ impl Progress {
         Ok(())
     }
 
+    /// Whether the document is of the feed. The first document decides which feed that is.
+    fn joins(&mut self, document: &ForeignDoc) -> Result<bool, NoMemory>
+        ensures { IfOk result (IsJoined self.old self.new document.now) }
+    {
+        match &self.feed {
+            Some(id) => Ok(*id == document.id),
+            None => {
+                self.feed = Some(document.id.copy(self.alloc)?);
+                Ok(true)
+            }
+        }
+    }
+
+    /// The outcome for the document at the address, which isn't counted yet.
+    fn outcome(&mut self, address: Bytes, document: &ForeignDoc) -> Result<Visit, NoMemory>
+        ensures { IfOk result (IsFound self.old self.new address document.now) }
+    {
+        if self.joins(document)? {
+            let prev = document.prev.copy(self.alloc)?;
+            Ok(Visit::Taken { prev })
+        } else {
+            Ok(Visit::Ended(ChainEnd::OtherFeed { address }))
+        }
+    }
+
     /// Takes the document at the address, unless it is of another feed than the first document.
     fn take(&mut self, address: Bytes, document: ForeignDoc) -> Result<Visit, NoMemory>
         requires few { self.old.docs < document_limit }
         ensures { (documents : List DocumentValue) → HasTaken documents self.old
             → IfOk result (IsTakenVisit documents address document self.old self.new) }
     {
-        match &self.feed {
-            Some(id) if *id != document.id => return Ok(Visit::Ended(ChainEnd::OtherFeed {
-                address,
-            })),
-            Some(_) => {}
-            None => self.feed = Some(document.id.copy(self.alloc)?),
+        let Ok(visit) = self.outcome(address, &document) else {
+            drop(document);
+            return Err(NoMemory);
+        };
+        match visit {
+            Visit::Taken { prev } => {
+                self.entries.add(document)?;
+                self.docs += 1;
+                Ok(Visit::Taken { prev })
+            }
+            Visit::Ended(end) => {
+                drop(document);
+                Ok(Visit::Ended(end))
+            }
         }
-        let prev = document.prev.copy(self.alloc)?;
-        self.entries.add(document)?;
-        self.docs += 1;
-        Ok(Visit::Taken { prev })
     }
 
     /// The result of a walk with this end.
@@ -220,11 +249,13 @@ impl Progress {
     {
         let Progress {
             alloc,
-            asked: _,
-            feed: _,
+            asked,
+            feed,
             entries,
             docs,
         } = self;
+        drop(asked);
+        drop(feed);
         let live = entries.into_live(alloc)?;
         Ok(Foreign { docs, live, end })
     }
