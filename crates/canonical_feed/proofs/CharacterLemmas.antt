@@ -216,7 +216,7 @@ as_ordinary c is xml o = record {
 }
 
 -- the text of a reference is the escaped character
-escaped_as : (quoted : Bool) (c : ℕ) → c < 128 → escaped quoted (encode c) ≡ escaped_byte quoted c
+pub escaped_as : (quoted : Bool) (c : ℕ) → c < 128 → escaped quoted (encode c) ≡ escaped_byte quoted c
 escaped_as quoted c low = ap (escaped quoted) (encode_ascii c low) ∙ escaped_one quoted c
 
 pub and_reference : IsReference 38 (codes "&amp;")

@@ -1,0 +1,8 @@
+-- canonical_text_is_read: characters of content
+pub mod CharacterLemmas
+-- canonical_text_is_read: values of attributes
+pub mod ValueLemmas
+-- canonical_text_is_read: content as a tree
+pub mod NodeLemmas
+-- canonical_text_is_read: a whole document
+pub mod DocumentLemmas
