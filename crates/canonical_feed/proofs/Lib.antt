@@ -6,3 +6,5 @@ pub mod ValueLemmas
 pub mod NodeLemmas
 -- canonical_text_is_read: a whole document
 pub mod DocumentLemmas
+-- canonical_text_is_read: texts without escapes
+pub mod CleanLemmas
