@@ -8,3 +8,7 @@ pub mod NodeLemmas
 pub mod DocumentLemmas
 -- canonical_text_is_read: texts without escapes
 pub mod CleanLemmas
+-- canonical_text_is_read: the parts of an entry as content
+pub mod PartNodeLemmas
+-- canonical_text_is_read: the pieces of a document as content
+pub mod FeedNodeLemmas
