@@ -221,7 +221,7 @@ span_text span n first last =
     pair_line span_name (codes "first") (decimal span.first) (codes "last") (decimal span.last) n
     (clean_decimal span.first (omega arith)) (clean_decimal span.last (omega arith))
 
-own_numbered : (kind : Kind) → HasNext kind → IsNumbered (own_address kind)
+pub own_numbered : (kind : Kind) → HasNext kind → IsNumbered (own_address kind)
 own_numbered Subscription few = tt
 own_numbered (Sealed number) few = omega (arith, few)
 

@@ -12,3 +12,5 @@ pub mod CleanLemmas
 pub mod PartNodeLemmas
 -- canonical_text_is_read: the pieces of a document as content
 pub mod FeedNodeLemmas
+-- canonical_text_is_read: the content of a document may stand in its feed
+pub mod GoodLemmas
