@@ -1,16 +1,18 @@
 -- Texts that are written as they are: identifiers, timestamps, numbers and addresses.
 use Rattle.std.proofs.Common.{◌≡◌, ◌≢◌, ℕ, zero, suc, ◌+◌, ◌-◌, ◌*◌, ◌/◌, ◌%◌, ◌<◌, ◌≤◌, ◌^◌, Bool, true, false, cond, ◌&&◌, ◌||◌}
 use Rattle.std.proofs.Common.{◌==◌, eqb, not, List, [], ◌∷◌, ◌++◌, ltb, leb, nat_lt, refl, sym, ap, subst, ◌∙◌, codes, arith, All}
-use Rattle.std.proofs.Common.{decimal, ℤ, Option, Some, None, ⊎_elim}
+use Rattle.std.proofs.Common.{decimal, drop, nat_le, reverse, ℤ, Option, Some, None, ⊎_elim}
 use Rattle.std.specs.Prelude.{if◌then◌else◌, flat_map}
-use Rattle.std.specs.List.{join_with_byte, list_all}
+use Rattle.std.specs.List.{join_with_byte, list_all, prefix_len}
 use Rattle.std.proofs.lemmas.Bool.{and_from, and_parts, cases_Bool, cond-true, cond-false, le-leb, lt-ltb, ltb-true, ltb-false}
-use Rattle.std.proofs.lemmas.Bool.{ne_eqb, or_from, not-true}
+use Rattle.std.proofs.lemmas.Bool.{eqb-false, leb-true, ne_eqb, or_from, not-true}
+use Rattle.std.proofs.lemmas.List.{reverse-append, reverse-reverse}
 use Rattle.std.proofs.lemmas.Bool.Decides.{nat_tests}
 use Rattle.std.proofs.lemmas.Fmt.{decimal_by_steps}
 use Rattle.std.proofs.lemmas.List.Elements.{All-head, All-tail}
 use Rattle.std.proofs.lemmas.List.Folds.{list_all-append}
 use Rattle.atom_values.specs.Escape.{escaped, escaped_byte, may_escape}
+use Rattle.atom_values.specs.Space.{is_space, trimmed, without_leading}
 use Rattle.atom_values.specs.Stamp.{printed, date_text, clock_text, fixed_digits, fraction_text, since_year_zero, time_text}
 use Rattle.atom_values.specs.Calendar.{year_of, month_of, day_of}
 use Rattle.atom_values.specs.XmlText.{IsXmlText}
@@ -25,27 +27,60 @@ use Rattle.uuid.specs.Text.{by_index, digit_place, hex_digit, hyphen, hyphenated
 use Rattle.uuid.proofs.TextLemmas.{nibble_small}
 use Rattle.xml_tokens.proofs.XmlLemmas.{printable, printable_xml}
 
--- a printable byte that is escaped nowhere
+-- a byte of ASCII from `(` on that no text escapes, and no `?`
 abbrev pub is_clean : ℕ → Bool
-is_clean b = printable b && not (may_escape b)
+is_clean b = nat_le 40 b && nat_lt b 127 && not (b == 60) && not (b == 62) && not (b == 63)
 
 abbrev pub IsClean : List ℕ → Type 0
 IsClean t = list_all is_clean t ≡ true
 
-clean_from : (b : ℕ) → 40 ≤ b → b < 127 → b ≢ 60 → b ≢ 62 → is_clean b ≡ true
-clean_from b low high no60 no62 =
+pub record IsCleanByte (b : ℕ) : Type 0 where
+  pub low : 40 ≤ b
+  pub high : b < 127
+  pub no_tag : b ≢ 60
+  pub no_end : b ≢ 62
+  pub no_question : b ≢ 63
+
+clean_from : (b : ℕ) → IsCleanByte b → is_clean b ≡ true
+clean_from b is =
+    and_from (nat_le 40 b && nat_lt b 127 && not (b == 60) && not (b == 62)) (not (b == 63))
+    (and_from (nat_le 40 b && nat_lt b 127 && not (b == 60)) (not (b == 62))
+    (and_from (nat_le 40 b && nat_lt b 127) (not (b == 60))
+    (and_from (nat_le 40 b) (nat_lt b 127) (le-leb 40 b is.low) (lt-ltb b 127 is.high))
+    (ap not (ne_eqb b 60 is.no_tag)))
+    (ap not (ne_eqb b 62 is.no_end)))
+    (ap not (ne_eqb b 63 is.no_question))
+
+pub clean_is : (b : ℕ) → is_clean b ≡ true → IsCleanByte b
+clean_is b is =
+    let p4 = and_parts (nat_le 40 b && nat_lt b 127 && not (b == 60) && not (b == 62)) (not (b == 63)) is in
+    let p3 = and_parts (nat_le 40 b && nat_lt b 127 && not (b == 60)) (not (b == 62)) p4.0 in
+    let p2 = and_parts (nat_le 40 b && nat_lt b 127) (not (b == 60)) p3.0 in
+    let p1 = and_parts (nat_le 40 b) (nat_lt b 127) p2.0 in
+    record {
+      low = leb-true 40 b p1.0;
+      high = ltb-true b 127 p1.1;
+      no_tag = eqb-false b 60 (not-true (b == 60) p2.1);
+      no_end = eqb-false b 62 (not-true (b == 62) p3.1);
+      no_question = eqb-false b 63 (not-true (b == 63) p4.1);
+    }
+
+clean_escape : (b : ℕ) → IsCleanByte b → may_escape b ≡ false
+clean_escape b is =
     let n : (k : ℕ) → b ≢ k → eqb b k ≡ false = λ k other. ne_eqb b k other in
-    and_from (printable b) (not (may_escape b))
-    (and_from (leb 32 b) (ltb b 127) (le-leb 32 b (omega arith)) (lt-ltb b 127 high))
-    (ap not
-    (or_from (b == 38 || b == 60 || b == 62 || b == 13 || b == 34 || b == 9) (b == 10)
+    or_from (b == 38 || b == 60 || b == 62 || b == 13 || b == 34 || b == 9) (b == 10)
     (or_from (b == 38 || b == 60 || b == 62 || b == 13 || b == 34) (b == 9)
     (or_from (b == 38 || b == 60 || b == 62 || b == 13) (b == 34)
     (or_from (b == 38 || b == 60 || b == 62) (b == 13)
     (or_from (b == 38 || b == 60) (b == 62)
-    (or_from (b == 38) (b == 60) (n 38 (λ e. omega arith)) (n 60 no60))
-    (n 62 no62)) (n 13 (λ e. omega arith))) (n 34 (λ e. omega arith))) (n 9 (λ e. omega arith)))
-    (n 10 (λ e. omega arith))))
+    (or_from (b == 38) (b == 60) (n 38 (λ e. omega arith)) (n 60 is.no_tag))
+    (n 62 is.no_end)) (n 13 (λ e. omega arith))) (n 34 (λ e. omega arith))) (n 9 (λ e. omega arith)))
+    (n 10 (λ e. omega arith))
+
+pub clean_first : (b : ℕ) (t : List ℕ) → IsClean (b ∷ t) → IsCleanByte b × IsClean t
+clean_first b t is =
+    let p = and_parts (is_clean b) (list_all is_clean t) is in
+    (clean_is b p.0, p.1)
 
 pub clean_append : (s t : List ℕ) → IsClean s → IsClean t → IsClean (s ++ t)
 clean_append s t is_s is_t = list_all-append is_clean s t ∙ and_from (list_all is_clean s) (list_all is_clean t) is_s is_t
@@ -57,24 +92,55 @@ clean_cons b t is more = and_from (is_clean b) (list_all is_clean t) is more
 pub clean_kept : (quoted : Bool) (t : List ℕ) → IsClean t → escaped quoted t ≡ t
 clean_kept quoted [] is = escaped-nil quoted
 clean_kept quoted (b ∷ t) is =
-    let p = and_parts (is_clean b) (list_all is_clean t) is in
-    let q = and_parts (printable b) (not (may_escape b)) p.0 in
+    let p = clean_first b t is in
     escaped-cons quoted b t
-    ∙ ap (λ x. x ++ escaped quoted t) (escaped_byte-plain quoted b (not-true (may_escape b) q.1))
+    ∙ ap (λ x. x ++ escaped quoted t) (escaped_byte-plain quoted b (clean_escape b p.0))
     ∙ ap (λ x. b ∷ x) (clean_kept quoted t p.1)
 
 clean_printable : (t : List ℕ) → IsClean t → list_all printable t ≡ true
 clean_printable [] is = refl
 clean_printable (b ∷ t) is =
+    let p = clean_first b t is in
+    and_from (printable b) (list_all printable t)
+    (and_from (leb 32 b) (ltb b 127) (le-leb 32 b (let low = p.0.low in omega arith)) (lt-ltb b 127 p.0.high))
+    (clean_printable t p.1)
+
+pub clean_reverse : (t : List ℕ) → IsClean t → IsClean (reverse t)
+clean_reverse [] is = refl
+clean_reverse (b ∷ t) is =
     let p = and_parts (is_clean b) (list_all is_clean t) is in
-    let q = and_parts (printable b) (not (may_escape b)) p.0 in
-    and_from (printable b) (list_all printable t) q.0 (clean_printable t p.1)
+    subst IsClean (sym (reverse-append (b ∷ []) t))
+    (clean_append (reverse t) (b ∷ []) (clean_reverse t p.1) (and_from (is_clean b) true p.0 refl))
+
+clean_space : (b : ℕ) → IsCleanByte b → is_space b ≡ false
+clean_space b is =
+    let n : (k : ℕ) → k < 40 → eqb b k ≡ false = λ k low. ne_eqb b k (λ e. omega arith) in
+    or_from (b == 9 || b == 10 || b == 13) (b == 32)
+    (or_from (b == 9 || b == 10) (b == 13)
+    (or_from (b == 9) (b == 10) (n 9 (omega arith)) (n 10 (omega arith))) (n 13 (omega arith))) (n 32 (omega arith))
+
+clean_leading : (t : List ℕ) → IsClean t → without_leading t ≡ t
+clean_leading [] is = refl
+clean_leading (b ∷ t) is =
+    ap (λ k. drop k (b ∷ t)) (cond-false (is_space b) (1 + prefix_len is_space t) 0 (clean_space b (clean_first b t is).0))
+
+-- no white space stands at its ends
+pub clean_trimmed : (t : List ℕ) → IsClean t → trimmed t ≡ t
+clean_trimmed t is =
+    ap (λ x. reverse (without_leading (reverse x))) (clean_leading t is)
+    ∙ ap reverse (clean_leading (reverse t) (clean_reverse t is)) ∙ reverse-reverse t
 
 pub clean_xml : (t : List ℕ) → IsClean t → IsXmlText t
 clean_xml t is = printable_xml t (clean_printable t is)
 
 clean_digit : (n : ℕ) → n < 10 → is_clean (48 + n) ≡ true
-clean_digit n low = clean_from (48 + n) (omega arith) (omega arith) (λ e. omega arith) (λ e. omega arith)
+clean_digit n low = clean_from (48 + n) (record {
+  low = omega arith;
+  high = omega arith;
+  no_tag = λ e. omega arith;
+  no_end = λ e. omega arith;
+  no_question = λ e. omega arith;
+})
 
 clean_digits : (width n : ℕ) → IsClean (fixed_digits width n)
 clean_digits zero n = refl
@@ -146,7 +212,13 @@ clean_hex d low =
     (λ (is : ltb d 10 ≡ true). subst C (sym (cond-true (ltb d 10) (48 + d) (97 + d - 10) is))
     (clean_digit d (ltb-true d 10 is)))
     (λ other. subst C (sym (cond-false (ltb d 10) (48 + d) (97 + d - 10) other))
-    (clean_from (97 + d - 10) (omega arith) (omega arith) (λ e. omega arith) (λ e. omega arith)))
+    (clean_from (97 + d - 10) (record {
+      low = omega arith;
+      high = omega arith;
+      no_tag = λ e. omega arith;
+      no_end = λ e. omega arith;
+      no_question = λ e. omega arith;
+    })))
     (cases_Bool (ltb d 10))
 
 clean_place : (xs : List ℕ) (k : ℕ) →
@@ -178,7 +250,8 @@ clean_label c is =
     let high : c < 127 = grind (arith, nat_tests) in
     let no60 : c ≢ 60 = λ e. grind (arith, nat_tests) in
     let no62 : c ≢ 62 = λ e. grind (arith, nat_tests) in
-    clean_from c low high no60 no62
+    let no63 : c ≢ 63 = λ e. grind (arith, nat_tests) in
+    clean_from c (record { low = low; high = high; no_tag = no60; no_end = no62; no_question = no63 })
 
 clean_segment : (c : ℕ) → is_segment_char c ≡ true → is_clean c ≡ true
 clean_segment c is =
@@ -186,7 +259,8 @@ clean_segment c is =
     let high : c < 127 = grind (arith, nat_tests) in
     let no60 : c ≢ 60 = λ e. grind (arith, nat_tests) in
     let no62 : c ≢ 62 = λ e. grind (arith, nat_tests) in
-    clean_from c low high no60 no62
+    let no63 : c ≢ 63 = λ e. grind (arith, nat_tests) in
+    clean_from c (record { low = low; high = high; no_tag = no60; no_end = no62; no_question = no63 })
 
 clean_word : (test : ℕ → Bool) → ((c : ℕ) → test c ≡ true → is_clean c ≡ true) → (word : List ℕ) →
     All (λ c. test c ≡ true) word → IsClean word

@@ -14,3 +14,5 @@ pub mod PartNodeLemmas
 pub mod FeedNodeLemmas
 -- canonical_text_is_read: the content of a document may stand in its feed
 pub mod GoodLemmas
+-- canonical_text_is_read: the elements of a content
+pub mod KidLemmas
