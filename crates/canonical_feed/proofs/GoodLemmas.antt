@@ -235,7 +235,7 @@ good_categories (c ∷ cs) depth n deep all good_n =
     (category_settings_good c (All-head IsCategory c cs all))
     (good_categories cs depth n deep (All-tail IsCategory c cs all) good_n)
 
-kind_settings_good : (kind : TextKind) → AreAmong (codes "type" ∷ []) (kind_settings kind)
+pub kind_settings_good : (kind : TextKind) → AreAmong (codes "type" ∷ []) (kind_settings kind)
 kind_settings_good Plain = record {
   good = tt;
   none = refl;

@@ -16,3 +16,7 @@ pub mod FeedNodeLemmas
 pub mod GoodLemmas
 -- canonical_text_is_read: the elements of a content
 pub mod KidLemmas
+-- canonical_text_is_read: entries, tombstones and the link to the archive before
+pub mod ReadLemmas
+-- canonical_text_is_read: the address of the archive before
+pub mod LinkLemmas
