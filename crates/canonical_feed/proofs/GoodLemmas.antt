@@ -174,7 +174,7 @@ pair_settings : (a u b v : List ℕ) → IsNew a (b ∷ []) → IsNew b [] → I
 pair_settings a u b v new_a new_b xml_u xml_v =
     more_settings a u (b ∷ []) (setting b v ∷ []) new_a xml_u (more_settings b v [] [] new_b xml_v no_settings)
 
-link_settings_good : (l : Link) → IsLink l →
+pub link_settings_good : (l : Link) → IsLink l →
     AreAmong (codes "rel" ∷ codes "href" ∷ codes "type" ∷ codes "hreflang" ∷ codes "title" ∷ codes "length" ∷ [])
     (link_settings l)
 link_settings_good l is =
@@ -213,7 +213,7 @@ good_links (l ∷ ls) depth n deep all good_n =
     (links_node ls n) (known (codes "link") refl refl) deep (link_settings_good l (All-head IsLink l ls all))
     (good_links ls depth n deep (All-tail IsLink l ls all) good_n)
 
-category_settings_good : (c : Category) → IsCategory c →
+pub category_settings_good : (c : Category) → IsCategory c →
     AreAmong (codes "term" ∷ codes "scheme" ∷ codes "label" ∷ []) (category_settings c)
 category_settings_good c is =
     let a3 = optional_setting (codes "label") c.label [] in

@@ -20,3 +20,5 @@ pub mod KidLemmas
 pub mod ReadLemmas
 -- canonical_text_is_read: the address of the archive before
 pub mod LinkLemmas
+-- canonical_text_is_read: no element is refused
+pub mod FaultLemmas

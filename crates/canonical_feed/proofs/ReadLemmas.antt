@@ -311,7 +311,7 @@ head_kids name updated n at = record {
   are = refl;
 }
 
-feed_child_id : (name : FeedName) (updated : ℤ) (n : Node) (at : ℕ) →
+pub feed_child_id : (name : FeedName) (updated : ℤ) (n : Node) (at : ℕ) →
     child (codes "id") (tree feed_scope at (head_node name updated n) nothing)
     ≡ Some (feed_id name (head_kids name updated n at).id_at)
 feed_child_id name updated n at =
@@ -319,7 +319,7 @@ feed_child_id name updated n at =
     child_is (codes "id") at (head_node name updated n) (Some (feed_id name k.id_at))
     (ap (λ cs. first_of (named_in (atom (codes "id")) cs)) k.are)
 
-feed_child_updated : (name : FeedName) (updated : ℤ) (n : Node) (at : ℕ) →
+pub feed_child_updated : (name : FeedName) (updated : ℤ) (n : Node) (at : ℕ) →
     child (codes "updated") (tree feed_scope at (head_node name updated n) nothing)
     ≡ Some (feed_updated updated (head_kids name updated n at).updated_at)
 feed_child_updated name updated n at =
