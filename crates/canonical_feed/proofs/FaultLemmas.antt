@@ -66,7 +66,7 @@ use Rattle.canonical_feed.proofs.ReadLemmas.{title_name, title_whole, tombstone_
 
 -- ---- why an element isn't refused, by its kind
 
-id_none : (from : List ℕ) (p : Placed Within) → count_before p ≡ 0 → length (cut_text p.child) ≤ text_limit →
+pub id_none : (from : List ℕ) (p : Placed Within) → count_before p ≡ 0 → length (cut_text p.child) ≤ text_limit →
     (why : FeedWhy) → IsFault from identifier why p → ⊥
 id_none from p first short (Token c) h = h
 id_none from p first short NotAFeed h = h
@@ -88,7 +88,7 @@ title_none from p first short TooLong h = omega (arith, h, short)
 title_none from p first short BadLink h = h
 title_none from p first short TooMany h = h
 
-date_none : (from : List ℕ) (p : Placed Within) (z : ℤ) → count_before p ≡ 0 → States (cut_text p.child) z →
+pub date_none : (from : List ℕ) (p : Placed Within) (z : ℤ) → count_before p ≡ 0 → States (cut_text p.child) z →
     (why : FeedWhy) → IsFault from date why p → ⊥
 date_none from p z first states (Token c) h = h
 date_none from p z first states NotAFeed h = h
@@ -99,7 +99,7 @@ date_none from p z first states TooLong h = h
 date_none from p z first states BadLink h = h
 date_none from p z first states TooMany h = h
 
-link_none : (from : List ℕ) (p : Placed Within) → (IsFault from link BadLink p → ⊥) →
+pub link_none : (from : List ℕ) (p : Placed Within) → (IsFault from link BadLink p → ⊥) →
     (why : FeedWhy) → IsFault from link why p → ⊥
 link_none from p good (Token c) h = h
 link_none from p good NotAFeed h = h
@@ -110,7 +110,7 @@ link_none from p good TooLong h = h
 link_none from p good BadLink h = good h
 link_none from p good TooMany h = h
 
-entry_none : (from : List ℕ) (p : Placed Within) → (LacksChild p.child.content → ⊥) → count_before p < item_limit →
+pub entry_none : (from : List ℕ) (p : Placed Within) → (LacksChild p.child.content → ⊥) → count_before p < item_limit →
     (why : FeedWhy) → IsFault from entry why p → ⊥
 entry_none from p whole few (Token c) h = h
 entry_none from p whole few NotAFeed h = h
@@ -121,7 +121,7 @@ entry_none from p whole few TooLong h = h
 entry_none from p whole few BadLink h = h
 entry_none from p whole few TooMany h = omega (arith, h, few)
 
-feed_none : (from : List ℕ) (p : Placed Within) → (LacksChild p.child.content → ⊥) →
+pub feed_none : (from : List ℕ) (p : Placed Within) → (LacksChild p.child.content → ⊥) →
     (why : FeedWhy) → IsFault from feed why p → ⊥
 feed_none from p whole (Token c) h = h
 feed_none from p whole NotAFeed h = h
@@ -133,7 +133,7 @@ feed_none from p whole BadLink h = h
 feed_none from p whole TooMany h = h
 
 -- the content has the children that it must have
-has_children : (c : Content) (id updated : Child) → child (codes "id") c ≡ Some id →
+pub has_children : (c : Content) (id updated : Child) → child (codes "id") c ≡ Some id →
     child (codes "updated") c ≡ Some updated → LacksChild c → ⊥
 has_children c id updated is_id is_updated lacks =
     ⊎_elim (λ none. let bad : None ≡ Some id = sym none ∙ is_id in cc)
@@ -147,26 +147,26 @@ Clear from w k n =
     (before : List Element) (at : ℕ) → length before ≤ k →
     All (IsFaultless (feed_rules from)) (all_placed (feed_rules from) w before (tree feed_scope at n nothing))
 
-said_placed : (from : List ℕ) (w : Within) (before : List Element) (cs : List ℕ) (c : Content) →
+pub said_placed : (from : List ℕ) (w : Within) (before : List Element) (cs : List ℕ) (c : Content) →
     all_placed (feed_rules from) w before (said_before cs c) ≡ all_placed (feed_rules from) w before c
 said_placed from w before [] c = refl
 said_placed from w before (k ∷ cs) c = said_placed from w before cs c
 
-clear_words : (from : List ℕ) (w : Within) (k : ℕ) (t : List ℕ) (n : Node) → Clear from w k n →
+pub clear_words : (from : List ℕ) (w : Within) (k : ℕ) (t : List ℕ) (n : Node) → Clear from w k n →
     Clear from w k (words t n)
 clear_words from w k t n clear before at few =
     subst (λ ps. All (IsFaultless (feed_rules from)) ps)
     (sym (said_placed from w before (chars t) (tree feed_scope (end_of at (chars t)) n nothing)))
     (clear before (end_of at (chars t)) few)
 
-clear_done : (from : List ℕ) (w : Within) (k : ℕ) → Clear from w k done
+pub clear_done : (from : List ℕ) (w : Within) (k : ℕ) → Clear from w k done
 clear_done from w k before at few = All-nil (IsFaultless (feed_rules from))
 
-clear_less : (from : List ℕ) (w : Within) (k : ℕ) (n : Node) → Clear from w (k + 1) n → Clear from w k n
+pub clear_less : (from : List ℕ) (w : Within) (k : ℕ) (n : Node) → Clear from w (k + 1) n → Clear from w k n
 clear_less from w k n clear before at few = clear before at (omega arith)
 
 -- one more element
-step : (from : List ℕ) (w : Within) (before : List Element) (e : Element) (inner rest : Content) →
+pub step : (from : List ℕ) (w : Within) (before : List Element) (e : Element) (inner rest : Content) →
     IsFaultless (feed_rules from) (record { within = w; before = before; child = record { element = e; content = inner } }) →
     All (IsFaultless (feed_rules from)) (all_placed (feed_rules from) (within_kind (kind_in w e.name)) [] inner) →
     All (IsFaultless (feed_rules from)) (all_placed (feed_rules from) w (before ++ e ∷ []) rest) →
@@ -181,10 +181,10 @@ step from w before e inner rest own deeper later =
     let ys = all_placed (feed_rules from) w (before ++ e ∷ []) rest in
     All-cons (IsFaultless (feed_rules from)) p (xs ++ ys) own (All-append (IsFaultless (feed_rules from)) xs ys deeper later)
 
-one_longer : (before : List Element) (e : Element) (k : ℕ) → length before ≤ k → length (before ++ e ∷ []) ≤ k + 1
+pub one_longer : (before : List Element) (e : Element) (k : ℕ) → length before ≤ k → length (before ++ e ∷ []) ≤ k + 1
 one_longer before e k few = omega (arith, length-append before (e ∷ []))
 
-skipped_step : (from : List ℕ) (w : Within) (before : List Element) (e : Element) (inner rest : Content) →
+pub skipped_step : (from : List ℕ) (w : Within) (before : List Element) (e : Element) (inner rest : Content) →
     kind_in w e.name ≡ skipped →
     All (IsFaultless (feed_rules from)) (all_placed (feed_rules from) w (before ++ e ∷ []) rest) →
     All (IsFaultless (feed_rules from)) (all_placed (feed_rules from) w before (element e inner rest))
@@ -213,7 +213,7 @@ clear_full from w k name attributes inner n is none clear before at few =
     (ap (kind_in w) (name_known tag at none) ∙ is)
     (clear (before ++ e ∷ []) behind (one_longer before e k few))
 
-clear_empty : (from : List ℕ) (w : Within) (k : ℕ) (name : QName) (attributes : List Attribute) (n : Node) →
+pub clear_empty : (from : List ℕ) (w : Within) (k : ℕ) (name : QName) (attributes : List Attribute) (n : Node) →
     kind_in w (resolved name) ≡ skipped → filter_map declared attributes ≡ [] → Clear from w (k + 1) n →
     Clear from w k (empty name attributes n)
 clear_empty from w k name attributes n is none clear before at few =
@@ -295,13 +295,13 @@ length_uuid : (xs : List ℕ) → length (hyphenated_text lower xs) ≡ 36
 length_uuid xs =
     length-by_index 36 (λ k. if is_hyphen_place k then hyphen else hex_digit lower (nibble xs (digit_place k)))
 
-length_member : (id : List ℕ) (number : ℕ) → length (member_id id number) ≤ text_limit
+pub length_member : (id : List ℕ) (number : ℕ) → length (member_id id number) ≤ text_limit
 unfolding member_id
 length_member id number =
     omega (arith, length-append (codes "urn:uuid:") (hyphenated_text lower (member_bytes id number)),
     length_uuid (member_bytes id number))
 
-length_feed : (id : List ℕ) → length (codes "urn:uuid:" ++ feed_text id) ≤ text_limit
+pub length_feed : (id : List ℕ) → length (codes "urn:uuid:" ++ feed_text id) ≤ text_limit
 length_feed id = omega (arith, length-append (codes "urn:uuid:") (feed_text id), length_uuid id)
 
 no_other : (e : Element) (nm : Name) → same_name e.name nm ≡ false →
@@ -322,7 +322,7 @@ updated_count name e at id_at title_at =
     no_other (entry_title e title_at).element (entry_updated e at).element.name
     (ap (λ nm. same_name nm (entry_updated e at).element.name) (title_name e title_at))
 
-clear_entry : (from : List ℕ) (name : FeedName) (e : EntryValue) (at : ℕ) → IsEntry e →
+pub clear_entry : (from : List ℕ) (name : FeedName) (e : EntryValue) (at : ℕ) → IsEntry e →
     All (IsFaultless (feed_rules from))
     (all_placed (feed_rules from) in_entry [] (tree feed_scope at (entry_node name e) nothing))
 clear_entry from name e at is =

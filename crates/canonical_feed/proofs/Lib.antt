@@ -22,3 +22,5 @@ pub mod ReadLemmas
 pub mod LinkLemmas
 -- canonical_text_is_read: no element is refused
 pub mod FaultLemmas
+-- canonical_text_is_read: no element of a document is refused
+pub mod ClearLemmas
