@@ -24,3 +24,5 @@ pub mod LinkLemmas
 pub mod FaultLemmas
 -- canonical_text_is_read: no element of a document is refused
 pub mod ClearLemmas
+-- canonical_text_is_read
+pub mod LawLemmas
