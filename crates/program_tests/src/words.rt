@@ -340,11 +340,23 @@ static MIRROR: [(&str, &str); 46] = [
 
 /// Words of `foreign` and words like them, in the same form.
 static FOREIGN: [(&str, &str); 32] = [
-    ("foreign --from http://a.example/f.xml", "foreign http://a.example/f.xml"),
-    ("foreign --from=http://a.example/", "foreign http://a.example/"),
-    ("foreign --from http://127.0.0.1:8080/feed", "foreign http://127.0.0.1:8080/feed"),
+    (
+        "foreign --from http://a.example/f.xml",
+        "foreign http://a.example/f.xml",
+    ),
+    (
+        "foreign --from=http://a.example/",
+        "foreign http://a.example/",
+    ),
+    (
+        "foreign --from http://127.0.0.1:8080/feed",
+        "foreign http://127.0.0.1:8080/feed",
+    ),
     ("foreign --from http://[::1]/", "foreign http://[::1]/"),
-    ("foreign --from http://a.example/%C3%A4?q=1#f", "foreign http://a.example/%C3%A4?q=1#f"),
+    (
+        "foreign --from http://a.example/%C3%A4?q=1#f",
+        "foreign http://a.example/%C3%A4?q=1#f",
+    ),
     ("foreign --from http://a.example", "usage"),
     ("foreign --from http://a.example:80/", "usage"),
     ("foreign --from http://A.example/", "usage"),
@@ -365,8 +377,14 @@ static FOREIGN: [(&str, &str); 32] = [
     ("foreign --from=", "usage"),
     ("foreign --from ", "usage"),
     ("foreign http://a.example/", "usage"),
-    ("foreign --from http://a.example/ http://a.example/", "usage"),
-    ("foreign --from http://a.example/ --from http://a.example/", "usage"),
+    (
+        "foreign --from http://a.example/ http://a.example/",
+        "usage",
+    ),
+    (
+        "foreign --from http://a.example/ --from http://a.example/",
+        "usage",
+    ),
     ("foreign --from http://a.example/ --fetch", "usage"),
     ("foreign --from http://a.example/ --", "usage"),
     ("foreign *base", "usage"),
