@@ -22,7 +22,7 @@ use Rattle.feed_reader.specs.Feed.{DocumentValue}
 use Rattle.foreign_entries.specs.Live.{IsForeignLive}
 use Rattle.foreign_mirror.specs.Laws.{WalksEndInOneWay}
 use Rattle.foreign_mirror.specs.declared.walk.ChainEnd.TheVariants.{Complete}
-use Rattle.own_chain.specs.Laws.{OwnChainsAreRead}
+use Rattle.own_chain.specs.Laws.{OwnChainsAreRead, OwnChainsAreWalked}
 use Rattle.own_chain.specs.Served.{address_in}
 use Rattle.own_chain.proofs.CountsLemmas.{IsOfFeed}
 use Rattle.own_chain.proofs.LiveLemmas.{LiveCounts, live-entries}
@@ -69,6 +69,10 @@ chain-counts head history is_head lawful number entry =
       λ one. sym shown ∙ counts.0 one,
       λ live. counts.1 (shown ∙ live),
     )
+
+pub own-walked : CanonicalTextIsRead → OwnChainsAreWalked
+own-walked canonical head history answers serves =
+    chain-walk canonical head history answers serves (law-of_chain head history serves.is_head serves.is_lawful).rules
 
 pub own-read : CanonicalTextIsRead → WalksEndInOneWay → OwnChainsAreRead
 own-read canonical one_way head history answers asked documents end serves walks =

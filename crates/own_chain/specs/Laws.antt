@@ -1,4 +1,4 @@
--- The law that the crates above cite. It is a clause of a function of laws.rt.
+-- The laws that the crates above cite. Each is a clause of a function of laws.rt.
 use Rattle.std.specs.Prelude.{◌≡◌, ℕ, List, Option, map}
 use Rattle.chain_links.specs.Address.{printed}
 use Rattle.chain_links.specs.declared.address.Address.TheVariants.{Feed}
@@ -24,7 +24,14 @@ pub record ReadsTheChain (head : HeadValue) (history : List Op) (asked : List (L
   pub documents_are : documents ≡ map foreign_document (chain head history)
   pub live : (live : List ForeignEntry) → IsForeignLive documents live → AreLiveEntries head history live
 
--- so does each walk that comes to an end
+-- a source that serves the chain has such a walk
+abbrev pub OwnChainsAreWalked : Type 0
+OwnChainsAreWalked =
+    (head : HeadValue) (history : List Op) (answers : List ℕ → Option (List ℕ)) → ServesChain head history answers
+    → WalksFrom answers (printed head.name.base Feed) (map (address_in head.name.base) (chain head history))
+    (map foreign_document (chain head history)) (over Complete)
+
+-- each walk that comes to an end is that one
 abbrev pub OwnChainsAreRead : Type 0
 OwnChainsAreRead =
     (head : HeadValue) (history : List Op) (answers : List ℕ → Option (List ℕ)) (asked : List (List ℕ))

@@ -1,5 +1,5 @@
 -- A source that serves the chain of one of this project's feeds, and what a foreign walk finds there.
-use Rattle.std.specs.Prelude.{◌≡◌, ◌↔◌, ℕ, ◌≤◌, List, Option, Some, All, Contains, IsTrue}
+use Rattle.std.specs.Prelude.{◌≡◌, ◌↔◌, ℕ, ◌≤◌, List, Option, Some, All, Contains}
 use Rattle.atom_values.specs.Entry.{EntryValue}
 use Rattle.atom_writer.specs.Doc.{DocValue}
 use Rattle.atom_writer.specs.Pieces.{own_address, text}
@@ -13,7 +13,6 @@ use Rattle.member_rules.specs.Windows.{windows_of}
 use Rattle.member_rules.specs.declared.operation.Op.{Op}
 use Rattle.feed_reader.specs.declared.values.ForeignEntry.{ForeignEntry}
 use Rattle.foreign_entries.specs.Live.{IsRising}
-use Rattle.foreign_mirror.specs.Walk.{is_http}
 use Rattle.canonical_feed.specs.Reading.{foreign_entry}
 
 -- the address of a document of the feed with this base
@@ -29,12 +28,11 @@ pub record IsAnsweredWith (answers : List ℕ → Option (List ℕ)) (base : Lis
 abbrev pub archive_limit : ℕ
 archive_limit = 9_999
 
--- the source serves the chain of a feed over HTTP, as it was after this lawful history
+-- the source serves the chain of a feed, as it was after this lawful history
 pub record ServesChain (head : HeadValue) (history : List Op) (answers : List ℕ → Option (List ℕ)) : Type 0 where
   pub is_head : IsHead head
   pub is_lawful : IsLawful head history
   pub few : (windows_of head history).sealed ≤ archive_limit
-  pub http : IsTrue (is_http head.name.base)
   pub answered : All (IsAnsweredWith answers head.name.base) (chain head history)
 
 -- the entry is what a reader of any server's feeds takes of one of the history's live entries

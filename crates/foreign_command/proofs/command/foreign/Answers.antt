@@ -22,7 +22,7 @@ returns-in-Ok-clause-walks g c = λ observable.
       own = λ head history serves same answered.
           ends-printed (IsOwnAnswer head history) g.O.Sink.observable (g.O.Sink.state c.args.output.now)
           (g.O.Sink.state c.end_printed.new.output) (printed_answer c.in-Ok.printed) (code_of c.end_printed.result)
-          (own_answer c.own_chains_are_read.ensures _ c.args.from.now (printed_answer c.in-Ok.printed) head history
+          (own_answer c.own_chains_are_read.ensures.read _ c.args.from.now (printed_answer c.in-Ok.printed) head history
           (c.in-Ok.ensures.given observable) serves same)
           c.in-Ok.ensures.ends c.end_printed.ensures.ends c.end_printed.ensures.prints c.end_printed.ensures.whole;
     }
