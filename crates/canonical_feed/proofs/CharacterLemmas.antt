@@ -1,7 +1,7 @@
 -- The characters of content as the canonical text writes them, one after another.
-use Rattle.std.proofs.Common.{◌≡◌, ◌≢◌, ◌⊎◌, ℕ, ◌+◌, ◌<◌, ◌≤◌, Bool, true, false, ◌&&◌, ◌||◌, ◌==◌, eqb, List, [], ◌∷◌}
+use Rattle.std.proofs.Common.{◌≡◌, ◌≢◌, ℕ, ◌+◌, ◌<◌, ◌≤◌, Bool, true, false, ◌||◌, ◌==◌, eqb, List, [], ◌∷◌}
 use Rattle.std.proofs.Common.{◌++◌, length, ltb, refl, sym, ap, subst, ◌∙◌, ⊎_elim, inl, inr, codes, arith, append_assoc}
-use Rattle.std.proofs.Common.{lit<, cond, ◌/◌, ◌%◌}
+use Rattle.std.proofs.Common.{lit<, ◌/◌, ◌%◌}
 use Rattle.std.specs.Prelude.{if◌then◌else◌, chars}
 use Rattle.std.specs.List.{list_all}
 use Rattle.std.proofs.Math.Utf8.{encode, encodes, scalar, scalars}
@@ -14,7 +14,7 @@ use Rattle.atom_values.proofs.EscapeLemmas.{escaped-nil, escaped-append, escaped
 use Rattle.xml_tokens.specs.Characters.{begins, IsReference}
 use Rattle.xml_tokens.specs.Tokens.{IsSpelled}
 use Rattle.xml_tokens.specs.Tokens.Token.{character, referred}
-use Rattle.xml_tokens.specs.Stages.{Open, Stage, Lexeme, CanStand, CanAllStand, lexemes_text, stage_after}
+use Rattle.xml_tokens.specs.Stages.{Open, Lexeme, CanStand, CanAllStand, lexemes_text, stage_after}
 use Rattle.xml_tokens.specs.Stages.Stage.{inside}
 use Rattle.xml_tokens.specs.Tree.{Content, contents, events, events_of, with_said}
 use Rattle.xml_tokens.specs.Tree.Content.{said}
@@ -198,18 +198,18 @@ as_ordinary c is xml o = record {
   text = sym (ordinary_kept c o);
   safe = ordinary_safe c o;
   spelled = λ rest safe. (
-      (one_character c is xml).0,
-      inl (
-        refl,
-        record {
-          is_character = one_character c is xml;
-          no_tag = not_one c 60 (omega arith) o.no_tag;
-          no_reference = not_one c 38 (omega arith) o.no_and;
-          no_line_end = not_one c 13 (omega arith) o.no_cr;
-          no_section_end = no_section_end c rest safe;
-        },
-      ),
-    );
+    (one_character c is xml).0,
+    inl (
+      refl,
+      record {
+        is_character = one_character c is xml;
+        no_tag = not_one c 60 (omega arith) o.no_tag;
+        no_reference = not_one c 38 (omega arith) o.no_and;
+        no_line_end = not_one c 13 (omega arith) o.no_cr;
+        no_section_end = no_section_end c rest safe;
+      },
+    ),
+  );
   stands = λ most e outer. inl tt;
   stays = λ e outer. refl;
   says = λ e outer at. refl;

@@ -1,19 +1,19 @@
 -- Texts that are written as they are: identifiers, timestamps, numbers and addresses.
-use Rattle.std.proofs.Common.{◌≡◌, ◌≢◌, ℕ, zero, suc, ◌+◌, ◌-◌, ◌*◌, ◌/◌, ◌%◌, ◌<◌, ◌≤◌, ◌^◌, Bool, true, false, cond, ◌&&◌, ◌||◌}
+use Rattle.std.proofs.Common.{◌≡◌, ◌≢◌, ℕ, zero, suc, ◌+◌, ◌-◌, ◌/◌, ◌%◌, ◌<◌, ◌≤◌, ◌^◌, Bool, true, false, ◌&&◌, ◌||◌}
 use Rattle.std.proofs.Common.{◌==◌, eqb, not, List, [], ◌∷◌, ◌++◌, ltb, leb, nat_lt, refl, sym, ap, subst, ◌∙◌, codes, arith, All}
 use Rattle.std.proofs.Common.{decimal, drop, nat_le, reverse, ℤ, Option, Some, None, ⊎_elim}
 use Rattle.std.specs.Prelude.{if◌then◌else◌, flat_map}
-use Rattle.std.specs.List.{join_with_byte, list_all, prefix_len}
-use Rattle.std.proofs.lemmas.Bool.{and_from, and_parts, cases_Bool, cond-true, cond-false, le-leb, lt-ltb, ltb-true, ltb-false}
+use Rattle.std.specs.List.{list_all, prefix_len}
+use Rattle.std.proofs.lemmas.Bool.{and_from, and_parts, cases_Bool, cond-true, cond-false, le-leb, lt-ltb, ltb-true}
 use Rattle.std.proofs.lemmas.Bool.{eqb-false, leb-true, ne_eqb, or_from, not-true}
 use Rattle.std.proofs.lemmas.List.{reverse-append, reverse-reverse}
 use Rattle.std.proofs.lemmas.Bool.Decides.{nat_tests}
 use Rattle.std.proofs.lemmas.Fmt.{decimal_by_steps}
 use Rattle.std.proofs.lemmas.List.Elements.{All-head, All-tail}
 use Rattle.std.proofs.lemmas.List.Folds.{list_all-append}
-use Rattle.atom_values.specs.Escape.{escaped, escaped_byte, may_escape}
+use Rattle.atom_values.specs.Escape.{escaped, may_escape}
 use Rattle.atom_values.specs.Space.{is_space, trimmed, without_leading}
-use Rattle.atom_values.specs.Stamp.{printed, date_text, clock_text, fixed_digits, fraction_text, since_year_zero, time_text}
+use Rattle.atom_values.specs.Stamp.{printed, date_text, clock_text, fixed_digits, fraction_text, since_year_zero}
 use Rattle.atom_values.specs.Calendar.{year_of, month_of, day_of}
 use Rattle.atom_values.specs.XmlText.{IsXmlText}
 use Rattle.atom_values.proofs.EscapeLemmas.{escaped-nil, escaped-cons, escaped_byte-plain}

@@ -1,7 +1,7 @@
 -- No element of a document is refused.
-use Rattle.std.proofs.Common.{◌≡◌, ◌≢◌, ◌⊎◌, ℕ, ◌+◌, ◌<◌, ◌≤◌, Bool, true, false, cond, List, [], ◌∷◌, ◌++◌, length, ℤ, Option}
-use Rattle.std.proofs.Common.{Some, None, refl, sym, ap, subst, ◌∙◌, codes, arith, All, decimal, inl, inr, ⊎_elim, length-append}
-use Rattle.std.specs.Prelude.{◌==◌, if◌then◌else◌, chars, filter, filter_map, IsTrue}
+use Rattle.std.proofs.Common.{◌≡◌, ℕ, ◌+◌, ◌<◌, ◌≤◌, Bool, true, false, cond, List, [], ◌∷◌, ◌++◌, length, ℤ}
+use Rattle.std.proofs.Common.{Some, None, refl, sym, subst, ◌∙◌, codes, arith, All, decimal, ⊎_elim}
+use Rattle.std.specs.Prelude.{◌==◌, if◌then◌else◌, chars, filter}
 use Rattle.std.proofs.lemmas.Bool.{both_ways}
 use Rattle.std.proofs.lemmas.List.Elements.{All-head, All-nil, All-tail}
 use Rattle.atom_values.specs.DateText.{States}
@@ -23,16 +23,16 @@ use Rattle.atom_writer.specs.declared.doc.Kind.{Kind as Role}
 use Rattle.atom_writer.specs.declared.doc.Kind.TheVariants.{Subscription, Archive as Sealed}
 use Rattle.atom_writer.specs.Doc.{DocValue, IsDoc}
 use Rattle.atom_writer.specs.Pieces.{own_address}
-use Rattle.xml_tokens.specs.Tree.{Content, Element, element_of}
-use Rattle.xml_tokens.specs.Tree.Content.{nothing, element}
-use Rattle.xml_tokens.specs.Children.{Child, attribute, child, same_name}
+use Rattle.xml_tokens.specs.Tree.{Element}
+use Rattle.xml_tokens.specs.Tree.Content.{nothing}
+use Rattle.xml_tokens.specs.Children.{Child, attribute, same_name}
 use Rattle.feed_reader.specs.declared.fault.FeedWhy.{FeedWhy}
 use Rattle.feed_reader.specs.declared.fault.FeedWhy.TheVariants.{Token, NotAFeed, Missing, Twice, BadDate, TooLong}
 use Rattle.feed_reader.specs.declared.fault.FeedWhy.TheVariants.{BadLink, TooMany}
 use Rattle.feed_reader.specs.Order.{Placed, IsFaultless, all_placed, count_before, name_of}
-use Rattle.feed_reader.specs.Feed.{cut_text, item_limit, joined_to, target}
-use Rattle.feed_reader.specs.FeedFaults.{Within, IsFault, feed_rules, kind_in, within_kind}
-use Rattle.feed_reader.specs.FeedFaults.Within.{at_root, in_feed, in_entry, in_skipped}
+use Rattle.feed_reader.specs.Feed.{item_limit, joined_to}
+use Rattle.feed_reader.specs.FeedFaults.{Within, IsFault, feed_rules}
+use Rattle.feed_reader.specs.FeedFaults.Within.{at_root, in_feed}
 use Rattle.feed_reader.specs.FeedFaults.Kind.{link, tombstone}
 use Rattle.feed_reader.specs.FeedDocument.{IsRefusalIn}
 use Rattle.feed_reader.proofs.FeedFaultLemmas.{skipped_faultless}

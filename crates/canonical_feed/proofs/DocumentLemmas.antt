@@ -1,24 +1,23 @@
 -- A whole document: the declaration, the tag of the feed, its content and the tag behind it.
-use Rattle.std.proofs.Common.{◌≡◌, ℕ, ◌+◌, ◌<◌, true, false, List, [], ◌∷◌, ◌++◌, length, refl, sym, ap, subst, ◌∙◌, inl, inr}
-use Rattle.std.proofs.Common.{codes, lit<, append_assoc, arith}
+use Rattle.std.proofs.Common.{◌≡◌, ℕ, ◌+◌, List, [], ◌∷◌, ◌++◌, length, refl, sym, ap, subst, ◌∙◌, inl, inr}
+use Rattle.std.proofs.Common.{codes, lit<, append_assoc}
 use Rattle.std.specs.Prelude.{bytes_eq, chars, None, Some}
 use Rattle.std.specs.List.{IsDistinct}
 use Rattle.atom_values.specs.Ascii.{lf}
-use Rattle.atom_values.specs.Escape.{escaped}
 use Rattle.atom_values.specs.XmlText.{IsXmlText}
 use Rattle.xml_tokens.specs.Characters.{QName}
 use Rattle.xml_tokens.specs.Tokens.{Attribute, Tag, IsDeclaration, IsLiteral, IsSetting}
 use Rattle.xml_tokens.specs.Tokens.Token.{character, declaration}
-use Rattle.xml_tokens.specs.Stages.{Open, Scope, Stage, Lexeme, CanAllStand, IsWhole, inner_scope, last_stage, lexemes_text}
+use Rattle.xml_tokens.specs.Stages.{Open, Scope, Stage, Lexeme, CanAllStand, IsWhole, inner_scope, lexemes_text}
 use Rattle.xml_tokens.specs.Stages.{outer_scope, stage_after}
-use Rattle.xml_tokens.specs.Stages.Stage.{start, prolog, inside, epilog}
+use Rattle.xml_tokens.specs.Stages.Stage.{start, epilog}
 use Rattle.xml_tokens.specs.Tree.{Content, Element, IsDocument, contents, element_of, events, with_element}
 use Rattle.xml_tokens.specs.Tree.Content.{nothing, element}
 use Rattle.xml_tokens.proofs.SuffixLemmas.{line_xml}
 use Rattle.std.proofs.lemmas.Str.{chars-IsAscii}
 use Rattle.xml_tokens.proofs.XmlLemmas.{ascii_one, printable_xml, xml_append, xml_nil, xml_parts}
 use Rattle.canonical_feed.proofs.CharacterLemmas.{Stand}
-use Rattle.canonical_feed.proofs.NodeLemmas.{Node, IsGood, IsGoodTag, after, begin_tag, close_is, close_lexeme, close_text}
+use Rattle.canonical_feed.proofs.NodeLemmas.{Node, IsGood, IsGoodTag, begin_tag, close_is, close_lexeme}
 use Rattle.canonical_feed.proofs.NodeLemmas.{close_xml, lex, node_text, open_lexeme, safe_tag, stands, stays, tag_is, tag_text}
 use Rattle.canonical_feed.proofs.NodeLemmas.{tag_xml, text_is, tree, tree_is}
 

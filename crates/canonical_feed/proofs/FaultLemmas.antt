@@ -1,8 +1,8 @@
 -- No element of the content of a document is refused.
-use Rattle.std.proofs.Common.{◌≡◌, ◌≢◌, ◌⊎◌, ℕ, ◌+◌, ◌<◌, ◌≤◌, Bool, true, false, cond, List, [], ◌∷◌, ◌++◌, length, ℤ, Option}
-use Rattle.std.proofs.Common.{Some, None, refl, sym, ap, subst, ◌∙◌, codes, arith, All, decimal, inl, inr, ⊎_elim, length-append}
-use Rattle.std.specs.Prelude.{◌==◌, if◌then◌else◌, chars, filter, filter_map, IsTrue}
-use Rattle.std.proofs.lemmas.Bool.{both_ways, cond-false}
+use Rattle.std.proofs.Common.{◌≡◌, ℕ, ◌+◌, ◌<◌, ◌≤◌, false, List, [], ◌∷◌, ◌++◌, length, ℤ, Option}
+use Rattle.std.proofs.Common.{Some, None, refl, sym, ap, subst, ◌∙◌, codes, arith, All, ⊎_elim, length-append}
+use Rattle.std.specs.Prelude.{if◌then◌else◌, chars, filter, filter_map}
+use Rattle.std.proofs.lemmas.Bool.{cond-false}
 use Rattle.std.proofs.lemmas.List.Elements.{All-append, All-cons, All-head, All-nil, All-tail}
 use Rattle.atom_values.specs.declared.category.Category.{Category}
 use Rattle.atom_values.specs.declared.link.Link.{Link}
@@ -12,57 +12,42 @@ use Rattle.atom_values.specs.Category.{IsCategory}
 use Rattle.atom_values.specs.Link.{IsLink}
 use Rattle.atom_values.specs.DateText.{States}
 use Rattle.atom_values.specs.Entry.{EntryValue, IsEntry}
-use Rattle.atom_values.specs.Space.{trimmed}
 use Rattle.atom_values.specs.Stamp as stamp
 use Rattle.atom_values.specs.XmlText.{text_limit}
 use Rattle.chain_links.specs.Address as address
-use Rattle.chain_links.specs.declared.address.Address.{Address}
-use Rattle.chain_links.specs.declared.address.Address.TheVariants.{Feed, Archive, Member}
-use Rattle.chain_links.specs.declared.place.Span.{Span}
+use Rattle.chain_links.specs.declared.address.Address.TheVariants.{Member}
 use Rattle.deleted_entries.specs.FeedId.{feed_text, member_bytes, member_id}
-use Rattle.deleted_entries.specs.Item.{IsItem}
-use Rattle.deleted_entries.specs.Tombstone.{TombstoneValue, IsTombstone}
-use Rattle.deleted_entries.specs.declared.item.Item.{Item}
-use Rattle.deleted_entries.specs.declared.item.Item.TheVariants.{Kept, Gone}
 use Rattle.deleted_entries.proofs.IdLemmas.{length-by_index}
 use Rattle.uuid.specs.Text.{digit_place, hex_digit, hyphen, hyphenated_text, is_hyphen_place, lower, nibble}
 use Rattle.atom_writer.specs.declared.doc.FeedName.{FeedName}
-use Rattle.atom_writer.specs.declared.doc.Kind.{Kind as Role}
-use Rattle.atom_writer.specs.declared.doc.Kind.TheVariants.{Subscription, Archive as Sealed}
-use Rattle.atom_writer.specs.Doc.{DocValue, IsDoc, span_len}
-use Rattle.atom_writer.specs.Pieces.{own_address}
 use Rattle.xml_tokens.specs.Characters.{QName}
 use Rattle.xml_tokens.specs.Tokens.{Attribute}
 use Rattle.xml_tokens.specs.Stages.{declared, inner_scope}
 use Rattle.xml_tokens.specs.Tree.{Content, Element, Name, element_of}
 use Rattle.xml_tokens.specs.Tree.Content.{nothing, element}
-use Rattle.xml_tokens.specs.Children.{Child, attribute, child, same_name}
+use Rattle.xml_tokens.specs.Children.{Child, child, same_name}
 use Rattle.feed_reader.specs.declared.fault.FeedWhy.{FeedWhy}
 use Rattle.feed_reader.specs.declared.fault.FeedWhy.TheVariants.{Token, NotAFeed, Missing, Twice, BadDate, TooLong}
 use Rattle.feed_reader.specs.declared.fault.FeedWhy.TheVariants.{BadLink, TooMany}
-use Rattle.feed_reader.specs.Order.{Placed, IsFaultless, all_placed, count_before, name_of}
-use Rattle.feed_reader.specs.Feed.{cut_text, item_limit, joined_to, whole_text}
-use Rattle.feed_reader.specs.FeedFaults.{Within, Kind, IsFault, LacksChild, feed_rules, kind_in, within_kind}
-use Rattle.feed_reader.specs.FeedFaults.Within.{at_root, in_feed, in_entry, in_skipped}
-use Rattle.feed_reader.specs.FeedFaults.Kind.{feed, entry, tombstone, identifier, title, date, link, skipped}
-use Rattle.feed_reader.specs.FeedDocument.{placed_in}
+use Rattle.feed_reader.specs.Order.{Placed, IsFaultless, all_placed, count_before}
+use Rattle.feed_reader.specs.Feed.{cut_text, item_limit, whole_text}
+use Rattle.feed_reader.specs.FeedFaults.{Within, IsFault, LacksChild, feed_rules, kind_in, within_kind}
+use Rattle.feed_reader.specs.FeedFaults.Within.{in_entry}
+use Rattle.feed_reader.specs.FeedFaults.Kind.{feed, entry, identifier, title, date, link, skipped}
 use Rattle.feed_reader.proofs.FeedFaultLemmas.{skipped_faultless}
 use Rattle.canonical_feed.proofs.CharacterLemmas.{end_of, said_before}
-use Rattle.canonical_feed.proofs.CleanLemmas.{clean_member, clean_trimmed}
-use Rattle.canonical_feed.proofs.DocumentLemmas.{content_at, content_of, feed_element, feed_scope}
-use Rattle.canonical_feed.proofs.FeedNodeLemmas.{archive_name, current_node, feed_node, head_node, items_node, line, link_line}
-use Rattle.canonical_feed.proofs.FeedNodeLemmas.{next_node, place_node, prev_node, span_name, span_node, tombstone_name}
+use Rattle.canonical_feed.proofs.DocumentLemmas.{feed_scope}
 use Rattle.canonical_feed.proofs.GoodLemmas.{category_settings_good, kind_settings_good, link_settings_good}
-use Rattle.canonical_feed.proofs.KidLemmas.{empty_kid, kid_of, name_known, resolved}
+use Rattle.canonical_feed.proofs.KidLemmas.{name_known, resolved}
 use Rattle.canonical_feed.proofs.NodeLemmas.{Node, after, begin_tag, close_text, empty_tag, tag_text, tree}
 use Rattle.canonical_feed.proofs.NodeLemmas.Node.{done, words, empty, full}
 use Rattle.canonical_feed.proofs.PartNodeLemmas.{back_node, categories_node, category_settings, construct_node, edited_name}
 use Rattle.canonical_feed.proofs.PartNodeLemmas.{entry_node, holds, kind_settings, link_settings, links_node}
-use Rattle.canonical_feed.proofs.PartNodeLemmas.{optional_construct_node, optional_holds, person_node, persons_node, plain, published_node}
+use Rattle.canonical_feed.proofs.PartNodeLemmas.{optional_construct_node, optional_holds, persons_node, plain, published_node}
 use Rattle.canonical_feed.proofs.PartNodeLemmas.{relation_node, rest_node, setting}
-use Rattle.canonical_feed.proofs.ReadLemmas.{entry_child_id, entry_child_updated, entry_id, entry_title, entry_updated, feed_child_id}
-use Rattle.canonical_feed.proofs.ReadLemmas.{feed_child_updated, feed_id, feed_id_cut, feed_updated, id_cut, stamp_states}
-use Rattle.canonical_feed.proofs.ReadLemmas.{title_name, title_whole, tombstone_kid, when_states}
+use Rattle.canonical_feed.proofs.ReadLemmas.{entry_id, entry_title, entry_updated}
+use Rattle.canonical_feed.proofs.ReadLemmas.{id_cut, stamp_states}
+use Rattle.canonical_feed.proofs.ReadLemmas.{title_name, title_whole}
 
 -- ---- why an element isn't refused, by its kind
 
@@ -298,8 +283,11 @@ length_uuid xs =
 pub length_member : (id : List ℕ) (number : ℕ) → length (member_id id number) ≤ text_limit
 unfolding member_id
 length_member id number =
-    omega (arith, length-append (codes "urn:uuid:") (hyphenated_text lower (member_bytes id number)),
-    length_uuid (member_bytes id number))
+    omega (
+      arith,
+      length-append (codes "urn:uuid:") (hyphenated_text lower (member_bytes id number)),
+      length_uuid (member_bytes id number),
+    )
 
 pub length_feed : (id : List ℕ) → length (codes "urn:uuid:" ++ feed_text id) ≤ text_limit
 length_feed id = omega (arith, length-append (codes "urn:uuid:") (feed_text id), length_uuid id)

@@ -1,5 +1,5 @@
 -- The pieces of a document as content, and its text.
-use Rattle.std.proofs.Common.{◌≡◌, ℕ, ◌+◌, ◌<◌, ◌≤◌, ◌^◌, true, false, List, [], ◌∷◌, ◌++◌, ℤ, map, All, decimal, refl, sym, ap}
+use Rattle.std.proofs.Common.{◌≡◌, ℕ, ◌+◌, ◌<◌, ◌^◌, true, false, List, [], ◌∷◌, ◌++◌, ℤ, map, All, decimal, refl, sym, ap}
 use Rattle.std.proofs.Common.{◌∙◌, codes, arith, append_assoc, append-nil}
 use Rattle.std.specs.Prelude.{◌==◌, if◌then◌else◌}
 use Rattle.std.proofs.lemmas.List.Elements.{All-head, All-tail}
@@ -17,11 +17,11 @@ use Rattle.deleted_entries.specs.declared.item.Item.TheVariants.{Kept, Gone}
 use Rattle.atom_writer.specs.declared.doc.FeedName.{FeedName}
 use Rattle.atom_writer.specs.declared.doc.Kind.{Kind}
 use Rattle.atom_writer.specs.declared.doc.Kind.TheVariants.{Subscription, Archive as Sealed}
-use Rattle.atom_writer.specs.Doc.{DocValue, HasNext, IsDoc, archive_limit}
+use Rattle.atom_writer.specs.Doc.{DocValue, HasNext, IsDoc}
 use Rattle.atom_writer.specs.Entries.{inner_text}
-use Rattle.atom_writer.specs.Pieces.{author_piece, current_pieces, declaration_piece, entry_piece, id_piece, item_piece, joined}
+use Rattle.atom_writer.specs.Pieces.{current_pieces, declaration_piece, entry_piece, id_piece, item_piece, joined}
 use Rattle.atom_writer.specs.Pieces.{link_piece, name_pieces, next_pieces, open_piece, own_address, place_pieces, prev_pieces}
-use Rattle.atom_writer.specs.Pieces.{span_piece, text, title_piece, tombstone_piece, updated_piece}
+use Rattle.atom_writer.specs.Pieces.{span_piece, text, tombstone_piece, updated_piece}
 use Rattle.atom_writer.proofs.PieceLemmas.{has_next, joined-cons, joined-none, joined-place, text-is}
 use Rattle.xml_tokens.specs.Characters.{QName, name_text}
 use Rattle.canonical_feed.proofs.CleanLemmas.{IsNumbered, clean_address, clean_decimal, clean_feed, clean_member, clean_stamp}
@@ -192,10 +192,11 @@ prev_text name prev n is few =
     let link = link_piece (codes "prev-archive") name (Archive prev) in
     elim (prev == 0) as (λ b.
     node_text (if b then n else link_line (codes "prev-archive") name (Archive prev) n)
-    ≡ joined (if b then [] else link ∷ []) ++ node_text n)
-    [ true ↦ ap (λ x. x ++ node_text n) (sym joined-none)
-    | false ↦ link_line_text (codes "prev-archive") name (Archive prev) n refl is few
-    ∙ ap (λ x. x ++ node_text n) (sym (joined-cons link [] ∙ ap (λ x. link ++ x) joined-none ∙ append-nil link)) ]
+    ≡ joined (if b then [] else link ∷ []) ++ node_text n) [
+      | true ↦ ap (λ x. x ++ node_text n) (sym joined-none)
+      | false ↦ link_line_text (codes "prev-archive") name (Archive prev) n refl is few
+          ∙ ap (λ x. x ++ node_text n) (sym (joined-cons link [] ∙ ap (λ x. link ++ x) joined-none ∙ append-nil link))
+    ]
 
 archive_text : (n : Node) → node_text (empty archive_name [] (line n)) ≡ codes "<fh:archive/>\n" ++ node_text n
 archive_text n = ap (λ x. codes "<fh:archive/>" ++ x) (line_text n)

@@ -1,6 +1,6 @@
 -- The content of a document may stand in its feed.
-use Rattle.std.proofs.Common.{◌≡◌, ℕ, ◌+◌, ◌<◌, ◌^◌, Bool, true, false, List, [], ◌∷◌, ◌++◌, ℤ, map, All, decimal, Option}
-use Rattle.std.proofs.Common.{Some, None, refl, sym, ap, subst, inl, inr, codes, arith, cond}
+use Rattle.std.proofs.Common.{◌≡◌, ℕ, ◌+◌, ◌<◌, ◌^◌, true, false, List, [], ◌∷◌, ◌++◌, ℤ, map, All, decimal, Option}
+use Rattle.std.proofs.Common.{Some, None, refl, sym, subst, inl, inr, codes, arith}
 use Rattle.std.specs.Prelude.{◌==◌, if◌then◌else◌, bytes_eq, filter_map, is_some, IfSome, IsTrue}
 use Rattle.std.specs.List.{AllByRecursion, IsDistinct, list_all}
 use Rattle.std.proofs.lemmas.List.Elements.{All-head, All-tail}
@@ -31,20 +31,20 @@ use Rattle.atom_writer.specs.declared.doc.Kind.TheVariants.{Subscription, Archiv
 use Rattle.atom_writer.specs.Doc.{DocValue, HasNext, IsDoc, IsFeedName}
 use Rattle.atom_writer.specs.Pieces.{own_address}
 use Rattle.xml_tokens.specs.Characters.{QName, IsName, IsQName, name_text}
-use Rattle.xml_tokens.specs.Tokens.{Attribute, Tag}
-use Rattle.xml_tokens.specs.Stages.{Binding, Scope, declared, inner_scope, namespace_of}
+use Rattle.xml_tokens.specs.Tokens.{Attribute}
+use Rattle.xml_tokens.specs.Stages.{Binding, declared, namespace_of}
 use Rattle.xml_tokens.proofs.SuffixLemmas.{line_xml}
 use Rattle.xml_tokens.proofs.XmlLemmas.{printable}
 use Rattle.canonical_feed.proofs.CleanLemmas.{IsClean, IsNumbered, clean_address, clean_decimal, clean_feed, clean_member}
 use Rattle.canonical_feed.proofs.CleanLemmas.{clean_stamp, clean_xml}
 use Rattle.canonical_feed.proofs.DocumentLemmas.{feed_scope}
-use Rattle.canonical_feed.proofs.NodeLemmas.{Node, AreGoodAttributes, IsAllowed, IsGood, IsGoodTag, begin_tag}
+use Rattle.canonical_feed.proofs.NodeLemmas.{Node, AreGoodAttributes, IsGood, IsGoodTag, begin_tag}
 use Rattle.canonical_feed.proofs.NodeLemmas.Node.{done, words, empty, full}
 use Rattle.canonical_feed.proofs.PartNodeLemmas.{back_node, categories_node, category_settings, construct_node, edited_name}
 use Rattle.canonical_feed.proofs.PartNodeLemmas.{entry_node, holds, kind_settings, link_settings, links_node}
 use Rattle.canonical_feed.proofs.PartNodeLemmas.{optional_construct_node, optional_holds, optional_setting, person_node}
 use Rattle.canonical_feed.proofs.PartNodeLemmas.{persons_node, plain, published_node, relation_node, relation_setting}
-use Rattle.canonical_feed.proofs.PartNodeLemmas.{rest_node, setting}
+use Rattle.canonical_feed.proofs.PartNodeLemmas.{setting}
 use Rattle.canonical_feed.proofs.FeedNodeLemmas.{archive_name, current_node, feed_node, head_node, item_node, items_node}
 use Rattle.canonical_feed.proofs.FeedNodeLemmas.{kind_next, line, link_line, next_node, own_numbered, place_node, prev_node}
 use Rattle.canonical_feed.proofs.FeedNodeLemmas.{span_name, span_node, tombstone_name}
@@ -146,13 +146,15 @@ relation_settings : (l : Link) (names : List (List ℕ)) (more : List Attribute)
     IsXmlText l.rel → AreAmong names more → AreAmong (codes "rel" ∷ names) (relation_setting l more)
 relation_settings l names more new xml are =
     elim (has_relation (codes "alternate") l) as (λ b.
-    AreAmong (codes "rel" ∷ names) (if b then more else setting (codes "rel") l.rel ∷ more))
-    [ true ↦ record {
-      good = are.good;
-      none = are.none;
-      distinct = are.distinct;
-      each = λ x apart. are.each x apart.1;
-    } | false ↦ more_settings (codes "rel") l.rel names more new xml are ]
+    AreAmong (codes "rel" ∷ names) (if b then more else setting (codes "rel") l.rel ∷ more)) [
+      | true ↦ record {
+        good = are.good;
+        none = are.none;
+        distinct = are.distinct;
+        each = λ x apart. are.each x apart.1;
+      }
+      | false ↦ more_settings (codes "rel") l.rel names more new xml are
+    ]
 
 -- an empty element with such attributes
 good_empty : (name : QName) (attributes : List Attribute) (names : List (List ℕ)) (depth : ℕ) (n : Node) → IsKnown name →

@@ -1,6 +1,5 @@
 -- The elements of a content as they are read.
-use Rattle.std.proofs.Common.{◌≡◌, ℕ, ◌+◌, true, false, cond, List, [], ◌∷◌, ◌++◌, length, Option, Some, None, refl, sym, ap, ◌∙◌}
-use Rattle.std.proofs.Common.{option_map, codes, subst}
+use Rattle.std.proofs.Common.{◌≡◌, ℕ, ◌+◌, true, false, List, [], ◌∷◌, ◌++◌, length, Option, Some, refl, ap, ◌∙◌}
 use Rattle.std.specs.Prelude.{chars, filter_map, unwrap_or}
 use Rattle.std.proofs.Math.Utf8.{encode, encodes}
 use Rattle.std.proofs.lemmas.Bool.{cond-true, cond-false}
@@ -8,11 +7,10 @@ use Rattle.atom_values.specs.XmlText.{IsXmlText}
 use Rattle.xml_tokens.specs.Characters.{QName}
 use Rattle.xml_tokens.specs.Tokens.{Attribute, Tag}
 use Rattle.xml_tokens.specs.Stages.{Scope, declared, inner_scope, namespace_of}
-use Rattle.xml_tokens.specs.Tree.{Content, Element, Name, element_of}
+use Rattle.xml_tokens.specs.Tree.{Content, Name, element_of}
 use Rattle.xml_tokens.specs.Tree.Content.{nothing}
 use Rattle.xml_tokens.specs.Children.{Child, child, children, first_of, named_in, same_name, whole_text_of}
 use Rattle.xml_tokens.specs.Names.{atom}
-use Rattle.feed_reader.specs.Feed.{cut_text, whole_text}
 use Rattle.atom_values.specs.Space.{trimmed}
 use Rattle.canonical_feed.proofs.CharacterLemmas.{end_of, said_before, xml_characters}
 use Rattle.canonical_feed.proofs.CleanLemmas.{IsClean, clean_trimmed, clean_xml}

@@ -1,7 +1,6 @@
 -- The canonical text of a document spells it.
-use Rattle.std.proofs.Common.{◌≡◌, ℕ, Bool, true, false, List, refl, sym, subst, codes, Option, Some, None}
-use Rattle.std.specs.Prelude.{◌==◌, if◌then◌else◌, IfSome, IsTrue}
-use Rattle.std.specs.Str.{is_utf8}
+use Rattle.std.proofs.Common.{◌≡◌, ℕ, Bool, false, List, subst, Some, None}
+use Rattle.std.specs.Prelude.{◌==◌, if◌then◌else◌, IfSome}
 use Rattle.chain_links.specs.Address as address
 use Rattle.chain_links.specs.Checked.{IsUrlText}
 use Rattle.chain_links.specs.declared.address.Address.TheVariants.{Archive}
@@ -18,23 +17,24 @@ use Rattle.canonical_feed.proofs.FeedNodeLemmas.{feed_node, feed_node_text}
 use Rattle.canonical_feed.proofs.GoodLemmas.{feed_node_good}
 use Rattle.canonical_feed.proofs.LinkLemmas.{begins_http, joined_is}
 use Rattle.canonical_feed.proofs.ReadLemmas.{document_read}
+use Rattle.canonical_feed.proofs.UrlAsciiLemmas.{url_utf8}
 
 -- the link to the archive before leads to its address
-prev_joined : (d : DocValue) (from : List ℕ) → IsDoc d → IsTrue (is_utf8 from) → IsUrlText from →
+prev_joined : (d : DocValue) (from : List ℕ) → IsDoc d → IsUrlText from →
     IfSome (prev_address d) IsUrlText → (d.prev == 0) ≡ false →
     joined_to from (address.printed d.name.base (Archive d.prev)) ≡ Some (address.printed d.name.base (Archive d.prev))
-prev_joined d from is utf8 url prev other =
+prev_joined d from is url prev other =
     let to = address.printed d.name.base (Archive d.prev) in
     let P : Bool → Type 0 = λ b. IfSome (if b then None else Some to) IsUrlText in
     let begins = begins_http d.name.base (Archive d.prev) is.name.base in
-    joined_is from to begins.0 utf8 url (subst P other prev) begins.1
+    joined_is from to begins.0 (url_utf8 from url) url (subst P other prev) begins.1
     (clean_address d.name.base (Archive d.prev) is.name.base is.prev)
 
-pub canonical_read : (d : DocValue) (from : List ℕ) → IsDoc d → IsTrue (is_utf8 from) → IsUrlText from →
+pub canonical_read : (d : DocValue) (from : List ℕ) → IsDoc d → IsUrlText from →
     IfSome (prev_address d) IsUrlText → SpellsFeed (text d) from (foreign_document d)
-canonical_read d from is utf8 url prev =
+canonical_read d from is url prev =
     let n = feed_node d in
-    let joined = prev_joined d from is utf8 url prev in
+    let joined = prev_joined d from is url prev in
     record {
       root = feed_element;
       content = content_of n;

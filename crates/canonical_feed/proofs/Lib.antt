@@ -24,5 +24,9 @@ pub mod LinkLemmas
 pub mod FaultLemmas
 -- canonical_text_is_read: no element of a document is refused
 pub mod ClearLemmas
+-- canonical_text_is_read: the host of a URL
+pub mod HostAsciiLemmas
+-- canonical_text_is_read: the text of a URL
+pub mod UrlAsciiLemmas
 -- canonical_text_is_read
 pub mod LawLemmas

@@ -1,23 +1,22 @@
 -- The address of an archive, as a reference in any document, leads to itself.
-use Rattle.std.proofs.Common.{◌≡◌, ◌≢◌, ℕ, suc, ◌+◌, ◌-◌, ◌<◌, ◌≤◌, Bool, true, false, cond, not, eqb, List, [], ◌∷◌, ◌++◌, length}
-use Rattle.std.proofs.Common.{take, drop, reverse, Option, Some, None, Ok, Err, refl, sym, ap, subst, ◌∙◌, codes, arith, leb}
+use Rattle.std.proofs.Common.{◌≡◌, ◌≢◌, ℕ, ◌+◌, ◌-◌, ◌<◌, true, false, not, eqb, List, [], ◌∷◌, ◌++◌, length}
+use Rattle.std.proofs.Common.{take, drop, reverse, Option, Some, None, Ok, refl, sym, ap, subst, ◌∙◌, codes, arith}
 use Rattle.std.proofs.Common.{bytes_eq, append_assoc, ⊎_elim}
 use Rattle.std.proofs.lemmas.List.{take_all}
-use Rattle.std.specs.Prelude.{◌&&◌, ◌||◌, ◌==◌, if◌then◌else◌, filter, IsTrue}
-use Rattle.std.specs.List.{prefix_len, suffix_len}
+use Rattle.std.specs.Prelude.{◌&&◌, ◌||◌, ◌==◌, IsTrue}
+use Rattle.std.specs.List.{prefix_len}
 use Rattle.std.specs.Str.{is_utf8}
 use Rattle.std.proofs.lemmas.Bool.{and_parts, cases_Bool, cond-true, cond-false, lt-leb, ne_eqb, or_from, eq-eqb}
 use Rattle.std.proofs.lemmas.Slice.Eq.{bytes_eq-Decides}
 use Rattle.url.specs.declared.scheme.SchemeType.TheVariants.{SpecialNotFile}
-use Rattle.url.specs.Ascii.{number_sign, question_mark}
 use Rattle.url.specs.Input.{is_c0_control_or_space, is_tab_or_new_line, is_empty, split_once, strip_tabs_and_new_lines}
-use Rattle.url.specs.Input.{trim_c0_control_and_space, trim_end, trim_start}
+use Rattle.url.specs.Input.{trim_c0_control_and_space, trim_end}
 use Rattle.url.specs.Parser.{Parsed, after_double_slash, after_slashes, base_for_scheme, inherit, leading_slashes, parse_all, parse_body}
-use Rattle.url.specs.Parser.{parse_by_scheme, parse_not_file, parse_parts, parse_relative, parse_url, skip_slashes, split_scheme}
+use Rattle.url.specs.Parser.{parse_by_scheme, parse_parts, parse_relative, parse_url, skip_slashes, split_scheme}
 use Rattle.url.specs.Parser.{with_path, with_tail, before_tail, and_then}
 use Rattle.url.specs.Path.{parse_path}
-use Rattle.url.specs.Parts.{Parts, kind_of, serialize}
-use Rattle.url.specs.Scheme.{default_port, is_file, is_special, scheme_len, scheme_type}
+use Rattle.url.specs.Parts.{Parts, kind_of}
+use Rattle.url.specs.Scheme.{default_port, is_special, scheme_len, scheme_type}
 use Rattle.chain_links.specs.Base.{IsBase, base_text, host_text, path_text, port_text}
 use Rattle.chain_links.specs.Address as address
 use Rattle.chain_links.specs.declared.address.Address.{Address}

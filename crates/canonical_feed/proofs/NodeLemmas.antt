@@ -1,6 +1,6 @@
 -- Content as the canonical text writes it: a tree with its text, its lexemes and what they are read as.
-use Rattle.std.proofs.Common.{◌≡◌, ◌≢◌, ℕ, ◌+◌, ◌<◌, true, false, List, [], ◌∷◌, ◌++◌, length, map, refl, sym, ap, subst}
-use Rattle.std.proofs.Common.{◌∙◌, inl, inr, codes, arith, append_assoc, append-nil}
+use Rattle.std.proofs.Common.{◌≡◌, ℕ, ◌+◌, ◌<◌, true, false, List, [], ◌∷◌, ◌++◌, length, map, refl, sym, ap}
+use Rattle.std.proofs.Common.{◌∙◌, inl, codes, arith, append_assoc, append-nil}
 use Rattle.std.specs.Prelude.{if◌then◌else◌, bytes_eq, chars, is_some, IsTrue}
 use Rattle.std.specs.List.{IsDistinct, list_all}
 use Rattle.atom_values.specs.Escape.{escaped}
@@ -8,13 +8,12 @@ use Rattle.atom_values.specs.XmlText.{IsXmlText}
 use Rattle.xml_tokens.specs.Characters.{QName, IsQName, name_text}
 use Rattle.xml_tokens.specs.Tokens.{Attribute, Tag, IsAttribute, AreAttributes, IsTag, IsEndTag}
 use Rattle.xml_tokens.specs.Tokens.Token.{opening, closing}
-use Rattle.xml_tokens.specs.Stages.{Open, Scope, Stage, Lexeme, inner_scope, last_stage, lexemes_text, namespace_of}
-use Rattle.xml_tokens.specs.Stages.{stage_after}
+use Rattle.xml_tokens.specs.Stages.{Open, Scope, Lexeme, inner_scope, last_stage, lexemes_text, namespace_of}
 use Rattle.xml_tokens.specs.Stages.Stage.{inside}
 use Rattle.xml_tokens.specs.Tree.{Content, contents, element_of, events, with_element}
 use Rattle.xml_tokens.specs.Tree.Content.{nothing, element}
 use Rattle.xml_tokens.proofs.XmlLemmas.{printable, printable_xml, xml_append, xml_nil}
-use Rattle.canonical_feed.proofs.CharacterLemmas.{AreXml, IsSafe, Stand, end_of, first_xml, lexeme_of, lexemes_of, run_stands}
+use Rattle.canonical_feed.proofs.CharacterLemmas.{AreXml, IsSafe, Stand, end_of, first_xml, lexemes_of, run_stands}
 use Rattle.canonical_feed.proofs.CharacterLemmas.{run_text, run_tree, said_before, written, xml_characters}
 use Rattle.canonical_feed.proofs.ValueLemmas.{value_read, value_xml}
 

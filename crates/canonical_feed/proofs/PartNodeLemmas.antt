@@ -1,5 +1,5 @@
 -- The parts of an entry as content: persons, links, categories, texts and dates.
-use Rattle.std.proofs.Common.{◌≡◌, ℕ, ◌<◌, ◌^◌, Bool, true, false, cond, List, [], ◌∷◌, ◌++◌, Option, Some, None, ℤ}
+use Rattle.std.proofs.Common.{◌≡◌, ℕ, ◌<◌, ◌^◌, true, false, List, [], ◌∷◌, ◌++◌, Option, Some, None, ℤ}
 use Rattle.std.proofs.Common.{refl, sym, ap, ◌∙◌, codes, append_assoc, append-nil}
 use Rattle.std.specs.Prelude.{flat_map, if◌then◌else◌}
 use Rattle.atom_values.specs.declared.category.Category.{Category}
@@ -23,7 +23,7 @@ use Rattle.atom_writer.specs.Entries.{optional_construct, published_text}
 use Rattle.xml_tokens.specs.Characters.{QName, name_text}
 use Rattle.xml_tokens.specs.Tokens.{Attribute}
 use Rattle.canonical_feed.proofs.CleanLemmas.{IsClean, clean_address, clean_kept, clean_member, clean_stamp}
-use Rattle.canonical_feed.proofs.NodeLemmas.{Node, attributes_text, begin_tag, close_text, node_text, tag_text}
+use Rattle.canonical_feed.proofs.NodeLemmas.{Node, attributes_text, close_text, node_text}
 use Rattle.canonical_feed.proofs.NodeLemmas.Node.{done, words, empty, full}
 
 abbrev pub plain : List ℕ → QName

@@ -1,6 +1,6 @@
 -- The content of a document is read as its identifiers, titles and dates.
-use Rattle.std.proofs.Common.{◌≡◌, ◌≢◌, ℕ, ◌+◌, Bool, true, false, cond, List, [], ◌∷◌, ◌++◌, length, ℤ, Option, Some, None}
-use Rattle.std.proofs.Common.{option_map, refl, sym, ap, subst, ◌∙◌, codes, All, decimal}
+use Rattle.std.proofs.Common.{◌≡◌, ℕ, ◌+◌, Bool, true, false, List, [], ◌∷◌, ◌++◌, length, ℤ, Option, Some, None}
+use Rattle.std.proofs.Common.{option_map, refl, sym, ap, subst, ◌∙◌, codes, All}
 use Rattle.std.specs.Prelude.{◌==◌, if◌then◌else◌, find, flat_map, option_and_then, unwrap_or}
 use Rattle.std.specs.List.{AllZip}
 use Rattle.std.proofs.lemmas.List.Elements.{All-head, All-tail}
@@ -22,27 +22,24 @@ use Rattle.atom_writer.specs.declared.doc.FeedName.{FeedName}
 use Rattle.atom_writer.specs.declared.doc.Kind.{Kind}
 use Rattle.atom_writer.specs.declared.doc.Kind.TheVariants.{Subscription, Archive as Sealed}
 use Rattle.atom_writer.specs.Doc.{DocValue, IsDoc}
-use Rattle.atom_writer.specs.Pieces.{own_address}
 use Rattle.xml_tokens.specs.Stages.{inner_scope}
-use Rattle.xml_tokens.specs.Tree.{Content, Element, Name, element_of}
+use Rattle.xml_tokens.specs.Tree.{Element, element_of}
 use Rattle.xml_tokens.specs.Tree.Content.{nothing}
-use Rattle.xml_tokens.specs.Children.{Child, attribute, child, first_of, named, named_in, same_name}
+use Rattle.xml_tokens.specs.Children.{Child, child, first_of, named_in, same_name}
 use Rattle.xml_tokens.specs.Names.{atom, tombstones}
-use Rattle.feed_reader.specs.Feed.{IsDocumentOf, IsEntryOf, IsGoneOf, StatesMoment, cut_text, is_prev, joined_to, prev_of}
+use Rattle.feed_reader.specs.Feed.{IsDocumentOf, IsEntryOf, IsGoneOf, cut_text, is_prev, joined_to}
 use Rattle.feed_reader.specs.Feed.{target, whole_text}
-use Rattle.feed_reader.specs.declared.values.ForeignEntry.{ForeignEntry}
-use Rattle.feed_reader.specs.declared.values.ForeignGone.{ForeignGone}
-use Rattle.canonical_feed.specs.Reading.{entry_of, foreign_document, foreign_entry, foreign_gone, gone_of, prev_address}
-use Rattle.canonical_feed.proofs.CleanLemmas.{IsClean, clean_feed, clean_member, clean_stamp, clean_trimmed}
+use Rattle.canonical_feed.specs.Reading.{entry_of, foreign_document, foreign_entry, foreign_gone, gone_of}
+use Rattle.canonical_feed.proofs.CleanLemmas.{clean_feed, clean_member, clean_stamp, clean_trimmed}
 use Rattle.canonical_feed.proofs.DocumentLemmas.{content_at, content_of, feed_scope}
-use Rattle.canonical_feed.proofs.FeedNodeLemmas.{archive_name, current_node, feed_node, head_node, item_node, items_node, line}
+use Rattle.canonical_feed.proofs.FeedNodeLemmas.{current_node, feed_node, head_node, items_node}
 use Rattle.canonical_feed.proofs.FeedNodeLemmas.{link_line, next_node, place_node, prev_node, span_node, tombstone_name}
 use Rattle.canonical_feed.proofs.GoodLemmas.{kind_settings_good}
 use Rattle.canonical_feed.proofs.KidLemmas.{child_is, clean_cut, empty_kid, first_skip, first_take, kid_of, kids, kids_are}
 use Rattle.canonical_feed.proofs.KidLemmas.{name_known, resolved, words_whole}
-use Rattle.canonical_feed.proofs.NodeLemmas.{Node, after, begin_tag, close_text, empty_tag, tag_text, tree}
-use Rattle.canonical_feed.proofs.NodeLemmas.Node.{done, words, empty, full}
-use Rattle.canonical_feed.proofs.PartNodeLemmas.{construct_node, entry_node, holds, kind_settings, plain, rest_node, setting}
+use Rattle.canonical_feed.proofs.NodeLemmas.{Node, after, begin_tag, close_text, tag_text, tree}
+use Rattle.canonical_feed.proofs.NodeLemmas.Node.{done, words}
+use Rattle.canonical_feed.proofs.PartNodeLemmas.{entry_node, holds, kind_settings, plain, rest_node, setting}
 
 -- ---- an entry
 

@@ -1,8 +1,8 @@
 -- The values of attributes as the canonical text writes them.
-use Rattle.std.proofs.Common.{◌≡◌, ◌≢◌, ◌⊎◌, ℕ, ◌<◌, ◌≤◌, Bool, true, false, ◌&&◌, ◌||◌, ◌==◌, eqb, not, List, [], ◌∷◌}
-use Rattle.std.proofs.Common.{◌++◌, length, ltb, refl, sym, ap, subst, ◌∙◌, ⊎_elim, inl, inr, codes, arith, append_assoc}
+use Rattle.std.proofs.Common.{◌≡◌, ◌≢◌, ℕ, ◌<◌, true, ◌||◌, ◌==◌, eqb, not, List, [], ◌∷◌}
+use Rattle.std.proofs.Common.{◌++◌, ltb, refl, sym, ap, subst, ◌∙◌, ⊎_elim, inl, inr, codes}
 use Rattle.std.proofs.Common.{lit<, map, All}
-use Rattle.std.specs.Prelude.{if◌then◌else◌, chars, flat_map, IsTrue}
+use Rattle.std.specs.Prelude.{if◌then◌else◌, chars, flat_map}
 use Rattle.std.specs.List.{list_all}
 use Rattle.std.proofs.Math.Utf8.{encode, encodes, scalar}
 use Rattle.std.proofs.lemmas.Bool.{and_from, or_from, cases_Bool, cond-false, eqb-true, eqb-false, ne_eqb, ltb-true}
@@ -10,10 +10,10 @@ use Rattle.std.proofs.lemmas.Bool.{ltb-false}
 use Rattle.std.proofs.lemmas.Str.{encode_ascii}
 use Rattle.std.proofs.lemmas.List.Elements.{All-nil, All-cons}
 use Rattle.std.proofs.lemmas.List.Folds.{list_all-append}
-use Rattle.atom_values.specs.Escape.{escaped, escaped_byte, may_escape}
+use Rattle.atom_values.specs.Escape.{escaped, escaped_byte}
 use Rattle.atom_values.specs.XmlText.{IsXmlText, is_xml_char}
-use Rattle.atom_values.proofs.EscapeLemmas.{escaped-nil, escaped-append, escaped-cons, escaped_one, escaped_byte-plain}
-use Rattle.xml_tokens.specs.Characters.{IsReference, lines}
+use Rattle.atom_values.proofs.EscapeLemmas.{escaped-nil, escaped-append, escaped-cons}
+use Rattle.xml_tokens.specs.Characters.{IsReference}
 use Rattle.xml_tokens.specs.Tokens.{Piece, IsPiece, IsValue, piece_read, piece_text}
 use Rattle.xml_tokens.specs.Tokens.Piece.{byte, reference}
 use Rattle.xml_tokens.proofs.CharacterLemmas.{one_character}

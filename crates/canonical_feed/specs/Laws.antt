@@ -1,6 +1,5 @@
 -- The law that the crates above cite. It is a clause of a function of laws.rt.
-use Rattle.std.specs.Prelude.{ℕ, List, IfSome, IsTrue}
-use Rattle.std.specs.Str.{is_utf8}
+use Rattle.std.specs.Prelude.{ℕ, List, IfSome}
 use Rattle.atom_writer.specs.Doc.{DocValue, IsDoc}
 use Rattle.atom_writer.specs.Pieces.{text}
 use Rattle.chain_links.specs.Checked.{IsUrlText}
@@ -11,5 +10,5 @@ use Rattle.canonical_feed.specs.Reading.{foreign_document, prev_address}
 -- address of the archive before it is one that the parser of the URL Standard leaves as it is.
 abbrev pub CanonicalTextIsRead : Type 0
 CanonicalTextIsRead =
-    (d : DocValue) (address : List ℕ) → IsDoc d → IsTrue (is_utf8 address) → IsUrlText address
-    → IfSome (prev_address d) IsUrlText → SpellsFeed (text d) address (foreign_document d)
+    (d : DocValue) (address : List ℕ) → IsDoc d → IsUrlText address → IfSome (prev_address d) IsUrlText
+    → SpellsFeed (text d) address (foreign_document d)

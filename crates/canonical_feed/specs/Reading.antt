@@ -1,5 +1,5 @@
 -- What a reader of any server's feeds takes from a document of this project's feeds.
-use Rattle.std.specs.Prelude.{◌≡◌, ℕ, ◌==◌, List, [], ◌∷◌, ◌++◌, flat_map, Option, Some, None, if◌then◌else◌, codes}
+use Rattle.std.specs.Prelude.{ℕ, ◌==◌, List, [], ◌∷◌, ◌++◌, flat_map, Option, Some, None, if◌then◌else◌, codes}
 use Rattle.atom_values.specs.Entry.{EntryValue}
 use Rattle.chain_links.specs.Address.{printed}
 use Rattle.chain_links.specs.declared.address.Address.TheVariants.{Archive}
