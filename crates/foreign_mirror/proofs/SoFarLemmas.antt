@@ -1,8 +1,8 @@
 -- A walk so far, of which the document of each address was taken, and how it goes on.
-use Rattle.std.proofs.Common.{◌≡◌, ◌≢◌, inl, inr, ℕ, List, [], ◌∷◌, ◌++◌, Option, Some, None, Result, Ok, Err}
+use Rattle.std.proofs.Common.{◌≡◌, inl, inr, ℕ, List, [], ◌∷◌, ◌++◌, Option, Some, None, Result, Ok, Err}
 use Rattle.std.proofs.Common.{refl, sym, ap, subst, ◌∙◌, append_assoc, append-nil}
-use Rattle.std.proofs.Common.{Bool, true, false, ◌+◌, ◌<◌, ◌≤◌, length, length-append, bytes_eq, arith}
-use Rattle.std.specs.Prelude.{unwrap_or, option_map, IfOk, IfErr, IsErrAnd}
+use Rattle.std.proofs.Common.{Bool, true, false, ◌+◌, ◌<◌, length, length-append, bytes_eq, arith}
+use Rattle.std.specs.Prelude.{IfOk, IfErr, IsErrAnd}
 use Rattle.std.specs.Bool.{Decides}
 use Rattle.std.specs.List.{list_any}
 use Rattle.std.proofs.lemmas.Bool.{both_ways}
@@ -11,7 +11,6 @@ use Rattle.feed_reader.specs.declared.fault.FeedWhy.{FeedWhy}
 use Rattle.feed_reader.specs.declared.fault.ForeignRead.{ForeignRead}
 use Rattle.feed_reader.specs.declared.fault.ForeignRead.TheVariants.{NotRead as NotReadAt, NoMemory as OutOfMemory}
 use Rattle.feed_reader.specs.FeedDocument.{IsFeedRefusedAt}
-use Rattle.foreign_entries.specs.Tally.{Tallies}
 use Rattle.foreign_mirror.specs.declared.walk.Foreign.{Foreign}
 use Rattle.doc_source.specs.Fetch.{FetchState}
 use Rattle.feed_reader.specs.Feed.{DocumentValue}

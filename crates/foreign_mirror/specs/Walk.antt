@@ -1,5 +1,5 @@
 -- A walk over the documents of another server's archived feed, from the newest one to the oldest (RFC 5005 section 4).
-use Rattle.std.specs.Prelude.{◌≡◌, ◌≢◌, ℕ, ◌<◌, List, [], ◌∷◌, ◌++◌, length, take, Contains, Option, Some, None, IfSome}
+use Rattle.std.specs.Prelude.{◌≡◌, ℕ, ◌<◌, List, [], ◌∷◌, ◌++◌, length, take, Contains, Option, Some, None, IfSome}
 use Rattle.std.specs.Prelude.{Bool, IsTrue, Result, Ok, Err, codes, bytes_eq, unwrap_or}
 use Rattle.chain_links.specs.Checked.{IsUrlText}
 use Rattle.doc_source.specs.Fetch.{FetchState}

@@ -1,7 +1,7 @@
-use Rattle.std.proofs.Common.{◌≡◌, ◌<◌, ◌≤◌, false, true, length, sym, ap, ◌∙◌, arith}
+use Rattle.std.proofs.Common.{sym, ap, ◌∙◌, arith}
 use Rattle.std.proofs.lemmas.Bool.{both_ways}
 use Rattle.std.proofs.lemmas.Bool.Decides.{not_from_Decides}
-use Rattle.foreign_mirror.specs.Walk.{document_limit, is_http}
+use Rattle.foreign_mirror.specs.Walk.{is_http}
 use Rattle.foreign_mirror.proofs.KnownLemmas.{contained}
 use Rattle.foreign_mirror.proofs.walk.Progress.check.Goals as goal
 

@@ -1,4 +1,3 @@
-use Rattle.std.proofs.Common.{◌∙◌}
 use Rattle.foreign_mirror.proofs.KnownLemmas.{knows-more}
 use Rattle.foreign_mirror.proofs.walk.Progress.mark.Goals as goal
 

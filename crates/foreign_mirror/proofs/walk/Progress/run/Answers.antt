@@ -1,4 +1,4 @@
-use Rattle.std.proofs.Common.{◌≡◌, ◌∙◌, Ok, Err, Some, refl, ap}
+use Rattle.std.proofs.Common.{◌∙◌, Ok, Err, refl, ap}
 use Rattle.foreign_mirror.specs.declared.fault.ForeignFault.TheVariants.{NoMemory}
 use Rattle.foreign_mirror.specs.declared.walk.Visit.{Visit}
 use Rattle.foreign_mirror.proofs.SoFarLemmas.{run-again, run-before, run-ended, run-fault, run-none, so_far-more}
