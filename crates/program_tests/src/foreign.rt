@@ -20,7 +20,7 @@ const FOREIGN: &[&str] = &["foreign", "--from", "http://a.example/f.xml"];
 /// The words of a walk of the store's feed.
 const OWN: &[&str] = &["foreign", "--from=http://feed.example/feed"];
 
-/// The beginning of a feed document, up to its links and entries. `*` stands for its date.
+/// The beginning of a feed document, up to its links and entries. `*` is replaced by its date.
 const OPENING: &str =
     "<feed xmlns=\"http://www.w3.org/2005/Atom\" xmlns:at=\"http://purl.org/atompub/tombstones/1.0\"><id>f</id><updated>*</updated>";
 

@@ -15,8 +15,8 @@ struct Case {
     words: &'static [&'static str],
     /// The first parts of the bytes.
     start: &'static [&'static str],
-    /// How often the next part is repeated, and that part. `*` stands for the number of the repeat, from 1 on, in 12
-    /// hexadecimal digits.
+    /// How often the next part is repeated, and that part. Each `*` is replaced by the number of the repeat, from 1 on, in
+    /// 12 hexadecimal digits.
     repeated: (u32, &'static str),
     /// The last part.
     end: &'static str,

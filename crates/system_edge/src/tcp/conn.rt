@@ -98,7 +98,7 @@ impl<S: OpenStream + Read + Write + AsRawFd + Drop> TcpConn<S> {
             return true;
         }
         for _ in 0..TURN_PARTS {
-            // Bytes for which there is no memory stay with the system.
+            // Without memory for them, the bytes stay unread in the system's buffer.
             let Some(room) = self.room(part.len()) else {
                 return false;
             };
