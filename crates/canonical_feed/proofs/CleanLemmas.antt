@@ -88,7 +88,7 @@ clean_append s t is_s is_t = list_all-append is_clean s t ∙ and_from (list_all
 clean_cons : (b : ℕ) (t : List ℕ) → is_clean b ≡ true → IsClean t → IsClean (b ∷ t)
 clean_cons b t is more = and_from (is_clean b) (list_all is_clean t) is more
 
--- such a text is written as it is
+-- a clean text is escaped as itself
 pub clean_kept : (quoted : Bool) (t : List ℕ) → IsClean t → escaped quoted t ≡ t
 clean_kept quoted [] is = escaped-nil quoted
 clean_kept quoted (b ∷ t) is =

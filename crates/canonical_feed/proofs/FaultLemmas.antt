@@ -126,7 +126,7 @@ has_children c id updated is_id is_updated lacks =
 
 -- ---- contents without a refusal
 
--- no element of the content is refused in this place, behind so many elements at most
+-- no element of the content is refused in this place, if at most `k` elements are before it
 abbrev pub Clear : List ℕ → Within → ℕ → Node → Type 0
 Clear from w k n =
     (before : List Element) (at : ℕ) → length before ≤ k →

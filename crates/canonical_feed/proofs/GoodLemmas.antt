@@ -103,7 +103,7 @@ good_persons tag (p ∷ ps) depth n is deep all good_n =
     good_person tag p depth (persons_node tag ps n) is deep (All-head IsPerson p ps all)
     (good_persons tag ps depth n is deep (All-tail IsPerson p ps all) good_n)
 
--- good attributes that declare no namespace, each with its own name among these
+-- good attributes that declare no namespace, whose names are different and among `names`
 pub record AreAmong (names : List (List ℕ)) (attributes : List Attribute) : Type 0 where
   pub good : AreGoodAttributes attributes
   pub none : filter_map declared attributes ≡ []
@@ -156,7 +156,7 @@ relation_settings l names more new xml are =
       | false ↦ more_settings (codes "rel") l.rel names more new xml are
     ]
 
--- an empty element with such attributes
+-- an empty element whose attributes have some of these names
 good_empty : (name : QName) (attributes : List Attribute) (names : List (List ℕ)) (depth : ℕ) (n : Node) → IsKnown name →
     depth < 256 → AreAmong names attributes → IsGood feed_scope depth n →
     IsGood feed_scope depth (empty name attributes n)

@@ -146,7 +146,7 @@ parse_is base t rest begins is =
     ∙ ap (λ s. parse_by_scheme s base t None None) (ap split_scheme begins ∙ http_split rest)
     ∙ any_base base rest None None
 
--- such an address leads to itself, in the document of any address
+-- an address of `http` leads to itself, in the document of any address
 pub joined_is : (from t rest : List ℕ) → IsTrue (is_utf8 from) → IsUrlText from → IsUrlText t →
     t ≡ codes "http://" ++ rest → IsClean t → joined_to from t ≡ Some t
 joined_is from t rest utf8 is_from is_t begins clean =

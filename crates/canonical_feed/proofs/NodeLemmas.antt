@@ -42,7 +42,7 @@ abbrev pub AreGoodAttributes : List Attribute → Type 0
 AreGoodAttributes [] = Unit {0}
 AreGoodAttributes (a ∷ more) = IsGoodAttribute a × AreGoodAttributes more
 
--- a tag with a name of ASCII and such attributes, no two of which have the same name
+-- a tag with a name of ASCII and good attributes, no two of which have the same name
 pub record IsGoodTag (tag : Tag) : Type 0 where
   pub name : IsQName tag.name
   pub ascii : list_all printable (name_text tag.name) ≡ true
@@ -194,13 +194,13 @@ tree scope at (full name attributes inner n) tail =
     (tree scope
     (after (at + length (tag_text (begin_tag name attributes))) inner + length (close_text name)) n tail)
 
--- a tag may stand in this scope inside so many elements
+-- a tag may stand in this scope inside `depth` elements
 pub record IsAllowed (scope : Scope) (depth : ℕ) (tag : Tag) : Type 0 where
   pub good : IsGoodTag tag
   pub set : IsTrue (is_some (namespace_of (inner_scope scope tag) tag.name.prefix))
   pub deep : depth < 256
 
--- a content may stand in this scope inside so many elements
+-- a content may stand in this scope inside `depth` elements
 abbrev pub IsGood : Scope → ℕ → Node → Type 0
 IsGood scope depth done = Unit {0}
 IsGood scope depth (words t n) = IsXmlText t × IsGood scope depth n
