@@ -1,6 +1,6 @@
 //! `foreign` over sources in memory: other servers' feeds, and the pile of a store.
 
-ghost use Rattle.std.specs.Prelude.{◌≤◌, All, length};
+ghost use Rattle.std.specs.Prelude.{◌≤◌, All, None, length, []};
 ghost use Rattle.doc_source.specs.Pile.{offer_limit};
 
 use crate::fetches::source_of;
@@ -8,8 +8,9 @@ use crate::generated::{empty, push_lines};
 use crate::runs::{APPLY, Run, empty_disk, fetched, listed, ran};
 use crate::store::made;
 use atom_values::{Bytes, Many};
-use doc_source::{ListSource, Offer, PileFetch, PileReader};
+use doc_source::{Fetch, GetFault, ListSource, Offer, PileFetch, PileReader};
 use feed_disk::Disk;
+use foreign_mirror::ForeignFault;
 use std::alloc::Global;
 use std::process::Abort;
 use std::str;
@@ -439,4 +440,58 @@ fn a_walk_agrees_with_the_mirror(rt: HostRuntime) {
     let mut source = pile_source(&rt, alloc, &mut store);
     expect_own(&rt, alloc, &mut source, expected.as_str());
     drop((store, fold, source, mirror, report));
+}
+
+/// A source each of whose documents has another one before it.
+#[derive(Drop)]
+struct Endless {
+    asked: u64,
+}
+
+impl Fetch for Endless {
+    ghost observable = { ⊥ };
+
+    ghost state = { λ f. record { asked = []; answers = λ _. None; faults = 0 } };
+
+    fn get(&mut self, alloc: Global, _address: &[u8]) -> Result<Option<Vec<u8>>, GetFault> {
+        self.asked = self.asked.saturating_add(1);
+        let number = self.asked;
+        let rest = format!(in alloc; "<link rel=\"prev-archive\" href=\"{number}\"/></feed>")?;
+        let mut text = Vec::from_slice(alloc, UNDATED)?;
+        text.extend_from_slice(rest.as_bytes())?;
+        if text.len() > 67_108_864 {
+            return Err(GetFault::NoMemory);
+        }
+        Ok(Some(text))
+    }
+}
+
+/// The beginning of a document of `Endless`.
+const UNDATED: &[u8] =
+    b"<feed xmlns=\"http://www.w3.org/2005/Atom\"><id>f</id><updated>2020-01-01T00:00:00Z</updated>";
+
+#[test]
+fn a_walk_takes_10_000_documents(rt: HostRuntime) {
+    let alloc = rt.alloc();
+    let mut disk = empty_disk(&rt, alloc, 0);
+    let mut source = Endless { asked: 0 };
+    let given = Run {
+        words: FOREIGN,
+        ..APPLY
+    };
+    let end = fetched(&rt, alloc, &mut disk, &mut source, &given);
+    assert!(rt; end.is(3, b"too many documents\n") && source.asked == 10_000);
+    drop((disk, source));
+}
+
+#[test]
+fn a_fault_of_a_walk_has_a_sentence(rt: HostRuntime) {
+    let alloc = rt.alloc();
+    for (fault, expected) in [
+        (ForeignFault::FetchFault, "fetch fault"),
+        (ForeignFault::NoMemory, "out of memory"),
+    ] {
+        let sentence = format!(in alloc; "{fault}").expect(&rt, "memory");
+        assert_eq!(rt; sentence.as_str(), expected);
+    }
 }
