@@ -24,9 +24,6 @@ some_more : (xs : List Child) (c : Child) → is_some (first_of (xs ++ c ∷ [])
 some_more [] c = refl
 some_more (x ∷ xs) c = refl
 
-accepts_name : Name
-accepts_name = app (codes "accept")
-
 module _ (b : Content) (e : Element) (inner : Content) where
   -- another child
   pub accepted_other : (accepts : Accepts) → is_app (codes "accept") e.name ≡ false → AreAccepted b accepts →
@@ -52,9 +49,6 @@ module _ (b : Content) (e : Element) (inner : Content) where
             ∙ sym (ap (list_any is_entry_accept) more ∙ list_any-append is_entry_accept cs (c ∷ [])
             ∙ ap (λ k. list_any is_entry_accept cs || k) (or_nothing (is_entry_accept c)));
       }
-
-pub accepted_none : (accepts : Accepts) → accepts.any ≡ false → accepts.entry ≡ false → AreAccepted nothing accepts
-accepted_none accepts any entry = record { any = any; entry = entry }
 
 do_accept : (cs : List Child) (any entry : Bool) → any ≡ is_some (first_of cs) → entry ≡ list_any is_entry_accept cs →
     (not any || entry) ≡ do_accept_entries cs

@@ -1,4 +1,4 @@
--- read_root, document, read_service: a document that is read to its end, and its refusals
+-- What is made of a document that is read to its end, and its refusals.
 use Rattle.std.proofs.Common.{◌≡◌, ℕ, List, [], ◌∷◌, ◌++◌, length, sym, subst, ◌∙◌, inl, inr, IsTrue, codes, refl}
 use Rattle.std.proofs.Common.{true, false, Some, None}
 use Rattle.std.specs.Prelude.{OnOk, Result, Ok, Err}
@@ -19,7 +19,8 @@ use Rattle.xml_tokens.proofs.OneDocumentLemmas.{document_of, token_refused}
 use Rattle.xml_tokens.proofs.OneRefusalLemmas.{document_not_refused}
 use Rattle.xml_tokens.proofs.ProgressLemmas.{fault_on, led_on}
 use Rattle.feed_reader.specs.Rest.{IsDocumentFrom}
-use Rattle.service_reader.specs.declared.fault.ServiceRead.TheVariants.{NotRead as ServiceNotRead, NoMemory as OutOfMemory}
+use Rattle.service_reader.specs.declared.fault.ServiceRead.TheVariants.{NotRead as ServiceNotRead}
+use Rattle.service_reader.specs.declared.fault.ServiceRead.TheVariants.{NoMemory as OutOfMemory}
 use Rattle.service_reader.specs.declared.fault.ServiceWhy.{ServiceWhy}
 use Rattle.service_reader.specs.declared.fault.ServiceWhy.TheVariants.{NotAService, Token}
 use Rattle.service_reader.specs.declared.values.Collection.{Collection}
@@ -33,13 +34,6 @@ pub fault_read : (bytes address : List ℕ) (fault : TokenFault) → IsTrue (is_
     IsFaultFrom (length bytes) (first_point service_depth bytes) fault → IsReadAs bytes address (Err fault)
 fault_read bytes address (NotRead at why) utf8 f = token_refused service_depth bytes at why utf8 f
 fault_read bytes address NoMemory utf8 f = tt
-
--- bytes that aren't UTF-8
-pub foreign_read : (bytes address : List ℕ) (fault : TokenFault) → IsNotUtf8Fault bytes fault →
-    IsReadAs bytes address (Err fault)
-foreign_read bytes address fault (at, is, valid) =
-    let refused : IsTokenRefusedAt service_depth bytes at NotUtf8 = inl (inl valid, refl) in
-    subst (λ k. IsReadAs bytes address (Err k)) (sym is) refused
 
 module _ (bytes : List ℕ) (utf8 : IsTrue (is_utf8 bytes)) (root : Element) (mid : Elements)
     (x : IsLed (length bytes) [] (first_point service_depth bytes) (begin root ∷ []) mid) where

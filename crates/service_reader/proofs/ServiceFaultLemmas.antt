@@ -28,7 +28,8 @@ ranked_rank BadLink low = refl
 ranked_rank TooMany low = refl
 
 -- a token is no reason of an element
-no_token : (address : List ℕ) (w : Within) (cause : TokenWhy) (p : Placed Within) → IsFault address w (Token cause) p → ⊥
+no_token : (address : List ℕ) (w : Within) (cause : TokenWhy) (p : Placed Within) → IsFault address w (Token cause) p →
+    ⊥
 no_token address at_root cause p h = h
 no_token address in_workspace cause p h = h
 
@@ -61,7 +62,8 @@ module _ (address : List ℕ) (root : Element) (content : Content) where
   before_root TooMany low h = h
 
   -- a root that isn't a service
-  pub root_other : is_app (codes "service") root.name ≡ false → IsOwn (service_rules address) root_placed (Some NotAService)
+  pub root_other : is_app (codes "service") root.name ≡ false →
+      IsOwn (service_rules address) root_placed (Some NotAService)
   root_other other = (other, before_root)
 
   -- one that is
@@ -108,7 +110,8 @@ module _ (address : List ℕ) (seen : List Child) (c : Child) where
 -- the first refusal of one element
 pub own_first : (address : List ℕ) (p : Placed Within) (own : Option ServiceWhy) → IsOwn (service_rules address) p own →
     IsFirst (service_rules address) (p ∷ []) (at_tag (service_rules address) p.child.element own)
-own_first address p None none = All-cons (IsFaultless (service_rules address)) p [] none (All-nil (IsFaultless (service_rules address)))
+own_first address p None none =
+    All-cons (IsFaultless (service_rules address)) p [] none (All-nil (IsFaultless (service_rules address)))
 own_first address p (Some why) fault = record {
   before = [];
   first = p;
@@ -139,7 +142,8 @@ first_past address xs ys refusal first =
 
 -- the first refusal of collections without one, and of one after them
 pub first_more : (address : List ℕ) (seen : List Child) (c : Child) (own : Option ServiceWhy) →
-    IsFirst (service_rules address) (placed_after [] seen) None → IsOwn (service_rules address) (one_placed seen c) own →
+    IsFirst (service_rules address) (placed_after [] seen) None →
+    IsOwn (service_rules address) (one_placed seen c) own →
     IsFirst (service_rules address) (placed_after [] (seen ++ c ∷ [])) (at_tag (service_rules address) c.element own)
 first_more address seen c own none is =
     subst (λ ps. IsFirst (service_rules address) ps (at_tag (service_rules address) c.element own))

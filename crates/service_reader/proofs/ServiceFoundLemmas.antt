@@ -30,14 +30,6 @@ use Rattle.service_reader.specs.ServiceReading.{AreAdded, AreFound}
 use Rattle.service_reader.proofs.ServiceFaultLemmas.{collection_bad, collection_good, collection_over, first_more}
 use Rattle.service_reader.proofs.ServiceFaultLemmas.{first_past, one_placed}
 
--- no collection is read
-pub found_nothing : (address : List ℕ) (found : Found) → found.refused ≡ None → found.collections.items ≡ [] →
-    AreFound address [] found
-found_nothing address found none empty = record {
-  refused = subst (λ r. IsFirst (service_rules address) [] r) (sym none) (All-nil _);
-  read = λ same. subst (λ cs. AllZip (IsCollectionOf address) [] cs) (sym empty) tt;
-}
-
 -- a collection after others
 module _ (address : List ℕ) (seen : List Child) (c : Child) (old new : Found) (h : AreFound address seen old)
     (none : old.refused ≡ None) where
@@ -100,15 +92,12 @@ found_past address seen more found h some =
     at found.refused refl
 
 -- collections that were added, and more of them
-added_more : (address : List ℕ) (start old new : Found) (before more all : List Child) → AreAdded address start before old →
-    all ≡ before ++ more → ((seen : List Child) → AreFound address seen old → AreFound address (seen ++ more) new) →
+added_more : (address : List ℕ) (start old new : Found) (before more all : List Child) →
+    AreAdded address start before old → all ≡ before ++ more → ((seen : List Child) → AreFound address seen old → AreFound address (seen ++ more) new) →
     AreAdded address start all new
 added_more address start old new before more all added is step seen h =
     subst (λ cs. AreFound address cs new)
     (append_assoc seen before more ∙ ap (λ k. seen ++ k) (sym is)) (step (seen ++ before) (added seen h))
-
-pub added_nothing : (address : List ℕ) (found : Found) → AreAdded address found [] found
-added_nothing address found seen h = subst (λ cs. AreFound address cs found) (sym (append-nil seen)) h
 
 found_same : (address : List ℕ) (seen : List Child) (found : Found) → AreFound address seen found →
     AreFound address (seen ++ []) found

@@ -28,6 +28,7 @@ rank NotAService = 1
 rank BadLink = 2
 rank TooMany = 3
 
+-- `placed_in` lists the elements itself, so nothing goes by `inside`
 abbrev pub service_rules : List ℕ → Rules Within ServiceWhy
 service_rules address = record {
   inside = λ within name. in_workspace;

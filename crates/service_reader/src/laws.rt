@@ -1,4 +1,5 @@
-ghost use Rattle.service_reader.specs.ServiceLaws.{BytesHaveOneServiceRefusal, BytesSpellOneService, ServicesAreNotRefused};
+ghost use Rattle.service_reader.specs.ServiceLaws.{BytesHaveOneServiceRefusal, BytesSpellOneService};
+ghost use Rattle.service_reader.specs.ServiceLaws.{ServicesAreNotRefused};
 
 // The function does nothing. It exists for its contract, which is a law over the definitions of specs/.
 

@@ -86,7 +86,8 @@ loop-event-preserved-in-Begin g c =
       with_child x.1 y.1.0 z.0,
       subst (λ t. IsLed old.length (pending old) from (x.0 ++ (t ++ z.1)) end) y.1.1 led,
       part_whole x.1 [] x.0 z.1 y.1.0 z.0 x.3 z.3,
-      subst (λ k. g.C.Children.Read c.args.children.now c.args.into.now k c.child.new.into) (sym (only_with_child x.1 y.1.0 z.0)) z.4,
+      subst (λ k. g.C.Children.Read c.args.children.now c.args.into.now k c.child.new.into)
+          (sym (only_with_child x.1 y.1.0 z.0)) z.4,
     ) in
     let here = all c.requires.reading.0 c.requires.reading.1 in
     record {
@@ -125,7 +126,8 @@ loop-event-preserved g c =
             _,
             subst (λ t. IsLed old.length (pending old) from (x.0 ++ t) new) y.1.1 led,
             part_said x.1 [] x.0 y.1.0 x.3,
-            subst (λ k. g.C.Children.Read c.args.children.now c.args.into.now k c.loop-event.into) (sym (only_says x.1 y.1.0)) x.4,
+            subst (λ k. g.C.Children.Read c.args.children.now c.args.into.now k c.loop-event.into)
+                (sym (only_says x.1 y.1.0)) x.4,
           );
     }
 

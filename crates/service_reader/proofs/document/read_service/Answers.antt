@@ -38,7 +38,8 @@ returns-in-Ok-clause-only c = λ spelled s.
     let address = c.args.address.now in
     let made = c.in-Ok.collections in
     one_service bytes address made.items spelled
-    (made_spelled bytes address made (subst (λ k. IsReadAs bytes address (Ok k)) c.in-Ok.is c.in_ok-collections.ensures))
+    (made_spelled bytes address made
+    (subst (λ k. IsReadAs bytes address (Ok k)) c.in-Ok.is c.in_ok-collections.ensures))
     s
 
 pub returns-in-Err-clause-only : goal.returns-in-Err-clause-only
