@@ -1,0 +1,5 @@
+pub mod Service
+pub mod ServiceFaults
+pub mod ServiceDocument
+pub mod ServiceReading
+pub mod ServiceLaws

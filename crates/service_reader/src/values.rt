@@ -1,0 +1,13 @@
+use atom_values::Bytes;
+
+/// The greatest number of collections of a service document.
+pub const MAX_COLLECTIONS: u32 = 64;
+
+/// A collection of another server (RFC 5023 section 8.3.3).
+#[derive(Debug, Drop)]
+pub struct Collection {
+    /// The address of the collection's feed.
+    pub href: Bytes,
+    /// Whether the collection takes new entries. It doesn't if it takes only media.
+    pub entries: bool,
+}
