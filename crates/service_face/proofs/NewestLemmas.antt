@@ -1,24 +1,21 @@
 -- The order of the members by their last operations.
 use Rattle.std.proofs.Common.{◌≡◌, ◌≢◌, inl, inr, ℕ, zero, suc, ◌+◌, ◌<◌, ◌≤◌, ℤ, ◌==◌, not, Bool, true, false, if◌then◌else◌, Option, Some, None}
 use Rattle.std.proofs.Common.{List, [], ◌∷◌, ◌++◌, length, get_or, refl, sym, ap, subst, ◌∙◌, arith}
-use Rattle.std.specs.Prelude.{All, AllPairs, Contains, IsSome, filter, is_some}
-use Rattle.std.proofs.lemmas.Bool.{cases_eq, cases_lt, eq-eqb, ne_eqb, false≢true}
+use Rattle.std.specs.Prelude.{All, AllPairs, Contains, IsSome, filter}
+use Rattle.std.proofs.lemmas.Bool.{cases_eq, eq-eqb, ne_eqb, false≢true}
 use Rattle.std.proofs.lemmas.Bool.Decides.{nat_tests}
-use Rattle.std.proofs.lemmas.List.Elements.{All-cons, All-nil, All-filter, All-weaker, All-contains, Contains-append_right, filter_passes}
+use Rattle.std.proofs.lemmas.List.Elements.{All-weaker, All-contains, Contains-append_right, filter_passes}
 use Rattle.std.proofs.lemmas.List.Kept.{AllPairs-cons, AllPairs-filter}
-use Rattle.atom_values.specs.Entry.{EntryValue}
-use Rattle.deleted_entries.specs.Item.{item_number}
-use Rattle.deleted_entries.specs.declared.item.Item.{Item}
 use Rattle.member_rules.specs.declared.operation.Op.{Op}
 use Rattle.member_rules.specs.declared.operation.Op.TheVariants.{Add, Change, Remove, Set}
 use Rattle.member_rules.specs.Fold.{fold_of, last_naming, made}
 use Rattle.member_rules.specs.History.{AreFollowing, Fits}
-use Rattle.member_rules.specs.Operation.{item_of, member_of, names}
+use Rattle.member_rules.specs.Operation.{member_of, names}
 use Rattle.member_rules.specs.Recent.{recent_members}
 use Rattle.member_rules.proofs.FoldLemmas.{by_operations, last_naming-push, made-push}
 use Rattle.member_rules.proofs.RecentLemmas.{recent_members-push, touched_by}
 use Rattle.member_rules.proofs.StateLemmas.{AreMembers-of, live_within}
-use Rattle.recency_list.specs.Recency.{touched, without}
+use Rattle.recency_list.specs.Recency.{without}
 use Rattle.service_face.specs.Listing.{IsNewestFirst, is_live, listed_members}
 
 -- each member of the order was named later than those after it
@@ -87,8 +84,12 @@ falling-push history operation (Some number) list is falling =
     rest = λ i j d before inside.
         let fell = AllPairs-filter (Newer history) (λ (other : ℕ). not (number == other)) list falling i j d before inside
         in
-        omega (arith, fell, same (get_or (without number list) i d) (passes i d (omega arith)),
-        same (get_or (without number list) j d) (passes j d inside))
+        omega (
+          arith,
+          fell,
+          same (get_or (without number list) i d) (passes i d (omega arith)),
+          same (get_or (without number list) j d) (passes j d inside),
+        )
 
 none_falling : AllPairs (Newer []) (recent_members [])
 unfolding recent_members

@@ -1,15 +1,12 @@
 -- Laws that the crates above cite. Each is the contract of a function of laws.rt.
-use Rattle.std.specs.Prelude.{◌≡◌, ℕ, List, ℤ, Option}
+use Rattle.std.specs.Prelude.{◌≡◌, ◌↔◌, ℕ, List, ℤ, Some}
 use Rattle.chain_links.specs.Address.{IsAddress, IsTarget}
 use Rattle.chain_links.specs.declared.address.Address.{Address}
-use Rattle.feed_recovery.specs.Store.{StoreValue}
-use Rattle.http_face.specs.Request.{RequestValue}
-use Rattle.http_face.specs.declared.reply.Reply.{Reply}
+use Rattle.chain_links.specs.Base.{IsBase}
 use Rattle.member_rules.specs.History.{AreFollowing}
 use Rattle.member_rules.specs.declared.operation.Op.{Op}
 use Rattle.service_face.specs.Listing.{IsNewestFirst, listed_members}
-use Rattle.service_face.specs.Page.{IsPageTarget}
-use Rattle.service_face.specs.Reply.{IsServiceReply}
+use Rattle.service_face.specs.Page.{IsPageTarget, page_of}
 use Rattle.service_face.specs.declared.page.Page.{Page}
 
 abbrev pub ListingsAreNewestFirst : Type 0
@@ -21,7 +18,7 @@ abbrev pub PagesAreNoDocuments : Type 0
 PagesAreNoDocuments = (base target : List ℕ) (page : Page) (address : Address) → IsAddress address
     → IsPageTarget base page target → ¬ IsTarget base address target
 
--- a request has one reply
-abbrev pub OneReply : Type 0
-OneReply = (store : StoreValue) (request : RequestValue) (one other : Option Reply) → IsServiceReply store request one
-    → IsServiceReply store request other → one ≡ other
+-- a target names a page in the sense of both definitions
+abbrev pub TargetsAreAddresses : Type 0
+TargetsAreAddresses = (base target : List ℕ) (page : Page) → IsBase base
+    → (page_of base target ≡ Some page) ↔ (IsPageTarget base page target)

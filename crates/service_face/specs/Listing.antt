@@ -1,5 +1,5 @@
 -- The listing of the live members.
-use Rattle.std.specs.Prelude.{◌≡◌, ◌↔◌, ℕ, ◌<◌, List, [], ◌++◌, Bool, is_some, IsSome, filter, flat_map, codes, decimal}
+use Rattle.std.specs.Prelude.{◌↔◌, ℕ, ◌<◌, List, [], ◌++◌, Bool, is_some, IsSome, filter, flat_map, codes, decimal}
 use Rattle.std.specs.Prelude.{AllPairs, Contains, if◌then◌else◌}
 use Rattle.chain_links.specs.Address.{printed}
 use Rattle.chain_links.specs.declared.address.Address.TheVariants.{Member}

@@ -1,5 +1,5 @@
 -- The reply to a request of a page.
-use Rattle.std.specs.Prelude.{◌≡◌, ◌⊎◌, ℕ, List, Option, Some, None}
+use Rattle.std.specs.Prelude.{ℕ, List, Option, Some, None, option_map}
 use Rattle.feed_recovery.specs.Store.{StoreValue}
 use Rattle.http_face.specs.Request.{RequestValue}
 use Rattle.http_face.specs.declared.reply.Allow.TheVariants.{OfArchive}
@@ -12,7 +12,7 @@ use Rattle.http_face.specs.declared.request.Verb.{Verb}
 use Rattle.http_face.specs.declared.request.Verb.TheVariants.{Get, Other}
 use Rattle.member_rules.specs.Documents.{name_of}
 use Rattle.service_face.specs.Listing.{listing_text}
-use Rattle.service_face.specs.Page.{IsPageTarget}
+use Rattle.service_face.specs.Page.{page_of}
 use Rattle.service_face.specs.Service.{service_text}
 use Rattle.service_face.specs.declared.page.Page.{Page}
 use Rattle.service_face.specs.declared.page.Page.TheVariants.{Service, Members}
@@ -52,9 +52,7 @@ asked_reply store page Get = shown_page store page
 asked_reply store page Other = not_implemented
 asked_reply store page _ = not_allowed
 
--- the target names a page, and the reply is the page's; or it names none, and there is no reply
-abbrev pub IsServiceReply : StoreValue → RequestValue → Option Reply → Type 0
-IsServiceReply store request given =
-    ((page : Page) × IsPageTarget store.head.name.base page request.target
-    × (given ≡ Some (asked_reply store page request.verb)))
-    ⊎ (((page : Page) → ¬ IsPageTarget store.head.name.base page request.target) × (given ≡ None))
+-- the reply to a request whose target names a page, and none to another
+abbrev pub service_reply : StoreValue → RequestValue → Option Reply
+service_reply store request =
+    option_map (λ page. asked_reply store page request.verb) (page_of store.head.name.base request.target)

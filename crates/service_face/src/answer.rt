@@ -1,6 +1,7 @@
-ghost use Rattle.std.specs.Prelude.{◌≡◌, false, IfOk};
+ghost use Rattle.std.specs.Prelude.{◌≡◌, false, IfOk, IfSome};
 ghost use Rattle.feed_recovery.specs.Store.{is_spent};
-ghost use Rattle.service_face.specs.Reply.{IsServiceReply, asked_reply, shown_page};
+ghost use Rattle.http_face.specs.Reply.{HasPhrase};
+ghost use Rattle.service_face.specs.Reply.{asked_reply, service_reply, shown_page};
 
 use crate::document::titled_service;
 use crate::lines::listing;
@@ -20,7 +21,9 @@ pub fn service_answer(
     request: &Request,
 ) -> Result<Option<Reply>, NoMemory>
     requires { is_spent store.now ≡ false }
-    ensures { IfOk result (IsServiceReply store.now request.now) }
+    ensures reply { IfOk result (λ given. given ≡ service_reply store.now request.now) }
+    // The status line of the reply has a phrase.
+    ensures status { IfOk result (λ given. IfSome given (λ reply. HasPhrase reply.status)) }
 {
     match Page::of_target(&store.head().name.base, request.target.slice()) {
         Some(page) => Ok(Some(reply_to(alloc, store, page, request.verb)?)),
@@ -31,7 +34,8 @@ pub fn service_answer(
 /// Replies to a request of a page with this method.
 fn reply_to(alloc: Global, store: &Store, page: Page, verb: Verb) -> Result<Reply, NoMemory>
     requires { is_spent store.now ≡ false }
-    ensures { IfOk result (λ reply. reply ≡ asked_reply store.now page verb) }
+    ensures reply { IfOk result (λ reply. reply ≡ asked_reply store.now page verb) }
+    ensures status { IfOk result (λ reply. HasPhrase reply.status) }
 {
     match verb {
         Verb::Get => show(alloc, store, page),
@@ -44,7 +48,8 @@ fn reply_to(alloc: Global, store: &Store, page: Page, verb: Verb) -> Result<Repl
 #[tactic(auto, unfolding(member_rules::specs::Documents::name_of))]
 fn show(alloc: Global, store: &Store, page: Page) -> Result<Reply, NoMemory>
     requires { is_spent store.now ≡ false }
-    ensures { IfOk result (λ reply. reply ≡ shown_page store.now page) }
+    ensures reply { IfOk result (λ reply. reply ≡ shown_page store.now page) }
+    ensures status { IfOk result (λ reply. HasPhrase reply.status) }
 {
     let base = &store.head().name.base;
     match page {

@@ -6,14 +6,16 @@ use atom_writer::FeedName;
 use chain_links::{Address, Base};
 use std::alloc::Global;
 
-const START: &[u8] = b"<?xml version=\"1.0\" encoding=\"utf-8\"?>\n<service xmlns=\"http://www.w3.org/2007/app\" \
+const START: &[u8] =
+    b"<?xml version=\"1.0\" encoding=\"utf-8\"?>\n<service xmlns=\"http://www.w3.org/2007/app\" \
 xmlns:atom=\"http://www.w3.org/2005/Atom\"><workspace><atom:title>";
 
 const COLLECTION: &[u8] = b"</atom:title><collection href=\"";
 
 const COLLECTION_TITLE: &[u8] = b"\"><atom:title>";
 
-const END: &[u8] = b"</atom:title><accept>application/atom+xml;type=entry</accept></collection></workspace></service>\n";
+const END: &[u8] =
+    b"</atom:title><accept>application/atom+xml;type=entry</accept></collection></workspace></service>\n";
 
 /// Returns the service document of the feed: one workspace with one collection, which accepts entries. Both have the
 /// feed's title.

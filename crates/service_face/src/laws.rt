@@ -1,4 +1,4 @@
-ghost use Rattle.service_face.specs.Laws.{ListingsAreNewestFirst, OneReply, PagesAreNoDocuments};
+ghost use Rattle.service_face.specs.Laws.{ListingsAreNewestFirst, PagesAreNoDocuments, TargetsAreAddresses};
 
 // The functions of this file do nothing. Each exists for its contract, which is a law over the definitions of specs/.
 
@@ -12,7 +12,7 @@ pub fn pages_are_no_documents()
     ensures { PagesAreNoDocuments }
 {}
 
-/// A request has one reply.
-pub fn requests_have_one_reply()
-    ensures { OneReply }
+/// A request names a page as it would name a document with the page's name after the base address.
+pub fn targets_are_addresses()
+    ensures { TargetsAreAddresses }
 {}

@@ -24,6 +24,6 @@ mod replies;
 
 pub use answer::service_answer;
 pub use document::service_doc;
-pub use laws::{listings_are_newest_first, pages_are_no_documents, requests_have_one_reply};
+pub use laws::{listings_are_newest_first, pages_are_no_documents, targets_are_addresses};
 pub use lines::listing;
 pub use page::Page;

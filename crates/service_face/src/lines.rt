@@ -47,12 +47,7 @@ fn push_member(
 }
 
 /// Appends the line of a member that this operation named last.
-fn push_line(
-    text: &mut Vec<u8>,
-    base: &Base,
-    version: u32,
-    number: u32,
-) -> Result<(), NoMemory>
+fn push_line(text: &mut Vec<u8>, base: &Base, version: u32, number: u32) -> Result<(), NoMemory>
     requires { 1 ≤ number }
     ensures { OnOk result (text.new.items ≡ text.old.items ++ line_of base.now version number) }
 {

@@ -1,6 +1,6 @@
 ghost use Rattle.std.specs.Prelude.{◌≡◌, ◌++◌, List, ℕ, Some, IfSome};
 ghost use Rattle.std.specs.Option.{option_copied};
-ghost use Rattle.service_face.specs.Page.{IsPageTarget, page_name};
+ghost use Rattle.service_face.specs.Page.{page_name, page_of};
 ghost use Rattle.service_face.specs.declared.page.Page.{Page};
 
 use chain_links::Base;
@@ -18,8 +18,7 @@ impl Page {
     /// Parses the target of a request: the address of a page, whole or from the path on. `None` if the target is
     /// neither (RFC 9112 section 3.2).
     pub(crate) fn of_target(base: &Base, target: &[u8]) -> Option<Page>
-        ensures found { IfSome result (λ page. IsPageTarget base.now page target.now) }
-        ensures only { (page : Page) → IsPageTarget base.now page target.now → result ≡ Some page }
+        ensures { result ≡ page_of base.now target.now }
     {
         match after(target, base.text()) {
             Some(name) => Page::named(name),

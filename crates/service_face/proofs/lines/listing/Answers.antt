@@ -1,8 +1,8 @@
 -- The walk goes over all members.
-use Rattle.std.proofs.Common.{◌≡◌, ℕ, ◌+◌, ◌≤◌, ap, sym, ◌∙◌, arith, Some, None, subst}
+use Rattle.std.proofs.Common.{arith, subst}
 use Rattle.member_rules.specs.Recent.{recent_members}
 use Rattle.service_face.specs.Listing.{lines_at}
-use Rattle.service_face.proofs.WalkLemmas.{IsWalked, recent-distinct, walk-begins, walk-counted, walk-ends, walk-goes_on}
+use Rattle.service_face.proofs.WalkLemmas.{IsWalked, recent-distinct, walk-counted, walk-ends, walk-goes_on}
 use Rattle.service_face.proofs.lines.listing.Goals as goal
 
 pub returns-in_default : goal.returns-in_default

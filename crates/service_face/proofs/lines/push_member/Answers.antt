@@ -1,6 +1,5 @@
 -- The line of a live member, and none of another.
-use Rattle.std.proofs.Common.{ℤ, ℕ, ◌≡◌, ◌≢◌, ◌++◌, ap, sym, ◌∙◌, append-nil}
-use Rattle.member_rules.specs.declared.state.State.TheVariants.{Live}
+use Rattle.std.proofs.Common.{sym, ◌∙◌, append-nil}
 use Rattle.service_face.proofs.WalkLemmas.{lines_at-live, lines_at-none, not_live}
 use Rattle.service_face.proofs.lines.push_member.Goals as goal
 
