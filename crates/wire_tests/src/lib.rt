@@ -1,4 +1,4 @@
-//! Tests of the public calls of `http_face` and `document_server`.
+//! Tests of the public calls of `http_face`, `document_server` and `service_face`.
 //!
 //! They are in a crate of their own, so that the crate is proved once, without its tests.
 //! A test drops large values by `drop`: a value that goes out of scope is proved to be dropped field by field, in each
@@ -13,6 +13,8 @@ mod answers;
 mod changes;
 #[cfg(test)]
 mod conns;
+#[cfg(test)]
+mod pages;
 #[cfg(test)]
 mod replies;
 #[cfg(test)]

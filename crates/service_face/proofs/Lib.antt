@@ -1,0 +1,6 @@
+-- serves `listing`: the lines of the members, and the walk over all members
+pub mod WalkLemmas
+-- serves `listings_are_newest_first`
+pub mod NewestLemmas
+-- serves `pages_are_no_documents`, `requests_have_one_reply` and `service_answer`
+pub mod PageLemmas

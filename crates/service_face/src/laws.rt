@@ -1,0 +1,18 @@
+ghost use Rattle.service_face.specs.Laws.{ListingsAreNewestFirst, PagesAreNoDocuments, TargetsAreAddresses};
+
+// The functions of this file do nothing. Each exists for its contract, which is a law over the definitions of specs/.
+
+/// The listing has exactly the live members, and each was named later than those after it.
+pub fn listings_are_newest_first()
+    ensures { ListingsAreNewestFirst }
+{}
+
+/// No target names both a page and a document.
+pub fn pages_are_no_documents()
+    ensures { PagesAreNoDocuments }
+{}
+
+/// A request names a page as it would name a document with the page's name after the base address.
+pub fn targets_are_addresses()
+    ensures { TargetsAreAddresses }
+{}
