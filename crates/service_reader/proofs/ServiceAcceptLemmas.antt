@@ -3,8 +3,7 @@ use Rattle.std.proofs.Common.{◌≡◌, List, [], ◌∷◌, ◌++◌, Bool, tr
 use Rattle.std.specs.Prelude.{is_some, not, ◌||◌}
 use Rattle.std.specs.List.{list_any}
 use Rattle.std.proofs.lemmas.List.Folds.{list_any-append}
-use Rattle.xml_tokens.specs.Tree.{Name, Element, Content}
-use Rattle.xml_tokens.specs.Tree.Content.{nothing}
+use Rattle.xml_tokens.specs.Tree.{Element, Content}
 use Rattle.xml_tokens.specs.Children.{Child, first_of, named, with_child}
 use Rattle.xml_tokens.specs.Names.{app}
 use Rattle.feed_reader.specs.Feed.{cut_text}

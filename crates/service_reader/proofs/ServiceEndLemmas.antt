@@ -7,8 +7,7 @@ use Rattle.atom_values.specs.Listed.{Listed}
 use Rattle.xml_tokens.specs.declared.elements.Elements.{Elements}
 use Rattle.xml_tokens.specs.declared.fault.TokenFault.{TokenFault}
 use Rattle.xml_tokens.specs.declared.fault.TokenFault.TheVariants.{NotRead, NoMemory}
-use Rattle.xml_tokens.specs.declared.fault.TokenWhy.TheVariants.{NotUtf8}
-use Rattle.xml_tokens.specs.Progress.{IsDrainedFrom, IsFaultFrom, IsLed, IsNotUtf8Fault, IsOver, IsSkippedFrom}
+use Rattle.xml_tokens.specs.Progress.{IsDrainedFrom, IsFaultFrom, IsLed, IsOver, IsSkippedFrom}
 use Rattle.xml_tokens.specs.Progress.{first_point, pending}
 use Rattle.xml_tokens.specs.Refusal.{IsTokenRefusedAt}
 use Rattle.xml_tokens.specs.Tree.{Content, Element, IsDocument, contents}

@@ -5,7 +5,6 @@ use Rattle.std.specs.Prelude.{is_some, flat_map, Result, Ok, Err}
 use Rattle.std.specs.List.{AllZip}
 use Rattle.std.proofs.lemmas.Bool.{both_ways, cases_Bool}
 use Rattle.std.proofs.lemmas.List.{append-nil, length-map}
-use Rattle.std.proofs.lemmas.List.Elements.{All-nil}
 use Rattle.std.proofs.lemmas.Grind.{flat_map-append}
 use Rattle.xml_tokens.specs.declared.elements.Elements.{Elements}
 use Rattle.xml_tokens.specs.declared.fault.TokenFault.{TokenFault}

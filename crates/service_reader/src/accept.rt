@@ -8,7 +8,7 @@ use xml_tokens::{Element, Elements, TokenFault};
 /// The type of Atom entries (RFC 5023 section 12).
 const ENTRY: &[u8] = b"application/atom+xml;type=entry";
 
-/// The type of Atom documents (RFC 4287 section 7), which servers also write for that of entries.
+/// The type of Atom documents (RFC 4287 section 7), which some servers write in its place.
 const ATOM: &[u8] = b"application/atom+xml";
 
 /// The `accept` children of a collection that are read so far.
@@ -39,7 +39,7 @@ impl Accepts {
     }
 }
 
-/// Whether the text is the type of entries.
+/// Whether the text is the type of entries, in either form.
 fn is_entry_type(text: &[u8]) -> bool
     ensures { result ≡ is_entry_type text.now }
 {

@@ -9,7 +9,8 @@ use xml_tokens::{Element, Elements, Event, TokenFault};
 
 /// Reads the children of an element into a `T`, one after another.
 pub(crate) trait Children<T> {
-    /// What the `T` is before the first child, and after this content. Characters between the children say nothing.
+    /// Relates the `T` before the first child, the content that is read, and the `T` after it. Characters between the
+    /// children make no difference.
     ghost Read: { Self → T → Inner → T → Type 0 };
 
     /// Reads a child to its end.

@@ -29,7 +29,7 @@ pub const MAX_SERVICE_DEPTH: usize = 256;
 ///
 /// The workspaces are children of the root, the collections are children of a workspace, and all other elements there
 /// are skipped, whatever they hold. A collection takes entries if it has no `accept`, or one whose text is
-/// `application/atom+xml;type=entry` or `application/atom+xml` between white space.
+/// `application/atom+xml;type=entry` or `application/atom+xml`, without the white space at both ends.
 ///
 /// `NotRead` has the first of these reasons that holds:
 ///

@@ -8,6 +8,6 @@ pub const MAX_COLLECTIONS: u32 = 64;
 pub struct Collection {
     /// The address of the collection's feed.
     pub href: Bytes,
-    /// Whether the collection takes new entries. It doesn't if it takes only media.
+    /// Whether the collection takes new entries (RFC 5023 section 8.3.4).
     pub entries: bool,
 }
