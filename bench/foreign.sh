@@ -1,0 +1,288 @@
+#!/bin/sh
+# Measures `feed_tool foreign` on documents of 10,000 entries of 300 bytes, 3,000 bytes and 4,096 bytes, whose content is plain
+# text, html or xhtml, and on documents of 1 MB (1,000,000 bytes) that are made to be slow. A server in Python sends them
+# over the loopback. The times are those of the processor, user and system together, the best of RUNS runs.
+# The fetch is taken out: it is the time of a document of the same length whose first byte is refused, before any other
+# byte is read.
+# Beside the entries it prints the times of `xmllint --noout --stream`, of Python's expat in a reader that keeps
+# `id`, `title` and `updated`, and of feedparser on 300 bytes, each if it is there. The times of Python leave out its start.
+# Beside each slow document it prints how many times as long it takes as 1 MB of plain text, and, if valgrind is there, the
+# ratio of the processor instructions, which a busy machine doesn't change.
+# usage: bench/foreign.sh [RUNS [PROGRAM]]. RUNS is 3 if it isn't given. PROGRAM is run in place of the one of this
+# repository. The files are in /dev/shm.
+runs=${1:-3}
+top=$(CDPATH='' cd -- "$(dirname -- "$0")/.." && pwd) || exit 1
+tool=${2:-$top/out/feed_tool}
+case $tool in
+    */*) tool=$(CDPATH='' cd -- "$(dirname -- "$tool")" && pwd)/$(basename -- "$tool") || exit 1 ;;
+esac
+[ -n "$2" ] || "$top/prove" || exit 1
+
+work=$(mktemp -d /dev/shm/foreign.XXXXXX) || exit 1
+trap 'rm -rf "$work"' EXIT
+trap 'exit 1' HUP INT TERM
+
+python3 - "$runs" "$tool" "$work" <<'PYTHON'
+import importlib.util
+import os
+import re
+import shutil
+import socket
+import subprocess
+import sys
+import threading
+
+runs, tool, work = int(sys.argv[1]), sys.argv[2], sys.argv[3]
+ENTRIES = 10_000
+SIZES = (300, 3000, 4096)
+SLOW_BYTES = 1_000_000
+DATE = "2020-01-01T00:00:00Z"
+OPEN = (f'<feed xmlns="http://www.w3.org/2005/Atom" xmlns:at="http://purl.org/atompub/tombstones/1.0"><id>f</id>'
+        f"<title>Feed</title><updated>{DATE}</updated>")
+CLOSE = "</feed>"
+
+EXPAT = '''
+import sys, time, xml.parsers.expat
+ATOM = "http://www.w3.org/2005/Atom "
+KEPT = {ATOM + name for name in ("id", "title", "updated")}
+entries, entry, text = [], None, None
+def start(name, attributes):
+    global entry, text
+    if name == ATOM + "entry":
+        entry = {}
+    elif entry is not None and name in KEPT:
+        text = []
+def end(name):
+    global entry, text
+    if name == ATOM + "entry":
+        entries.append(entry)
+        entry = None
+    elif text is not None and name in KEPT:
+        entry[name] = "".join(text)
+        text = None
+def characters(data):
+    if text is not None:
+        text.append(data)
+began = time.process_time()
+parser = xml.parsers.expat.ParserCreate(namespace_separator=" ")
+parser.buffer_text = True
+parser.StartElementHandler, parser.EndElementHandler, parser.CharacterDataHandler = start, end, characters
+with open(sys.argv[1], "rb") as file:
+    parser.ParseFile(file)
+print(len(entries), time.process_time() - began)
+'''
+
+FEEDPARSER = '''
+import sys, time, feedparser
+began = time.process_time()
+with open(sys.argv[1], "rb") as file:
+    entries = feedparser.parse(file.read()).entries
+print(len(entries), time.process_time() - began)
+'''
+
+listener = socket.create_server(("127.0.0.1", 0))
+base = f"http://127.0.0.1:{listener.getsockname()[1]}/"
+
+
+def serve():
+    """Sends the file of each request's path."""
+    while True:
+        client, _ = listener.accept()
+        with client:
+            request = b""
+            while not request.endswith(b"\r\n\r\n"):
+                request += client.recv(65536)
+            path = f"{work}{request.split(b' ')[1].decode()}"
+            client.sendall(b"HTTP/1.1 200 OK\r\nContent-Length: %d\r\n\r\n" % os.path.getsize(path))
+            with open(path, "rb") as file:
+                client.sendfile(file)
+
+
+def processor_seconds(words):
+    """Runs a program, and returns its status, what it printed and its time, user and system."""
+    with open(f"{work}/printed", "wb") as file:
+        process = subprocess.Popen(words, stdin=subprocess.DEVNULL, stdout=file, stderr=subprocess.DEVNULL)
+        _, status, usage = os.wait4(process.pid, 0)
+        process.returncode = os.waitstatus_to_exitcode(status)
+    with open(f"{work}/printed", "rb") as file:
+        return process.returncode, file.read(), usage.ru_utime + usage.ru_stime
+
+
+def walked(name, status, times):
+    """Returns the least time of a walk of the document."""
+    took = []
+    for _ in range(times):
+        ended, printed, seconds = processor_seconds([tool, "foreign", "--from", base + name])
+        if ended != status:
+            raise SystemExit(f"{name}: status {ended}, {printed[-200:]}")
+        took.append(seconds)
+    return min(took)
+
+
+def write(name, text):
+    """Writes a document, and one of the same length that is refused at its first byte."""
+    bytes_of = text.encode()
+    with open(f"{work}/{name}", "wb") as file:
+        file.write(bytes_of)
+    with open(f"{work}/refused", "wb") as file:
+        file.write(b"\xff" * len(bytes_of))
+    return len(bytes_of)
+
+
+def rate(length, seconds):
+    return f"{seconds:.4f} seconds, {length / max(seconds, 0.0001) / 1_000_000:.0f} MB per second"
+
+
+# The documents of entries
+
+TEXT = "A line of an advisory, which says what was found and mended in a few plain words. "
+
+
+def content(kind, length):
+    """Returns the content of an entry, which is about as long."""
+    if kind == "text":
+        opening, part, closing = '<content type="text">', TEXT, "</content>"
+    elif kind == "html":
+        opening, part, closing = '<content type="html">', f"&lt;p&gt;{TEXT}&lt;/p&gt;\n", "</content>"
+    else:
+        opening, closing = '<content type="xhtml"><div xmlns="http://www.w3.org/1999/xhtml">', "</div></content>"
+        part = f'<p class="a">{TEXT}</p>\n'
+    room = length - len(opening) - len(closing)
+    copies = room // len(part)
+    return opening + part * copies + "x" * (room - copies * len(part)) + closing
+
+
+def entries_of(kind, size):
+    entries = []
+    for number in range(ENTRIES):
+        front = (f"<entry><id>urn:uuid:6d1f0c5a-93be-8c27-8000-{number:012x}</id><title>Advisory number {number}</title>"
+                 f"<updated>{DATE}</updated>")
+        back = "</entry>\n"
+        entries.append(front + content(kind, size - len(front) - len(back)) + back)
+    return OPEN + "".join(entries) + CLOSE
+
+
+def by_python(script, name):
+    with open(f"{work}/script.py", "w") as file:
+        file.write(script)
+    took = []
+    for _ in range(runs):
+        count, seconds = subprocess.run([sys.executable, f"{work}/script.py", f"{work}/{name}"], check=True,
+                                        stdout=subprocess.PIPE).stdout.split()
+        if int(count) != ENTRIES:
+            raise SystemExit(f"{name}: {count} entries")
+        took.append(float(seconds))
+    return min(took)
+
+
+def measure_entries():
+    for size in SIZES:
+        for kind in ("text", "html", "xhtml"):
+            name = f"{kind}_{size}"
+            length = write(name, entries_of(kind, size))
+            fetch = walked("refused", 3, runs)
+            read = walked(name, 0, runs) - fetch
+            print(f"{name}: {length} bytes, {rate(length, read)}, after a fetch of {fetch:.4f} seconds", flush=True)
+            others = {}
+            if shutil.which("xmllint"):
+                words = ["xmllint", "--noout", "--stream", f"{work}/{name}"]
+                others["xmllint"] = min(processor_seconds(words)[2] for _ in range(runs))
+            others["expat in Python"] = by_python(EXPAT, name)
+            if size == SIZES[0] and importlib.util.find_spec("feedparser"):
+                others["feedparser"] = by_python(FEEDPARSER, name)
+            for other, seconds in others.items():
+                print(f"  {other}: {rate(length, seconds)}, {seconds / read:.1f} times as long", flush=True)
+            os.remove(f"{work}/{name}")
+
+
+# The slow documents
+
+
+def filled(front, part, back, filling=" ", room=SLOW_BYTES):
+    """Returns a document of that length: copies of a part, and filling. An `@` in the part is the number of the copy."""
+    left = room - len(front) - len(back)
+    copies = []
+    numbers = "@" in part
+    while part and left >= len(part) + 8:
+        copies.append(part.replace("@", f"{len(copies):06}") if numbers else part)
+        left -= len(copies[-1])
+    return front + "".join(copies) + filling * left + back
+
+
+def inside(part, filling=" ", name="content", front="", back="", room=SLOW_BYTES):
+    """Returns a document with copies of a part in an element of an entry."""
+    opening = f"{OPEN}<entry><id>x</id><updated>{DATE}</updated><{name}>{front}"
+    return filled(opening, part, f"{back}</{name}></entry>{CLOSE}", filling, room)
+
+
+def deep_names():
+    """Returns a document whose half declares 20 prefixes at each of 250 depths, and whose other half uses the first one."""
+    levels = ["<a" + "".join(f' xmlns:p{depth:03}x{prefix:02}="u{prefix:075}"' for prefix in range(20)) + ">"
+              for depth in range(250)]
+    return inside("<p000x00:a/>", front="".join(levels), back="</a>" * 250)
+
+
+SLOW = {
+    "plain text": (inside("", "a"), 0),
+    "elements": (inside("<a/>"), 0),
+    "elements with text": (inside("<a>b</a>"), 0),
+    "elements with a prefix": (inside("<x:a/>", front='<b xmlns:x="u">', back="</b>"), 0),
+    "elements at depth 250": (inside("<a/>", front="<b>" * 247, back="</b>" * 247), 0),
+    "elements with a prefix, 250 depths of 20 prefixes": (deep_names(), 0),
+    "nesting up to depth 256": (inside("<a>" * 253 + "</a>" * 253), 0),
+    "attributes of one element": (inside("", " ", front=filled("<a", ' a@=""', "/>", room=SLOW_BYTES - 300)), 0),
+    "an attribute in each element": (inside('<a b=""/>'), 0),
+    "namespaces of one element": (inside("", " ", front=filled("<a", ' xmlns:a@="u"', "/>", room=SLOW_BYTES - 300)), 0),
+    "a namespace in each element": (inside('<a xmlns="u"/>'), 0),
+    "one long attribute": (inside("", " ", front=filled('<a b="', "", '"/>', "v", room=SLOW_BYTES - 300)), 0),
+    "references in an attribute": (inside("", " ", front=filled('<a b="', "&#9;", '"/>', "v", room=SLOW_BYTES - 300)), 0),
+    "one long title": (inside("", "a", name="title"), 3),
+    "line ends in a title": (inside("\r", "a", name="title"), 3),
+    "references in a title": (inside("&lt;", "a", name="title"), 3),
+    "references": (inside("&lt;"), 0),
+    "references by number": (inside("&#x0000041;"), 0),
+    "brackets": (inside("]", "]"), 0),
+    "comments": (inside("<!---->"), 0),
+    "one long comment": (inside("", " ", front=filled("<!--", "- ", "-->", " ", room=SLOW_BYTES - 300)), 0),
+    "instructions": (inside("<?a?>"), 0),
+    "CDATA": (inside("<![CDATA[]]>"), 0),
+    "one long CDATA": (inside("", " ", front=filled("<![CDATA[", "]] ", "]]>", " ", room=SLOW_BYTES - 300)), 0),
+    "entries": (filled(OPEN, f"<entry><id>@</id><updated>{DATE}</updated></entry>", CLOSE), 3),
+    "tombstones": (filled(OPEN, f'<at:deleted-entry ref="@" when="{DATE}"/>', CLOSE), 3),
+    "links": (filled(OPEN, '<link rel="a"/>', CLOSE), 0),
+    "links to an archive": (filled(OPEN, '<link rel="prev-archive" href="http://["/>', CLOSE), 3),
+    "characters of three bytes": (inside("\u20ac" * 10, "a", room=SLOW_BYTES * 10 // 29), 0),
+}
+
+
+def instructions(name):
+    """Returns the processor instructions of a walk, or none without valgrind."""
+    if not shutil.which("valgrind"):
+        return None
+    words = ["valgrind", "--tool=callgrind", "--callgrind-out-file=/dev/null", tool, "foreign", "--from", base + name]
+    said = subprocess.run(words, stdout=subprocess.DEVNULL, stderr=subprocess.PIPE, text=True).stderr
+    return int(re.search(r"Collected : (\d+)", said)[1])
+
+
+def measure_slow():
+    plain = plain_instructions = worst = None
+    for name, (text, status) in SLOW.items():
+        length = write("slow", text)
+        fetch = walked("refused", 3, 3 * runs)
+        read = max(walked("slow", status, 3 * runs) - fetch, 0.0001)
+        counted = instructions("slow")
+        counted = counted and counted - instructions("refused")
+        if plain is None:
+            plain, plain_instructions, worst = read, counted, (0, name)
+        times = counted / plain_instructions if counted else read / plain
+        worst = max(worst, (times, name))
+        more = f", {counted / length:.1f} instructions a byte, {times:.1f} times as many" if counted else ""
+        print(f"{name}: {length} bytes, {rate(length, read)}, {read / plain:.1f} times as long{more}", flush=True)
+    print(f"the slowest takes {worst[0]:.1f} times as {'many instructions' if plain_instructions else 'long'} as plain text: "
+          f"{worst[1]}")
+
+
+threading.Thread(target=serve, daemon=True).start()
+measure_entries()
+measure_slow()
+PYTHON
