@@ -2,5 +2,5 @@
 pub mod WalkLemmas
 -- serves `listings_are_newest_first`
 pub mod NewestLemmas
--- serves `pages_are_no_documents`, `requests_have_one_reply` and `service_answer`
+-- serves `pages_are_no_documents`, `targets_are_addresses` and `service_answer`
 pub mod PageLemmas

@@ -18,7 +18,7 @@ abbrev pub PagesAreNoDocuments : Type 0
 PagesAreNoDocuments = (base target : List ℕ) (page : Page) (address : Address) → IsAddress address
     → IsPageTarget base page target → ¬ IsTarget base address target
 
--- a target names a page in the sense of both definitions
+-- the two definitions of the targets of a page agree
 abbrev pub TargetsAreAddresses : Type 0
 TargetsAreAddresses = (base target : List ℕ) (page : Page) → IsBase base
     → (page_of base target ≡ Some page) ↔ (IsPageTarget base page target)

@@ -25,7 +25,7 @@ member_line base history number = line_of base (last_naming number history) numb
 unfoldable pub listing_text : List ℕ → List Op → List ℕ
 listing_text base history = flat_map (member_line base history) (listed_members history)
 
--- what the listing has of a member
+-- the line of a member, or nothing if it isn't live
 abbrev pub lines_at : List ℕ → List Op → ℕ → List ℕ
 lines_at base history number = if is_live history number then member_line base history number else []
 

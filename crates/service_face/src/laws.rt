@@ -12,7 +12,7 @@ pub fn pages_are_no_documents()
     ensures { PagesAreNoDocuments }
 {}
 
-/// A request names a page as it would name a document with the page's name after the base address.
+/// A target names a page exactly if it is the page's whole address, or that address from the path on.
 pub fn targets_are_addresses()
     ensures { TargetsAreAddresses }
 {}

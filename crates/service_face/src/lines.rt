@@ -19,7 +19,7 @@ pub fn listing(alloc: Global, base: &Base, members: &Members) -> Result<Vec<u8>,
 {
     let mut text = Vec::new(alloc);
     let mut next = members.newest();
-    // `before` gives each member once. The count shows that the walk ends, whatever the table.
+    // The contracts of the table say nothing without a history, so the count is what bounds the walk.
     for _ in 0..members.count() {
         let Some(number) = next else {
             return Ok(text);
@@ -46,7 +46,7 @@ fn push_member(
     }
 }
 
-/// Appends the line of a member that this operation named last.
+/// Appends the line of the member, which the operation `version` named last.
 fn push_line(text: &mut Vec<u8>, base: &Base, version: u32, number: u32) -> Result<(), NoMemory>
     requires { 1 ≤ number }
     ensures { OnOk result (text.new.items ≡ text.old.items ++ line_of base.now version number) }
