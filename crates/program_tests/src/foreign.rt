@@ -25,27 +25,30 @@ const OWN: &[&str] = &["foreign", "--from=http://feed.example/feed"];
 const OPENING: &str =
     "<feed xmlns=\"http://www.w3.org/2005/Atom\" xmlns:at=\"http://purl.org/atompub/tombstones/1.0\"><id>f</id><updated>*</updated>";
 
-/// The addresses of a feed's newest document and of the one before it.
-const ADDRESSES: [&str; 2] = ["http://a.example/f.xml", "http://a.example/old.xml"];
+/// The address of a feed's newest document.
+const FEED: &str = "http://a.example/f.xml";
 
-/// A document of another server's feed: its date, and what comes after that. Without a date the document is the second
-/// text alone, and without both there is none.
-type Document = (&'static str, &'static str);
+/// The address of the document before it.
+const OLDER: &str = "http://a.example/old.xml";
+
+/// A document of another server's feed: its address, its date, and what comes after that. Without a date the document is
+/// the last text alone.
+type Document = (&'static str, &'static str, &'static str);
 
 /// The date of most newest documents.
 const DATE: &str = "2020-01-01T00:00:00Z";
 
 const NEWEST: Document = (
+    FEED,
     DATE,
     "<link rel=\"prev-archive\" href=\"old.xml\"/><entry><id>x</id><title>New</title><updated>2019-01-02T00:00:00Z</updated></entry>",
 );
 
 const OLD: Document = (
+    OLDER,
     "2019-06-01T00:00:00Z",
     "<entry><id>x</id><title>Old</title><updated>2019-01-01T00:00:00Z</updated><content type=\"xhtml\"><div xmlns=\"http://www.w3.org/1999/xhtml\">o</div></content></entry>",
 );
-
-const NONE: Document = ("", "");
 
 /// The documents of a source, the addresses after `http://a.example/` that are asked, and how the walk ends.
 static CHAINS: [(&[Document], &str, u8, &str); 17] = [
@@ -61,14 +64,9 @@ static CHAINS: [(&[Document], &str, u8, &str); 17] = [
         3,
         "missing http://a.example/old.xml\n",
     ),
+    (&[OLD], "f.xml ", 3, "missing http://a.example/f.xml\n"),
     (
-        &[NONE, OLD],
-        "f.xml ",
-        3,
-        "missing http://a.example/f.xml\n",
-    ),
-    (
-        &[(DATE, "<link rel=\"prev-archive\" href=\"f.xml\"/>")],
+        &[(FEED, DATE, "<link rel=\"prev-archive\" href=\"f.xml\"/>")],
         "f.xml ",
         3,
         "chain again http://a.example/f.xml\n",
@@ -77,6 +75,7 @@ static CHAINS: [(&[Document], &str, u8, &str); 17] = [
         &[
             NEWEST,
             (
+                OLDER,
                 "2019-06-01T00:00:00Z",
                 "<link rel=\"prev-archive\" href=\"/f.xml\"/>",
             ),
@@ -88,6 +87,7 @@ static CHAINS: [(&[Document], &str, u8, &str); 17] = [
     (
         &[
             (
+                FEED,
                 DATE,
                 "<link rel=\"prev-archive\" href=\"https://a.example/old.xml\"/>",
             ),
@@ -101,6 +101,7 @@ static CHAINS: [(&[Document], &str, u8, &str); 17] = [
         &[
             NEWEST,
             (
+                OLDER,
                 "",
                 "<feed xmlns=\"http://www.w3.org/2005/Atom\"><id>g</id><updated>2019-06-01T00:00:00Z</updated></feed>",
             ),
@@ -110,20 +111,23 @@ static CHAINS: [(&[Document], &str, u8, &str); 17] = [
         "other feed http://a.example/old.xml\n",
     ),
     (
-        &[NEWEST, ("", "<rss version=\"2.0\"/>")],
+        &[NEWEST, (OLDER, "", "<rss version=\"2.0\"/>")],
         "f.xml old.xml ",
         3,
         "not read http://a.example/old.xml 0\n",
     ),
     (
-        &[("", "<!-- a page --><html/>")],
+        &[(FEED, "", "<!-- a page --><html/>")],
         "f.xml ",
         3,
         "not read http://a.example/f.xml 15\n",
     ),
     // A relation is compared byte by byte.
     (
-        &[(DATE, "<link rel=\"PREV-ARCHIVE\" href=\"old.xml\"/>"), OLD],
+        &[
+            (FEED, DATE, "<link rel=\"PREV-ARCHIVE\" href=\"old.xml\"/>"),
+            OLD,
+        ],
         "f.xml ",
         0,
         "complete 1 0\n",
@@ -131,6 +135,7 @@ static CHAINS: [(&[Document], &str, u8, &str); 17] = [
     (
         &[
             (
+                FEED,
                 DATE,
                 "<link rel=\"http://www.iana.org/assignments/relation/prev-archive\" href=\"old.xml\"/>",
             ),
@@ -144,6 +149,7 @@ static CHAINS: [(&[Document], &str, u8, &str); 17] = [
     (
         &[
             (
+                FEED,
                 DATE,
                 "<link rel=\"prev-archive\" xml:base=\"http://b.example/\" href=\"old.xml\"/><link rel=\"prev-archive\" href=\"f.xml\"/>",
             ),
@@ -158,6 +164,7 @@ static CHAINS: [(&[Document], &str, u8, &str); 17] = [
         &[
             NEWEST,
             (
+                OLDER,
                 "2019-06-01T00:00:00Z",
                 "<entry><id> x </id><title>Later</title><updated>2019-01-03T00:00:00Z</updated></entry>",
             ),
@@ -171,6 +178,7 @@ static CHAINS: [(&[Document], &str, u8, &str); 17] = [
         &[
             NEWEST,
             (
+                OLDER,
                 "2021-01-01T00:00:00Z",
                 "<entry><id>x</id><title>One</title><updated>2019-01-02T01:00:00+01:00</updated></entry><entry><id>x</id><title>Two</title><updated>2019-01-02T00:00:00Z</updated></entry>",
             ),
@@ -183,6 +191,7 @@ static CHAINS: [(&[Document], &str, u8, &str); 17] = [
         &[
             NEWEST,
             (
+                OLDER,
                 "2020-01-01T00:00:00Z",
                 "<entry><id>x</id><title>Two</title><updated>2019-01-02T00:00:00Z</updated></entry>",
             ),
@@ -195,10 +204,12 @@ static CHAINS: [(&[Document], &str, u8, &str); 17] = [
     (
         &[
             (
+                FEED,
                 DATE,
                 "<entry><id>b</id><title>B</title><updated>2019-01-02T00:00:00Z</updated></entry><entry><id>a</id><title>A</title><updated>2019-01-02T00:00:00Z</updated></entry><entry><id>c</id><title>C</title><updated>2019-01-02T00:00:00Z</updated></entry><link rel=\"prev-archive\" href=\"old.xml\"/>",
             ),
             (
+                OLDER,
                 "2019-06-01T00:00:00Z",
                 "<at:deleted-entry ref=\"b\" when=\"2019-01-02T00:00:00Z\"/><at:deleted-entry ref=\"c\" when=\"2019-01-01T23:59:59.999Z\"/><at:deleted-entry ref=\"a\" when=\"2019-01-03T00:00:00Z\"/><at:deleted-entry ref=\"d\" when=\"2019-01-03T00:00:00Z\"/>",
             ),
@@ -210,6 +221,7 @@ static CHAINS: [(&[Document], &str, u8, &str); 17] = [
     // Texts have all characters of inner elements, and are printed as in attributes, in the order of identifiers.
     (
         &[(
+            FEED,
             DATE,
             "<entry><id>b\"</id><title type=\"xhtml\"><div xmlns=\"http://www.w3.org/1999/xhtml\">A &lt;<b>b</b>\t</div></title><updated>2019-01-02T00:00:00Z</updated></entry><entry><id>a</id><updated>2019-01-02T00:00:00Z</updated></entry>",
         )],
@@ -252,11 +264,9 @@ fn foreign_source(
     failing: u64,
 ) -> PileFetch {
     let mut offers = Many::new(alloc);
-    for (document, address) in documents.iter().zip(ADDRESSES.iter()) {
-        let text = text_of(rt, alloc, document.0, document.1);
-        if text.is_empty() {
-            continue;
-        }
+    for document in documents {
+        let (address, date, rest) = *document;
+        let text = text_of(rt, alloc, date, rest);
         let offer = offer_of(rt, alloc, address.as_bytes(), text);
         offers.push(offer).expect(rt, "memory");
     }
@@ -384,7 +394,10 @@ fn pile_source<D: Disk>(rt: &impl Abort, alloc: Global, store: &mut D) -> PileFe
     let mut input = ListSource::new(Bytes::from_vec(pile), Many::new(alloc));
     let mut reader = PileReader::new(alloc, 10_000_000).expect(rt, "memory");
     let mut offers = Many::new(alloc);
-    while let Some(offer) = reader.next(&mut input).expect(rt, "a pile") {
+    for _count in 0..1_000 {
+        let Some(offer) = reader.next(&mut input).expect(rt, "a pile") else {
+            break;
+        };
         let text = Vec::from_slice(alloc, offer.bytes.slice()).expect(rt, "memory");
         let copy = offer_of(rt, alloc, offer.address.slice(), text);
         drop(offer);
