@@ -199,20 +199,20 @@ def measure_entries():
 
 
 def filled(front, part, back, filling=" ", room=SLOW_BYTES):
-    """Returns a document of that length: copies of a part, and filling. An `@` in the part is the number of the copy."""
+    """Returns a document of that many bytes: copies of a part, and filling. An `@` in the part is the number of the copy."""
     left = room - len(front) - len(back)
     copies = []
     numbers = "@" in part
-    while part and left >= len(part) + 8:
+    while part and left >= len(part.encode()) + 8:
         copies.append(part.replace("@", f"{len(copies):06}") if numbers else part)
-        left -= len(copies[-1])
+        left -= len(copies[-1].encode())
     return front + "".join(copies) + filling * left + back
 
 
-def inside(part, filling=" ", name="content", front="", back="", room=SLOW_BYTES):
+def inside(part, filling=" ", name="content", front="", back=""):
     """Returns a document with copies of a part in an element of an entry."""
     opening = f"{OPEN}<entry><id>x</id><updated>{DATE}</updated><{name}>{front}"
-    return filled(opening, part, f"{back}</{name}></entry>{CLOSE}", filling, room)
+    return filled(opening, part, f"{back}</{name}></entry>{CLOSE}", filling)
 
 
 def deep_names():
@@ -251,7 +251,7 @@ SLOW = {
     "tombstones": (filled(OPEN, f'<at:deleted-entry ref="@" when="{DATE}"/>', CLOSE), 3),
     "links": (filled(OPEN, '<link rel="a"/>', CLOSE), 0),
     "links to an archive": (filled(OPEN, '<link rel="prev-archive" href="http://["/>', CLOSE), 3),
-    "characters of three bytes": (inside("\u20ac" * 10, "a", room=SLOW_BYTES * 10 // 29), 0),
+    "characters of three bytes": (inside("\u20ac", "a"), 0),
 }
 
 
@@ -265,13 +265,14 @@ def instructions(name):
 
 
 def measure_slow():
+    write("slow", SLOW["plain text"][0])
+    # The documents have the same length, so one fetch stands for all.
+    fetch, fetched = walked("refused", 3, 3 * runs), instructions("refused")
     plain = plain_instructions = worst = None
     for name, (text, status) in SLOW.items():
         length = write("slow", text)
-        fetch = walked("refused", 3, 3 * runs)
         read = max(walked("slow", status, 3 * runs) - fetch, 0.0001)
-        counted = instructions("slow")
-        counted = counted and counted - instructions("refused")
+        counted = fetched and instructions("slow") - fetched
         if plain is None:
             plain, plain_instructions, worst = read, counted, (0, name)
         times = counted / plain_instructions if counted else read / plain
