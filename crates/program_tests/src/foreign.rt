@@ -8,7 +8,7 @@ use crate::generated::{empty, push_lines};
 use crate::runs::{APPLY, Run, empty_disk, fetched, listed, ran};
 use crate::store::made;
 use atom_values::{Bytes, Many};
-use doc_source::{Fetch, GetFault, ListSource, Offer, PileFetch, PileReader};
+use doc_source::{Fetch, GetFault, ListSource, MAX_OFFERS, Offer, PileFetch, PileReader};
 use feed_disk::Disk;
 use foreign_mirror::ForeignFault;
 use std::alloc::Global;
@@ -388,6 +388,16 @@ fn expect_own(rt: &impl Abort, alloc: Global, source: &mut PileFetch, expected: 
     drop(disk);
 }
 
+/// Appends a copy of an offer.
+fn push_copy(rt: &impl Abort, alloc: Global, offers: &mut Many<Offer, MAX_OFFERS>, offer: &Offer)
+    requires short { All (λ each. length each.bytes ≤ offer_limit) offers.old.items }
+    ensures short { All (λ each. length each.bytes ≤ offer_limit) offers.new.items }
+{
+    let text = Vec::from_slice(alloc, offer.bytes.slice()).expect(rt, "memory");
+    let copy = offer_of(rt, alloc, offer.address.slice(), text);
+    offers.push(copy).expect(rt, "memory");
+}
+
 /// A source of the documents of a store's pile.
 fn pile_source<D: Disk>(rt: &impl Abort, alloc: Global, store: &mut D) -> PileFetch {
     let pile = ran(rt, alloc, store, &["show", "pile"], b"").printed;
@@ -398,10 +408,8 @@ fn pile_source<D: Disk>(rt: &impl Abort, alloc: Global, store: &mut D) -> PileFe
         let Some(offer) = reader.next(&mut input).expect(rt, "a pile") else {
             break;
         };
-        let text = Vec::from_slice(alloc, offer.bytes.slice()).expect(rt, "memory");
-        let copy = offer_of(rt, alloc, offer.address.slice(), text);
+        push_copy(rt, alloc, &mut offers, &offer);
         drop(offer);
-        offers.push(copy).expect(rt, "memory");
     }
     drop((input, reader));
     PileFetch::new(alloc, offers, Many::new(alloc))
