@@ -1,7 +1,7 @@
 #!/bin/sh
 # Runs the built program with FEED_LOG=stderr and without it, over the same store and the same requests: a server, a
 # mirror over HTTP and a walk of a foreign feed. Standard output, the exit status and the files have to be the same, and
-# standard error has to have the expected lines, or none. Ports and times are masked.
+# standard error has to have the expected lines, or none. Ports, times and numbers of bytes are masked.
 # Usage: checks/log.sh [PROGRAM]. PROGRAM is run in place of the one of this repository. It ends with 0 if all agrees, with
 # 1 if not, and with 2 if there is no curl. It takes some seconds.
 top=$(CDPATH='' cd -- "$(dirname -- "$0")/.." && pwd) || exit 1
@@ -38,7 +38,8 @@ same() {
 # A port below those that the system gives to clients, so that no client of this machine has it by chance.
 port=$(awk -v seed=$$ 'BEGIN { srand(seed); print 10000 + int(rand() * 20000) }')
 base=http://127.0.0.1:$port/
-mask() { sed -e "s/:$port/:PORT/g" -e 's/\(peer=127.0.0.1:\)[0-9]*/\1N/' -e 's/ ms=[0-9]*\.[0-9][0-9][0-9]/ ms=T/' "$1"; }
+mask() { sed -e "s/:$port/:PORT/g" -e 's/\(peer=127.0.0.1:\)[0-9]*/\1N/' -e 's/ ms=[0-9]*\.[0-9][0-9][0-9]/ ms=T/' \
+    -e 's/ bytes=[0-9]*/ bytes=B/' "$1"; }
 ask() { curl -q -s --noproxy '*' --max-time 20 "$@"; }
 long=$(printf '%0300d' 0)
 
@@ -91,10 +92,35 @@ for command in serve mirror foreign; do
     same "nothing from $command" '' "$(cat "$work/without/$command.err" "$work/other/$command.err")"
 done
 
-size() { ask_size=$(wc -c <"$1"); echo $((ask_size)); }
-same 'the lines of serve' "@serve" "$(mask "$work/with/serve.err")"
-same 'the lines of mirror' "@mirror" "$(mask "$work/with/mirror.err")"
-same 'the lines of foreign' "@foreign" "$(mask "$work/with/foreign.err")"
+# usage: line METHOD TARGET STATUS
+line() { printf 'event=connection peer=127.0.0.1:N method=%s target=%s status=%s bytes=B ms=T\n' "$1" "$2" "$3"; }
+# the lines of the tour's requests, in their order
+served() {
+    echo 'event=listen address=127.0.0.1:PORT'
+    line GET /feed 200
+    line GET /nothing 404
+    line GET '/a\x5cb%20"' 404
+    line GET "/$(printf '%0199d' 0)" 404
+    # the mirror and the walk
+    line GET /feed 200
+    line GET /archive/1 200
+    line GET /feed 200
+    line GET /archive/1 200
+    line PUT /member/1 411
+}
+fetched() {
+    for path in feed archive/1; do
+        echo "event=fetch address=http://127.0.0.1:PORT/$path ms=T answer=found bytes=B"
+    done
+}
+# A slow disk adds lines of its syncs.
+same 'the lines of serve' "$(served)" "$(mask "$work/with/serve.err")"
+same 'the lines of mirror' "$(fetched)" "$(mask "$work/with/mirror.err" | grep -v '^event=sync ')"
+same 'the lines of foreign' "$(fetched)" "$(mask "$work/with/foreign.err")"
+
+# The bytes that were fetched are those of the server's replies without their heads.
+same 'the bytes of the feed' "$(wc -c <"$work/with/feed" | tr -d ' ')" \
+    "$(sed -n 's/.*\/feed .* bytes=//p' "$work/with/mirror.err")"
 
 # A closed standard error changes nothing.
 cd "$work/with/mirror" || exit 1
