@@ -1,6 +1,9 @@
-//! Tests of `system_edge`: over a clock, a reader, a writer and words in memory, and over TCP in one process.
+//! Tests of `system_edge`: over a clock, a reader, a writer, words and an
+//! environment in memory, and over TCP in one process.
 #![tactic(auto)]
 
+#[cfg(test)]
+mod log;
 #[cfg(test)]
 mod system;
 #[cfg(test)]

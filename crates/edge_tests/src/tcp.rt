@@ -12,7 +12,7 @@ use std::net::{Net, Shutdown, SocketAddr, TcpStream};
 use std::process::Abort;
 use std::rt;
 use std::time::{Duration, Instant};
-use system_edge::TcpDoor;
+use system_edge::{Log, TcpDoor};
 
 /// A request that is whole.
 const REQUEST: &[u8] = b"POST / HTTP/1.1\r\nContent-Length: 4\r\n\r\nseek";
@@ -28,8 +28,11 @@ fn empty_disk(rt: &impl Abort, alloc: Global) -> MemoryDisk {
 }
 
 /// A door that listens, and its address.
-fn listening<R: Net + rt::Clock + Abort>(rt: &R, alloc: Global) -> (TcpDoor<'_, R>, SocketAddr) {
-    let mut door = TcpDoor::new(alloc, rt);
+fn listening<'a, R>(rt: &'a R, alloc: Global, log: &'a Log<'a, R>) -> (TcpDoor<'a, R>, SocketAddr)
+where
+    R: Net + rt::Clock + Eprint + Abort,
+{
+    let mut door = TcpDoor::new(alloc, rt, log);
     door.listen(b"127.0.0.1:0").expect(rt, "a port");
     let address = door.address().expect(rt, "an address");
     (door, address)
@@ -58,7 +61,7 @@ fn write_all<C: Conn>(rt: &impl Abort, link: &mut C, reply: &[u8])
 /// Takes the next connection, reads its request up to the first bytes of `request`, and writes a reply.
 fn answer_next<R, D>(rt: &R, door: &mut TcpDoor<R>, disk: &D, request: &[u8], reply: &[u8])
 where
-    R: Net + rt::Clock + Abort,
+    R: Net + rt::Clock + Eprint + Abort,
     D: Disk,
 {
     let mut link = door.next().expect(rt, "a call").expect(rt, "a client");
@@ -83,7 +86,8 @@ fn expect_reply(rt: &impl Abort, mut client: TcpStream) {
 #[test]
 fn serves_clients(rt: HostRuntime) {
     let disk = empty_disk(&rt, rt.alloc());
-    let (mut door, address) = listening(&rt, rt.alloc());
+    let log = Log::new(&rt);
+    let (mut door, address) = listening(&rt, rt.alloc(), &log);
     let no_head = [b'!'; 32_768];
     // A whole request, one that the client ends early, one that is whole and goes on, and one without an end.
     let all: [&[u8]; 4] = [REQUEST, b"seek", b"GET / HTTP/1.1\r\n\r\nmore", &no_head];
@@ -100,7 +104,8 @@ fn serves_clients(rt: HostRuntime) {
 #[test]
 fn serves_a_client_while_another_is_silent(rt: HostRuntime) {
     let disk = empty_disk(&rt, rt.alloc());
-    let (mut door, address) = listening(&rt, rt.alloc());
+    let log = Log::new(&rt);
+    let (mut door, address) = listening(&rt, rt.alloc(), &log);
     let mut silent = client_of(&rt, address, b"");
     let client = client_of(&rt, address, REQUEST);
     answer_next(&rt, &mut door, &disk, REQUEST, b"found");
@@ -123,7 +128,8 @@ static ARRIVING: [&[u8]; 4] = [
 #[test]
 fn serves_a_client_while_the_request_of_another_arrives(rt: HostRuntime) {
     let disk = empty_disk(&rt, rt.alloc());
-    let (mut door, address) = listening(&rt, rt.alloc());
+    let log = Log::new(&rt);
+    let (mut door, address) = listening(&rt, rt.alloc(), &log);
     for &request in &ARRIVING {
         let mut slow = client_of(&rt, address, b"");
         // Every byte of the slow client's request is followed by the whole request of another one.
@@ -157,7 +163,8 @@ static DECIDED: [&[u8]; 8] = [
 #[test]
 fn serves_clients_before_they_end(rt: HostRuntime) {
     let disk = empty_disk(&rt, rt.alloc());
-    let (mut door, address) = listening(&rt, rt.alloc());
+    let log = Log::new(&rt);
+    let (mut door, address) = listening(&rt, rt.alloc(), &log);
     for &sent in &DECIDED {
         let begun = Instant::now(&rt).expect(&rt, "a clock");
         let client = client_of(&rt, address, sent);
@@ -174,7 +181,8 @@ fn serves_clients_before_they_end(rt: HostRuntime) {
 #[test]
 fn reads_on_after_a_reply(rt: HostRuntime) {
     let disk = empty_disk(&rt, rt.alloc());
-    let (mut door, address) = listening(&rt, rt.alloc());
+    let log = Log::new(&rt);
+    let (mut door, address) = listening(&rt, rt.alloc(), &log);
     let mut slow = client_of(&rt, address, REQUEST);
     answer_next(&rt, &mut door, &disk, REQUEST, b"found");
     // The first client goes on sending after another one was served.
@@ -193,7 +201,8 @@ fn reads_on_after_a_reply(rt: HostRuntime) {
 #[test]
 fn serves_a_client_while_another_takes_no_reply(rt: HostRuntime) {
     let disk = empty_disk(&rt, rt.alloc());
-    let (mut door, address) = listening(&rt, rt.alloc());
+    let log = Log::new(&rt);
+    let (mut door, address) = listening(&rt, rt.alloc(), &log);
     // It is more than the system has room for.
     let long = vec![in rt.alloc(); b'!'; 33_554_432].expect(&rt, "memory");
     let greedy = client_of(&rt, address, REQUEST);

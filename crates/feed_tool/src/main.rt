@@ -6,6 +6,8 @@
 //! The contract of `run` says which exit status the program ends with and which bytes it prints, as far as contracts
 //! see the content of what it is lent. They see the words, and of the system's objects only counts.
 //!
+//! With `FEED_LOG=stderr` in the environment, the adapters write a line to standard error for each event.
+//!
 //! `system_edge` has these as thin adapters. The traits that they implement are in the crates below, with objects in
 //! memory for tests.
 #![tactic(auto)]
@@ -15,15 +17,22 @@ use feed_commands::{Fault, print_fault, run};
 use feed_disk::FileDisk;
 use std::io::{self, BufReader};
 use std::process::ExitCode;
-use system_edge::{InputSource, OutputSink, SystemClock, TcpDoor, given_words};
+use system_edge::{
+    InputSource, Log, LoggedDisk, LoggedFetch, OutputSink, SystemClock, TcpDoor, given_words,
+};
 
 /// How many bytes the program reads of its input at a time. A caller that asks for fewer gets them from this buffer.
 const INPUT_BUFFER: usize = 65_536;
 
 fn main(rt: HostRuntime) -> ExitCode {
     let mut clock = SystemClock { runtime: &rt };
-    let mut door = TcpDoor::new(rt.alloc(), &rt);
-    let mut fetch = HttpFetch::new(&rt);
+    let log = Log::new(&rt);
+    let mut door = TcpDoor::new(rt.alloc(), &rt, &log);
+    let mut fetch = LoggedFetch {
+        fetch: HttpFetch::new(&rt),
+        runtime: &rt,
+        log: &log,
+    };
     let mut output = OutputSink {
         writer: io::writer(&rt),
         faults: 0,
@@ -32,10 +41,14 @@ fn main(rt: HostRuntime) -> ExitCode {
     let disk = FileDisk::new(rt.alloc(), &rt, ".");
     let reader = BufReader::with_capacity(rt.alloc(), INPUT_BUFFER, rt.reader());
     let status = match (words, disk, reader) {
-        (Ok(words), Ok(mut disk), Ok(reader)) => run(
+        (Ok(words), Ok(disk), Ok(reader)) => run(
             rt.alloc(),
             words.as_slice(),
-            &mut disk,
+            &mut LoggedDisk {
+                disk,
+                runtime: &rt,
+                log: &log,
+            },
             &mut clock,
             &mut door,
             &mut fetch,

@@ -5,7 +5,8 @@
 //!
 //! ```
 //! let mut clock = SystemClock { runtime: &rt };
-//! let mut door = TcpDoor::new(rt.alloc(), &rt);
+//! let log = Log::new(&rt);
+//! let mut door = TcpDoor::new(rt.alloc(), &rt, &log);
 //! let ended = serve(rt.alloc(), &mut disk, &mut clock, &mut door, b"127.0.0.1:8080", 100);
 //! door.finish();
 //! ```
@@ -14,13 +15,18 @@
 //! and the mark of a reply, and nothing of the content. That the system does what it is asked is trusted.
 //!
 //! Stands on `document_server` for the clock and the door, on `doc_source` for the input and the output, on `http_face`
-//! for connections, on `httparse` for a look at heads that are arriving, and on `mio` for waiting.
+//! for connections, on `httparse` for a look at heads that are arriving, on `mio` for waiting, and on `arrayvec` for the
+//! lines of the log.
 #![tactic(auto)]
 
+mod log;
+mod logged;
 mod system;
 mod tcp;
 mod words;
 
+pub use log::{Line, Log};
+pub use logged::{LoggedDisk, LoggedFetch};
 pub use system::{InputSource, OutputSink, SystemClock};
-pub use tcp::{TcpConn, TcpDoor};
+pub use tcp::{EndedConn, TcpConn, TcpDoor};
 pub use words::given_words;

@@ -5,10 +5,13 @@ mod client;
 mod closing;
 mod conn;
 mod door;
+mod ended;
 mod listening;
 mod look;
 mod port;
 mod replying;
+mod written;
 
 pub use conn::TcpConn;
 pub use door::TcpDoor;
+pub use ended::EndedConn;

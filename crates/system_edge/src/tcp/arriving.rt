@@ -14,7 +14,6 @@ const SILENT_SECONDS: u64 = 1;
 #[derive(Drop)]
 pub(super) struct Arriving<S> {
     pub(super) conn: TcpConn<S>,
-    pub(super) accepted: Instant,
     /// When the client's time for its request ends.
     pub(super) deadline: Instant,
     /// Whether the connection is to be served: its request is whole, no more of it will arrive, or its time is over.
@@ -26,7 +25,7 @@ impl<S: OpenStream + Read + Write + AsRawFd + Drop> Arriving<S> {
     pub(super) fn is_silent(&self, now: Instant) -> bool {
         !self.is_due
             && self.conn.is_silent()
-            && now.duration_since(self.accepted) >= Duration::from_secs(SILENT_SECONDS)
+            && now.duration_since(self.conn.client.accepted) >= Duration::from_secs(SILENT_SECONDS)
     }
 
     /// Whether the client has sent a part of its request.

@@ -7,13 +7,17 @@ use mio::event::Events;
 use mio::unix::SourceFd;
 use mio::{Interest, Poll, Token};
 use std::io::{ErrorKind, Read, Write};
-use std::net::OpenStream;
+use std::net::{OpenStream, SocketAddr};
 use std::os::fd::AsRawFd;
+use std::time::Instant;
 
 /// The socket of a client. It doesn't wait: a call that has nothing to do returns at once.
 #[derive(Drop)]
 pub(super) struct Client<S> {
     pub(super) stream: S,
+    pub(super) peer: SocketAddr,
+    /// When the client had connected.
+    pub(super) accepted: Instant,
     /// The name by which the system reports the socket.
     token: Token,
     /// Whether the system reports the socket when a call on it has something to do.
@@ -21,15 +25,20 @@ pub(super) struct Client<S> {
     /// Whether a call may have something to do. The system reports this once, so it holds until a call had nothing to
     /// do.
     pub(super) is_ready: bool,
+    /// Whether a call on the socket has failed.
+    pub(super) has_failed: bool,
 }
 
 impl<S: OpenStream + Read + Write + AsRawFd> Client<S> {
-    pub(super) fn new(stream: S, token: Token) -> Client<S> {
+    pub(super) fn new(stream: S, peer: SocketAddr, accepted: Instant, token: Token) -> Client<S> {
         Client {
             stream,
+            peer,
+            accepted,
             token,
             is_watched: false,
             is_ready: true,
+            has_failed: false,
         }
     }
 
@@ -70,6 +79,7 @@ impl<S: OpenStream + Read + Write + AsRawFd> Client<S> {
                 Err(_) => break,
             }
         }
+        self.has_failed = true;
         Err(Failed)
     }
 
@@ -92,6 +102,7 @@ impl<S: OpenStream + Read + Write + AsRawFd> Client<S> {
                 _ => break,
             }
         }
+        self.has_failed = true;
         Err(Failed)
     }
 }

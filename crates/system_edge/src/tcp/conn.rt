@@ -3,7 +3,10 @@
 ghost use Rattle.std.specs.Prelude.{◌≡◌, ◌≤◌, [], None, IfSome, vec_len};
 
 use super::client::Client;
+use super::ended::EndedConn;
 use super::look::{has_empty_line, stated_length};
+use super::written::Written;
+use crate::log::Line;
 use atom_values::Failed;
 use feed_disk::Disk;
 use http_face::{Conn, RequestFault, read_request};
@@ -13,6 +16,7 @@ use std::io::{Read, Write};
 use std::mem;
 use std::net::OpenStream;
 use std::os::fd::AsRawFd;
+use std::time::Instant;
 
 /// How many parts are received before the other clients have their turn.
 const TURN_PARTS: u32 = 4;
@@ -45,6 +49,7 @@ pub struct TcpConn<S> {
     is_short: bool,
     /// The part of the reply for which the system had no room.
     pub(super) rest: Vec<u8>,
+    written: Written,
     pub(super) begun: Option<u64>,
     pub(super) faults: u64,
     bytes_read: u64,
@@ -64,6 +69,7 @@ impl<S: OpenStream + Read + Write + AsRawFd + Drop> TcpConn<S> {
             length: None,
             is_short: false,
             rest: Vec::new(alloc),
+            written: Written::new(),
             begun: None,
             faults: 0,
             bytes_read: 0,
@@ -179,6 +185,33 @@ impl<S: OpenStream + Read + Write + AsRawFd + Drop> TcpConn<S> {
         self.bytes_read = 0;
         self.reads = 0;
     }
+
+    /// Why the connection ends without a whole reply. `None` if its reply was written whole.
+    pub(super) fn end(&self) -> Option<&'static str> {
+        if self.begun.is_some() && self.faults == 0 {
+            None
+        } else if self.client.has_failed {
+            Some("failed")
+        } else if self.begun.is_some() || self.is_short {
+            // The rest of the reply, or of the request, found no memory.
+            Some("no-memory")
+        } else {
+            Some("late")
+        }
+    }
+
+    /// The log's line for the connection when it ends.
+    pub(super) fn line(&self, now: Instant, end: Option<&str>) -> Line {
+        EndedConn {
+            peer: self.client.peer,
+            request: &self.arrived,
+            status: self.written.status,
+            bytes: self.written.bytes,
+            time: now.duration_since(self.client.accepted),
+            end,
+        }
+        .line()
+    }
 }
 
 impl<S: OpenStream + Read + Write + AsRawFd + Drop> Conn for TcpConn<S> {
@@ -220,7 +253,10 @@ impl<S: OpenStream + Read + Write + AsRawFd + Drop> Conn for TcpConn<S> {
         if self.rest.is_empty() {
             match self.client.send(from) {
                 Ok(0) => {}
-                Ok(count) => return Ok(count),
+                Ok(count) => {
+                    self.written.count(from, count);
+                    return Ok(count);
+                }
                 Err(Failed) => {
                     self.faults = self.faults.saturating_add(1);
                     return Err(Failed);
@@ -228,7 +264,10 @@ impl<S: OpenStream + Read + Write + AsRawFd + Drop> Conn for TcpConn<S> {
             }
         }
         match self.rest.extend_from_slice(from) {
-            Ok(()) => Ok(from.len()),
+            Ok(()) => {
+                self.written.count(from, from.len());
+                Ok(from.len())
+            }
             Err(_) => {
                 self.faults = self.faults.saturating_add(1);
                 Err(Failed)

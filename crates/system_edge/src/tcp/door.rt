@@ -4,11 +4,13 @@ ghost use Rattle.std.specs.Prelude.{[]};
 
 use super::conn::TcpConn;
 use super::port::Port;
+use crate::log::{Line, Log};
 use atom_values::Failed;
 use document_server::Door;
 use std::alloc::Global;
 use std::net::{Net, SocketAddr};
 use std::rt;
+use std::time::Instant;
 
 /// A TCP port, on which clients connect. It never runs out of connections.
 ///
@@ -17,19 +19,21 @@ use std::rt;
 ///
 /// A connection that fails is its own fault, and never the door's.
 #[derive(Drop)]
-pub struct TcpDoor<'a, R: Net + rt::Clock> {
+pub struct TcpDoor<'a, R: Net + rt::Clock + Eprint> {
     alloc: Global,
     runtime: &'a R,
-    port: Option<Port<R>>,
+    log: &'a Log<'a, R>,
+    port: Option<Port<'a, R>>,
     faults: u64,
 }
 
-impl<'a, R: Net + rt::Clock> TcpDoor<'a, R> {
+impl<'a, R: Net + rt::Clock + Eprint> TcpDoor<'a, R> {
     /// A door that doesn't listen yet.
-    pub fn new(alloc: Global, runtime: &'a R) -> TcpDoor<'a, R> {
+    pub fn new(alloc: Global, runtime: &'a R, log: &'a Log<'a, R>) -> TcpDoor<'a, R> {
         TcpDoor {
             alloc,
             runtime,
+            log,
             port: None,
             faults: 0,
         }
@@ -48,9 +52,25 @@ impl<'a, R: Net + rt::Clock> TcpDoor<'a, R> {
             let _ = port.finish(self.runtime);
         }
     }
+
+    /// Logs the address at which the door listens.
+    fn log_address(&self) {
+        if let Some(address) = self.address() {
+            let mut line = Line::new("listen");
+            line.address("address", address);
+            self.log.write(&line);
+        }
+    }
+
+    /// Logs a connection that was given back.
+    fn log_connection(&self, link: &TcpConn<R::Stream>) {
+        if let Ok(now) = Instant::now(self.runtime) {
+            self.log.write(&link.line(now, link.end()));
+        }
+    }
 }
 
-impl<'a, R: Net + rt::Clock> Door for TcpDoor<'a, R> {
+impl<'a, R: Net + rt::Clock + Eprint> Door for TcpDoor<'a, R> {
     type Link = TcpConn<R::Stream>;
 
     ghost observable = { ⊥ };
@@ -63,10 +83,13 @@ impl<'a, R: Net + rt::Clock> Door for TcpDoor<'a, R> {
     ghost only_at = { λ _ _. Unit {0} };
 
     fn listen(&mut self, at: &[u8]) -> Result<(), Failed> {
-        self.port = Port::bind(self.alloc, self.runtime, at);
+        self.port = Port::bind(self.alloc, self.runtime, self.log, at);
         if self.port.is_none() {
             self.faults = self.faults.saturating_add(1);
             return Err(Failed);
+        }
+        if self.log.is_on() {
+            self.log_address();
         }
         Ok(())
     }
@@ -90,6 +113,9 @@ impl<'a, R: Net + rt::Clock> Door for TcpDoor<'a, R> {
 
     // A connection that failed, before its reply or within it, closes at once.
     fn back(&mut self, link: TcpConn<R::Stream>) {
+        if self.log.is_on() {
+            self.log_connection(&link);
+        }
         if link.begun.is_none() || link.faults > 0 {
             return;
         }

@@ -12,7 +12,7 @@ const MAX_FAILURES: u32 = 100;
 
 /// The result of an `accept`.
 pub(super) enum Accepted<S> {
-    Client(S),
+    Client(S, SocketAddr),
     /// Nobody waits to connect, or the client has gone.
     Nobody,
     /// Memory or descriptors ran out.
@@ -69,9 +69,9 @@ impl<L: OpenListener + AsRawFd + Drop> Listening<L> {
     /// Accepts a client. `Failed` if `accept` failed for good, or `MAX_FAILURES` times in a row.
     pub(super) fn accept(&mut self) -> Result<Accepted<L::Stream>, Failed> {
         match self.listener.accept() {
-            Ok((stream, _)) => {
+            Ok((stream, peer)) => {
                 self.failures = 0;
-                Ok(Accepted::Client(stream))
+                Ok(Accepted::Client(stream, peer))
             }
             Err(error) if error.kind() == ErrorKind::WouldBlock => {
                 self.is_called = false;

@@ -6,6 +6,7 @@ use super::closing::{Closing, DRAIN_SECONDS};
 use super::conn::TcpConn;
 use super::listening::{Accepted, Listening};
 use super::replying::{Replying, Turn};
+use crate::log::Log;
 use atom_values::Failed;
 use mio::{Events, Poll, Token};
 use std::alloc::Global;
@@ -54,8 +55,9 @@ const CALLS: Token = Token(0);
 
 /// A port that listens. No call on it but `next` and `finish` waits.
 #[derive(Drop)]
-pub(super) struct Port<R: Net + rt::Clock> {
+pub(super) struct Port<'a, R: Net + rt::Clock + Eprint> {
     alloc: Global,
+    log: &'a Log<'a, R>,
     /// The room for what a client sends.
     part: Vec<u8>,
     /// The memory of an earlier reply, for the next one: the system takes long to give new memory.
@@ -73,15 +75,21 @@ pub(super) struct Port<R: Net + rt::Clock> {
     closing: VecDeque<Closing<R::Stream>>,
 }
 
-impl<R: Net + rt::Clock> Port<R> {
+impl<'a, R: Net + rt::Clock + Eprint> Port<'a, R> {
     /// Binds a port, or returns `None`. std sets SO_REUSEADDR, so after a restart the port can be bound at once, while
     /// the system still keeps the connections of the last run.
-    pub(super) fn bind(alloc: Global, runtime: &R, at: &[u8]) -> Option<Port<R>> {
+    pub(super) fn bind(
+        alloc: Global,
+        runtime: &R,
+        log: &'a Log<'a, R>,
+        at: &[u8],
+    ) -> Option<Port<'a, R>> {
         let listener = TcpListener::bind(runtime, str::from_utf8(at).ok()?).ok()?;
         let poll = Poll::new(runtime).ok()?;
         let listening = Listening::new(listener, &poll, CALLS)?;
         Some(Port {
             alloc,
+            log,
             part: vec![in alloc; 0; PART].ok()?,
             spare: Vec::new(alloc),
             listening,
@@ -125,6 +133,7 @@ impl<R: Net + rt::Clock> Port<R> {
 
     /// Waits until each client that was served has its reply, or has had its time.
     pub(super) fn finish(&mut self, runtime: &R) -> Result<(), Failed> {
+        self.log_unserved(runtime);
         self.arriving.clear();
         for _ in 0..u64::MAX {
             let now = Instant::now(runtime).map_err(|_| Failed)?;
@@ -168,10 +177,14 @@ impl<R: Net + rt::Clock> Port<R> {
                     let _ = self.replying.push_back(reply);
                 }
                 Turn::Sent => {
+                    self.log_rest(&reply, "sent");
                     self.keep_spare(reply.rest);
                     self.close(reply.client, now);
                 }
-                Turn::Lost => self.keep_spare(reply.rest),
+                Turn::Lost => {
+                    self.log_rest(&reply, "lost");
+                    self.keep_spare(reply.rest);
+                }
             }
         }
         let part = &mut self.part;
@@ -193,7 +206,7 @@ impl<R: Net + rt::Clock> Port<R> {
                 }
             }
             match self.listening.accept()? {
-                Accepted::Client(stream) => self.admit(stream, now),
+                Accepted::Client(stream, peer) => self.admit(stream, peer, now),
                 Accepted::Nobody => {}
                 Accepted::Shortage => {
                     self.receive_all(now);
@@ -210,7 +223,7 @@ impl<R: Net + rt::Clock> Port<R> {
 
     /// Has a client send its request. A client whose socket fails is closed, and so is one for which there is no
     /// memory.
-    fn admit(&mut self, stream: R::Stream, now: Instant) {
+    fn admit(&mut self, stream: R::Stream, peer: SocketAddr, now: Instant) {
         // Sends the end of a reply at once, and not when the client has acknowledged the rest.
         if stream.set_nodelay(true).is_err() || stream.set_nonblocking(true).is_err() {
             return;
@@ -219,11 +232,10 @@ impl<R: Net + rt::Clock> Port<R> {
             return;
         };
         self.accepted = self.accepted.saturating_add(1);
-        let client = Client::new(stream, Token(self.accepted));
+        let client = Client::new(stream, peer, now, Token(self.accepted));
         // The queue was made with room for MAX_ARRIVING clients.
         let _ = self.arriving.push_back(Arriving {
             conn: TcpConn::new(self.alloc, client),
-            accepted: now,
             deadline,
             is_due: false,
         });
@@ -260,7 +272,7 @@ impl<R: Net + rt::Clock> Port<R> {
         self.closing.pop_front().is_some()
             || self.cut_arriving(now)
             || !self.arriving.iter().any(|client| client.is_due)
-                && (self.arriving.pop_front().is_some() || self.cut_slowest())
+                && (self.cut_at(Some(0), now) || self.cut_slowest())
     }
 
     /// Closes the oldest client that is silent, or else the oldest that has sent a part of its request. Returns whether
@@ -271,7 +283,18 @@ impl<R: Net + rt::Clock> Port<R> {
             Some(at) => Some(at),
             None => self.arriving.iter().position(|client| client.is_partial()),
         };
-        cut.and_then(|at| self.arriving.remove(at)).is_some()
+        self.cut_at(cut, now)
+    }
+
+    /// Closes the client at this place among those whose requests are arriving. Returns whether there was one.
+    fn cut_at(&mut self, cut: Option<usize>, now: Instant) -> bool {
+        let Some(client) = cut.and_then(|at| self.arriving.remove(at)) else {
+            return false;
+        };
+        if self.log.is_on() {
+            self.log.write(&client.conn.line(now, Some("cut")));
+        }
+        true
     }
 
     /// Closes the client that has taken nothing of its reply for the longest time. Returns whether there was one.
@@ -281,6 +304,7 @@ impl<R: Net + rt::Clock> Port<R> {
         let Some(reply) = cut.and_then(|at| self.replying.remove(at)) else {
             return false;
         };
+        self.log_rest(&reply, "cut");
         self.keep_spare(reply.rest);
         true
     }
@@ -304,6 +328,26 @@ impl<R: Net + rt::Clock> Port<R> {
                 return;
             }
             self.cut_slowest();
+        }
+    }
+
+    /// Logs how the rest of a reply ended.
+    fn log_rest(&self, reply: &Replying<R::Stream>, end: &str) {
+        if self.log.is_on() {
+            self.log.write(&reply.line(end));
+        }
+    }
+
+    /// Logs the clients whose requests won't be served.
+    fn log_unserved(&self, runtime: &R) {
+        if !self.log.is_on() {
+            return;
+        }
+        let Ok(now) = Instant::now(runtime) else {
+            return;
+        };
+        for client in self.arriving.iter() {
+            self.log.write(&client.conn.line(now, Some("stopped")));
         }
     }
 

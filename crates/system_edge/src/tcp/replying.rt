@@ -3,6 +3,7 @@
 ghost use Rattle.std.specs.Prelude.{◌≤◌, vec_len};
 
 use super::client::Client;
+use crate::log::Line;
 use atom_values::Failed;
 use std::io::{Read, Write};
 use std::net::OpenStream;
@@ -56,6 +57,16 @@ impl<S: OpenStream + Read + Write + AsRawFd> Replying<S> {
     /// How many bytes of memory the rest takes.
     pub(super) fn size(&self) -> usize {
         self.rest.len()
+    }
+
+    /// The log's line for the rest of the reply when it ends.
+    pub(super) fn line(&self, end: &str) -> Line {
+        let mut line = Line::new("reply");
+        line.address("peer", self.client.peer);
+        line.number("sent", self.sent as u64);
+        line.number("kept", self.rest.len() as u64);
+        line.word("end", end);
+        line
     }
 
     /// Sends a part of the rest.
