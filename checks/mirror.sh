@@ -39,6 +39,7 @@ forwards = []
 versions = [{}]
 run = posts = kills = complete = repeated = 0
 stopping = threading.Event()
+changing = threading.Lock()
 
 
 class Differs(Exception):
@@ -142,7 +143,8 @@ def change():
 def change_on():
     """Goes on until it is stopped."""
     while not stopping.wait(0.002):
-        change()
+        with changing:
+            change()
 
 
 def compare(report):
@@ -152,7 +154,9 @@ def compare(report):
     last = re.fullmatch(rb"complete (\d+) (\d+)", lines[-1]) if lines else None
     if not last:
         raise Differs(f"the report ends with {lines[-1:]}")
-    live = versions[int(last[1])]
+    with changing:
+        # the change of that version may have been served before its own reply was read
+        live = versions[int(last[1])]
     expected = [live[number] for number in sorted(live)]
     if int(last[2]) != len(live) or [line for line in lines if line.startswith(b"entry ")] != expected:
         raise Differs(f"the report at version {int(last[1])} isn't the server's: {report.decode()}")
