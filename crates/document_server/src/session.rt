@@ -97,7 +97,9 @@ pub fn serve<D: Disk, C: Clock, L: Door>(
         (result.end ≡ End.DoorFault) }
 {
     let mut lines = Many::new(alloc);
-    let end = match serve_into(alloc, disk, clock, door, listen, requests, service, &mut lines) {
+    let end = match serve_into(
+        alloc, disk, clock, door, listen, requests, service, &mut lines,
+    ) {
         Ok(()) => End::Done,
         Err(end) => end,
     };
@@ -145,7 +147,9 @@ fn serve_into<D: Disk, C: Clock, L: Door>(
         drop(store);
         return Err(End::DoorFault);
     }
-    let served = serve_connections(alloc, &mut store, disk, clock, door, requests, service, lines);
+    let served = serve_connections(
+        alloc, &mut store, disk, clock, door, requests, service, lines,
+    );
     drop(store);
     served
 }
@@ -261,14 +265,10 @@ fn reply_to<D: Disk, C: Clock, K: Conn>(
     // Its contract is a law that the proof uses.
     begun_images_are_whole();
     match read_request(alloc, link) {
-        Ok(request) => Some(answer_paged(
-            alloc,
-            service,
-            store,
-            disk,
-            &request,
-            clock.now(),
-        )),
+        Ok(request) => {
+            let now = clock.now();
+            Some(answer_paged(alloc, service, store, disk, &request, now))
+        }
         Err(fault) => fault_reply(fault),
     }
 }
