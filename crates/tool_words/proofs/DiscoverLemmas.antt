@@ -1,5 +1,5 @@
 -- The command of `discover` depends only on its word.
-use Rattle.std.proofs.Common.{◌≡◌, ◌⊎◌, inl, inr, ℕ, List, [], ◌∷◌, Some, Bool, true, false, Result, Ok, Err, IsTrue}
+use Rattle.std.proofs.Common.{◌≡◌, ◌⊎◌, inl, inr, ℕ, List, [], ◌∷◌, Some, true, Result, Ok, Err, IsTrue}
 use Rattle.std.proofs.Common.{refl, sym, ◌∙◌, subst, arith, codes, bytes_eq, slice_get, take}
 use Rattle.std.proofs.lemmas.Bool.{true≢false}
 use Rattle.std.proofs.lemmas.List.Elements.{All-cons, All-nil}

@@ -1,5 +1,5 @@
 -- A flag that is read is one that is given.
-use Rattle.std.proofs.Common.{◌≡◌, List, ℕ, Option, Some, Bool, true, false, codes}
+use Rattle.std.proofs.Common.{◌≡◌, List, ℕ, Some, Bool, true, false, codes}
 use Rattle.clap.specs.declared.parser.matches.ArgMatches.{ArgMatches}
 use Rattle.tool_words.specs.Parse.{flag_in, flag_text}
 
