@@ -3,12 +3,10 @@
 # crate's contracts must refuse it. The gate doesn't read this folder. It tries the edits of crates/CRATE/must-fail,
 # which have the same form.
 # usage: bench/edits.sh [CRATE ..]. With no name it tries the edits of all crates that have a folder in bench/edits.
-# It runs `rt ci CRATE ..` on a copy of the crates in which must-fail/ has these edits alone. So the run takes what
-# earlier runs of `rt ci` proved of the same text, and proves the rest first. The result of an edit is kept by the text
-# of the edit and of the crate, so a later run takes that too. RT_JOBS in the environment is the number of checks that
-# `rt ci` makes at once.
+# It runs `rt must-fail CRATE ..` on a copy of the crates in which must-fail/ has these edits alone. The copy takes the
+# libraries that `./prove` or `rt lib` built here, and `rt` builds the others first.
 # It prints a line for each edit: refused with the first goal that failed, NOT REFUSED, BAD EDIT or NOT TRIED. The lines
-# of `rt ci` go to standard error. The last line has the counts. The status is 0 if all edits were refused, 1 if one
+# of `rt` go to standard error. The last line has the counts. The status is 0 if all edits were refused, 1 if one
 # wasn't, and 2 if a crate has no folder in bench/edits.
 set -eu
 top=$(CDPATH='' cd -- "$(dirname -- "$0")/.." && pwd)
@@ -32,13 +30,13 @@ done
 work=$(mktemp -d)
 gate=
 trap 'rm -rf "$work"' EXIT
-# `rt ci` in the background doesn't get the signal of a terminal
+# `rt` in the background doesn't get the signal of a terminal
 trap '[ -z "$gate" ] || kill "$gate" 2>/dev/null; exit 1' HUP INT TERM
 
-# the top of a repository, as `rt ci` asks
+# the top of a repository, as `rt` asks
 mkdir -p "$work/tree/.git"
-tar -C "$top" --no-wildcards-match-slash --exclude='crates/*/out' --exclude='crates/*/must-fail' \
-    -cf "$work/tree.tar" crates crates.txt HANDLES
+tar -C "$top" --no-wildcards-match-slash --exclude='crates/*/out/incremental' \
+    --exclude='crates/*/must-fail' -cf "$work/tree.tar" crates crates.txt HANDLES
 tar -C "$work/tree" -xf "$work/tree.tar"
 for crate; do
     mkdir "$work/tree/crates/$crate/must-fail"
@@ -47,7 +45,7 @@ done
 
 mkfifo "$work/lines"
 tee "$work/log" <"$work/lines" >&2 &
-(cd "$work/tree" && exec rt ci "$@") >"$work/lines" 2>&1 &
+(cd "$work/tree" && exec rt must-fail "$@") >"$work/lines" 2>&1 &
 gate=$!
 # the lines below tell how it ended
 wait || :
@@ -63,7 +61,7 @@ for crate; do
             'NOT REFUSED: '*) missed=$((missed + 1)) ;;
             *) untried=$((untried + 1)) ;;
         esac
-        echo "$label: ${line:-NOT TRIED: \`rt ci\` has no line of it}"
+        echo "$label: ${line:-NOT TRIED: \`rt\` has no line of it}"
     done
 done
 echo "$refused refused, $missed not refused, $untried bad or not tried"

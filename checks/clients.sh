@@ -80,7 +80,7 @@ ask_server() {
 
 # Starts the program on the store in a folder. It prints nothing before it ends, so a connection has to show that it
 # listens. If another program has the port, the next port is tried. The connection counts, and is answered by the feed.
-# usage: start FOLDER REQUESTS VERSION
+# usage: start FOLDER REQUESTS VERSION [FLAG]
 start() {
     requests=$2
     : >"$work/lines"
@@ -88,7 +88,7 @@ start() {
     while [ "$tries" -lt 600 ]; do
         tries=$((tries + 1))
         if [ -z "$server" ]; then
-            (cd "$1" && exec "$tool" serve --listen "127.0.0.1:$port" --requests "$requests") \
+            (cd "$1" && exec "$tool" serve --listen "127.0.0.1:$port" --requests "$requests" ${4:+"$4"}) \
                 </dev/null >"$work/printed" 2>&1 &
             server=$!
         fi
@@ -227,7 +227,7 @@ init_words="init --base $base/ --uuid 6d1f0c5a-93be-4c27-8d10-2b7f9e4a5c36 --tit
 
 # Commands that don't come to serve
 
-mkdir "$work/store" "$work/other" "$work/empty" "$work/full" "$work/example_store" || exit 1
+mkdir "$work/store" "$work/other" "$work/empty" "$work/full" "$work/example_store" "$work/pages" || exit 1
 ran "$work/empty" serve --listen "127.0.0.1:$port" --requests 1
 echo 'not init' | compare 'serve without a store' 6
 for folder in store other; do
@@ -313,7 +313,7 @@ not_allowed 'GET, PUT, DELETE' 'PATCH of a deleted member' -X PATCH $base/member
 line_of '501 Not Implemented' 'not implemented' | ask 'another method' 5 -X BREW $base/feed
 line_of '501 Not Implemented' 'not implemented' | ask 'a method in lower case' 5 -X get $base/feed
 
-for path in nothing archive/2 archive/0 archive/01 member/4 feed/ ''; do
+for path in nothing archive/2 archive/0 archive/01 member/4 feed/ service members ''; do
     line_of '404 Not Found' 'not found' | ask "GET /$path" 5 "$base/$path"
 done
 line_of '404 Not Found' 'not found' |
@@ -526,6 +526,99 @@ line_of '507 Insufficient Storage' 'full journal 4096 26 4096' | ask 'delete in 
 member '200 OK' 1 "$title" "$none" | ask 'read of a full store' 1 $base/member/1
 await_end
 compare 'the lines of a full store' 0 <"$work/lines"
+
+# The service document, the list of members, and clients that begin with them
+
+# shellcheck disable=SC2086
+ran "$work/pages" $init_words
+echo 'ready' | compare 'init of a store for pages' 0
+start "$work/pages" 100 0 --service
+service() {
+    head_of '200 OK' 'application/atomsvc+xml'
+    cat <<'TEXT'
+<?xml version="1.0" encoding="utf-8"?>
+<service xmlns="http://www.w3.org/2007/app" xmlns:atom="http://www.w3.org/2005/Atom"><workspace><atom:title>Feed</atom:title><collection href="http://feed.example/feed"><atom:title>Feed</atom:title><accept>application/atom+xml;type=entry</accept></collection></workspace></service>
+TEXT
+}
+listing() {
+    head_of '200 OK' 'text/plain;charset=utf-8'
+    cat
+}
+service | ask 'the service document' 0 $base/service
+listing </dev/null | ask 'the list without members' 0 $base/members
+number=0
+for title in a b; do
+    number=$((number + 1))
+    member '201 Created' $number $title "$none" "Location: $base/member/$number" |
+        ask "create of $title" $number -H "$atom" -d "$open<title>$title</title></entry>" $base/feed
+done
+member '200 OK' 1 c "$none" | ask 'edit of a' 3 -X PUT -H "$atom" -d "$open<title>c</title></entry>" $base/member/1
+member '201 Created' 3 d "$none" "Location: $base/member/3" |
+    ask 'create of d' 4 -H "$atom" -d "$open<title>d</title></entry>" $base/feed
+line_of '200 OK' deleted | ask 'delete of d' 5 -X DELETE $base/member/3
+listing <<TEXT | ask 'the list of members' 5 $base/members
+3 $base/member/1
+2 $base/member/2
+TEXT
+service | ask 'the service document by the whole address' 5 --request-target $base/service $base/
+line_of '405 Method Not Allowed' 'not allowed' 'Allow: GET' |
+    ask 'POST to the list' 5 -H "$atom" -d "$open<title/></entry>" $base/members
+line_of '405 Method Not Allowed' 'not allowed' 'Allow: GET' | ask 'DELETE of the service document' 5 -X DELETE $base/service
+line_of '501 Not Implemented' 'not implemented' | ask 'another method for a page' 5 -X BREW $base/service
+line_of '404 Not Found' 'not found' | ask 'a page that there is not' 5 $base/services
+
+# usage: discovers NAME PATH REPLY STATUS, compares the output of discover with the text on standard input
+discovers() {
+    ran "$work/empty" discover "http://127.0.0.1:$port/$2"
+    compare "$1" "$4"
+    echo "$3 5" >>"$work/lines"
+}
+echo "collection $base/feed entries" | discovers 'discover' service 200 0
+echo "missing http://127.0.0.1:$port/nothing" | discovers 'discover of nothing' nothing 404 3
+echo 'bad service 39' | discovers 'discover of a feed' feed 200 10
+use_up 5
+await_end
+compare 'the lines of a session with pages' 0 <"$work/lines"
+
+# Perl's client for Atom's publishing protocol finds the collection by the service document. It sends content that is
+# XML as xhtml, so this content isn't.
+if perl -MAtompub::Client -e 1 2>/dev/null; then
+    start "$work/pages" 8 5 --service
+    http_proxy="http://127.0.0.1:$port/" perl - "$base" >"$work/output" 2>"$work/errors" <<'PERL'
+use strict;
+use Atompub::Client;
+use XML::Atom::Entry;
+my $base = shift;
+my $client = Atompub::Client->new;
+$client->{ua}->proxy('http', $ENV{http_proxy});
+my $service = $client->getService("$base/service") or die $client->errstr;
+my ($workspace) = $service->workspaces;
+my ($collection) = $workspace->collections;
+printf "%s: %s\n", $collection->title, $collection->href;
+my $entry = XML::Atom::Entry->new;
+$entry->title('From Perl');
+$entry->content('a & b');
+my $address = $client->createEntry($collection->href, $entry) or die $client->errstr;
+print "$address\n";
+my $read = $client->getEntry($address) or die $client->errstr;
+printf "%s: %s\n", $read->title, $read->content->body;
+$read->title('Edited by Perl');
+$client->updateEntry($address, $read) or die $client->errstr;
+my $feed = $client->getFeed($collection->href) or die $client->errstr;
+print join(', ', map { $_->title } $feed->entries), "\n";
+$client->deleteEntry($address) or die $client->errstr;
+print "deleted\n";
+PERL
+    echo $? >"$work/status"
+    printf 'Feed: %s/feed\n%s/member/4\nFrom Perl: a & b\nEdited by Perl, b, c\ndeleted\n' $base $base |
+        compare "Perl's Atompub" 0
+    printf '200 5\n201 6\n200 6\n200 7\n200 7\n200 8\n' >>"$work/lines"
+    use_up 8
+    await_end
+    compare "the lines of Perl's Atompub" 0 <"$work/lines"
+else
+    echo "not checked, since there is no Perl client: Atompub (Debian's libatompub-perl)"
+fi
 
 # The example entry of RFC 4287 section 1.1, whose content is xhtml with a base, and a relative link in it: it is refused as
 # it is, and taken as what deploy/entry-as-html.xsl makes of it

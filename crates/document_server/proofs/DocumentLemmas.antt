@@ -6,7 +6,8 @@ use Rattle.std.proofs.Math.Seq.{take-length}
 use Rattle.std.proofs.lemmas.Bool.{cases_lt}
 use Rattle.std.proofs.lemmas.List.{length-take-le, take-append-le, take-take}
 use Rattle.chain_links.specs.Address.{printed}
-use Rattle.document_server.specs.Laws.{ShownAreServed}
+use Rattle.document_server.specs.Laws.{AreShownServed}
+use Rattle.document_server.specs.Served.{Answering}
 use Rattle.document_server.specs.Session.{Exchange, IsAnswered}
 use Rattle.document_server.specs.Session.{IsServedDocument, IsTurn, SendsServed, Turn, fault_reply}
 use Rattle.feed_recovery.specs.Store.{StoreValue}
@@ -91,11 +92,11 @@ module _ (stays : ServedStays) (prefixes : PrefixesAreLawful) (head : HeadValue)
   }
 
   -- an exchange on this history, whose line has the version after it
-  module _ (shown : ShownAreServed) (store : StoreValue) (now : ℕ) (is_head : IsHead store.head)
+  module _ {answers : Answering} (shown : AreShownServed answers) (store : StoreValue) (now : ℕ) (is_head : IsHead store.head)
       (was_lawful : IsLawful store.head store.history) (exchange : Exchange) (turn : Turn)
       (same : store.head ≡ head) (of : store.history ≡ history)
       (behind : length (history ++ operations) ≤ exchange.line.version) where
-    sends-answered : IsAnswered store now exchange turn → SendsServed head (history ++ operations) exchange
+    sends-answered : IsAnswered answers store now exchange turn → SendsServed head (history ++ operations) exchange
     sends-answered answered = λ reply is feed version from to.
         let given : answered.outcome.reply ≡ reply = reply-is answered.outcome.reply reply (sym answered.reply ∙ is) in
         let sent = shown store answered.request now answered.outcome is_head was_lawful answered.is_outcome
@@ -115,7 +116,7 @@ module _ (stays : ServedStays) (prefixes : PrefixesAreLawful) (head : HeadValue)
         reply-is : (one other : Reply) → Some one ≡ Some other → one ≡ other
         reply-is one other is = cc
 
-    pub sends-turn : IsTurn store now exchange turn → SendsServed head (history ++ operations) exchange
+    pub sends-turn : IsTurn answers store now exchange turn → SendsServed head (history ++ operations) exchange
     sends-turn (inl lost) = sends-none head (history ++ operations) exchange (λ reply is. absurd (cc (lost.reply)))
     sends-turn (inr (inl refused)) =
         sends-none head (history ++ operations) exchange

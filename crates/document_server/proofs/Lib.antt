@@ -14,6 +14,8 @@ pub mod StepLemmas
 pub mod ServedLemmas
 -- `requests_have_one_outcome`
 pub mod OutcomeLemmas
+-- the laws, and the answers of `serve`: the service document and the listing
+pub mod PageLemmas
 -- `serve`: a connection that is served
 pub mod LinkLemmas
 -- `serve`: the order of the lines, and the device calls that they count

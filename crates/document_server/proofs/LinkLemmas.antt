@@ -6,7 +6,8 @@ use Rattle.std.proofs.lemmas.Bool.{cases_eq}
 use Rattle.std.proofs.lemmas.List.{append-nil}
 use Rattle.atom_values.specs.Counts.{HasCause, HasRisen}
 use Rattle.document_server.specs.Answer.{Grows, IsAnswer, IsDone, LeavesAnswered, MayAdd, Steps, added}
-use Rattle.document_server.specs.Reply.{IsOutcome, Outcome, disk_fault}
+use Rattle.document_server.specs.Reply.{Outcome, disk_fault}
+use Rattle.document_server.specs.Served.{Answering}
 use Rattle.document_server.specs.Serving.{IsReplyOn, RepliesOne, ServesOne, exchange_of}
 use Rattle.document_server.specs.Session.{IsReported, IsSent, IsTurn, fault_reply, read_limit, unheard}
 use Rattle.document_server.specs.declared.line.Line.{Line}
@@ -87,9 +88,9 @@ none-since None other = refl
 none-since (Some value) other = absurd (other value refl)
 
 -- a turn is the same after its reply was sent
-pub turn-sent : (s t : DiskState) (store : StoreValue) (now : ℕ) (given read back : ConnState) (reply : Reply)
-    (line line' : Line) (turn : _) → IsTurn store now (exchange_of s t given read (Some reply) line) turn
-    → IsTurn store now (exchange_of s t given back (Some reply) line') turn
+pub turn-sent : {answers : Answering} (s t : DiskState) (store : StoreValue) (now : ℕ) (given read back : ConnState) (reply : Reply)
+    (line line' : Line) (turn : _) → IsTurn answers store now (exchange_of s t given read (Some reply) line) turn
+    → IsTurn answers store now (exchange_of s t given back (Some reply) line') turn
 turn-sent s t store now given read back reply line line' turn (inl lost) =
     let none : Some reply ≡ None = lost.reply in
     absurd cc
@@ -112,10 +113,10 @@ turn-sent s t store now given read back reply line line' turn (inr (inr (inr for
     inr (inr (inr (record { reply = forgotten.reply; is = forgotten.is })))
 
 -- the turn of a connection whose bytes are no request, or that failed
-fault-turn : (s t : DiskState) (store : StoreValue) (now : ℕ) (given read : ConnState) (line : Line)
+fault-turn : {answers : Answering} (s t : DiskState) (store : StoreValue) (now : ℕ) (given read : ConnState) (line : Line)
     (reason : RequestFault) → (reason ≡ fault.ConnFault → HasRisen given.faults read.faults)
     → (reason ≢ fault.ConnFault → reason ≢ fault.NoMemory → IsMisheard given.left reason)
-    → IsTurn store now (exchange_of s t given read (fault_reply reason) line) unheard
+    → IsTurn answers store now (exchange_of s t given read (fault_reply reason) line) unheard
 fault-turn s t store now given read line fault.ConnFault failed refused =
     inl (record { cause = failed refl; reply = refl; is = refl })
 fault-turn s t store now given read line fault.NoMemory failed refused =
@@ -127,14 +128,14 @@ fault-turn s t store now given read line reason failed refused = inr (inl (recor
   is = refl;
 }))
 
-module _ (s t : DiskState) (moments coming : ℕ → ℕ) (given read : ConnState) (clock_observable conn_observable : Type 0)
-    (old new : StoreValue) where
+module _ (answers : Answering) (s t : DiskState) (moments coming : ℕ → ℕ) (given read : ConnState)
+    (clock_observable conn_observable : Type 0) (old new : StoreValue) where
   -- the reply of an answered request
   answered-on : (request : RequestValue) (now : ℕ) (reply : Reply) (rose : Type 0) → IsRequest request
       → IsHeard given.left request → (clock_observable → now ≡ moments 0)
       → (clock_observable → (k : ℕ) → coming k ≡ moments (k + 1)) → is_spent new ≡ false
-      → IsAnswer (IsOutcome old request now) old new reply rose
-      → IsReplyOn s t moments coming clock_observable old given read (Some reply) new
+      → IsAnswer (answers old request now) old new reply rose
+      → IsReplyOn answers s t moments coming clock_observable old given read (Some reply) new
   answered-on request now reply rose rules heard moment later unspent (inl replied) = record {
     now = now;
     is_now = moment;
@@ -167,10 +168,10 @@ module _ (s t : DiskState) (moments coming : ℕ → ℕ) (given read : ConnStat
   pub replies-answered : (request : RequestValue) (now : ℕ) (reply : Reply) (rose : Type 0) → IsSized old
       → IsRequest request → (conn_observable → IsHeard given.left request) → (clock_observable → now ≡ moments 0)
       → (clock_observable → (k : ℕ) → coming k ≡ moments (k + 1))
-      → IsAnswer (IsOutcome old request now) old new reply rose
-      → LeavesAnswered (IsOutcome old request now) s t old new (reply ≡ disk_fault)
+      → IsAnswer (answers old request now) old new reply rose
+      → LeavesAnswered (answers old request now) s t old new (reply ≡ disk_fault)
       → (reply ≡ disk_fault → is_spent new ≡ true) → (is_spent new ≡ true → reply ≡ disk_fault)
-      → RepliesOne s t moments coming given read clock_observable conn_observable old new (Some reply)
+      → RepliesOne answers s t moments coming given read clock_observable conn_observable old new (Some reply)
   replies-answered request now reply rose sized rules heard moment later answer left spent only = record {
     sized = sized;
     operations = left.operations;
@@ -190,13 +191,13 @@ module _ (s t : DiskState) (moments coming : ℕ → ℕ) (given read : ConnStat
   }
 
 -- the reply to bytes that are no request
-pub replies-refused : (s : DiskState) (moments : ℕ → ℕ) (given read : ConnState)
+pub replies-refused : {answers : Answering} (s : DiskState) (moments : ℕ → ℕ) (given read : ConnState)
     (clock_observable conn_observable failed : Type 0) (store : StoreValue) (reason : RequestFault)
     → IsSized store → is_spent store ≡ false → ¬ failed
     → (reason ≡ fault.ConnFault → HasRisen given.faults read.faults)
     → (reason ≢ fault.ConnFault → reason ≢ fault.NoMemory → conn_observable → IsMisheard given.left reason)
     → LeavesAnswered (λ _. ⊥) s s store store failed
-    → RepliesOne s s moments moments given read clock_observable conn_observable store store (fault_reply reason)
+    → RepliesOne answers s s moments moments given read clock_observable conn_observable store store (fault_reply reason)
 replies-refused s moments given read clock_observable conn_observable failed store reason sized unspent worked lost
     refused left = record {
       sized = sized;
@@ -314,18 +315,18 @@ module _ (s t : DiskState) (given back : ConnState) (line : Line) where
 
 -- The connection was served
 
-pub serves-one : (s t : DiskState) (moments coming : ℕ → ℕ) (given read back : ConnState)
+pub serves-one : {answers : Answering} (s t : DiskState) (moments coming : ℕ → ℕ) (given read back : ConnState)
     (disk_observable clock_observable conn_observable : Type 0) (old new : StoreValue) (reply : Option Reply)
     (line : Line)
-    → ((now : ℕ) (turn : _) → IsTurn old now (exchange_of s t given read reply line) turn
-    → IsTurn old now (exchange_of s t given back reply line) turn)
-    → (disk_observable → RepliesOne s t moments coming given read clock_observable conn_observable old new reply)
+    → ((now : ℕ) (turn : _) → IsTurn answers old now (exchange_of s t given read reply line) turn
+    → IsTurn answers old now (exchange_of s t given back reply line) turn)
+    → (disk_observable → RepliesOne answers s t moments coming given read clock_observable conn_observable old new reply)
     → Steps disk_observable s t old new (is_spent new ≡ true) → (is_spent new ≡ true → reply ≡ Some disk_fault)
     → IsReported (exchange_of s t given back reply line)
     → (conn_observable → IsSent (exchange_of s t given back reply line)) → line.version ≡ length new.history
     → line.calls ≡ call_count new → (new.history ≡ old.history) ⊎ Grows s t old new
     → (line.status ≢ 0 → back.begun ≡ Some t.clock)
-    → ServesOne s t moments coming given back disk_observable clock_observable conn_observable old new line
+    → ServesOne answers s t moments coming given back disk_observable clock_observable conn_observable old new line
 serves-one s t moments coming given read back disk_observable clock_observable conn_observable old new reply line turns
     replies steps fault reported sent version calls grows begun = record {
       reply = reply;

@@ -5,6 +5,7 @@ use Rattle.std.proofs.Common.{◌∷◌, ◌++◌, map, length, All, arith, Resu
 use Rattle.std.proofs.lemmas.List.Elements.{All-weaker}
 use Rattle.atom_values.specs.Counts.{CountsFault, counter_limit}
 use Rattle.document_server.specs.Door.{DoorState, SameLinks}
+use Rattle.document_server.specs.Served.{Answering}
 use Rattle.document_server.specs.Serving.{AreInOrder, CountsFrom, EndsUnopened, EndsWithin, HasExchanges}
 use Rattle.document_server.specs.Serving.{IsUnopened, LeavesServed, LeavesServing, OpensAt, OpensAfter, Serves, ServesFrom, end_of}
 use Rattle.document_server.specs.Session.{Exchange, IsOneFailed, IsUnfailed}
@@ -137,13 +138,13 @@ loaded-by observable s m store disk one same stands moments settled calls unfail
 }
 
 -- and then connections were served
-module _ {observable : Type 0} (s m t : DiskState) (moments : ℕ → ℕ) (door listened rest : DoorState)
+module _ {observable : Type 0} {answers : Answering} (s m t : DiskState) (moments : ℕ → ℕ) (door listened rest : DoorState)
     (clock_observable door_observable : Type 0) (store : StoreValue) (lines : List Line) (failed : Type 0)
     (loaded : IsLoaded observable s m store) (same : door_observable → SameLinks door listened)
     (later : m.clock ≤ t.clock)
     (serves : CountsFrom s.clock m t store
-    → ServesFrom s.clock m t moments listened rest observable clock_observable door_observable store lines failed) where
-  pub serves-loaded : Serves s t moments door rest observable clock_observable door_observable lines failed
+    → ServesFrom answers s.clock m t moments listened rest observable clock_observable door_observable store lines failed) where
+  pub serves-loaded : Serves answers s t moments door rest observable clock_observable door_observable lines failed
   serves-loaded =
       let opens = λ (tells : observable).
       opens-same s.content m.content (stored_of store) (loaded.same tells) (loaded.stands tells).opens in
@@ -178,14 +179,14 @@ module _ {observable : Type 0} (s m t : DiskState) (moments : ℕ → ℕ) (door
       }
 
 -- no connection was served
-pub serves-none : {observable : Type 0} (s m : DiskState) (moments : ℕ → ℕ) (door listened : DoorState)
+pub serves-none : {observable : Type 0} {answers : Answering} (s m : DiskState) (moments : ℕ → ℕ) (door listened : DoorState)
     (clock_observable door_observable : Type 0) (store : StoreValue) (lines : List Line) (failed : Type 0)
     → IsLoaded observable s m store → IsDisk observable m → (door_observable → SameLinks door listened) → BegunAreWhole
     → lines ≡ [] → (failed → ⊥)
-    → Serves s m moments door listened observable clock_observable door_observable lines failed
-serves-none {observable} s m moments door listened clock_observable door_observable store lines failed loaded disk same
+    → Serves answers s m moments door listened observable clock_observable door_observable lines failed
+serves-none {observable} {answers} s m moments door listened clock_observable door_observable store lines failed loaded disk same
     whole none works =
-    subst (λ (ls : List Line). Serves s m moments door listened observable clock_observable door_observable ls failed)
+    subst (λ (ls : List Line). Serves answers s m moments door listened observable clock_observable door_observable ls failed)
     (sym none)
     (serves-loaded s m m moments door listened listened clock_observable door_observable store [] failed loaded same
     (omega arith) (λ counts.

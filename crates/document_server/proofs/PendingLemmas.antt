@@ -22,6 +22,7 @@ use Rattle.chain_links.specs.declared.address.Address.TheVariants as address
 use Rattle.document_server.specs.Answer.{added}
 use Rattle.document_server.specs.Reply.{IsAccepted, IsAsked, IsAtAddress, IsMemberShown, IsOfArchive, IsOfFeed}
 use Rattle.document_server.specs.Reply.{IsOfMember, IsOfState, IsOutcome, IsRead, IsSent, Outcome, unchanged}
+use Rattle.document_server.specs.Served.{IsPageOr, answers_of, paged}
 use Rattle.document_server.specs.Session.{Exchange, IsBrokenOff}
 use Rattle.xml_tokens.proofs.XmlLemmas.{xml_nil}
 use Rattle.feed_disk.specs.Disk.{DiskState}
@@ -336,15 +337,24 @@ module _ (store : StoreValue) (few : length store.history < history_limit)
   added-lawful None to = subst (IsLawful store.head) (sym (append-nil store.history)) lawful
   added-lawful (Some operation) to = to operation refl
 
-  pending-history : (now : ℕ) (exchange : Exchange) (history : List Op) → IsBrokenOff store now exchange history
-      → IsLawful store.head history
-  pending-history now exchange history broken = subst (IsLawful store.head) (sym broken.history_is) (elim broken.may [
+  page-lawful : (page : Option Reply) (request : RequestValue) (now : ℕ) (given : Outcome)
+      → IsPageOr page (IsOutcome store request now) given → AddsLawful given
+  page-lawful (Some reply) request now given is = adds-nothing given reply is
+  page-lawful None request now given is = outcome-lawful request now given is
+
+  answers-lawful : (service : Bool) (request : RequestValue) (now : ℕ) (given : Outcome)
+      → answers_of service store request now given → AddsLawful given
+  answers-lawful service request now given is = page-lawful (paged service store request) request now given is
+
+  pending-history : (service : Bool) (now : ℕ) (exchange : Exchange) (history : List Op)
+      → IsBrokenOff (answers_of service) store now exchange history → IsLawful store.head history
+  pending-history service now exchange history broken = subst (IsLawful store.head) (sym broken.history_is) (elim broken.may [
     | inl none ↦
         subst (λ (o : List Op). IsLawful store.head (store.history ++ o)) (sym none)
         (subst (IsLawful store.head) (sym (append-nil store.history)) lawful)
     | inr one ↦
         subst (λ (o : List Op). IsLawful store.head (store.history ++ o)) (sym one.2)
-        (added-lawful one.0.adds (outcome-lawful broken.request now one.0 one.1))
+        (added-lawful one.0.adds (answers-lawful service broken.request now one.0 one.1))
   ])
 
 -- a store has room for one more operation, since its log has a payload for each and one for the head
@@ -354,8 +364,9 @@ stands-few disk store log stands =
     let payloads = ap length stands.journal.list ∙ ap length stands.opens.is_journal.is in
     omega (arith, log.few, simp length-map at payloads)
 
-pub pending-lawful : (disk : DiskState) (store : StoreValue) (now : ℕ) (exchange : Exchange) (history : List Op)
-    → IsLog store.journal → StandsFor disk store → IsBrokenOff store now exchange history
+pub pending-lawful : (service : Bool) (disk : DiskState) (store : StoreValue) (now : ℕ) (exchange : Exchange) (history : List Op)
+    → IsLog store.journal → StandsFor disk store → IsBrokenOff (answers_of service) store now exchange history
     → IsLawful store.head history
-pending-lawful disk store now exchange history log stands broken =
-    pending-history store (stands-few disk store log stands) stands.opens.is_journal.lawful now exchange history broken
+pending-lawful service disk store now exchange history log stands broken =
+    pending-history store (stands-few disk store log stands) stands.opens.is_journal.lawful service now exchange
+    history broken

@@ -7,8 +7,9 @@ use Rattle.std.proofs.lemmas.List.Elements.{All-nil, All-push, All-weaker}
 use Rattle.atom_values.specs.Counts.{HasRisen, counter_limit}
 use Rattle.document_server.specs.Answer.{Steps}
 use Rattle.document_server.specs.Door.{DoorState, SameLinks}
-use Rattle.document_server.specs.Laws.{ShownAreServed}
+use Rattle.document_server.specs.Laws.{AreShownServed}
 use Rattle.document_server.specs.Reply.{disk_fault}
+use Rattle.document_server.specs.Served.{Answering}
 use Rattle.document_server.specs.Serving.{CountsFrom, HasHistory, LeavesServing, OpensAt}
 use Rattle.document_server.specs.Serving.{ServesFrom, ServesOne, exchange_of, version_after}
 use Rattle.document_server.specs.Session.{Ends, Exchange, IsBrokenOff, IsFailed, IsMarked, IsServed, IsSession}
@@ -48,7 +49,7 @@ CrashOpens start before opened history lines unbroken c i j =
     → OpensAt start c opened.head history (length opened.history) lines unbroken i j
 
 -- connections were served, none of which was broken off
-pub record Going (start : ℕ) (before after : DiskState) (moments coming : ℕ → ℕ) (door rest : DoorState)
+pub record Going (answers : Answering) (start : ℕ) (before after : DiskState) (moments coming : ℕ → ℕ) (door rest : DoorState)
     (disk_observable clock_observable door_observable : Type 0) (opened store : StoreValue) (lines : List Line)
     : Type 0 where
   pub head : store.head ≡ opened.head
@@ -67,11 +68,11 @@ pub record Going (start : ℕ) (before after : DiskState) (moments coming : ℕ 
       → LeavesOnlyBoth before after Journal Sealed (CrashOpens start before opened store.history lines lines)
   pub over : disk_observable → door_observable → All (IsOver opened.head store.history) served
   pub session : disk_observable → clock_observable → door_observable
-      → IsSession (IsAt store coming) opened moments served
+      → IsSession answers (IsAt store coming) opened moments served
 
-pub going-begins : (start : ℕ) (disk : DiskState) (moments : ℕ → ℕ) (door : DoorState)
+pub going-begins : {answers : Answering} (start : ℕ) (disk : DiskState) (moments : ℕ → ℕ) (door : DoorState)
     (disk_observable clock_observable door_observable : Type 0) (store : StoreValue) → IsDisk disk_observable disk
-    → Going start disk disk moments moments door door disk_observable clock_observable door_observable store store []
+    → Going answers start disk disk moments moments door door disk_observable clock_observable door_observable store store []
 going-begins start disk moments door disk_observable clock_observable door_observable store is_disk = record {
   head = refl;
   more = [];
@@ -94,12 +95,12 @@ going-begins start disk moments door disk_observable clock_observable door_obser
 }
 
 -- a call of the door that gives no connection
-pub going-still : (start : ℕ) (before after : DiskState) (moments coming : ℕ → ℕ) (door rest later : DoorState)
+pub going-still : {answers : Answering} (start : ℕ) (before after : DiskState) (moments coming : ℕ → ℕ) (door rest later : DoorState)
     (disk_observable clock_observable door_observable : Type 0) (opened store : StoreValue) (lines : List Line)
-    → Going start before after moments coming door rest disk_observable clock_observable door_observable
+    → Going answers start before after moments coming door rest disk_observable clock_observable door_observable
     opened store lines
     → (door_observable → SameLinks rest later)
-    → Going start before after moments coming door later disk_observable clock_observable door_observable
+    → Going answers start before after moments coming door later disk_observable clock_observable door_observable
     opened store lines
 going-still start before after moments coming door rest later disk_observable clock_observable door_observable opened
     store lines going same = record {
@@ -172,14 +173,14 @@ sends-over : (head : HeadValue) (history : List Op) (e : Exchange) → IsOver he
 sends-over head history e over = over.sends
 
 -- all connections were served
-module _ (start : ℕ) (before after : DiskState) (moments coming : ℕ → ℕ) (door rest : DoorState)
-    (disk_observable clock_observable door_observable : Type 0) (opened store : StoreValue) (lines : List Line)
-    (failed : Type 0)
-    (going : Going start before after moments coming door rest disk_observable clock_observable door_observable
+module _ {answers : Answering} (start : ℕ) (before after : DiskState) (moments coming : ℕ → ℕ)
+    (door rest : DoorState) (disk_observable clock_observable door_observable : Type 0) (opened store : StoreValue)
+    (lines : List Line) (failed : Type 0)
+    (going : Going answers start before after moments coming door rest disk_observable clock_observable door_observable
     opened store lines)
     (stands : disk_observable → StandsFor after store) where
   history-ends : disk_observable
-      → HasHistory after moments clock_observable door_observable (stored_of opened) lines going.served []
+      → HasHistory answers after moments clock_observable door_observable (stored_of opened) lines going.served []
       store.history failed
   history-ends observable = record {
     more = going.more;
@@ -193,7 +194,7 @@ module _ (start : ℕ) (before after : DiskState) (moments coming : ℕ → ℕ)
     session = λ clock see. (
       opened,
       refl,
-      session-ends (Ends failed after.content [] store.history) opened moments going.served store coming
+      session-ends (Ends answers failed after.content [] store.history) opened moments going.served store coming
           (λ last now at. (
             ap (λ (s : StoreValue). s.history) (sym at.0),
             λ works. subst (λ (s : StoreValue). OpensTo after.content (stored_of s)) (sym at.0) (stands observable).opens,
@@ -204,7 +205,7 @@ module _ (start : ℕ) (before after : DiskState) (moments coming : ℕ → ℕ)
   pub going-ends : CountsFrom start before after opened
       → (disk_observable → IsAtRest before → Settled after store.head store.history (length store.history))
       → (failed → ⊥)
-      → ServesFrom start before after moments door rest disk_observable clock_observable door_observable
+      → ServesFrom answers start before after moments door rest disk_observable clock_observable door_observable
       opened lines failed
   going-ends counts settled works = record {
     served = going.served;
@@ -242,12 +243,12 @@ going-settles whole before after store stands rests tells rest =
 pub is-unspent : (store : StoreValue) → is_spent store ≡ false → ¬ (is_spent store ≡ true)
 is-unspent store unspent spent = cc
 
-module _ (start : ℕ) (before amid after : DiskState) (moments coming later : ℕ → ℕ) (given back : ConnState)
-    (door rest : DoorState) (disk_observable clock_observable door_observable conn_observable : Type 0)
+module _ {answers : Answering} (start : ℕ) (before amid after : DiskState) (moments coming later : ℕ → ℕ)
+    (given back : ConnState) (door rest : DoorState) (disk_observable clock_observable door_observable conn_observable : Type 0)
     (opened store new : StoreValue) (lines : List Line) (line : Line)
-    (going : Going start before amid moments coming door rest disk_observable clock_observable door_observable
+    (going : Going answers start before amid moments coming door rest disk_observable clock_observable door_observable
     opened store lines)
-    (linked : ServesOne amid after coming later given back disk_observable clock_observable conn_observable
+    (linked : ServesOne answers amid after coming later given back disk_observable clock_observable conn_observable
     store new line)
     (steps : Steps disk_observable amid after store new (is_spent new ≡ true)) where
   abbrev exchange : Exchange
@@ -378,7 +379,7 @@ module _ (start : ℕ) (before amid after : DiskState) (moments coming later : �
         over
 
     -- the connection was served
-    module _ (shown : ShownAreServed) (unspent : is_spent new ≡ false)
+    module _ (shown : AreShownServed answers) (unspent : is_spent new ≡ false)
         (stands : disk_observable → StandsFor amid store) where
       works : ¬ (is_spent new ≡ true)
       works = is-unspent new unspent
@@ -413,15 +414,15 @@ module _ (start : ℕ) (before amid after : DiskState) (moments coming later : �
           }))
 
       session-on : disk_observable → clock_observable → door_observable
-          → IsSession (IsAt new later) opened moments (going.served ++ exchange ∷ [])
+          → IsSession answers (IsAt new later) opened moments (going.served ++ exchange ∷ [])
       session-on observable clock see =
           let on = (linked.stored observable).served (sees see) unspent in
           session-more opened moments going.served store new coming later exchange on.turn
           (going.session observable clock see)
-          (subst (λ (now : ℕ). IsServed store now exchange on.turn new) (on.is_now clock) on.served) (on.clock clock)
+          (subst (λ (now : ℕ). IsServed answers store now exchange on.turn new) (on.is_now clock) on.served) (on.clock clock)
 
       pub going-more : IsDisk disk_observable after → (disk_observable → IsAtRest before → IsAtRest amid)
-          → Going start before after moments later door last disk_observable clock_observable door_observable opened new
+          → Going answers start before after moments later door last disk_observable clock_observable door_observable opened new
           (lines ++ line ∷ [])
       going-more disk rests =
           let longer : length store.history ≤ length new.history =
@@ -471,7 +472,7 @@ module _ (start : ℕ) (before amid after : DiskState) (moments coming later : �
       }
 
       history-breaks : (observable : disk_observable)
-          → HasHistory after moments clock_observable door_observable (stored_of opened) (lines ++ line ∷ [])
+          → HasHistory answers after moments clock_observable door_observable (stored_of opened) (lines ++ line ∷ [])
           going.served (exchange ∷ []) (store.history ++ (linked.stored observable).operations) failed
       history-breaks observable =
           let on = linked.stored observable in
@@ -495,19 +496,19 @@ module _ (start : ℕ) (before amid after : DiskState) (moments coming later : �
                 let broken = on.broken_off (sees see) spent in (
                   opened,
                   refl,
-                  session-ends (Ends failed after.content (exchange ∷ []) history) opened moments going.served store
+                  session-ends (Ends answers failed after.content (exchange ∷ []) history) opened moments going.served store
                       coming
                       (λ last now at. (
                         fails,
-                        subst (λ (s : StoreValue). IsBrokenOff s (now 0) exchange history) (sym at.0)
-                            (subst (λ (m : ℕ). IsBrokenOff store m exchange history)
+                        subst (λ (s : StoreValue). IsBrokenOff answers s (now 0) exchange history) (sym at.0)
+                            (subst (λ (m : ℕ). IsBrokenOff answers store m exchange history)
                             (broken.is_now clock ∙ sym (at.1 0)) broken.broken_off),
                       )) (going.session observable clock see),
                 );
           }
 
       pub going-breaks : IsDisk disk_observable after → (disk_observable → IsAtRest before → IsAtRest amid)
-          → ServesFrom start before after moments door last disk_observable clock_observable door_observable opened
+          → ServesFrom answers start before after moments door last disk_observable clock_observable door_observable opened
           (lines ++ line ∷ []) failed
       going-breaks disk rests = record {
         served = going.served;

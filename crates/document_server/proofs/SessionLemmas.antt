@@ -6,6 +6,7 @@ use Rattle.std.proofs.lemmas.List.{append-nil, map-append}
 use Rattle.std.proofs.lemmas.List.Elements.{All-nil, All-push}
 use Rattle.atom_values.specs.Counts.{counter_limit}
 use Rattle.document_server.specs.Door.{DoorState, Gives, SameLinks, with_back}
+use Rattle.document_server.specs.Served.{Answering}
 use Rattle.document_server.specs.Serving.{CountsFrom, EndsWithin, GoesOn, HasExchanges, HasLinks}
 use Rattle.document_server.specs.Session.{Exchange, IsMarked, IsOneFailed, IsReported, IsSent, IsServed, IsSession}
 use Rattle.document_server.specs.Session.{IsUnfailed, Turn}
@@ -21,15 +22,15 @@ abbrev pub IsAt : StoreValue → (ℕ → ℕ) → StoreValue → (ℕ → ℕ) 
 IsAt store coming last moments = (last ≡ store) × ((k : ℕ) → moments k ≡ coming k)
 
 -- one more exchange
-pub session-more : (first : StoreValue) (moments : ℕ → ℕ) (served : List Exchange) (store next : StoreValue)
-    (coming later : ℕ → ℕ) (exchange : Exchange) (turn : Turn) → IsSession (IsAt store coming) first moments served
-    → IsServed store (coming 0) exchange turn next → GoesOn coming later turn.moments
-    → IsSession (IsAt next later) first moments (served ++ exchange ∷ [])
+pub session-more : {answers : Answering} (first : StoreValue) (moments : ℕ → ℕ) (served : List Exchange) (store next : StoreValue)
+    (coming later : ℕ → ℕ) (exchange : Exchange) (turn : Turn) → IsSession answers (IsAt store coming) first moments served
+    → IsServed answers store (coming 0) exchange turn next → GoesOn coming later turn.moments
+    → IsSession answers (IsAt next later) first moments (served ++ exchange ∷ [])
 session-more first moments [] store next coming later exchange turn (same, goes) is on = (
   turn,
   next,
-  subst (λ (s : StoreValue). IsServed s (moments 0) exchange turn next) (sym same)
-      (subst (λ (now : ℕ). IsServed store now exchange turn next) (sym (goes 0)) is),
+  subst (λ (s : StoreValue). IsServed answers s (moments 0) exchange turn next) (sym same)
+      (subst (λ (now : ℕ). IsServed answers store now exchange turn next) (sym (goes 0)) is),
   (refl, λ k. goes (turn.moments + k) ∙ sym (on k)),
 )
 session-more first moments (earlier ∷ served) store next coming later exchange turn (one, then, was, session) is on = (
@@ -40,10 +41,10 @@ session-more first moments (earlier ∷ served) store next coming later exchange
 )
 
 -- the session ends with the connections so far
-pub session-ends : (ends : StoreValue → (ℕ → ℕ) → Type 0) (first : StoreValue) (moments : ℕ → ℕ)
+pub session-ends : {answers : Answering} (ends : StoreValue → (ℕ → ℕ) → Type 0) (first : StoreValue) (moments : ℕ → ℕ)
     (served : List Exchange) (store : StoreValue) (coming : ℕ → ℕ)
     → ((last : StoreValue) (now : ℕ → ℕ) → IsAt store coming last now → ends last now)
-    → IsSession (IsAt store coming) first moments served → IsSession ends first moments served
+    → IsSession answers (IsAt store coming) first moments served → IsSession answers ends first moments served
 session-ends ends first moments [] store coming to at = to first moments at
 session-ends ends first moments (exchange ∷ served) store coming to (turn, next, was, session) = (
   turn,

@@ -5,7 +5,8 @@ use Rattle.std.specs.Prelude.{true, false, Result, Ok, Err}
 use Rattle.atom_values.specs.Counts.{counter_limit}
 use Rattle.document_server.specs.Answer.{Gains, Grows, MayAdd}
 use Rattle.document_server.specs.Door.{DoorState}
-use Rattle.document_server.specs.Reply.{IsOutcome, disk_fault}
+use Rattle.document_server.specs.Reply.{disk_fault}
+use Rattle.document_server.specs.Served.{Answering}
 use Rattle.document_server.specs.Session.{Ends, Exchange, IsBrokenOff, IsMarked, IsOneFailed, IsReported, IsSent}
 use Rattle.document_server.specs.Session.{IsServed, IsSession, IsTurn, IsUnfailed, SendsServed, Turn}
 use Rattle.document_server.specs.declared.line.Line.{Line}
@@ -114,26 +115,28 @@ pub record HasExchanges (start faults : ℕ) (after : DiskState) (door rest : Do
   pub sent : door_observable → All IsSent (served ++ last)
 
 -- the exchanges are those of a session from a store of this value
-abbrev pub IsSessionFrom : DiskState → (ℕ → ℕ) → Stored → List Exchange → List Exchange → List Op → Type 0 → Type 0
-IsSessionFrom after moments opened served last history failed =
+abbrev pub IsSessionFrom :
+    Answering → DiskState → (ℕ → ℕ) → Stored → List Exchange → List Exchange → List Op → Type 0 → Type 0
+IsSessionFrom answers after moments opened served last history failed =
     (first : StoreValue) × (stored_of first ≡ opened)
-    × IsSession (Ends failed after.content last history) first moments served
+    × IsSession answers (Ends answers failed after.content last history) first moments served
 
 -- The history is the one that was opened and the operations that were added. Its length is the version of the last
 -- line, or at most one more if that connection was broken off.
-pub record HasHistory (after : DiskState) (moments : ℕ → ℕ) (clock_observable door_observable : Type 0)
-    (opened : Stored) (lines : List Line) (served last : List Exchange) (history : List Op) (failed : Type 0)
-    : Type 0 where
+pub record HasHistory (answers : Answering) (after : DiskState) (moments : ℕ → ℕ)
+    (clock_observable door_observable : Type 0) (opened : Stored) (lines : List Line) (served last : List Exchange)
+    (history : List Op) (failed : Type 0) : Type 0 where
   pub more : List Op
   pub extends : history ≡ opened.history ++ more
   pub no_fewer : version_after (length opened.history) lines ≤ length history
   pub no_more : length history ≤ version_after (length opened.history) lines + length last
   pub documents : door_observable → All (SendsServed opened.head history) (served ++ last)
-  pub session : clock_observable → door_observable → IsSessionFrom after moments opened served last history failed
+  pub session : clock_observable → door_observable
+      → IsSessionFrom answers after moments opened served last history failed
 
 -- A store was loaded, and connections were served on it. The history, and all that follows from it, is stated if
 -- contracts see the disk.
-pub record Serves (before after : DiskState) (moments : ℕ → ℕ) (door rest : DoorState)
+pub record Serves (answers : Answering) (before after : DiskState) (moments : ℕ → ℕ) (door rest : DoorState)
     (disk_observable clock_observable door_observable : Type 0) (lines : List Line) (failed : Type 0) : Type 0 where
   pub opened : Stored
   pub opens : disk_observable → OpensTo before.content opened
@@ -144,13 +147,14 @@ pub record Serves (before after : DiskState) (moments : ℕ → ℕ) (door rest 
   pub within : after.clock < counter_limit → All (λ (line : Line). before.clock + line.calls ≤ after.clock) lines
   pub history : disk_observable → List Op
   pub stored : (observable : disk_observable)
-      → HasHistory after moments clock_observable door_observable opened lines served last (history observable) failed
+      → HasHistory answers after moments clock_observable door_observable opened lines served last
+      (history observable) failed
   pub crash : (observable : disk_observable) (head : HeadValue) (operations : List Op) (least : ℕ)
       → Settled before head operations least
       → LeavesServed before after head operations least opened (history observable) lines (map (λ e. e.line) served) failed
 
 -- Connections were served on a store that was loaded before, which has made its device calls since the moment `start`.
-pub record ServesFrom (start : ℕ) (before after : DiskState) (moments : ℕ → ℕ) (door rest : DoorState)
+pub record ServesFrom (answers : Answering) (start : ℕ) (before after : DiskState) (moments : ℕ → ℕ) (door rest : DoorState)
     (disk_observable clock_observable door_observable : Type 0) (store : StoreValue) (lines : List Line)
     (failed : Type 0) : Type 0 where
   pub served : List Exchange
@@ -161,7 +165,7 @@ pub record ServesFrom (start : ℕ) (before after : DiskState) (moments : ℕ �
       → All (λ (line : Line). (before.clock ≤ start + line.calls) × (start + line.calls ≤ after.clock)) lines
   pub history : disk_observable → List Op
   pub stored : (observable : disk_observable)
-      → HasHistory after moments clock_observable door_observable (stored_of store) lines served last
+      → HasHistory answers after moments clock_observable door_observable (stored_of store) lines served last
       (history observable) failed
   pub crash : (observable : disk_observable) → IsAtRest before
       → LeavesServing start before after store.head (length store.history) (history observable) lines
@@ -222,30 +226,30 @@ abbrev pub GoesOn : (ℕ → ℕ) → (ℕ → ℕ) → ℕ → Type 0
 GoesOn moments coming taken = (k : ℕ) → coming k ≡ moments (taken + k)
 
 -- A connection has this reply at a moment, which isn't sent yet. `read` is the connection after its request.
-pub record IsReplyOn (before after : DiskState) (moments coming : ℕ → ℕ) (clock_observable : Type 0)
-    (store : StoreValue) (given read : ConnState) (reply : Option Reply) (next : StoreValue) : Type 0 where
+pub record IsReplyOn (answers : Answering) (before after : DiskState) (moments coming : ℕ → ℕ)
+    (clock_observable : Type 0) (store : StoreValue) (given read : ConnState) (reply : Option Reply) (next : StoreValue) : Type 0 where
   pub now : ℕ
   pub is_now : clock_observable → now ≡ moments 0
   pub turn : Turn
-  pub is_turn : (line : Line) → IsTurn store now (exchange_of before after given read reply line) turn
+  pub is_turn : (line : Line) → IsTurn answers store now (exchange_of before after given read reply line) turn
   pub gains : Gains store next turn.adds
   pub clock : clock_observable → GoesOn moments coming turn.moments
 
 -- the disk failed after the request of a connection, which may have added these operations
-pub record IsFaultOn (moments : ℕ → ℕ) (clock_observable : Type 0) (store : StoreValue) (given : ConnState)
-    (operations : List Op) (reply : Option Reply) : Type 0 where
+pub record IsFaultOn (answers : Answering) (moments : ℕ → ℕ) (clock_observable : Type 0) (store : StoreValue)
+    (given : ConnState) (operations : List Op) (reply : Option Reply) : Type 0 where
   pub now : ℕ
   pub is_now : clock_observable → now ≡ moments 0
   pub request : RequestValue
   pub rules : IsRequest request
   pub heard : IsHeard given.left request
-  pub may : MayAdd (IsOutcome store request now) operations
+  pub may : MayAdd (answers store request now) operations
   pub is : reply ≡ Some disk_fault
 
 -- The request of a connection was read and answered, or the disk failed after it. `operations` are those that the
 -- request may have added.
-pub record RepliesOne (before after : DiskState) (moments coming : ℕ → ℕ) (given read : ConnState)
-    (clock_observable conn_observable : Type 0) (old new : StoreValue) (reply : Option Reply) : Type 0 where
+pub record RepliesOne (answers : Answering) (before after : DiskState) (moments coming : ℕ → ℕ)
+    (given read : ConnState) (clock_observable conn_observable : Type 0) (old new : StoreValue) (reply : Option Reply) : Type 0 where
   pub sized : IsSized old
   pub operations : List Op
   pub at_most_one : length operations ≤ 1
@@ -253,48 +257,50 @@ pub record RepliesOne (before after : DiskState) (moments coming : ℕ → ℕ) 
       → AlwaysLeavesBoth before after (OpensPast old.head (old.history ++ operations) (length old.history))
   pub gained : is_spent new ≡ false → new.history ≡ old.history ++ operations
   pub replied : conn_observable → is_spent new ≡ false
-      → IsReplyOn before after moments coming clock_observable old given read reply new
-  pub failed : conn_observable → is_spent new ≡ true → IsFaultOn moments clock_observable old given operations reply
+      → IsReplyOn answers before after moments coming clock_observable old given read reply new
+  pub failed : conn_observable → is_spent new ≡ true
+      → IsFaultOn answers moments clock_observable old given operations reply
 
 -- the connection was served at a moment
-pub record IsServedOn (moments coming : ℕ → ℕ) (clock_observable : Type 0) (store : StoreValue) (exchange : Exchange)
-    (next : StoreValue) : Type 0 where
+pub record IsServedOn (answers : Answering) (moments coming : ℕ → ℕ) (clock_observable : Type 0) (store : StoreValue)
+    (exchange : Exchange) (next : StoreValue) : Type 0 where
   pub now : ℕ
   pub is_now : clock_observable → now ≡ moments 0
   pub turn : Turn
-  pub served : IsServed store now exchange turn next
+  pub served : IsServed answers store now exchange turn next
   pub clock : clock_observable → GoesOn moments coming turn.moments
 
 -- the connection was broken off at a moment
-pub record IsBrokenOffOn (moments : ℕ → ℕ) (clock_observable : Type 0) (store : StoreValue) (exchange : Exchange)
-    (history : List Op) : Type 0 where
+pub record IsBrokenOffOn (answers : Answering) (moments : ℕ → ℕ) (clock_observable : Type 0) (store : StoreValue)
+    (exchange : Exchange) (history : List Op) : Type 0 where
   pub now : ℕ
   pub is_now : clock_observable → now ≡ moments 0
-  pub broken_off : IsBrokenOff store now exchange history
+  pub broken_off : IsBrokenOff answers store now exchange history
 
 -- The store and the disk after a connection was served, or after the disk failed. `operations` are those that its
 -- request may have added.
-pub record StoresOne (before after : DiskState) (moments coming : ℕ → ℕ) (clock_observable conn_observable : Type 0)
-    (old new : StoreValue) (exchange : Exchange) : Type 0 where
+pub record StoresOne (answers : Answering) (before after : DiskState) (moments coming : ℕ → ℕ)
+    (clock_observable conn_observable : Type 0) (old new : StoreValue) (exchange : Exchange) : Type 0 where
   pub operations : List Op
   pub at_most_one : length operations ≤ 1
   pub leaves : IsAtRest before
       → AlwaysLeavesBoth before after (OpensPast old.head (old.history ++ operations) (length old.history))
   pub gained : is_spent new ≡ false → new.history ≡ old.history ++ operations
-  pub served : conn_observable → is_spent new ≡ false → IsServedOn moments coming clock_observable old exchange new
+  pub served : conn_observable → is_spent new ≡ false
+      → IsServedOn answers moments coming clock_observable old exchange new
   pub broken_off : conn_observable → is_spent new ≡ true
-      → IsBrokenOffOn moments clock_observable old exchange (old.history ++ operations)
+      → IsBrokenOffOn answers moments clock_observable old exchange (old.history ++ operations)
 
 -- A connection was served on a store, or the disk failed after its request. The line has the version and the device
 -- calls of the store afterwards. The connection keeps the disk's clock as the mark of the reply, if one was begun.
-pub record ServesOne (before after : DiskState) (moments coming : ℕ → ℕ) (given back : ConnState)
-    (disk_observable clock_observable conn_observable : Type 0) (old new : StoreValue) (line : Line) : Type 0 where
+pub record ServesOne (answers : Answering) (before after : DiskState) (moments coming : ℕ → ℕ)
+    (given back : ConnState) (disk_observable clock_observable conn_observable : Type 0) (old new : StoreValue) (line : Line) : Type 0 where
   pub reply : Option Reply
   pub reported : IsReported (exchange_of before after given back reply line)
   pub failed : is_spent new ≡ true → reply ≡ Some disk_fault
   pub sent : conn_observable → IsSent (exchange_of before after given back reply line)
   pub stored : disk_observable
-      → StoresOne before after moments coming clock_observable conn_observable old new
+      → StoresOne answers before after moments coming clock_observable conn_observable old new
       (exchange_of before after given back reply line)
   pub version : line.version ≡ length new.history
   pub calls : line.calls ≡ call_count new

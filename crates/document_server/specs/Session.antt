@@ -5,7 +5,8 @@ use Rattle.atom_values.specs.Counts.{HasRisen}
 use Rattle.chain_links.specs.Address.{IsTarget, printed}
 use Rattle.chain_links.specs.declared.address.Address.{Address}
 use Rattle.document_server.specs.Answer.{Gains, MayAdd}
-use Rattle.document_server.specs.Reply.{IsOutcome, Outcome, disk_fault, line_reply, no_memory}
+use Rattle.document_server.specs.Reply.{Outcome, disk_fault, line_reply, no_memory}
+use Rattle.document_server.specs.Served.{Answering}
 use Rattle.document_server.specs.declared.line.Line.{Line}
 use Rattle.feed_disk.specs.Raised.{RisesAtMost}
 use Rattle.feed_disk.specs.declared.area.Area.{Area}
@@ -78,12 +79,12 @@ pub record IsRefused (exchange : Exchange) (turn : Turn) : Type 0 where
   pub is : turn ≡ unheard
 
 -- the bytes begin with a request, which has an outcome on the store at this moment of the clock
-pub record IsAnswered (store : StoreValue) (now : ℕ) (exchange : Exchange) (turn : Turn) : Type 0 where
+pub record IsAnswered (answers : Answering) (store : StoreValue) (now : ℕ) (exchange : Exchange) (turn : Turn) : Type 0 where
   pub request : RequestValue
   pub rules : IsRequest request
   pub heard : IsHeard exchange.given.left request
   pub outcome : Outcome
-  pub is_outcome : IsOutcome store request now outcome
+  pub is_outcome : answers store request now outcome
   pub reply : exchange.reply ≡ Some outcome.reply
   pub is : turn ≡ record { adds = outcome.adds; moments = 1 }
 
@@ -94,9 +95,10 @@ pub record IsForgotten (exchange : Exchange) (turn : Turn) : Type 0 where
       ⊎ ((request : RequestValue) × IsHeard exchange.given.left request × (turn ≡ record { adds = None; moments = 1 }))
 
 -- the case of a connection
-abbrev pub IsTurn : StoreValue → ℕ → Exchange → Turn → Type 0
-IsTurn store now exchange turn =
-    IsLost exchange turn ⊎ IsRefused exchange turn ⊎ IsAnswered store now exchange turn ⊎ IsForgotten exchange turn
+abbrev pub IsTurn : Answering → StoreValue → ℕ → Exchange → Turn → Type 0
+IsTurn answers store now exchange turn =
+    IsLost exchange turn ⊎ IsRefused exchange turn ⊎ IsAnswered answers store now exchange turn
+    ⊎ IsForgotten exchange turn
 
 abbrev pub status_of : Option Reply → ℕ
 status_of None = 0
@@ -146,42 +148,43 @@ IsOneFailed faults later (exchange ∷ []) = IsFailed faults later exchange
 IsOneFailed faults later (exchange ∷ other ∷ more) = ⊥
 
 -- a connection is served on a store, which becomes the next
-pub record IsServed (store : StoreValue) (now : ℕ) (exchange : Exchange) (turn : Turn) (next : StoreValue)
-    : Type 0 where
+pub record IsServed (answers : Answering) (store : StoreValue) (now : ℕ) (exchange : Exchange) (turn : Turn)
+    (next : StoreValue) : Type 0 where
   pub sized : IsSized store
-  pub is_turn : IsTurn store now exchange turn
+  pub is_turn : IsTurn answers store now exchange turn
   pub head : next.head ≡ store.head
   pub gains : Gains store next turn.adds
   pub version : exchange.line.version ≡ length next.history
 
 -- Connections are served one after the other from a store on, each at the next moment of the clock if its request was
 -- read. After them the last store and the coming moments satisfy `ends`.
-abbrev pub IsSession : (StoreValue → (ℕ → ℕ) → Type 0) → StoreValue → (ℕ → ℕ) → List Exchange → Type 0
-IsSession ends store moments [] = ends store moments
-IsSession ends store moments (exchange ∷ later) =
-    (turn : Turn) × (next : StoreValue) × IsServed store (moments 0) exchange turn next
-    × IsSession ends next (λ k. moments (turn.moments + k)) later
+abbrev pub IsSession :
+    Answering → (StoreValue → (ℕ → ℕ) → Type 0) → StoreValue → (ℕ → ℕ) → List Exchange → Type 0
+IsSession answers ends store moments [] = ends store moments
+IsSession answers ends store moments (exchange ∷ later) =
+    (turn : Turn) × (next : StoreValue) × IsServed answers store (moments 0) exchange turn next
+    × IsSession answers ends next (λ k. moments (turn.moments + k)) later
 
 -- The disk failed after the request of a connection, which ends the session. The history has the operations of the
 -- store, and the one that the request may have added.
-pub record IsBrokenOff (store : StoreValue) (now : ℕ) (exchange : Exchange) (history : List Op) : Type 0 where
+pub record IsBrokenOff (answers : Answering) (store : StoreValue) (now : ℕ) (exchange : Exchange) (history : List Op) : Type 0 where
   pub sized : IsSized store
   pub request : RequestValue
   pub rules : IsRequest request
   pub heard : IsHeard exchange.given.left request
   pub pending : List Op
-  pub may : MayAdd (IsOutcome store request now) pending
+  pub may : MayAdd (answers store request now) pending
   pub history_is : history ≡ store.history ++ pending
   pub reply : exchange.reply ≡ Some disk_fault
   pub version : exchange.line.version ≡ length store.history
 
 -- how a session ends: all connections were served, and the content opens to the last store, or one was broken off
-abbrev pub Ends : Type 0 → (Area → List ℕ) → List Exchange → List Op → StoreValue → (ℕ → ℕ) → Type 0
-Ends failed content [] history last moments =
+abbrev pub Ends : Answering → Type 0 → (Area → List ℕ) → List Exchange → List Op → StoreValue → (ℕ → ℕ) → Type 0
+Ends answers failed content [] history last moments =
     (history ≡ last.history) × (¬ failed → OpensTo content (stored_of last))
-Ends failed content (exchange ∷ []) history last moments =
-    failed × IsBrokenOff last (moments 0) exchange history
-Ends failed content (exchange ∷ other ∷ more) history last moments = ⊥
+Ends answers failed content (exchange ∷ []) history last moments =
+    failed × IsBrokenOff answers last (moments 0) exchange history
+Ends answers failed content (exchange ∷ other ∷ more) history last moments = ⊥
 
 -- If a reply was begun, it was begun when the disk had made the line's device calls, counted from `start`.
 abbrev pub IsMarked : ℕ → Exchange → Type 0

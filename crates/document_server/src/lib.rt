@@ -11,10 +11,11 @@
 //!
 //! The reply and the store are those of `specs/Reply.antt`, unless memory ran out or the disk failed. A reply that
 //! acknowledges a change is returned after the commit of the change, so no crash loses it. [`set`] changes a setting of
-//! the feed in the same way, without a request.
+//! the feed in the same way, without a request. [`serve`] answers the requests of many connections, and can serve the
+//! service document and the listing of members beside the documents.
 //!
-//! Stands on `feed_recovery` for the store, on `http_face` for requests and replies, and on `entry_reader` for the
-//! entries that clients write.
+//! Stands on `feed_recovery` for the store, on `http_face` for requests and replies, on `entry_reader` for the entries
+//! that clients write, and on `service_face` for the two pages.
 #![tactic(auto)]
 
 mod change;
@@ -26,6 +27,7 @@ mod failure;
 mod laws;
 mod line;
 mod media;
+mod paged;
 mod replies;
 mod script_door;
 mod session;

@@ -4,6 +4,7 @@ ghost use Rattle.atom_values.specs.Counts.{CountsFault, HasRisen};
 ghost use Rattle.document_server.specs.Answer.{Grows, Steps};
 ghost use Rattle.document_server.specs.Reply.{disk_fault};
 ghost use Rattle.document_server.specs.Serving.{AreLogs, CountsFrom, EndsUnopened, EndsWithin, RepliesOne, Serves, ServesFrom};
+ghost use Rattle.document_server.specs.Served.{answers_of};
 ghost use Rattle.document_server.specs.Serving.{ServesOne, end_of};
 ghost use Rattle.document_server.specs.Session.{connection_limit, fault_reply, read_limit};
 ghost use Rattle.feed_disk.specs.Moments.{LeavesAlone};
@@ -16,10 +17,10 @@ ghost use Rattle.http_face.specs.Reply.{HasPhrase};
 ghost use Rattle.http_face.specs.Settled.{IsUnsettled};
 
 use crate::clock::Clock;
-use crate::dispatch::answer;
 use crate::door::Door;
 use crate::laws::shown_are_served;
 use crate::line::Line;
+use crate::paged::answer_paged;
 use crate::replies::line;
 use atom_values::{Failed, Many, NoMemory};
 use feed_disk::Disk;
@@ -57,9 +58,10 @@ pub struct ServeEnd {
 /// Loads the store of the disk, opens the door at the address `listen`, and serves at most `requests` connections, one
 /// after the other.
 ///
-/// Each request is answered by [`answer`] at one moment of the clock. A connection that fails ends alone. The session
-/// ends early if a device call fails, after the reply 500 to its request, or if a call on the door fails. Takes the
-/// memory for all lines before it opens the door.
+/// Each request is answered by [`answer`](crate::answer) at one moment of the clock. If `service`, requests of the
+/// service document and of the listing of members are answered by [`service_answer`](service_face::service_answer). A
+/// connection that fails ends alone. The session ends early if a device call fails, after the reply 500 to its request,
+/// or if a call on the door fails. Takes the memory for all lines before it opens the door.
 pub fn serve<D: Disk, C: Clock, L: Door>(
     alloc: Global,
     disk: &mut D,
@@ -67,13 +69,14 @@ pub fn serve<D: Disk, C: Clock, L: Door>(
     door: &mut L,
     listen: &[u8],
     requests: u32,
+    service: bool,
 ) -> ServeEnd
     requires some { 1 ≤ requests }
     requires few { requests ≤ connection_limit }
     // The session over the connections that the door gave, and what a crash leaves. Each part names the
     // objects that contracts have to see for it.
     ensures serves { ((fault : Fault) → result.end ≢ End.Load fault)
-        → Serves (D.state disk.old) (D.state disk.new) (C.coming clock.old) (L.state door.old)
+        → Serves (answers_of service) (D.state disk.old) (D.state disk.new) (C.coming clock.old) (L.state door.old)
         (L.state door.new)
         D.observable C.observable L.observable result.lines.items (result.end ≡ End.DiskFault) }
     ensures ends { EndsWithin requests L.observable (L.state door.old) (L.state door.new)
@@ -94,7 +97,9 @@ pub fn serve<D: Disk, C: Clock, L: Door>(
         (result.end ≡ End.DoorFault) }
 {
     let mut lines = Many::new(alloc);
-    let end = match serve_into(alloc, disk, clock, door, listen, requests, &mut lines) {
+    let end = match serve_into(
+        alloc, disk, clock, door, listen, requests, service, &mut lines,
+    ) {
         Ok(()) => End::Done,
         Err(end) => end,
     };
@@ -109,13 +114,14 @@ fn serve_into<D: Disk, C: Clock, L: Door>(
     door: &mut L,
     listen: &[u8],
     requests: u32,
+    service: bool,
     lines: &mut Many<Line, MAX_CONNECTIONS>,
 ) -> Result<(), End>
     requires empty { lines.old.items ≡ [] }
     requires some { 1 ≤ requests }
     requires few { requests ≤ connection_limit }
     ensures serves { ((fault : Fault) → end_of result ≢ End.Load fault)
-        → Serves (D.state disk.old) (D.state disk.new) (C.coming clock.old) (L.state door.old)
+        → Serves (answers_of service) (D.state disk.old) (D.state disk.new) (C.coming clock.old) (L.state door.old)
         (L.state door.new)
         D.observable C.observable L.observable lines.new.items (end_of result ≡ End.DiskFault) }
     ensures ends { EndsWithin requests L.observable (L.state door.old) (L.state door.new)
@@ -141,7 +147,9 @@ fn serve_into<D: Disk, C: Clock, L: Door>(
         drop(store);
         return Err(End::DoorFault);
     }
-    let served = serve_connections(alloc, &mut store, disk, clock, door, requests, lines);
+    let served = serve_connections(
+        alloc, &mut store, disk, clock, door, requests, service, lines,
+    );
     drop(store);
     served
 }
@@ -154,6 +162,7 @@ fn serve_connections<D: Disk, C: Clock, L: Door>(
     clock: &mut C,
     door: &mut L,
     requests: u32,
+    service: bool,
     lines: &mut Many<Line, MAX_CONNECTIONS>,
 ) -> Result<(), End>
     requires unspent { is_spent store.old ≡ false }
@@ -163,7 +172,7 @@ fn serve_connections<D: Disk, C: Clock, L: Door>(
     requires few { requests ≤ connection_limit }
     requires room { requests ≤ lines.old.spare }
     ensures serves { (start : ℕ) → CountsFrom start (D.state disk.old) (D.state disk.new) store.old
-        → ServesFrom start (D.state disk.old) (D.state disk.new) (C.coming clock.old) (L.state door.old)
+        → ServesFrom (answers_of service) start (D.state disk.old) (D.state disk.new) (C.coming clock.old) (L.state door.old)
         (L.state door.new) D.observable C.observable L.observable store.old lines.new.items (end_of result ≡ End.DiskFault) }
     ensures ends { EndsWithin requests L.observable (L.state door.old) (L.state door.new)
         lines.new.items (end_of result) }
@@ -184,7 +193,7 @@ fn serve_connections<D: Disk, C: Clock, L: Door>(
         let Some(mut link) = door.next()? else {
             return Ok(());
         };
-        let line = serve_connection(alloc, store, disk, clock, &mut link);
+        let line = serve_connection(alloc, service, store, disk, clock, &mut link);
         door.back(link);
         match lines.push(line) {
             Ok(()) => {}
@@ -201,6 +210,7 @@ fn serve_connections<D: Disk, C: Clock, L: Door>(
 /// Serves a connection: reads its request, answers it and sends the reply.
 fn serve_connection<D: Disk, C: Clock, K: Conn>(
     alloc: Global,
+    service: bool,
     store: &mut Store,
     disk: &mut D,
     clock: &mut C,
@@ -210,13 +220,13 @@ fn serve_connection<D: Disk, C: Clock, K: Conn>(
     requires logs { AreLogs store.old }
     requires stands { D.observable → StandsFor (D.state disk.old) store.old }
     requires unbegun { (K.state link.old).begun ≡ None }
-    ensures serves { ServesOne (D.state disk.old) (D.state disk.new) (C.coming clock.old) (C.coming clock.new)
+    ensures serves { ServesOne (answers_of service) (D.state disk.old) (D.state disk.new) (C.coming clock.old) (C.coming clock.new)
         (K.state link.old) (K.state link.new) D.observable C.observable K.observable store.old store.new result }
     ensures steps { Steps D.observable (D.state disk.old) (D.state disk.new) store.old store.new
         (is_spent store.new ≡ true) }
     ensures logs { AreLogs store.new }
 {
-    let Some(reply) = reply_to(alloc, store, disk, clock, link) else {
+    let Some(reply) = reply_to(alloc, service, store, disk, clock, link) else {
         return line_of(store, 0, false);
     };
     link.begin(disk);
@@ -227,6 +237,7 @@ fn serve_connection<D: Disk, C: Clock, K: Conn>(
 /// Reads the request of a connection and answers it. `None` if the connection failed.
 fn reply_to<D: Disk, C: Clock, K: Conn>(
     alloc: Global,
+    service: bool,
     store: &mut Store,
     disk: &mut D,
     clock: &mut C,
@@ -235,7 +246,7 @@ fn reply_to<D: Disk, C: Clock, K: Conn>(
     requires unspent { is_spent store.old ≡ false }
     requires logs { AreLogs store.old }
     requires stands { D.observable → StandsFor (D.state disk.old) store.old }
-    ensures replies { D.observable → RepliesOne (D.state disk.old) (D.state disk.new)
+    ensures replies { D.observable → RepliesOne (answers_of service) (D.state disk.old) (D.state disk.new)
         (C.coming clock.old) (C.coming clock.new) (K.state link.old) (K.state link.new) C.observable K.observable
         store.old store.new result }
     ensures spent { is_spent store.new ≡ true → result ≡ Some disk_fault }
@@ -254,7 +265,10 @@ fn reply_to<D: Disk, C: Clock, K: Conn>(
     // Its contract is a law that the proof uses.
     begun_images_are_whole();
     match read_request(alloc, link) {
-        Ok(request) => Some(answer(alloc, store, disk, &request, clock.now())),
+        Ok(request) => {
+            let now = clock.now();
+            Some(answer_paged(alloc, service, store, disk, &request, now))
+        }
         Err(fault) => fault_reply(fault),
     }
 }

@@ -1,32 +1,32 @@
 use Rattle.std.proofs.Common.{ap, ◌∙◌}
 use Rattle.std.specs.Prelude.{Err, Some}
 use Rattle.document_server.proofs.LeaveLemmas.{reads-leave}
-use Rattle.document_server.proofs.LinkLemmas.{replies-answered, replies-refused, stays-or-grows}
+use Rattle.document_server.proofs.LinkLemmas.{replies-answered, replies-refused}
 use Rattle.document_server.proofs.StepLemmas.{reads-none, steps-as}
+use Rattle.document_server.specs.Served.{answers_of}
 use Rattle.feed_recovery.proofs.SizeLemmas.{is_sized}
 use Rattle.document_server.proofs.session.reply_to.Goals as goal
 
 pub returns-in-Ok-clause-replies : goal.returns-in-Ok-clause-replies
 returns-in-Ok-clause-replies g c = λ observable.
-    replies-answered (g.D.Disk.state c.args.disk.now) (g.D.Disk.state c.answer.new.disk)
+    replies-answered (answers_of c.args.service) (g.D.Disk.state c.args.disk.now) (g.D.Disk.state c.answer_paged.new.disk)
     (g.C.Clock.coming c.args.clock.now) (g.C.Clock.coming c.now.new.self) (g.K.Conn.state c.args.link.now)
-    (g.K.Conn.state c.read_request.new.conn) g.C.Clock.observable g.K.Conn.observable c.args.store.now c.answer.new.store
-    c.in-Ok.request c.now.result c.answer.result _
+    (g.K.Conn.state c.read_request.new.conn) g.C.Clock.observable g.K.Conn.observable c.args.store.now c.answer_paged.new.store
+    c.in-Ok.request c.now.result c.answer_paged.result _
     (is_sized (g.D.Disk.state c.args.disk.now) c.args.store.now (c.requires.stands observable) c.requires.logs)
     c.in-Ok.ensures.rules c.in-Ok.ensures.heard c.now.ensures.moment c.now.ensures.later
-    (c.answer.ensures.answered observable) (c.answer.ensures.leaves observable) c.answer.ensures.steps.spent
-    c.answer.ensures.only
+    (c.answer_paged.ensures.answered observable) (c.answer_paged.ensures.leaves observable) c.answer_paged.ensures.steps.spent
+    c.answer_paged.ensures.only
 
 pub returns-in-Ok-clause-steps : goal.returns-in-Ok-clause-steps
 returns-in-Ok-clause-steps g c =
-    steps-as _ _ _ _ _ _ _ c.answer.ensures.steps.spent c.answer.ensures.only c.answer.ensures.steps
+    steps-as _ _ _ _ _ _ _ c.answer_paged.ensures.steps.spent c.answer_paged.ensures.only c.answer_paged.ensures.steps
 
 pub returns-in-Ok-clause-grows : goal.returns-in-Ok-clause-grows
-returns-in-Ok-clause-grows g c =
-    stays-or-grows c.in-Ok.request.verb c.answer.result _ _ c.answer.ensures.grows c.answer.ensures.same
+returns-in-Ok-clause-grows g c = c.answer_paged.ensures.grows
 
 pub returns-in-Ok-clause-spent : goal.returns-in-Ok-clause-spent
-returns-in-Ok-clause-spent g c = λ spent. ap Some (c.answer.ensures.only spent)
+returns-in-Ok-clause-spent g c = λ spent. ap Some (c.answer_paged.ensures.only spent)
 
 pub returns-in-Err-clause-replies : goal.returns-in-Err-clause-replies
 returns-in-Err-clause-replies g c = λ observable.

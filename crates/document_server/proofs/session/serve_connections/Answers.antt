@@ -1,6 +1,7 @@
 use Rattle.std.proofs.Common.{◌≡◌, ◌≢◌, ◌∙◌, inl, inr, refl, sym, ap, subst, ◌<◌, List, [], ◌∷◌, ◌++◌, length, Err}
 use Rattle.std.proofs.Common.{arith}
 use Rattle.std.proofs.Common.{length-append}
+use Rattle.document_server.specs.Served.{answers_of}
 use Rattle.document_server.specs.Serving.{ServesFrom, end_of}
 use Rattle.document_server.specs.declared.line.Line.{Line}
 use Rattle.document_server.specs.declared.session.End.{End}
@@ -42,7 +43,7 @@ loop-count-init g c =
       count = ap length c.requires.empty;
       room = omega (arith, c.requires.room);
       going = λ start.
-          subst (λ (lines : List Line). Going start disk disk moments moments door door g.D.Disk.observable g.C.Clock.observable
+          subst (λ (lines : List Line). Going (answers_of c.args.service) start disk disk moments moments door door g.D.Disk.observable g.C.Clock.observable
           g.L.Door.observable c.args.store.now c.args.store.now lines) (sym c.requires.empty)
           (going-begins start disk moments door g.D.Disk.observable g.C.Clock.observable g.L.Door.observable c.args.store.now
           (g.met.D.Disk.is_disk c.args.disk.now));
@@ -137,7 +138,7 @@ returns-then-is_spent-clause-serves g c = λ start counts.
     let spent = sym c.is_spent.ensures ∙ c.if-is_spent.true in
     let failed : Type 0 = ◌≡◌ {A = End} DiskFault DiskFault in
     let going = held.going start in
-    subst (λ (ls : List Line). ServesFrom start before left moments first last g.D.Disk.observable g.C.Clock.observable
+    subst (λ (ls : List Line). ServesFrom (answers_of c.args.service) start before left moments first last g.D.Disk.observable g.C.Clock.observable
     g.L.Door.observable opened ls failed) (sym c.in-Ok.ensures.ok)
     (going-breaks start before disk left moments coming later given served first door g.D.Disk.observable g.C.Clock.observable
     g.L.Door.observable g.L.Link.Conn.observable opened store after lines line going said.serves said.steps
@@ -147,7 +148,7 @@ returns-then-is_spent-clause-serves g c = λ start counts.
     let on = said.serves.stored observable in
     let broken = on.broken_off (g.met.L.Door.tells see) spent in
     subst (λ (h : HeadValue). IsLawful h (store.history ++ on.operations)) going.head
-    (pending-lawful disk store broken.now _ (store.history ++ on.operations) held.logs.0 (held.stands observable)
+    (pending-lawful c.args.service disk store broken.now _ (store.history ++ on.operations) held.logs.0 (held.stands observable)
     broken.broken_off)) counts (g.met.D.Disk.is_disk c.serve_connection-line.new.disk) held.rests)
 
 pub loop-count-preserved : goal.loop-count-preserved
@@ -184,12 +185,12 @@ loop-count-preserved g c =
       count = omega (arith, ap length pushed, length-append lines (line ∷ []), held.count);
       room = omega (arith, c.in-Ok.ensures.used, held.room);
       going = λ start.
-          subst (λ (ls : List Line). Going start before left moments later first last g.D.Disk.observable g.C.Clock.observable
+          subst (λ (ls : List Line). Going (answers_of c.args.service) start before left moments later first last g.D.Disk.observable g.C.Clock.observable
           g.L.Door.observable opened after ls) (sym pushed)
           (going-more start before disk left moments coming later given served first door g.D.Disk.observable
           g.C.Clock.observable g.L.Door.observable g.L.Link.Conn.observable opened store after lines line
           (held.going start) said.serves said.steps c.served_stays_served.ensures c.prefixes_are_lawful.ensures last
-          g.met.L.Door.tells passes held.disk_faults c.shown_are_served.ensures unspent held.stands
+          g.met.L.Door.tells passes held.disk_faults (c.shown_are_served.ensures c.args.service) unspent held.stands
           (g.met.D.Disk.is_disk c.serve_connection-line.new.disk) held.rests);
       out = λ observable. (passes observable).out ∙ held.out observable;
       listens = λ at is. c.back.ensures.at at (c.next.ensures.at at (held.listens at is));

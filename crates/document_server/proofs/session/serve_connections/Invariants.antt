@@ -1,5 +1,6 @@
 use Rattle.std.proofs.Common.{◌≡◌, ℕ, ◌+◌, ◌≤◌, List, false, length}
 use Rattle.document_server.proofs.ServingLemmas.{Going}
+use Rattle.document_server.specs.Served.{answers_of}
 use Rattle.document_server.specs.Serving.{AreLogs}
 use Rattle.feed_disk.specs.Moments.{LeavesAlone}
 use Rattle.feed_disk.specs.declared.area.Area.TheVariants.{Mirror}
@@ -20,7 +21,7 @@ invariant-loop-count g l =
       count : length l.lines.items ≡ l._count;
       room : l.requests ≤ l.lines.spare + l._count;
       going : (start : ℕ) →
-          Going start before disk (g.C.Clock.coming l.fn.clock) (g.C.Clock.coming l.clock) first door
+          Going (answers_of l.service) start before disk (g.C.Clock.coming l.fn.clock) (g.C.Clock.coming l.clock) first door
           g.D.Disk.observable g.C.Clock.observable g.L.Door.observable l.fn.store l.store l.lines.items;
       out : g.L.Door.observable → door.out ≡ first.out;
       listens : (at : List ℕ) → g.L.Door.listens l.fn.door at → g.L.Door.listens l.door at;
