@@ -9,6 +9,7 @@ use Rattle.command_ends.specs.declared.fault.Refusal.TheVariants.{
   BadPile,
   BadCertificate,
   TooManyOffers,
+  BadService,
   BadLine,
   NotFound,
   Deleted,
@@ -61,6 +62,7 @@ refusal_code P ten twelve (BadDocument offset) = ten
 refusal_code P ten twelve (BadPile at) = ten
 refusal_code P ten twelve (BadCertificate line) = ten
 refusal_code P ten twelve TooManyOffers = ten
+refusal_code P ten twelve (BadService at) = ten
 refusal_code P ten twelve (BadLine line) = ten
 refusal_code P ten twelve (NotFound line member) = twelve
 refusal_code P ten twelve (Deleted line member) = twelve

@@ -14,7 +14,7 @@ use Rattle.command_ends.specs.declared.fault.BadStore.TheVariants.{NotInit, Alre
 use Rattle.command_ends.specs.declared.fault.Refusal.{Refusal}
 use Rattle.command_ends.specs.declared.fault.Refusal.TheVariants.{TooLong, BadDocument, BadPile, BadCertificate, TooManyOffers}
 use Rattle.command_ends.specs.declared.fault.Refusal.TheVariants.{BadLine, NotFound, Deleted, Clock, TooLarge, NotSealed, NoMember}
-use Rattle.command_ends.specs.declared.fault.Refusal.TheVariants.{DeletedMember}
+use Rattle.command_ends.specs.declared.fault.Refusal.TheVariants.{DeletedMember, BadService}
 use Rattle.command_ends.specs.Answer.{Answer}
 
 -- a number between two words
@@ -58,6 +58,8 @@ refusal_answer (BadPile at) =
 refusal_answer (BadCertificate line) =
     record { status = status.BadInput; printed = numbered (codes "bad certificate ") line (codes "\n") }
 refusal_answer TooManyOffers = record { status = status.BadInput; printed = codes "too many offers\n" }
+refusal_answer (BadService at) =
+    record { status = status.BadInput; printed = numbered (codes "bad service ") at (codes "\n") }
 refusal_answer (BadLine line) =
     record { status = status.BadInput; printed = numbered (codes "bad line ") line (codes "\n") }
 refusal_answer (NotFound line member) =

@@ -3,4 +3,5 @@ pub mod Answer
 pub mod Fault
 pub mod StoreFaults
 pub mod Ends
+pub mod Printed
 pub mod Summary

@@ -33,7 +33,7 @@ pub enum Fault {
         needed: u64,
         capacity: u64,
     },
-    /// The input is refused, or the store doesn't have the document that the words name.
+    /// The input or a document of the source is refused, or the store doesn't have the document that the words name.
     Refused(Refusal),
 }
 
@@ -54,7 +54,7 @@ pub enum BadStore {
     Changed { area: Area, index: u32 },
 }
 
-/// Why an input or a request for a document is refused. Lines are numbered from 1.
+/// Why an input, a document of the source or a request for a document is refused. Lines are numbered from 1.
 #[derive(Clone, Copy, Debug, PartialEq, Eq)]
 pub enum Refusal {
     /// The input is longer than the command's limit.
@@ -67,6 +67,8 @@ pub enum Refusal {
     BadCertificate { line: u32 },
     /// The pile after a certificate has more offers than are audited.
     TooManyOffers,
+    /// The document of the source isn't read as a service document: it is refused at this offset.
+    BadService { at: u64 },
     /// The line is none of the command's.
     BadLine { line: u64 },
     /// The line names a member that was never made.
@@ -204,6 +206,7 @@ impl Refusal {
             | Refusal::BadPile { .. }
             | Refusal::BadCertificate { .. }
             | Refusal::TooManyOffers
+            | Refusal::BadService { .. }
             | Refusal::BadLine { .. } => Status::BadInput,
             Refusal::NotFound { .. }
             | Refusal::Deleted { .. }
@@ -226,6 +229,7 @@ impl Refusal {
                 numbered("bad certificate ", u64::from(line), "\n")
             }
             Refusal::TooManyOffers => line_of("too many offers\n"),
+            Refusal::BadService { at } => numbered("bad service ", at, "\n"),
             Refusal::BadLine { line } => numbered("bad line ", line, "\n"),
             Refusal::NotFound { line, member } => naming_member(line, " not found ", member),
             Refusal::Deleted { line, member } => naming_member(line, " deleted ", member),

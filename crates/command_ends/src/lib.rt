@@ -11,7 +11,7 @@
 //!
 //! Each fault has one status and one line: `specs/Fault.antt` lists them, and `specs/StoreFaults.antt` the fault that
 //! each error of a store becomes. `specs/Ends.antt` says how the exit status and the output of a command stand to its
-//! answer. [`summary`] makes the lines that `show` prints of a document.
+//! answer. [`end_printed`] prints the text of a defined end. [`summary`] makes the lines that `show` prints of a document.
 //!
 //! Stands on `doc_source` for the output, and on `feed_recovery`, `feed_journal` and `member_rules` for the errors that
 //! become faults.
@@ -19,10 +19,12 @@
 
 mod fault;
 mod print;
+mod printed;
 mod status;
 mod summary_lines;
 
 pub use fault::{BadStore, Fault, FaultLine, MAX_LINE, Refusal, line_of, line_of_numbers};
 pub use print::print_fault;
+pub use printed::{Printed, end_printed, push_address};
 pub use status::Status;
 pub use summary_lines::{push_entry, push_numbered, summary};

@@ -8,7 +8,7 @@ pub enum Status {
     Done,
     /// The words name no command: 2.
     Usage,
-    /// A document of the mirror is missing: 3.
+    /// A document is missing, or none of the collections takes entries: 3.
     Incomplete,
     /// The documents don't cover the certificate that is audited: 3, as for a mirror that isn't complete. No command
     /// ends with both.
@@ -27,7 +27,7 @@ pub enum Status {
     OutputFault,
     /// A call on the input failed: 9.
     InputFault,
-    /// The input isn't in the command's grammar, or is over its limit: 10.
+    /// The input or the document of the source isn't in the command's grammar, or the input is over its limit: 10.
     BadInput,
     /// An area of the store has no room: 11.
     Full,

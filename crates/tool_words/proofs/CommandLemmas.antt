@@ -4,9 +4,11 @@ use Rattle.std.proofs.Common.{inl, ap, codes, bytes_eq, Bool, false, refl, sym, 
 use Rattle.std.proofs.lemmas.Bool.{true≢false}
 use Rattle.std.proofs.lemmas.Slice.Eq.{bytes_eq-Decides}
 use Rattle.atom_writer.specs.declared.doc.FeedName.{FeedName}
-use Rattle.tool_words.specs.Words.{IsApply, IsCommandOf, IsDrill, IsForeign, IsInit, IsMirror, IsServe, IsShow}
+use Rattle.tool_words.specs.Words.{IsApply, IsCommandOf, IsDiscover, IsDrill, IsForeign, IsInit, IsMirror, IsServe}
+use Rattle.tool_words.specs.Words.{IsShow}
 use Rattle.tool_words.specs.declared.command.Command.{Command}
 use Rattle.tool_words.specs.declared.command.Command.TheVariants.{Init, Apply, Show, Serve, Mirror, Audit, Drill, Foreign}
+use Rattle.tool_words.specs.declared.command.Command.TheVariants.{Discover}
 use Rattle.tool_words.specs.declared.command.Show.{Show as Shown}
 use Rattle.tool_words.specs.declared.fault.WordsFault.{WordsFault}
 use Rattle.tool_words.specs.declared.fault.WordsFault.TheVariants.{NoMemory}
@@ -27,7 +29,7 @@ module _ (words rest : List (List ℕ)) (r : Result Command WordsFault) where
       absurd (other_first (codes "init") (codes "apply") rest behind refl (sym spelt ∙ e))
   init_only spelt only (Show shown) (behind, e, i) =
       absurd (other_first (codes "init") (codes "show") rest behind refl (sym spelt ∙ e))
-  init_only spelt only (Serve listen requests) (behind, e, i) =
+  init_only spelt only (Serve listen requests service) (behind, e, i) =
       absurd (other_first (codes "init") (codes "serve") rest behind refl (sym spelt ∙ e))
   init_only spelt only (Mirror base fetch report capacity) (behind, e, i) =
       absurd (other_first (codes "init") (codes "mirror") rest behind refl (sym spelt ∙ e))
@@ -37,6 +39,8 @@ module _ (words rest : List (List ℕ)) (r : Result Command WordsFault) where
       absurd (other_first (codes "init") (codes "drill") rest behind refl (sym spelt ∙ e))
   init_only spelt only (Foreign from) (behind, e, i) =
       absurd (other_first (codes "init") (codes "foreign") rest behind refl (sym spelt ∙ e))
+  init_only spelt only (Discover address) (behind, e, i) =
+      absurd (other_first (codes "init") (codes "discover") rest behind refl (sym spelt ∙ e))
 
   pub apply_only : words ≡ codes "apply" ∷ rest →
       ((window : Option ℕ) → IsApply rest window → (r ≡ Ok (Apply window)) ⊎ (r ≡ Err NoMemory)) →
@@ -47,7 +51,7 @@ module _ (words rest : List (List ℕ)) (r : Result Command WordsFault) where
       absurd (other_first (codes "apply") (codes "init") rest behind refl (sym spelt ∙ e))
   apply_only spelt only (Show shown) (behind, e, i) =
       absurd (other_first (codes "apply") (codes "show") rest behind refl (sym spelt ∙ e))
-  apply_only spelt only (Serve listen requests) (behind, e, i) =
+  apply_only spelt only (Serve listen requests service) (behind, e, i) =
       absurd (other_first (codes "apply") (codes "serve") rest behind refl (sym spelt ∙ e))
   apply_only spelt only (Mirror base fetch report capacity) (behind, e, i) =
       absurd (other_first (codes "apply") (codes "mirror") rest behind refl (sym spelt ∙ e))
@@ -57,6 +61,8 @@ module _ (words rest : List (List ℕ)) (r : Result Command WordsFault) where
       absurd (other_first (codes "apply") (codes "drill") rest behind refl (sym spelt ∙ e))
   apply_only spelt only (Foreign from) (behind, e, i) =
       absurd (other_first (codes "apply") (codes "foreign") rest behind refl (sym spelt ∙ e))
+  apply_only spelt only (Discover address) (behind, e, i) =
+      absurd (other_first (codes "apply") (codes "discover") rest behind refl (sym spelt ∙ e))
 
   pub show_only : words ≡ codes "show" ∷ rest →
       ((shown : Shown) → IsShow rest shown → (r ≡ Ok (Show shown)) ⊎ (r ≡ Err NoMemory)) →
@@ -67,7 +73,7 @@ module _ (words rest : List (List ℕ)) (r : Result Command WordsFault) where
       absurd (other_first (codes "show") (codes "init") rest behind refl (sym spelt ∙ e))
   show_only spelt only (Apply window) (behind, e, i) =
       absurd (other_first (codes "show") (codes "apply") rest behind refl (sym spelt ∙ e))
-  show_only spelt only (Serve listen requests) (behind, e, i) =
+  show_only spelt only (Serve listen requests service) (behind, e, i) =
       absurd (other_first (codes "show") (codes "serve") rest behind refl (sym spelt ∙ e))
   show_only spelt only (Mirror base fetch report capacity) (behind, e, i) =
       absurd (other_first (codes "show") (codes "mirror") rest behind refl (sym spelt ∙ e))
@@ -77,13 +83,15 @@ module _ (words rest : List (List ℕ)) (r : Result Command WordsFault) where
       absurd (other_first (codes "show") (codes "drill") rest behind refl (sym spelt ∙ e))
   show_only spelt only (Foreign from) (behind, e, i) =
       absurd (other_first (codes "show") (codes "foreign") rest behind refl (sym spelt ∙ e))
+  show_only spelt only (Discover address) (behind, e, i) =
+      absurd (other_first (codes "show") (codes "discover") rest behind refl (sym spelt ∙ e))
 
   pub serve_only : words ≡ codes "serve" ∷ rest →
-      ((listen : List ℕ) (requests : ℕ) → IsServe rest listen requests →
-      (r ≡ Ok (Serve listen requests)) ⊎ (r ≡ Err NoMemory)) → (command : Command) → IsCommandOf words command →
+      ((listen : List ℕ) (requests : ℕ) (service : Bool) → IsServe rest listen requests service →
+      (r ≡ Ok (Serve listen requests service)) ⊎ (r ≡ Err NoMemory)) → (command : Command) → IsCommandOf words command →
       (r ≡ Ok command) ⊎ (r ≡ Err NoMemory)
-  serve_only spelt only (Serve listen requests) (behind, e, i) =
-      let same : behind ≡ rest = cc in only listen requests (subst (λ b. IsServe b listen requests) same i)
+  serve_only spelt only (Serve listen requests service) (behind, e, i) =
+      let same : behind ≡ rest = cc in only listen requests service (subst (λ b. IsServe b listen requests service) same i)
   serve_only spelt only (Init name window capacity) (behind, e, i) =
       absurd (other_first (codes "serve") (codes "init") rest behind refl (sym spelt ∙ e))
   serve_only spelt only (Apply window) (behind, e, i) =
@@ -98,6 +106,8 @@ module _ (words rest : List (List ℕ)) (r : Result Command WordsFault) where
       absurd (other_first (codes "serve") (codes "drill") rest behind refl (sym spelt ∙ e))
   serve_only spelt only (Foreign from) (behind, e, i) =
       absurd (other_first (codes "serve") (codes "foreign") rest behind refl (sym spelt ∙ e))
+  serve_only spelt only (Discover address) (behind, e, i) =
+      absurd (other_first (codes "serve") (codes "discover") rest behind refl (sym spelt ∙ e))
 
   pub mirror_only : words ≡ codes "mirror" ∷ rest →
       ((base : List ℕ) (fetch report : Bool) (capacity : ℕ) → IsMirror rest base fetch report capacity →
@@ -112,7 +122,7 @@ module _ (words rest : List (List ℕ)) (r : Result Command WordsFault) where
       absurd (other_first (codes "mirror") (codes "apply") rest behind refl (sym spelt ∙ e))
   mirror_only spelt only (Show shown) (behind, e, i) =
       absurd (other_first (codes "mirror") (codes "show") rest behind refl (sym spelt ∙ e))
-  mirror_only spelt only (Serve listen requests) (behind, e, i) =
+  mirror_only spelt only (Serve listen requests service) (behind, e, i) =
       absurd (other_first (codes "mirror") (codes "serve") rest behind refl (sym spelt ∙ e))
   mirror_only spelt only Audit e =
       absurd (other_first (codes "mirror") (codes "audit") rest [] refl (sym spelt ∙ e))
@@ -120,6 +130,8 @@ module _ (words rest : List (List ℕ)) (r : Result Command WordsFault) where
       absurd (other_first (codes "mirror") (codes "drill") rest behind refl (sym spelt ∙ e))
   mirror_only spelt only (Foreign from) (behind, e, i) =
       absurd (other_first (codes "mirror") (codes "foreign") rest behind refl (sym spelt ∙ e))
+  mirror_only spelt only (Discover address) (behind, e, i) =
+      absurd (other_first (codes "mirror") (codes "discover") rest behind refl (sym spelt ∙ e))
 
   pub drill_only : words ≡ codes "drill" ∷ rest →
       ((seed count : ℕ) → IsDrill rest seed count → (r ≡ Ok (Drill seed count)) ⊎ (r ≡ Err NoMemory)) →
@@ -132,7 +144,7 @@ module _ (words rest : List (List ℕ)) (r : Result Command WordsFault) where
       absurd (other_first (codes "drill") (codes "apply") rest behind refl (sym spelt ∙ e))
   drill_only spelt only (Show shown) (behind, e, i) =
       absurd (other_first (codes "drill") (codes "show") rest behind refl (sym spelt ∙ e))
-  drill_only spelt only (Serve listen requests) (behind, e, i) =
+  drill_only spelt only (Serve listen requests service) (behind, e, i) =
       absurd (other_first (codes "drill") (codes "serve") rest behind refl (sym spelt ∙ e))
   drill_only spelt only (Mirror base fetch report capacity) (behind, e, i) =
       absurd (other_first (codes "drill") (codes "mirror") rest behind refl (sym spelt ∙ e))
@@ -140,6 +152,8 @@ module _ (words rest : List (List ℕ)) (r : Result Command WordsFault) where
       absurd (other_first (codes "drill") (codes "audit") rest [] refl (sym spelt ∙ e))
   drill_only spelt only (Foreign from) (behind, e, i) =
       absurd (other_first (codes "drill") (codes "foreign") rest behind refl (sym spelt ∙ e))
+  drill_only spelt only (Discover address) (behind, e, i) =
+      absurd (other_first (codes "drill") (codes "discover") rest behind refl (sym spelt ∙ e))
 
   pub foreign_only : words ≡ codes "foreign" ∷ rest →
       ((from : List ℕ) → IsForeign rest from → (r ≡ Ok (Foreign from)) ⊎ (r ≡ Err NoMemory)) →
@@ -152,7 +166,7 @@ module _ (words rest : List (List ℕ)) (r : Result Command WordsFault) where
       absurd (other_first (codes "foreign") (codes "apply") rest behind refl (sym spelt ∙ e))
   foreign_only spelt only (Show shown) (behind, e, i) =
       absurd (other_first (codes "foreign") (codes "show") rest behind refl (sym spelt ∙ e))
-  foreign_only spelt only (Serve listen requests) (behind, e, i) =
+  foreign_only spelt only (Serve listen requests service) (behind, e, i) =
       absurd (other_first (codes "foreign") (codes "serve") rest behind refl (sym spelt ∙ e))
   foreign_only spelt only (Mirror base fetch report capacity) (behind, e, i) =
       absurd (other_first (codes "foreign") (codes "mirror") rest behind refl (sym spelt ∙ e))
@@ -160,6 +174,30 @@ module _ (words rest : List (List ℕ)) (r : Result Command WordsFault) where
       absurd (other_first (codes "foreign") (codes "audit") rest [] refl (sym spelt ∙ e))
   foreign_only spelt only (Drill seed count) (behind, e, i) =
       absurd (other_first (codes "foreign") (codes "drill") rest behind refl (sym spelt ∙ e))
+  foreign_only spelt only (Discover address) (behind, e, i) =
+      absurd (other_first (codes "foreign") (codes "discover") rest behind refl (sym spelt ∙ e))
+
+  pub discover_only : words ≡ codes "discover" ∷ rest →
+      ((address : List ℕ) → IsDiscover rest address → (r ≡ Ok (Discover address)) ⊎ (r ≡ Err NoMemory)) →
+      (command : Command) → IsCommandOf words command → (r ≡ Ok command) ⊎ (r ≡ Err NoMemory)
+  discover_only spelt only (Discover address) (behind, e, i) =
+      let same : behind ≡ rest = cc in only address (subst (λ b. IsDiscover b address) same i)
+  discover_only spelt only (Init name window capacity) (behind, e, i) =
+      absurd (other_first (codes "discover") (codes "init") rest behind refl (sym spelt ∙ e))
+  discover_only spelt only (Apply window) (behind, e, i) =
+      absurd (other_first (codes "discover") (codes "apply") rest behind refl (sym spelt ∙ e))
+  discover_only spelt only (Show shown) (behind, e, i) =
+      absurd (other_first (codes "discover") (codes "show") rest behind refl (sym spelt ∙ e))
+  discover_only spelt only (Serve listen requests service) (behind, e, i) =
+      absurd (other_first (codes "discover") (codes "serve") rest behind refl (sym spelt ∙ e))
+  discover_only spelt only (Mirror base fetch report capacity) (behind, e, i) =
+      absurd (other_first (codes "discover") (codes "mirror") rest behind refl (sym spelt ∙ e))
+  discover_only spelt only Audit e =
+      absurd (other_first (codes "discover") (codes "audit") rest [] refl (sym spelt ∙ e))
+  discover_only spelt only (Drill seed count) (behind, e, i) =
+      absurd (other_first (codes "discover") (codes "drill") rest behind refl (sym spelt ∙ e))
+  discover_only spelt only (Foreign from) (behind, e, i) =
+      absurd (other_first (codes "discover") (codes "foreign") rest behind refl (sym spelt ∙ e))
 
 pub apply_found : (words rest : List (List ℕ)) (r : Result Command WordsFault) → words ≡ codes "apply" ∷ rest →
     IfOk r (λ command. (window : Option ℕ) × (command ≡ Apply window) × IsApply rest window) →
@@ -188,7 +226,7 @@ audit_only words rest r spelt only (Apply window) (behind, e, i) =
     absurd (other_first (codes "audit") (codes "apply") rest behind refl (sym spelt ∙ e))
 audit_only words rest r spelt only (Show shown) (behind, e, i) =
     absurd (other_first (codes "audit") (codes "show") rest behind refl (sym spelt ∙ e))
-audit_only words rest r spelt only (Serve listen requests) (behind, e, i) =
+audit_only words rest r spelt only (Serve listen requests service) (behind, e, i) =
     absurd (other_first (codes "audit") (codes "serve") rest behind refl (sym spelt ∙ e))
 audit_only words rest r spelt only (Mirror base fetch report capacity) (behind, e, i) =
     absurd (other_first (codes "audit") (codes "mirror") rest behind refl (sym spelt ∙ e))
@@ -196,3 +234,5 @@ audit_only words rest r spelt only (Drill seed count) (behind, e, i) =
     absurd (other_first (codes "audit") (codes "drill") rest behind refl (sym spelt ∙ e))
 audit_only words rest r spelt only (Foreign from) (behind, e, i) =
     absurd (other_first (codes "audit") (codes "foreign") rest behind refl (sym spelt ∙ e))
+audit_only words rest r spelt only (Discover address) (behind, e, i) =
+    absurd (other_first (codes "audit") (codes "discover") rest behind refl (sym spelt ∙ e))

@@ -1,15 +1,16 @@
 -- The command of `mirror` depends only on the values of its options and on the flags that are given.
-use Rattle.std.proofs.Common.{◌≡◌, ◌⊎◌, inl, inr, ℕ, List, [], All, Option, Some, Bool, true, false, Result, Ok, Err}
+use Rattle.std.proofs.Common.{◌≡◌, ◌⊎◌, inl, inr, ℕ, List, [], All, Option, Bool, Result, Ok, Err}
 use Rattle.std.proofs.Common.{codes, sym, subst, arith}
 use Rattle.tool_words.specs.Options.{Given, AreOptions, is_given, value_of}
 use Rattle.clap.specs.declared.parser.matches.ArgMatches.{ArgMatches}
-use Rattle.tool_words.specs.Parse.{Match, flag_in, flag_text, value_in}
+use Rattle.tool_words.specs.Parse.{Match, value_in}
 use Rattle.tool_words.specs.Words.{IsBaseText, IsMirror, IsNumberOr, mirror_flags, mirror_options}
 use Rattle.tool_words.specs.Words.{capacity_floor, capacity_limit, default_capacity}
 use Rattle.tool_words.specs.declared.command.Command.{Command}
 use Rattle.tool_words.specs.declared.command.Command.TheVariants.{Mirror}
 use Rattle.tool_words.specs.declared.fault.WordsFault.{WordsFault}
 use Rattle.tool_words.specs.declared.fault.WordsFault.TheVariants.{NoMemory}
+use Rattle.tool_words.proofs.FlagLemmas.{Tells, flag_read}
 
 -- the values give this base and this capacity
 pub record Give (value : List ℕ → Option (List ℕ)) (base : List ℕ) (capacity : ℕ) : Type 0 where
@@ -24,30 +25,18 @@ give_same one other base capacity same g = record {
       (same 1 [] (omega arith)) g.capacity_is;
 }
 
--- a flag that is read is one that is given
-flag_read : (given read : Bool) (text : Option (List ℕ)) → text ≡ Some (flag_text given) →
-    (text ≡ Some (codes "true") → read ≡ true) → (text ≡ Some (codes "false") → read ≡ false) → read ≡ given
-flag_read true read text is set unset = set is
-flag_read false read text is set unset = unset is
-
--- the flags that the matches tell
-pub record Tells (matches : ArgMatches) (key : List ℕ) (read : Bool) : Type 0 where
-  pub set : flag_in matches key ≡ Some (codes "true") → read ≡ true
-  pub unset : flag_in matches key ≡ Some (codes "false") → read ≡ false
-
 pub fetch_read : (options : List Given) (matches : ArgMatches) (fetch : Bool) →
     Match mirror_options mirror_flags options matches → Tells matches (codes "fetch") fetch →
     fetch ≡ is_given (codes "fetch") options
 fetch_read options matches fetch m tells =
-    flag_read (is_given (codes "fetch") options) fetch (flag_in matches (codes "fetch"))
-    (m.flags_are 0 [] (omega arith)) tells.set tells.unset
+    flag_read matches (codes "fetch") (is_given (codes "fetch") options) fetch (m.flags_are 0 [] (omega arith)) tells
 
 pub report_read : (options : List Given) (matches : ArgMatches) (report : Bool) →
     Match mirror_options mirror_flags options matches → Tells matches (codes "report") report →
     report ≡ is_given (codes "report") options
 report_read options matches report m tells =
-    flag_read (is_given (codes "report") options) report (flag_in matches (codes "report"))
-    (m.flags_are 1 [] (omega arith)) tells.set tells.unset
+    flag_read matches (codes "report") (is_given (codes "report") options) report
+    (m.flags_are 1 [] (omega arith)) tells
 
 -- the words of `mirror` and the matches of their options
 pub mirror_gives : (words : List (List ℕ)) (matches : ArgMatches) (base : List ℕ) (fetch report : Bool)

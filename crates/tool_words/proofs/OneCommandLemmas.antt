@@ -6,20 +6,22 @@ use Rattle.uuid.specs.Text.{parsed}
 use Rattle.atom_writer.specs.declared.doc.FeedName.{FeedName}
 use Rattle.tool_words.specs.Numbers.{IsNumber, number_value}
 use Rattle.tool_words.specs.Options.{value_of}
-use Rattle.tool_words.specs.Words.{IsApply, IsBaseText, IsDrill, IsFeedIdText, IsForeign, IsHttpText, IsInit, IsListen}
+use Rattle.tool_words.specs.Words.{IsApply, IsBaseText, IsDiscover, IsDrill, IsFeedIdText, IsForeign, IsHttpText}
+use Rattle.tool_words.specs.Words.{IsInit, IsListen}
 use Rattle.tool_words.specs.Words.{IsMirror, IsNamed, foreign_options}
 use Rattle.tool_words.specs.Words.{IsNameText, IsNumberOr, IsRequests, IsServe, IsShow, init_options, mirror_flags}
-use Rattle.tool_words.specs.Words.{mirror_options, serve_options, capacity_floor, capacity_limit, count_limit}
+use Rattle.tool_words.specs.Words.{mirror_options, serve_flags, serve_options, capacity_floor, capacity_limit, count_limit}
 use Rattle.tool_words.specs.Words.{default_capacity, default_window, request_limit, seed_limit, window_limit}
 use Rattle.tool_words.specs.Laws.{WordsSpellOneCommand}
 use Rattle.tool_words.specs.declared.command.Command.{Command}
 use Rattle.tool_words.specs.declared.command.Command.TheVariants.{Init, Apply, Show, Serve, Mirror, Audit, Drill, Foreign}
+use Rattle.tool_words.specs.declared.command.Command.TheVariants.{Discover}
 use Rattle.tool_words.specs.declared.command.Show.{Show as Shown}
 use Rattle.tool_words.specs.declared.command.Show.TheVariants.{Document, Feed, Archive, Member, Pile}
 use Rattle.tool_words.specs.declared.fault.WordsFault.{WordsFault}
 use Rattle.tool_words.specs.declared.fault.WordsFault.TheVariants.{NoMemory}
-use Rattle.tool_words.proofs.CommandLemmas.{apply_only, audit_only, drill_only, foreign_only, init_only, mirror_only}
-use Rattle.tool_words.proofs.CommandLemmas.{serve_only, show_only}
+use Rattle.tool_words.proofs.CommandLemmas.{apply_only, audit_only, discover_only, drill_only, foreign_only, init_only}
+use Rattle.tool_words.proofs.CommandLemmas.{mirror_only, serve_only, show_only}
 use Rattle.tool_words.proofs.ForeignLemmas as foreign
 use Rattle.tool_words.proofs.InitLemmas as init
 use Rattle.tool_words.proofs.MirrorLemmas as mirror
@@ -109,15 +111,17 @@ show_asked words (Archive n) (word, e, number) = ap asked e ∙ ap (λ (k : ℕ)
 show_asked words (Member n) (word, e, number) = ap asked e ∙ ap (λ (k : ℕ). Member k) number.value
 show_asked words Pile e = ap asked e
 
-one_serve : (words : List (List ℕ)) (a b : List ℕ) (m n : ℕ) → IsServe words a m → IsServe words b n →
-    Serve a m ≡ Serve b n
-one_serve words a b m n x y =
+one_serve : (words : List (List ℕ)) (a b : List ℕ) (m n : ℕ) (s t : Bool) → IsServe words a m s → IsServe words b n t →
+    Serve a m s ≡ Serve b n t
+one_serve words a b m n s t x y =
     let given = serve.give_same (λ key. value_of key x.options) (λ key. value_of key y.options) a m
-    (one_value serve_options [] words refl x.options y.options x.are_options y.are_options)
+    (one_value serve_options serve_flags words refl x.options y.options x.are_options y.are_options)
     (record { listen_is = x.is_listen; requests_is = x.is_requests }) in
     let listen = one_listen (value_of (codes "listen") y.options) a b given.listen_is y.is_listen in
     let requests = one_requests (value_of (codes "requests") y.options) m n given.requests_is y.is_requests in
-    λ i. Serve (listen i) (requests i)
+    let flags = one_flag serve_options serve_flags words refl x.options y.options x.are_options y.are_options in
+    let service = sym x.is_service ∙ flags 0 [] (omega arith) ∙ y.is_service in
+    λ i. Serve (listen i) (requests i) (service i)
 
 one_mirror : (words : List (List ℕ)) (a b : List ℕ) (f g r s : Bool) (c d : ℕ) → IsMirror words a f r c →
     IsMirror words b g s d → Mirror a f r c ≡ Mirror b g s d
@@ -151,6 +155,12 @@ one_foreign words a b x y =
     (one_value foreign_options [] words refl x.options y.options x.are_options y.are_options) x.is_from in
     ap Foreign (one_http (value_of (codes "from") y.options) a b given y.is_from)
 
+one_discover : (words : List (List ℕ)) (a b : List ℕ) → IsDiscover words a → IsDiscover words b →
+    Discover a ≡ Discover b
+one_discover words a b x y =
+    let both : a ∷ [] ≡ b ∷ [] = sym x.words_are ∙ y.words_are in
+    let same : a ≡ b = cc in ap Discover same
+
 -- of two results one of which is a command
 same_command : (one other : Command) → (◌≡◌ {A = Result Command WordsFault} (Ok one) (Ok other))
     ⊎ (◌≡◌ {A = Result Command WordsFault} (Ok one) (Err NoMemory)) → one ≡ other
@@ -167,9 +177,9 @@ one_command words (Apply a) other (rest, e, x) y =
 one_command words (Show shown) other (rest, e, x) y =
     same_command (Show shown) other (show_only words rest (Ok (Show shown)) e
     (λ s z. inl (ap (λ (k : Shown). Ok (Show k)) (sym (show_asked rest shown x) ∙ show_asked rest s z))) other y)
-one_command words (Serve a m) other (rest, e, x) y =
-    same_command (Serve a m) other (serve_only words rest (Ok (Serve a m)) e
-    (λ b n z. inl (ap Ok (one_serve rest a b m n x z))) other y)
+one_command words (Serve a m s) other (rest, e, x) y =
+    same_command (Serve a m s) other (serve_only words rest (Ok (Serve a m s)) e
+    (λ b n t z. inl (ap Ok (one_serve rest a b m n s t x z))) other y)
 one_command words (Mirror a f r c) other (rest, e, x) y =
     same_command (Mirror a f r c) other (mirror_only words rest (Ok (Mirror a f r c)) e
     (λ b g s d z. inl (ap Ok (one_mirror rest a b f g r s c d x z))) other y)
@@ -181,3 +191,6 @@ one_command words (Drill m c) other (rest, e, x) y =
 one_command words (Foreign a) other (rest, e, x) y =
     same_command (Foreign a) other (foreign_only words rest (Ok (Foreign a)) e
     (λ b z. inl (ap Ok (one_foreign rest a b x z))) other y)
+one_command words (Discover a) other (rest, e, x) y =
+    same_command (Discover a) other (discover_only words rest (Ok (Discover a)) e
+    (λ b z. inl (ap Ok (one_discover rest a b x z))) other y)

@@ -94,41 +94,6 @@ both_true : (a b : Bool) → a ≡ true → b ≡ true → (a && (b && true)) �
 both_true true b ha hb = rw hb
 both_true false b ha hb = absurd (true≢false (sym ha))
 
--- ---- `apply`
-
-abbrev window_rule : List Rule
-window_rule = place_rule (codes "window") ∷ []
-
-abbrev window_built : List Rule
-window_built = built_place 1 (codes "window") ∷ []
-
-window_walk : (w : Text) → is_value w ≡ true →
-    walk window_built [] nothing_held (w ∷ []) ≡ at_rest (Some (codes "window", w ∷ [])) [] 0 2
-window_walk w is = place_walk window_built None [] 0 1 (codes "window") w is refl
-
-pub window_takes : (words : List Text) → ArePlaces (codes "window" ∷ []) words →
-    takes (places_app (codes "window" ∷ [])) words ≡ true
-unfolding clap_on_literals
-window_takes [] are = refl
-window_takes (w ∷ []) are =
-    let is : is_value w ≡ true = All-head (λ word. IsTrue (is_value word)) w [] are.values in
-    place_takes window_rule window_built (w ∷ []) (at_rest (Some (codes "window", w ∷ [])) [] 0 2) refl refl
-    (rw (place_passes window_built None [] 0 1 (codes "window") w is refl refl)) (window_walk w is) refl
-window_takes (w ∷ u ∷ more) are = absurd (omega (arith, are.few))
-
-window_value : (words : List Text) (m : ArgMatches) → ArePlaces (codes "window" ∷ []) words →
-    HasMatchesOf (places_app (codes "window" ∷ [])) words m → value_in m (codes "window") ≡ slice_get words 0
-unfolding clap_on_literals
-window_value [] m are has =
-    value_of_rows (app_with window_rule) [] m [] (codes "window") refl has refl
-window_value (w ∷ []) m are has =
-    let is : is_value w ≡ true = All-head (λ word. IsTrue (is_value word)) w [] are.values in
-    value_of_rows (app_with window_rule) (w ∷ []) m
-    (finished window_built (at_rest (Some (codes "window", w ∷ [])) [] 0 2).held) (codes "window") refl has
-    (place_matches window_rule window_built (w ∷ []) (at_rest (Some (codes "window", w ∷ [])) [] 0 2) refl
-    (window_walk w is))
-window_value (w ∷ u ∷ more) m are has = absurd (omega (arith, are.few))
-
 -- ---- words of few places
 
 no_word : (words : List Text) → slice_get words 0 ≡ None → words ≡ []
@@ -152,6 +117,60 @@ two_words (x ∷ y ∷ []) k None few first second = absurd (cc)
 two_words (x ∷ y ∷ []) k (Some n) few first second = cc
 two_words (x ∷ y ∷ z ∷ words) k o few first second = absurd (omega arith)
 
+-- ---- one place
+
+abbrev pub one_rule : Text → List Rule
+one_rule name = place_rule name ∷ []
+
+abbrev pub one_built : Text → List Rule
+one_built name = built_place 1 name ∷ []
+
+abbrev pub after_one : Text → Text → Walk
+after_one first w = at_rest (Some (first, w ∷ [])) [] 0 2
+
+-- The steps of `clap` that depend on the name of the place. Each computes if the name is a literal.
+pub record IsOneName (name : Text) : Type 0 where
+  pub simple : is_simple (app_with (one_rule name)) ≡ true
+  pub made : built (app_with (one_rule name)) ≡ built_app (one_built name)
+  pub first_at : arg_by_index (one_built name) 1 ≡ Some (built_place 1 name)
+  pub settles : settle_passes (one_built name) false (at_rest None [] 0 1).held ≡ true
+  pub rests : (w : Text) → rest_passes (one_built name) (after_one name w) ≡ true
+  pub none_taken : takes (app_with (one_rule name)) [] ≡ true
+  pub none_found : matches_of (app_with (one_rule name)) [] ≡ []
+  pub found : (w : Text) → first_of name (finished (one_built name) (after_one name w).held) ≡ Some w
+
+module _ (name : Text) (is_one : IsOneName name) where
+  one_walk : (w : Text) → is_value w ≡ true → walk (one_built name) [] nothing_held (w ∷ []) ≡ after_one name w
+  one_walk w is = place_walk (one_built name) None [] 0 1 name w is is_one.first_at
+
+  pub one_taken : (words : List Text) → ArePlaces (name ∷ []) words → takes (places_app (name ∷ [])) words ≡ true
+  unfolding walk_passes
+  one_taken [] are = is_one.none_taken
+  one_taken (w ∷ []) are =
+      let is : is_value w ≡ true = All-head (λ word. IsTrue (is_value word)) w [] are.values in
+      place_takes (one_rule name) (one_built name) (w ∷ []) (after_one name w) is_one.simple is_one.made
+      (rw (place_passes (one_built name) None [] 0 1 name w is is_one.first_at is_one.settles)) (one_walk w is)
+      (is_one.rests w)
+  one_taken (w ∷ u ∷ more) are = absurd (omega (arith, are.few))
+
+  pub value_of_one : (words : List Text) (m : ArgMatches) → ArePlaces (name ∷ []) words →
+      HasMatchesOf (places_app (name ∷ [])) words m → value_in m name ≡ slice_get words 0
+  value_of_one [] m are has =
+      value_of_rows (app_with (one_rule name)) [] m [] name is_one.simple has is_one.none_found
+  value_of_one (w ∷ []) m are has =
+      let is : is_value w ≡ true = All-head (λ word. IsTrue (is_value word)) w [] are.values in
+      value_of_rows (app_with (one_rule name)) (w ∷ []) m (finished (one_built name) (after_one name w).held) name
+      is_one.simple has
+      (place_matches (one_rule name) (one_built name) (w ∷ []) (after_one name w) is_one.made (one_walk w is))
+      ∙ is_one.found w
+  value_of_one (w ∷ u ∷ more) m are has = absurd (omega (arith, are.few))
+
+  -- the words are the value
+  pub words_of_one : (words : List Text) (m : ArgMatches) (word : Option Text) → ArePlaces (name ∷ []) words
+      → HasMatchesOf (places_app (name ∷ [])) words m → value_in m name ≡ word → words ≡ cons_option word []
+  words_of_one words m word are has value =
+      one_word words word are.few (sym (value_of_one words m are has) ∙ value)
+
 -- ---- two places
 
 abbrev pub two_rules : Text → Text → List Rule
@@ -159,9 +178,6 @@ two_rules first second = place_rule first ∷ place_rule second ∷ []
 
 abbrev pub two_built : Text → Text → List Rule
 two_built first second = built_place 1 first ∷ built_place 2 second ∷ []
-
-abbrev pub after_one : Text → Text → Walk
-after_one first w = at_rest (Some (first, w ∷ [])) [] 0 2
 
 abbrev pub after_two : Text → Text → Text → Text → Walk
 after_two first second w u =
@@ -275,6 +291,25 @@ module _ (first second : Text) (are_two : AreTwoNames first second) where
   both_values w u m are has =
       let values = two_values (w ∷ u ∷ []) m are has in (values.first_is, values.second_is)
 
+-- ---- `apply`
+
+window_name : IsOneName (codes "window")
+unfolding clap_on_literals
+window_name = record {
+  simple = refl;
+  made = refl;
+  first_at = refl;
+  settles = refl;
+  rests = λ w. refl;
+  none_taken = refl;
+  none_found = refl;
+  found = λ w. refl;
+}
+
+pub window_takes : (words : List Text) → ArePlaces (codes "window" ∷ []) words →
+    takes (places_app (codes "window" ∷ [])) words ≡ true
+window_takes = one_taken (codes "window") window_name
+
 -- ---- `show`
 
 kind_and_number : AreTwoNames (codes "kind") (codes "number")
@@ -360,7 +395,7 @@ pub window_words : (words : List Text) (m : ArgMatches) (word : Option (Bor Text
     → ArePlaces (codes "window" ∷ []) words → HasMatchesOf (places_app (codes "window" ∷ [])) words m
     → option_copied word ≡ value_in m (codes "window") → words ≡ cons_option (option_copied word) []
 window_words words m word are has value =
-    one_word words (option_copied word) are.few (sym (window_value words m are has) ∙ sym value)
+    words_of_one (codes "window") window_name words m (option_copied word) are has (sym value)
 
 -- no words after `show` ask for the document of the input
 pub no_kind : (words : List Text) (shown : Shown) → words ≡ [] → IsShow words shown → shown ≡ Document

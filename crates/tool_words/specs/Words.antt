@@ -11,6 +11,7 @@ use Rattle.tool_words.specs.Numbers.{IsNumber}
 use Rattle.tool_words.specs.Options.{Given, AreOptions, is_given, value_of}
 use Rattle.tool_words.specs.declared.command.Command.{Command}
 use Rattle.tool_words.specs.declared.command.Command.TheVariants.{Init, Apply, Show, Serve, Mirror, Audit, Drill, Foreign}
+use Rattle.tool_words.specs.declared.command.Command.TheVariants.{Discover}
 use Rattle.tool_words.specs.declared.command.Show.{Show as Shown}
 use Rattle.tool_words.specs.declared.command.Show.TheVariants.{Document, Feed, Archive, Member, Pile}
 
@@ -56,6 +57,9 @@ init_options =
 
 abbrev pub serve_options : List (List ℕ)
 serve_options = codes "listen" ∷ codes "requests" ∷ []
+
+abbrev pub serve_flags : List (List ℕ)
+serve_flags = codes "service" ∷ []
 
 abbrev pub mirror_options : List (List ℕ)
 mirror_options = codes "base" ∷ codes "capacity" ∷ []
@@ -137,11 +141,12 @@ pub record IsRequests (value : Option (List ℕ)) (requests : ℕ) : Type 0 wher
   pub is_number : IsNumber 1 request_limit word requests
 
 -- the words after `serve`
-pub record IsServe (words : List (List ℕ)) (listen : List ℕ) (requests : ℕ) : Type 0 where
+pub record IsServe (words : List (List ℕ)) (listen : List ℕ) (requests : ℕ) (service : Bool) : Type 0 where
   pub options : List Given
-  pub are_options : AreOptions serve_options [] words options
+  pub are_options : AreOptions serve_options serve_flags words options
   pub is_listen : IsListen (value_of (codes "listen") options) listen
   pub is_requests : IsRequests (value_of (codes "requests") options) requests
+  pub is_service : is_given (codes "service") options ≡ service
 
 -- the words after `mirror`
 pub record IsMirror (words : List (List ℕ)) (base : List ℕ) (fetch report : Bool) (capacity : ℕ) : Type 0 where
@@ -173,6 +178,11 @@ pub record IsForeign (words : List (List ℕ)) (from : List ℕ) : Type 0 where
   pub are_options : AreOptions foreign_options [] words options
   pub is_from : IsHttpText (value_of (codes "from") options) from
 
+-- the word after `discover`
+pub record IsDiscover (words : List (List ℕ)) (address : List ℕ) : Type 0 where
+  pub words_are : words ≡ address ∷ []
+  pub is_address : IsHttpText (Some address) address
+
 abbrev pub IsCommandOf : List (List ℕ) → Command → Type 0
 IsCommandOf words (Init name window capacity) =
     (rest : List (List ℕ)) × (words ≡ codes "init" ∷ rest) × IsInit rest name window capacity
@@ -180,8 +190,8 @@ IsCommandOf words (Apply window) =
     (rest : List (List ℕ)) × (words ≡ codes "apply" ∷ rest) × IsApply rest window
 IsCommandOf words (Show shown) =
     (rest : List (List ℕ)) × (words ≡ codes "show" ∷ rest) × IsShow rest shown
-IsCommandOf words (Serve listen requests) =
-    (rest : List (List ℕ)) × (words ≡ codes "serve" ∷ rest) × IsServe rest listen requests
+IsCommandOf words (Serve listen requests service) =
+    (rest : List (List ℕ)) × (words ≡ codes "serve" ∷ rest) × IsServe rest listen requests service
 IsCommandOf words (Mirror base fetch report capacity) =
     (rest : List (List ℕ)) × (words ≡ codes "mirror" ∷ rest) × IsMirror rest base fetch report capacity
 IsCommandOf words Audit = words ≡ codes "audit" ∷ []
@@ -189,3 +199,5 @@ IsCommandOf words (Drill seed count) =
     (rest : List (List ℕ)) × (words ≡ codes "drill" ∷ rest) × IsDrill rest seed count
 IsCommandOf words (Foreign from) =
     (rest : List (List ℕ)) × (words ≡ codes "foreign" ∷ rest) × IsForeign rest from
+IsCommandOf words (Discover address) =
+    (rest : List (List ℕ)) × (words ≡ codes "discover" ∷ rest) × IsDiscover rest address

@@ -23,10 +23,12 @@ pub enum Command {
     /// `show`: prints a document.
     Show(Show),
     /// `serve`: serves the store over HTTP. `listen` is the address to listen at, which has from 1 to 255 bytes.
-    /// The command ends after `requests` requests, which are from 1 to 1,000,000.
+    /// The command ends after `requests` requests, which are from 1 to 1,000,000. If `service`, it also serves the
+    /// service document and the listing of members.
     Serve {
         listen: Bytes,
         requests: u32,
+        service: bool,
     },
     /// `mirror`: mirrors the feed below a base address. If `fetch`, the documents come from the server, and else from
     /// the pile that is the input. If `report`, a report is printed, and else the mirror's certificate. The mirror's
@@ -49,6 +51,11 @@ pub enum Command {
     /// newest document, an `http` URL that the parser of the URL Standard leaves as it is.
     Foreign {
         from: Bytes,
+    },
+    /// `discover`: reads the service document of any server and prints its collections. `address` is that of the
+    /// document, an `http` URL that the parser of the URL Standard leaves as it is.
+    Discover {
+        address: Bytes,
     },
 }
 

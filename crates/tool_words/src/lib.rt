@@ -7,11 +7,12 @@
 //!     Ok(Command::Apply { window }) => ..,
 //!     Ok(Command::Show(shown)) => ..,
 //!     Ok(Command::Init { name, window, capacity }) => ..,
-//!     Ok(Command::Serve { listen, requests }) => ..,
+//!     Ok(Command::Serve { listen, requests, service }) => ..,
 //!     Ok(Command::Mirror { base, fetch, report, capacity }) => ..,
 //!     Ok(Command::Audit) => ..,
 //!     Ok(Command::Drill { seed, count }) => ..,
 //!     Ok(Command::Foreign { from }) => ..,
+//!     Ok(Command::Discover { address }) => ..,
 //!     Err(WordsFault::Usage) => println!(rt; "usage: ..")?,
 //!     Err(WordsFault::NoMemory) => ..,
 //! }
@@ -33,9 +34,11 @@
 mod base;
 mod capacity;
 mod command;
+mod discover;
 mod drill;
 mod fault;
 mod foreign;
+mod http_text;
 mod init;
 mod laws;
 mod line;

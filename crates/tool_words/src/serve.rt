@@ -1,4 +1,4 @@
-ghost use Rattle.std.specs.Prelude.{◌≡◌, ◌⊎◌, ℕ, List, codes, map, string_bytes, Ok, Err, IfOk};
+ghost use Rattle.std.specs.Prelude.{◌≡◌, ◌⊎◌, ℕ, List, Bool, codes, map, string_bytes, Ok, Err, IfOk};
 ghost use Rattle.tool_words.specs.Parse.{value_in};
 ghost use Rattle.tool_words.specs.Words.{IsListen, IsRequests, IsServe};
 ghost use Rattle.tool_words.specs.declared.command.Command.{Command as CommandValue};
@@ -14,6 +14,9 @@ use std::alloc::Global;
 /// The names of the options of `serve`.
 static SERVE_OPTIONS: [&str; 2] = ["listen", "requests"];
 
+/// The name of the flag of `serve`.
+static SERVE_FLAGS: [&str; 1] = ["service"];
+
 /// The most bytes of an address to listen at.
 const LISTEN_LIMIT: usize = 255;
 
@@ -22,15 +25,21 @@ const REQUEST_LIMIT: u64 = 1_000_000;
 
 /// Reads the words after `serve`.
 pub(crate) fn serve(alloc: Global, words: &[String]) -> Result<Command, WordsFault>
-    ensures found { IfOk result (λ command. (listen : List ℕ) × (requests : ℕ)
-        × (command ≡ Command.Serve listen requests) × IsServe (map string_bytes words.now) listen requests) }
-    ensures only { (listen : List ℕ) (requests : ℕ) → IsServe (map string_bytes words.now) listen requests
-        → (result ≡ Ok (Command.Serve listen requests)) ⊎ (result ≡ Err WordsFault.NoMemory) }
+    ensures found { IfOk result (λ command. (listen : List ℕ) × (requests : ℕ) × (service : Bool)
+        × (command ≡ Command.Serve listen requests service)
+        × IsServe (map string_bytes words.now) listen requests service) }
+    ensures only { (listen : List ℕ) (requests : ℕ) (service : Bool)
+        → IsServe (map string_bytes words.now) listen requests service
+        → (result ≡ Ok (Command.Serve listen requests service)) ⊎ (result ≡ Err WordsFault.NoMemory) }
 {
-    let matches = parsed(alloc, &SERVE_OPTIONS, &[], words)?;
+    let matches = parsed(alloc, &SERVE_OPTIONS, &SERVE_FLAGS, words)?;
     let listen = listen(alloc, &matches)?;
     let requests = requests(&matches)?;
-    Ok(Command::Serve { listen, requests })
+    Ok(Command::Serve {
+        listen,
+        requests,
+        service: matches.get_flag("service"),
+    })
 }
 
 /// The value of `--listen`. `Usage` if it is left out or too long.

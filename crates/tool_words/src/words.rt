@@ -6,6 +6,7 @@ ghost use Rattle.tool_words.specs.declared.command.Command.{Command as CommandVa
 ghost use Rattle.tool_words.specs.declared.command.Show.{Show as ShowValue};
 
 use crate::command::{Command, Show, WINDOW_LIMIT};
+use crate::discover::discover;
 use crate::drill::drill;
 use crate::fault::WordsFault;
 use crate::foreign::foreign;
@@ -47,6 +48,7 @@ pub fn read_words(alloc: Global, words: &[String]) -> Result<Command, WordsFault
         "audit" => audit(rest),
         "drill" => drill(alloc, rest),
         "foreign" => foreign(alloc, rest),
+        "discover" => discover(alloc, rest),
         _ => Err(WordsFault::Usage),
     }
 }

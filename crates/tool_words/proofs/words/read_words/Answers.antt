@@ -1,6 +1,7 @@
 use Rattle.std.proofs.Common.{◌∷◌, Global, map, string_bytes, sym, ap, ◌∙◌}
 use Rattle.tool_words.proofs.CommandLemmas.{init_only, apply_found, apply_only, show_found, show_only, audit_found}
-use Rattle.tool_words.proofs.CommandLemmas.{audit_only, drill_only, foreign_only, mirror_only, serve_only}
+use Rattle.tool_words.proofs.CommandLemmas.{audit_only, discover_only, drill_only, foreign_only, mirror_only}
+use Rattle.tool_words.proofs.CommandLemmas.{serve_only}
 use Rattle.tool_words.proofs.words.read_words.Goals as goal
 
 pub returns-in-init-clause-only : goal.returns-in-init-clause-only
@@ -79,3 +80,11 @@ returns-in-foreign-clause-only c =
     let spelt = ap (map (string_bytes {Z = Global})) c.in-Some.ensures.cases.0
     ∙ ap (λ word. word ∷ rest) (sym c.as_str.ensures.value ∙ c.in-foreign.is) in
     foreign_only (map (string_bytes {Z = Global}) c.args.words.now) rest c.foreign.result spelt c.foreign.ensures.only
+
+pub returns-in-discover-clause-only : goal.returns-in-discover-clause-only
+returns-in-discover-clause-only c =
+    let rest = map (string_bytes {Z = Global}) c.in-Some.rest.now in
+    let spelt = ap (map (string_bytes {Z = Global})) c.in-Some.ensures.cases.0
+    ∙ ap (λ word. word ∷ rest) (sym c.as_str.ensures.value ∙ c.in-discover.is) in
+    discover_only (map (string_bytes {Z = Global}) c.args.words.now) rest c.discover.result spelt
+    c.discover.ensures.only
