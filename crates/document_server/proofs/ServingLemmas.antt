@@ -194,7 +194,7 @@ module _ {answers : Answering} (start : ℕ) (before after : DiskState) (moments
     session = λ clock see. (
       opened,
       refl,
-      session-ends (Ends answers failed after.content [] store.history) opened moments going.served store coming
+      session-ends answers (Ends answers failed after.content [] store.history) opened moments going.served store coming
           (λ last now at. (
             ap (λ (s : StoreValue). s.history) (sym at.0),
             λ works. subst (λ (s : StoreValue). OpensTo after.content (stored_of s)) (sym at.0) (stands observable).opens,
@@ -417,7 +417,7 @@ module _ {answers : Answering} (start : ℕ) (before amid after : DiskState) (mo
           → IsSession answers (IsAt new later) opened moments (going.served ++ exchange ∷ [])
       session-on observable clock see =
           let on = (linked.stored observable).served (sees see) unspent in
-          session-more opened moments going.served store new coming later exchange on.turn
+          session-more answers opened moments going.served store new coming later exchange on.turn
           (going.session observable clock see)
           (subst (λ (now : ℕ). IsServed answers store now exchange on.turn new) (on.is_now clock) on.served) (on.clock clock)
 
@@ -496,7 +496,7 @@ module _ {answers : Answering} (start : ℕ) (before amid after : DiskState) (mo
                 let broken = on.broken_off (sees see) spent in (
                   opened,
                   refl,
-                  session-ends (Ends answers failed after.content (exchange ∷ []) history) opened moments going.served store
+                  session-ends answers (Ends answers failed after.content (exchange ∷ []) history) opened moments going.served store
                       coming
                       (λ last now at. (
                         fails,

@@ -22,35 +22,35 @@ abbrev pub IsAt : StoreValue → (ℕ → ℕ) → StoreValue → (ℕ → ℕ) 
 IsAt store coming last moments = (last ≡ store) × ((k : ℕ) → moments k ≡ coming k)
 
 -- one more exchange
-pub session-more : {answers : Answering} (first : StoreValue) (moments : ℕ → ℕ) (served : List Exchange) (store next : StoreValue)
+pub session-more : (answers : Answering) (first : StoreValue) (moments : ℕ → ℕ) (served : List Exchange) (store next : StoreValue)
     (coming later : ℕ → ℕ) (exchange : Exchange) (turn : Turn) → IsSession answers (IsAt store coming) first moments served
     → IsServed answers store (coming 0) exchange turn next → GoesOn coming later turn.moments
     → IsSession answers (IsAt next later) first moments (served ++ exchange ∷ [])
-session-more first moments [] store next coming later exchange turn (same, goes) is on = (
+session-more answers first moments [] store next coming later exchange turn (same, goes) is on = (
   turn,
   next,
   subst (λ (s : StoreValue). IsServed answers s (moments 0) exchange turn next) (sym same)
       (subst (λ (now : ℕ). IsServed answers store now exchange turn next) (sym (goes 0)) is),
   (refl, λ k. goes (turn.moments + k) ∙ sym (on k)),
 )
-session-more first moments (earlier ∷ served) store next coming later exchange turn (one, then, was, session) is on = (
+session-more answers first moments (earlier ∷ served) store next coming later exchange turn (one, then, was, session) is on = (
   one,
   then,
   was,
-  session-more then (λ k. moments (one.moments + k)) served store next coming later exchange turn session is on,
+  session-more answers then (λ k. moments (one.moments + k)) served store next coming later exchange turn session is on,
 )
 
 -- the session ends with the connections so far
-pub session-ends : {answers : Answering} (ends : StoreValue → (ℕ → ℕ) → Type 0) (first : StoreValue) (moments : ℕ → ℕ)
+pub session-ends : (answers : Answering) (ends : StoreValue → (ℕ → ℕ) → Type 0) (first : StoreValue) (moments : ℕ → ℕ)
     (served : List Exchange) (store : StoreValue) (coming : ℕ → ℕ)
     → ((last : StoreValue) (now : ℕ → ℕ) → IsAt store coming last now → ends last now)
     → IsSession answers (IsAt store coming) first moments served → IsSession answers ends first moments served
-session-ends ends first moments [] store coming to at = to first moments at
-session-ends ends first moments (exchange ∷ served) store coming to (turn, next, was, session) = (
+session-ends answers ends first moments [] store coming to at = to first moments at
+session-ends answers ends first moments (exchange ∷ served) store coming to (turn, next, was, session) = (
   turn,
   next,
   was,
-  session-ends ends next (λ k. moments (turn.moments + k)) served store coming to session,
+  session-ends answers ends next (λ k. moments (turn.moments + k)) served store coming to session,
 )
 
 -- Exchanges

@@ -264,7 +264,7 @@ fn reply_after_commit(rt: HostRuntime) {
         request: Some(POST),
         events: &events,
     };
-    let session = served(&rt, alloc, &mut disk, &mut door, NOW, 1);
+    let session = served(&rt, alloc, &mut disk, &mut door, NOW, 1, false);
     assert!(rt; session.end == End::Done && events.is_created.get());
     // The commit syncs after the last byte of the request, and the reply begins after the last sync.
     let (asked, synced) = (events.asked.get(), events.synced.get());

@@ -52,7 +52,7 @@ fn clock_of(rt: &impl Abort, alloc: Global, first: u64, second: u64) -> SetClock
     SetClock::new(moments)
 }
 
-/// Serves connections, with the clock at `first` and then at `NOW`.
+/// Serves connections, with the clock at `first` and then at `NOW`, and with the pages of the feed if `service`.
 pub fn served<D: Disk, L: Door>(
     rt: &impl Abort,
     alloc: Global,
@@ -60,12 +60,13 @@ pub fn served<D: Disk, L: Door>(
     door: &mut L,
     first: u64,
     requests: u32,
+    service: bool,
 ) -> ServeEnd
     requires some { 1 ≤ requests }
     requires few { requests ≤ 1_000_000 }
 {
     let mut clock = clock_of(rt, alloc, first, NOW);
-    let session = serve(alloc, disk, &mut clock, door, b"here", requests);
+    let session = serve(alloc, disk, &mut clock, door, b"here", requests, service);
     drop(clock);
     session
 }
@@ -94,13 +95,14 @@ fn follow<D: Disk>(
     door: &mut ScriptDoor,
     first: u64,
     requests: u32,
+    service: bool,
     rows: &[Row],
 )
     requires some { 1 ≤ requests }
     requires few { requests ≤ 1_000_000 }
 {
     let before = door.given().len();
-    let session = served(rt, alloc, disk, door, first, requests);
+    let session = served(rt, alloc, disk, door, first, requests, service);
     let given = door.given();
     assert!(rt;
         (
@@ -238,9 +240,115 @@ fn serves_one_connection_after_the_other(rt: HostRuntime) {
     let mut disk = store_disk(&rt, alloc, 4, CAPACITY, 0);
     let mut door = door_of(&rt, alloc, &ROWS, 0);
     // The first session leaves the other connections to the second.
-    follow(&rt, alloc, &mut disk, &mut door, NOW, 2, &ROWS[..2]);
-    follow(&rt, alloc, &mut disk, &mut door, NOW, 100, &ROWS[2..]);
+    follow(&rt, alloc, &mut disk, &mut door, NOW, 2, false, &ROWS[..2]);
+    follow(
+        &rt,
+        alloc,
+        &mut disk,
+        &mut door,
+        NOW,
+        100,
+        false,
+        &ROWS[2..],
+    );
     drop((disk, door));
+}
+
+/// Connections to a store without operations, in a session with the pages of the feed.
+static PAGES: [Row; 7] = [
+    (
+        (b"GET /members HTTP/1.1\r\n\r\n", 0),
+        (200, 0, true),
+        b"HTTP/1.1 200 OK\r\nContent-Type: text/plain;charset=utf-8\r\nContent-Length: 0\r\n",
+        b"\r\n\r\n",
+    ),
+    (
+        (
+            b"POST /feed HTTP/1.1\r\nContent-Length: 67\r\n\r\n<entry xmlns=\"http://www.w3.org/2005/Atom\"><title>a</title></entry>",
+            0,
+        ),
+        (201, 1, true),
+        b"HTTP/1.1 201 Created\r\n",
+        b"</entry>\n",
+    ),
+    (
+        (b"GET /members HTTP/1.1\r\n\r\n", 0),
+        (200, 1, true),
+        b"HTTP/1.1 200 OK\r\nContent-Type: text/plain;charset=utf-8\r\n",
+        b"\r\n\r\n1 http://feed.example/member/1\n",
+    ),
+    (
+        (b"GET /service HTTP/1.1\r\n\r\n", 0),
+        (200, 1, true),
+        b"HTTP/1.1 200 OK\r\nContent-Type: application/atomsvc+xml\r\n",
+        b"</service>\n",
+    ),
+    (
+        (
+            b"POST /service HTTP/1.1\r\nContent-Length: 67\r\n\r\n<entry xmlns=\"http://www.w3.org/2005/Atom\"><title>b</title></entry>",
+            0,
+        ),
+        (405, 1, true),
+        b"HTTP/1.1 405 Method Not Allowed\r\n",
+        b"Allow: GET\r\nConnection: close\r\n\r\nnot allowed\n",
+    ),
+    (
+        (b"GET /services HTTP/1.1\r\n\r\n", 0),
+        (404, 1, true),
+        b"HTTP/1.1 404 Not Found\r\n",
+        b"\r\n\r\nnot found\n",
+    ),
+    (
+        (b"DELETE /member/1 HTTP/1.1\r\n\r\n", 0),
+        (200, 2, true),
+        b"HTTP/1.1 200 OK\r\n",
+        b"\r\n\r\ndeleted\n",
+    ),
+];
+
+/// Requests of the pages, in a session without them.
+static NO_PAGES: [Row; 2] = [
+    (
+        (b"GET /service HTTP/1.1\r\n\r\n", 0),
+        (404, 2, true),
+        b"HTTP/1.1 404 Not Found\r\n",
+        b"\r\n\r\nnot found\n",
+    ),
+    (
+        (b"GET /members HTTP/1.1\r\n\r\n", 0),
+        (404, 2, true),
+        b"HTTP/1.1 404 Not Found\r\n",
+        b"\r\n\r\nnot found\n",
+    ),
+];
+
+#[test]
+fn serves_the_pages_of_the_feed_only_if_asked_to(rt: HostRuntime) {
+    let alloc = rt.alloc();
+    let mut disk = store_disk(&rt, alloc, 4, CAPACITY, 0);
+    let mut with_pages = door_of(&rt, alloc, &PAGES, 0);
+    let mut without = door_of(&rt, alloc, &NO_PAGES, 0);
+    follow(
+        &rt,
+        alloc,
+        &mut disk,
+        &mut with_pages,
+        NOW,
+        100,
+        true,
+        &PAGES,
+    );
+    follow(
+        &rt,
+        alloc,
+        &mut disk,
+        &mut without,
+        NOW,
+        100,
+        false,
+        &NO_PAGES,
+    );
+    drop((disk, with_pages, without));
 }
 
 /// Connections with the clock at 22:13:25 and then at 22:13:20.
@@ -270,7 +378,16 @@ fn serves_where_the_clock_goes_back(rt: HostRuntime) {
     let alloc = rt.alloc();
     let mut disk = store_disk(&rt, alloc, 4, CAPACITY, 0);
     let mut door = door_of(&rt, alloc, &BACK, 0);
-    follow(&rt, alloc, &mut disk, &mut door, NOW + 5_000, 2, &BACK);
+    follow(
+        &rt,
+        alloc,
+        &mut disk,
+        &mut door,
+        NOW + 5_000,
+        2,
+        false,
+        &BACK,
+    );
     drop((disk, door));
 }
 
@@ -281,7 +398,7 @@ fn end_of<D: Disk>(
     disk: &mut D,
     door: &mut ScriptDoor,
 ) -> (End, usize) {
-    let session = served(rt, alloc, disk, door, NOW, 100);
+    let session = served(rt, alloc, disk, door, NOW, 100, false);
     let end = (session.end, session.lines.len());
     drop(session);
     end
@@ -315,7 +432,16 @@ fn asks_the_door_for_no_more_than_it_serves(rt: HostRuntime) {
     let mut disk = store_disk(&rt, alloc, 4, CAPACITY, 0);
     // The call after the second connection would fail.
     let mut door = door_of(&rt, alloc, &BACK, 4);
-    follow(&rt, alloc, &mut disk, &mut door, NOW + 5_000, 2, &BACK);
+    follow(
+        &rt,
+        alloc,
+        &mut disk,
+        &mut door,
+        NOW + 5_000,
+        2,
+        false,
+        &BACK,
+    );
     drop((disk, door));
 }
 
@@ -397,7 +523,7 @@ fn post_failing(rt: &impl Abort, alloc: Global, failing: u64) -> Session {
     let mut disk = store_disk(rt, alloc, 4, CAPACITY, failing);
     let mut door = door_of(rt, alloc, &BACK[..1], 0);
     let made = disk.calls();
-    let session = served(rt, alloc, &mut disk, &mut door, NOW, 100);
+    let session = served(rt, alloc, &mut disk, &mut door, NOW, 100, false);
     let posted = Session {
         made,
         calls: disk.calls(),
@@ -463,7 +589,7 @@ struct Sealing {
 fn seal_failing(rt: &impl Abort, alloc: Global, failing: u64) -> Sealing {
     let mut disk = posted_disk(rt, alloc, 4, failing);
     let mut door = door_of(rt, alloc, &BACK[..1], 0);
-    let session = served(rt, alloc, &mut disk, &mut door, NOW, 100);
+    let session = served(rt, alloc, &mut disk, &mut door, NOW, 100, false);
     let sealing = Sealing {
         calls: disk.calls(),
         end: session.end,

@@ -10,11 +10,11 @@ use Rattle.document_server.proofs.session.reply_to.Goals as goal
 pub returns-in-Ok-clause-replies : goal.returns-in-Ok-clause-replies
 returns-in-Ok-clause-replies g c = λ observable.
     replies-answered (answers_of c.args.service) (g.D.Disk.state c.args.disk.now) (g.D.Disk.state c.answer_paged.new.disk)
-    (g.C.Clock.coming c.args.clock.now) (g.C.Clock.coming c.now.new.self) (g.K.Conn.state c.args.link.now)
+    (g.C.Clock.coming c.args.clock.now) (g.C.Clock.coming c.now-now.new.self) (g.K.Conn.state c.args.link.now)
     (g.K.Conn.state c.read_request.new.conn) g.C.Clock.observable g.K.Conn.observable c.args.store.now c.answer_paged.new.store
-    c.in-Ok.request c.now.result c.answer_paged.result _
+    c.in-Ok.request c.now-now.result c.answer_paged.result _
     (is_sized (g.D.Disk.state c.args.disk.now) c.args.store.now (c.requires.stands observable) c.requires.logs)
-    c.in-Ok.ensures.rules c.in-Ok.ensures.heard c.now.ensures.moment c.now.ensures.later
+    c.in-Ok.ensures.rules c.in-Ok.ensures.heard c.now-now.ensures.moment c.now-now.ensures.later
     (c.answer_paged.ensures.answered observable) (c.answer_paged.ensures.leaves observable) c.answer_paged.ensures.steps.spent
     c.answer_paged.ensures.only
 
