@@ -8,7 +8,7 @@ use Rattle.chain_links.specs.Address.{printed}
 use Rattle.chain_links.specs.Checked.{IsUrlText}
 use Rattle.chain_links.specs.declared.address.Address.TheVariants.{Feed}
 use Rattle.command_ends.specs.Answer.{Answer, Prints}
-use Rattle.command_ends.specs.Ends.{EndsAs, IsAlone, IsAnswered, IsDone, alone_line}
+use Rattle.command_ends.specs.Ends.{EndsAs, IsAnswered, IsDone}
 use Rattle.command_ends.specs.Status.{code_of}
 use Rattle.command_ends.proofs.AnsweredLemmas.{ends-refused}
 use Rattle.command_ends.specs.declared.printed.Printed.{Printed}
@@ -22,10 +22,9 @@ use Rattle.service_reader.specs.ServiceDocument.{IsServiceRefusedAt}
 use Rattle.service_reader.specs.declared.fault.ServiceRead.{ServiceRead}
 use Rattle.service_reader.specs.declared.fault.ServiceRead.TheVariants.{NotRead, NoMemory as OutOfMemory}
 use Rattle.service_reader.specs.declared.fault.ServiceWhy.{ServiceWhy}
-use Rattle.service_reader.specs.declared.values.Collection.{Collection}
 use Rattle.discover_command.specs.Answer.{DiscoverHasOneAnswer, IsAnswerTo, IsDiscoverAnswer}
 use Rattle.discover_command.specs.Ends.{AsksFor, fault_end, own_answer, read_fault}
-use Rattle.discover_command.specs.Lines.{collections_answer, refused_answer}
+use Rattle.discover_command.specs.Lines.{refused_answer}
 use Rattle.discover_command.specs.declared.fault.DiscoverFault.{DiscoverFault}
 use Rattle.discover_command.specs.declared.fault.DiscoverFault.TheVariants.{BadService, FetchFault, NoMemory}
 
