@@ -7,6 +7,7 @@ use Rattle.chain_links.specs.Address.{printed}
 use Rattle.chain_links.specs.declared.address.Address.TheVariants.{Feed}
 use Rattle.command_ends.specs.Answer.{Answer}
 use Rattle.command_ends.specs.Ends.{EndsAs, IsAnswered, IsDone}
+use Rattle.command_ends.specs.declared.printed.Printed.{Printed}
 use Rattle.command_ends.specs.Status.{code_of}
 use Rattle.command_ends.specs.declared.status.Status.TheVariants.{FetchFault}
 use Rattle.doc_source.specs.Fetch.{FetchState}
@@ -23,10 +24,9 @@ use Rattle.member_rules.specs.declared.operation.Op.{Op}
 use Rattle.canonical_feed.specs.Reading.{foreign_document}
 use Rattle.own_chain.specs.Laws.{OwnChainsAreRead}
 use Rattle.own_chain.specs.Served.{ServesChain}
-use Rattle.foreign_command.specs.Answer.{IsForeignAnswer, printed_answer}
+use Rattle.foreign_command.specs.Answer.{IsForeignAnswer}
 use Rattle.foreign_command.specs.Ends.{AsksInWalk, GoesWalk, IsOwnAnswer}
 use Rattle.foreign_command.specs.Lines.{foreign_answer}
-use Rattle.foreign_command.specs.declared.printed.Printed.{Printed}
 
 length_down : (f : ℕ → DocValue) (n : ℕ) → length (down_from f n) ≡ n
 length_down f zero = refl

@@ -8,7 +8,6 @@ use Rattle.foreign_mirror.specs.declared.walk.ChainEnd.{ChainEnd}
 use Rattle.foreign_mirror.specs.Walk.{WalksFrom}
 use Rattle.foreign_mirror.specs.Walk.Ending.{over}
 use Rattle.foreign_command.specs.Lines.{foreign_answer}
-use Rattle.foreign_command.specs.declared.printed.Printed.{Printed}
 
 -- the answer is that of the walk from this address on
 pub record IsForeignAnswer (answers : List ℕ → Option (List ℕ)) (from : List ℕ) (given : Answer) : Type 0 where
@@ -25,6 +24,3 @@ abbrev pub ForeignHasOneAnswer : Type 0
 ForeignHasOneAnswer =
     (answers : List ℕ → Option (List ℕ)) (from : List ℕ) (one other : Answer) → IsForeignAnswer answers from one
     → IsForeignAnswer answers from other → one ≡ other
-
-abbrev pub printed_answer : Printed → Answer
-printed_answer p = record { status = p.status; printed = p.text.items }

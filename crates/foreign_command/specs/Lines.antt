@@ -7,6 +7,7 @@ use Rattle.foreign_mirror.specs.declared.walk.ChainEnd.{ChainEnd}
 use Rattle.foreign_mirror.specs.declared.walk.ChainEnd.TheVariants.{Complete, Again, NotHttp, TooMany, Missing, NotRead}
 use Rattle.foreign_mirror.specs.declared.walk.ChainEnd.TheVariants.{OtherFeed}
 use Rattle.command_ends.specs.Answer.{Answer}
+use Rattle.command_ends.specs.Printed.{address_line}
 use Rattle.command_ends.specs.declared.status.Status.TheVariants.{Done, Incomplete}
 
 -- a live entry by its identifier, its `updated` and its title, which are escaped as in an attribute
@@ -18,10 +19,6 @@ entry_line e =
 -- the number of documents, and that of live entries
 abbrev pub complete_line : ℕ → ℕ → List ℕ
 complete_line docs live = codes "complete " ++ decimal docs ++ codes " " ++ decimal live ++ codes "\n"
-
--- words and an address
-abbrev pub address_line : List ℕ → List ℕ → List ℕ
-address_line words address = words ++ address ++ codes "\n"
 
 abbrev pub not_read_line : List ℕ → ℕ → List ℕ
 not_read_line address at = codes "not read " ++ address ++ codes " " ++ decimal at ++ codes "\n"

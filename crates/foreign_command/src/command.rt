@@ -5,13 +5,13 @@ ghost use Rattle.command_ends.specs.Ends.{CountsOutput, EndsAs, IsAlone, IsAnswe
 ghost use Rattle.command_ends.specs.Status.{code_of};
 ghost use Rattle.command_ends.specs.declared.status.Status.TheVariants as status;
 ghost use Rattle.foreign_mirror.specs.Walk.{IsStart};
-ghost use Rattle.foreign_command.specs.Answer.{IsForeignAnswer, printed_answer};
+ghost use Rattle.command_ends.specs.Printed.{printed_answer};
+ghost use Rattle.foreign_command.specs.Answer.{IsForeignAnswer};
 ghost use Rattle.foreign_command.specs.Ends.{EndsForeign, GoesWalk, MayEndForeign, status_of_fault};
 
 use crate::laws::foreign_has_one_answer;
 use crate::lines::printed_of;
-use crate::printed::{Printed, end_printed};
-use command_ends::{Fault, Status, print_fault};
+use command_ends::{Fault, Printed, Status, end_printed, print_fault};
 use doc_source::{Fetch, Sink, write_all};
 use foreign_mirror::{ForeignFault, foreign_walk};
 use own_chain::own_chains_are_read;

@@ -15,7 +15,6 @@
 mod command;
 mod laws;
 mod lines;
-mod printed;
 
 pub use command::foreign;
 pub use laws::foreign_has_one_answer;

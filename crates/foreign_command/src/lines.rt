@@ -2,13 +2,12 @@
 
 ghost use Rattle.std.specs.Prelude.{◌≡◌, ◌++◌, ℕ, List, IfOk, OnOk, codes, decimal, flat_map};
 ghost use Rattle.feed_reader.specs.declared.values.ForeignEntry.{ForeignEntry as ForeignEntryValue};
-ghost use Rattle.foreign_command.specs.Answer.{printed_answer};
+ghost use Rattle.command_ends.specs.Printed.{printed_answer};
 ghost use Rattle.atom_values.specs.Stamp as stamp;
-ghost use Rattle.foreign_command.specs.Lines.{address_line, complete_line, entry_line, foreign_answer, not_read_line};
+ghost use Rattle.foreign_command.specs.Lines.{complete_line, entry_line, foreign_answer, not_read_line};
 
-use crate::printed::Printed;
 use atom_values::{NoMemory, Stamp, escape_into};
-use command_ends::{Status, push_numbered};
+use command_ends::{Printed, Status, push_address, push_numbered};
 use feed_reader::ForeignEntry;
 use foreign_mirror::{ChainEnd, Foreign};
 use itoa::Buffer;
@@ -101,16 +100,6 @@ fn push_complete(out: &mut Vec<u8>, docs: u32, live: usize) -> Result<(), NoMemo
 {
     push_numbered(out, b"complete ", docs, b" ")?;
     push_count(out, live)
-}
-
-/// Adds words and an address.
-fn push_address(out: &mut Vec<u8>, words: &[u8], address: &[u8]) -> Result<(), NoMemory>
-    ensures { OnOk result (out.new.items ≡ out.old.items ++ address_line words.now address.now) }
-{
-    out.extend_from_slice(words)?;
-    out.extend_from_slice(address)?;
-    out.extend_from_slice(b"\n")?;
-    Ok(())
 }
 
 /// Adds the line of a document that is refused at an offset.

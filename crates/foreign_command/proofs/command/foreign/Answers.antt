@@ -1,8 +1,8 @@
 use Rattle.std.proofs.Common.{◌≡◌, ◌⊎◌, inl, inr, ⊎_elim, ℕ, ap, ◌∙◌, subst, sym}
 use Rattle.command_ends.specs.Answer.{Answer}
+use Rattle.command_ends.specs.Printed.{printed_answer}
 use Rattle.command_ends.specs.Status.{code_of}
 use Rattle.command_ends.proofs.AnsweredLemmas.{ends-printed}
-use Rattle.foreign_command.specs.Answer.{printed_answer}
 use Rattle.foreign_command.specs.Ends.{IsOwnAnswer}
 use Rattle.foreign_command.proofs.OwnAnswerLemmas.{asks_over, own_answer}
 use Rattle.foreign_command.proofs.command.foreign.Goals as goal
