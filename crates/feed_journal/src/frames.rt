@@ -85,6 +85,13 @@ impl Frames {
         self.calls
     }
 
+    /// Returns whether the frames are spent.
+    pub fn is_spent(&self) -> bool
+        ensures { result ≡ self.now.spent }
+    {
+        self.spent
+    }
+
     /// Returns the number of bytes up to the closed gate after the payloads, which is counted too.
     pub fn size(&self) -> u64
         requires { self.now.spent ≡ false }

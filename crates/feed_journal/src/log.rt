@@ -104,6 +104,13 @@ impl Log {
         self.frames.calls()
     }
 
+    /// Returns whether the log is spent.
+    pub fn is_spent(&self) -> bool
+        ensures { result ≡ self.now.spent }
+    {
+        self.frames.is_spent()
+    }
+
     /// Returns the number of payloads.
     pub fn len(&self) -> u32
         requires { self.now.spent ≡ false }

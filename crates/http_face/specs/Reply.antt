@@ -50,6 +50,11 @@ abbrev pub body_text : Body → List ℕ
 body_text (Made bytes) = bytes
 body_text (Fixed line) = line_text line
 
+-- a reply whose body is one of the fixed lines
+abbrev pub line_reply : ℕ → Line7 → Reply
+line_reply status line =
+    record { status = status; media = Plain; location = None; allow = None; body = Fixed line }
+
 -- a line of the head
 abbrev pub header : List ℕ → List ℕ → List ℕ
 header name value = name ++ (codes ": " ++ (value ++ codes "\r\n"))

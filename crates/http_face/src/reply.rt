@@ -1,5 +1,5 @@
 ghost use Rattle.std.specs.Prelude.{◌≡◌, option_map, codes};
-ghost use Rattle.http_face.specs.Reply.{media_text, allow_text, line_text, body_text, optional_header};
+ghost use Rattle.http_face.specs.Reply.{media_text, allow_text, line_reply, line_text, body_text, optional_header};
 
 use atom_values::{Bytes, Copies, NoMemory};
 use std::alloc::Global;
@@ -73,6 +73,21 @@ pub struct Reply {
     /// The methods that the target allows, for `Allow`.
     pub allow: Option<Allow>,
     pub body: Body,
+}
+
+impl Reply {
+    /// A reply whose body is one of the fixed lines.
+    pub fn line(status: u16, line: Line7) -> Reply
+        ensures { result ≡ line_reply status line }
+    {
+        Reply {
+            status,
+            media: Media::Plain,
+            location: None,
+            allow: None,
+            body: Body::Fixed(line),
+        }
+    }
 }
 
 impl Copies for Body {

@@ -88,3 +88,5 @@ pub mod RereadLemmas
 pub mod PlaceLemmas
 -- the crates above: the live entries in order of number
 pub mod InOrderLemmas
+-- serves `Mirror::document`, and the crates above: the documents held at their addresses
+pub mod DocumentLemmas

@@ -1,6 +1,6 @@
 -- The entries that a mirror reads back.
-use Rattle.std.proofs.Common.{◌≡◌, ◌≢◌, ◌≤◌, ◌+◌, ◌==◌, inl, inr, ℕ, List, Option, Some, None, Result, Ok, Err}
-use Rattle.std.proofs.Common.{false, true, length, map, refl, sym, ap, subst, ◌∙◌, arith}
+use Rattle.std.proofs.Common.{◌≡◌, ◌≤◌, ◌+◌, ◌==◌, ℕ, List, Option, Some, None, Result, Err}
+use Rattle.std.proofs.Common.{false, true, length, refl, sym, ap, subst, ◌∙◌, arith}
 use Rattle.std.specs.List.{find}
 use Rattle.std.specs.Option.{option_map}
 use Rattle.std.specs.Prelude.{All, IfSome, IsErrAnd, IsSome, drop, slice_get, take}
@@ -23,7 +23,7 @@ use Rattle.feed_journal.specs.declared.fault.LogFault.{LogFault}
 use Rattle.feed_journal.specs.declared.fault.LogFault.TheVariants.{DiskFault}
 use Rattle.member_rules.specs.Shows.{all_items, entry_of, live_of}
 use Rattle.mirror_walk.specs.declared.documents.EntryPlace.{EntryPlace}
-use Rattle.mirror_walk.specs.Held.{AreHeld, IsHeldDoc}
+use Rattle.mirror_walk.specs.Held.{IsHeldDoc}
 use Rattle.mirror_walk.specs.Holding.{KeptValue, best_of, chain_of, payloads_of}
 use Rattle.mirror_walk.specs.Index.{HasEntryAt}
 use Rattle.mirror_walk.specs.Listing.{live_at}

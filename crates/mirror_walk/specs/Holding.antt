@@ -94,6 +94,10 @@ document_at kept (Member _) = None
 abbrev pub digest_at : List KeptValue → Address → Option (List ℕ)
 digest_at kept address = option_map (λ (k : KeptValue). k.digest) (document_at kept address)
 
+-- its text
+abbrev pub text_at : List KeptValue → Address → Option (List ℕ)
+text_at kept address = option_map (λ (k : KeptValue). text k.document) (document_at kept address)
+
 -- the payloads of the mirror's area: the texts of the documents taken, in order
 abbrev pub payloads_of : List KeptValue → List (List ℕ)
 payloads_of kept = map (λ (k : KeptValue). text k.document) kept

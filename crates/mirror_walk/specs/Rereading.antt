@@ -1,11 +1,6 @@
 -- The reading back of a mirror's entries.
-use Rattle.std.specs.Prelude.{◌≡◌, ℕ, true, slice_get}
-use Rattle.atom_grammar.specs.Places.{HasPiece}
-use Rattle.atom_grammar.specs.declared.places.PiecePlace.{PiecePlace}
-use Rattle.atom_writer.specs.Pieces.{text}
-use Rattle.deleted_entries.specs.declared.item.Item.TheVariants.{Kept as KeptItem}
+use Rattle.std.specs.Prelude.{◌≡◌, true}
 use Rattle.feed_disk.specs.Disk.{DiskState}
-use Rattle.mirror_walk.specs.Holding.{KeptValue}
 use Rattle.mirror_walk.specs.Mirror.{MirrorValue, StandsFor}
 
 -- the mirror is as it was, but for the count of its log's calls

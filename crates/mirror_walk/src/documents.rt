@@ -6,8 +6,9 @@ ghost use Rattle.chain_links.specs.Address.{IsAddress};
 ghost use Rattle.chain_links.specs.declared.address.Address.{Address};
 ghost use Rattle.deleted_entries.specs.declared.item.Item.TheVariants.{Kept as KeptItem};
 ghost use Rattle.member_rules.specs.Chain.{place_of};
-ghost use Rattle.mirror_walk.specs.Index.{HasEntryAt};
-ghost use Rattle.mirror_walk.specs.Holding.{archive_at, best_of, digest_at, first_missing, name_of_best};
+ghost use Rattle.mirror_walk.specs.Index.{HasEntryAt, HasPlace};
+ghost use Rattle.mirror_walk.specs.Holding.{archive_at, best_of, digest_at, document_at, first_missing};
+ghost use Rattle.mirror_walk.specs.Holding.{name_of_best};
 
 use crate::base_map::BaseMap;
 use crate::kept::Kept;
@@ -133,6 +134,18 @@ impl Documents {
             Address::Member(_) => return None,
         };
         Some(kept.digest())
+    }
+
+    /// The index among the documents taken of the one held at an address: for `Feed` the best subscription
+    /// document. `None` if none is held there, and for a member. Takes no memory.
+    pub(crate) fn index(&self, address: Address) -> Option<usize>
+        ensures { HasPlace self.now.kept result (document_at self.now.kept address) }
+    {
+        match address {
+            Address::Feed => Some(self.best?.at),
+            Address::Archive(number) => self.archives.get(&number).copied(),
+            Address::Member(_) => None,
+        }
     }
 
     /// Where the piece of the entry at this place is in the text of its document.

@@ -25,7 +25,7 @@
 //! The texts of the documents taken are the payloads of the mirror area, in order. A crash at any moment of
 //! an offer leaves the documents held before, or those and the new one. In memory is an [`Outline`] of each
 //! document: what the checks need, and where each item's piece is in the text. [`Mirror::entry`] reads the
-//! piece of one entry back.
+//! piece of one entry back, and [`Mirror::document`] a whole document.
 //!
 //! [`Mirror::walk`] asks a source of documents for those that are missing, newest first, and for none twice.
 //!
@@ -39,6 +39,7 @@
 mod accept;
 mod answer;
 mod base_map;
+mod document;
 mod documents;
 mod entry;
 mod held;

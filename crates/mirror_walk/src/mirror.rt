@@ -9,7 +9,7 @@ ghost use Rattle.mirror_walk.specs.Holding.{payloads_of};
 ghost use Rattle.mirror_walk.specs.Loaded.{IsLoadedOf};
 ghost use Rattle.mirror_walk.specs.Laws.{ShowsServed};
 ghost use Rattle.mirror_walk.specs.Listing.{HasAddress, IsLastLive, IsNextLive, is_complete, outcome_of};
-ghost use Rattle.mirror_walk.specs.Mirror.{is_spent};
+ghost use Rattle.mirror_walk.specs.Mirror.{KeepsMirror, is_spent};
 ghost use Rattle.mirror_walk.specs.Offers.{AreServed, AreTakenOf, Offering};
 ghost use Rattle.mirror_walk.specs.Published.{HoldsServed, IsNextCounted};
 
@@ -97,6 +97,14 @@ impl Mirror {
         ensures { result ≡ digest_at self.now.kept address }
     {
         self.documents.digest(address)
+    }
+
+    /// Returns whether the mirror is spent. A spent mirror may be asked too.
+    pub fn is_spent(&self) -> bool
+        ensures spent { result ≡ is_spent self.now }
+        ensures rules { KeepsMirror self.now }
+    {
+        self.log.is_spent()
     }
 
     /// Returns the first missing document, as `wanted` does, or else the version and the number of live

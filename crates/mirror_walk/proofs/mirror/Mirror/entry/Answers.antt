@@ -1,5 +1,5 @@
 use Rattle.std.proofs.Common.{◌≡◌, ◌⊎◌, ◌+◌, ◌≤◌, inl, inr, ℕ, List, Result, Ok, Err, Option, Some, None, false, refl, ap, sym, subst, ◌∙◌, arith}
-use Rattle.std.specs.Prelude.{IfErr, IfOk, IfSome, IsSome, slice_get}
+use Rattle.std.specs.Prelude.{IfOk, IfSome, IsSome, slice_get}
 use Rattle.std.specs.Option.{option_copied, option_map}
 use Rattle.std.proofs.lemmas.Grind.{common_steps}
 use Rattle.atom_grammar.specs.Places.{HasPiece}
@@ -9,10 +9,9 @@ use Rattle.atom_writer.specs.declared.doc.FeedName.{FeedName}
 use Rattle.deleted_entries.specs.declared.item.Item.TheVariants.{Kept as KeptItem}
 use Rattle.feed_journal.specs.Log.{payload_lengths}
 use Rattle.feed_journal.specs.declared.fault.LogFault.{LogFault}
-use Rattle.feed_journal.specs.declared.fault.LogFault.TheVariants.{Changed, NoMemory}
+use Rattle.feed_journal.specs.declared.fault.LogFault.TheVariants.{NoMemory}
 use Rattle.mirror_walk.specs.Holding.{KeptValue, best_of, first_missing, name_of_best, payloads_of}
-use Rattle.mirror_walk.specs.Index.{HasEntryAt}
-use Rattle.mirror_walk.specs.Listing.{IsShownAt, live_at}
+use Rattle.mirror_walk.specs.Listing.{live_at}
 use Rattle.mirror_walk.specs.Mirror.{MirrorValue, StandsFor, is_spent}
 use Rattle.mirror_walk.proofs.OutcomeLemmas.{best-of_whole}
 use Rattle.mirror_walk.proofs.PublishedLemmas.{entry-counts}
