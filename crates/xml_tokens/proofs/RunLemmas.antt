@@ -3,7 +3,11 @@ use Rattle.std.proofs.Common.{◌≡◌, ◌≢◌, ℕ, ◌+◌, Bool, true, fa
 use Rattle.std.proofs.Common.{◌++◌}
 use Rattle.std.proofs.Common.{ltb-false, length, min, Option, Some, None, IsTrue, refl, sym, ap, subst, ◌∙◌, ⊎_elim}
 use Rattle.std.proofs.Common.{arith}
+use Rattle.std.proofs.Common.{get_or, lt-ltb, le-ltb, nat_lt}
+use Rattle.std.proofs.lemmas.Bool.{false_from_ne_true}
+use Rattle.std.proofs.lemmas.List.Sums.{position_or_len_is}
 use Rattle.std.specs.Prelude.{position, unwrap_or}
+use Rattle.memchr.specs.Find.{IsFirstByte}
 use Rattle.std.specs.List.{list_all, position_or_len}
 use Rattle.std.proofs.lemmas.Bool.{cases_Bool, cond-true, cond-false, and_parts, and_from, both_ways, not-true}
 use Rattle.std.proofs.lemmas.Bool.{not-false}
@@ -86,3 +90,20 @@ run_cut test p is text front rest at e split long =
     ap (λ o. min (unwrap_or o (length text)) (length text)) e
     ∙ unwrap_position p text (ltb (position_or_len p text) (length text)) refl in
     cut test p is front rest (subst L split (long ∙ place))
+
+-- the first place where a test passes, as a search finds it
+pub first_place : (p : ℕ → Bool) (xs : List ℕ) (r : Option ℕ) → IsFirstByte p xs r → r ≡ position p xs
+first_place p xs None none =
+    let is : position_or_len p xs ≡ length xs =
+    position_or_len_is p xs (length xs) 0 (omega arith)
+    (λ k low. false_from_ne_true (p (get_or xs k 0)) (none k (omega arith) low)) (λ past. absurd (omega arith)) in
+    let past : nat_lt (position_or_len p xs) (length xs) ≡ false =
+    le-ltb (position_or_len p xs) (length xs) (omega (arith, is)) in
+    ap (λ b. cond b (Some (position_or_len p xs)) None) (sym past)
+first_place p xs (Some k) found =
+    let is : position_or_len p xs ≡ k =
+    position_or_len_is p xs k 0 (omega (arith, found.0.high))
+    (λ i low. false_from_ne_true (p (get_or xs i 0)) (found.0.before i (omega arith) low)) (λ within. found.1) in
+    let within : nat_lt (position_or_len p xs) (length xs) ≡ true =
+    lt-ltb (position_or_len p xs) (length xs) (omega (arith, is, found.0.high)) in
+    ap (λ n. Some n) (sym is) ∙ ap (λ b. cond b (Some (position_or_len p xs)) None) (sym within)

@@ -1,12 +1,12 @@
 -- Names, white space, line ends and references of XML 1.0, over the bytes of a text. A text is XML text, so each byte
 -- from 128 on is part of a character from U+80 on.
-use Rattle.std.specs.Prelude.{◌≡◌, ◌≢◌, ◌⊎◌, ℕ, List, [], ◌∷◌, ◌++◌, length, Bool, true, false, ◌&&◌, ◌||◌, ◌==◌, not}
+use Rattle.std.specs.Prelude.{◌≡◌, ◌≢◌, ◌⊎◌, ℕ, ◌+◌, List, [], ◌∷◌, ◌++◌, length, Bool, true, false, ◌&&◌, ◌||◌, ◌==◌, not}
 use Rattle.std.specs.Prelude.{IsTrue, codes, chars}
 use Rattle.std.specs.Prelude.{if◌then◌else◌, nat_lt, nat_eq}
 use Rattle.std.specs.List.{list_all, starts_with}
 use Rattle.std.specs.Char.{is_ascii_digit, is_ascii_alphabetic}
 use Rattle.std.specs.Str.Parse.{IsNumeral, digits_value}
-use Rattle.atom_values.specs.Ascii.{lf, cr, quote, ampersand, minus, point, colon, less_than, greater_than}
+use Rattle.atom_values.specs.Ascii.{tab, lf, cr, quote, ampersand, minus, point, colon, less_than, greater_than}
 use Rattle.atom_values.specs.Ascii.{underscore}
 use Rattle.atom_values.specs.XmlText.{IsXmlText, is_xml_char}
 use Rattle.atom_values.specs.Space.{is_space}
@@ -18,6 +18,25 @@ apostrophe = 39
 -- the text begins with these bytes
 abbrev pub begins : List ℕ → List ℕ → Bool
 begins front text = starts_with nat_eq text front
+
+-- a control character that isn't an XML character
+abbrev pub is_control : ℕ → Bool
+is_control b = nat_lt b 0x20 && not ((b == tab) || (b == lf) || (b == cr))
+
+-- a byte with which a character may begin that isn't an XML character
+abbrev pub is_suspect : ℕ → Bool
+is_suspect b = is_control b || (b == 0xEF)
+
+-- a UTF-8 text that begins with a character that isn't an XML character: a control character, U+FFFE or U+FFFF
+abbrev pub is_refused : List ℕ → Bool
+is_refused [] = false
+is_refused (b ∷ bs) =
+    is_control b || begins (0xEF ∷ 0xBF ∷ 0xBE ∷ []) (b ∷ bs) || begins (0xEF ∷ 0xBF ∷ 0xBF ∷ []) (b ∷ bs)
+
+-- the length of the longest front of a UTF-8 text that has XML characters only
+abbrev pub allowed_length : List ℕ → ℕ
+allowed_length [] = 0
+allowed_length (b ∷ bs) = if is_refused (b ∷ bs) then 0 else 1 + allowed_length bs
 
 -- the bytes stand nowhere in the text
 abbrev pub lacks : List ℕ → List ℕ → Bool

@@ -1,12 +1,15 @@
 ghost use Rattle.std.specs.Prelude.{◌≡◌, ℕ, ◌≤◌, ◌++◌, ◌==◌, ◌||◌, not, position, length, min, IsTrue, MatchOption};
 ghost use Rattle.std.specs.Prelude.{MatchResult, Ok, Err};
+ghost use Rattle.atom_values.specs.Ascii.{ampersand, less_than};
 ghost use Rattle.atom_values.specs.Space.{is_space};
+ghost use Rattle.xml_tokens.specs.Reading.{close_bracket};
 ghost use Rattle.xml_tokens.specs.Characters.{begins, lacks, begins_name, continues_name};
 ghost use Rattle.xml_tokens.specs.Reading.{Reads, exactly, IsSpaceRead, whole_name, whole_qname, up_to_end};
 ghost use Rattle.xml_tokens.specs.Reading.{one_quote};
-ghost use Rattle.xml_tokens.specs.Reading.{equals_sign, IsCutBefore, IsFirstPlace, a_gap, is_plain, IsPlainRun};
+ghost use Rattle.xml_tokens.specs.Reading.{equals_sign, IsCutBefore, IsFirstPlace, a_gap, IsPlainRun};
 
 use atom_values::is_space;
+use memchr::{memchr, memchr2, memchr3};
 
 /// TokenWhy no token is read.
 #[derive(Clone, Copy)]
@@ -51,22 +54,21 @@ fn end_of_name(text: &[u8]) -> Option<usize>
 pub(crate) fn first(text: &[u8], byte: u8) -> Option<usize>
     ensures { result ≡ position (λ b. b == byte) text.now }
 {
-    text.iter().position(|next| *next == byte)
+    memchr(byte, text)
 }
 
 /// The index of the first byte that equals `one` or `other`.
 fn first_of(text: &[u8], one: u8, other: u8) -> Option<usize>
     ensures { result ≡ position (λ b. (b == one) || (b == other)) text.now }
 {
-    text.iter().position(|byte| *byte == one || *byte == other)
+    memchr2(one, other, text)
 }
 
 /// The index of the first byte that may end a run of characters of content: `<`, `&` or `]`.
 fn end_of_plain(text: &[u8]) -> Option<usize>
-    ensures { result ≡ position (λ b. not (is_plain b)) text.now }
+    ensures { result ≡ position (λ b. (b == less_than) || (b == ampersand) || (b == close_bracket)) text.now }
 {
-    text.iter()
-        .position(|byte| matches!(*byte, b'<' | b'&' | b']'))
+    memchr3(b'<', b'&', b']', text)
 }
 
 /// The index of the first place where `pattern` begins.

@@ -172,6 +172,10 @@ impl<'a> Scopes<'a> {
     {
         let mut found = outer_namespace(prefix);
         for level in &self.levels {
+            // Most elements declare nothing, and a look-up in an empty map costs more than this test.
+            if level.is_empty() {
+                continue;
+            }
             found = level.get(&prefix).copied().or(found);
         }
         found
