@@ -17,6 +17,7 @@ use Rattle.feed_life.specs.Life.{LifeValue}
 use Rattle.foreign_mirror.specs.Walk.Ending.{cut_short}
 use Rattle.tool_words.specs.declared.command.Command.{Command}
 use Rattle.tool_words.specs.declared.command.Command.TheVariants.{Init, Apply, Serve, Show, Mirror, Audit, Drill, Foreign}
+use Rattle.tool_words.specs.declared.command.Command.TheVariants.{Discover}
 use Rattle.tool_words.specs.declared.command.Show.TheVariants.{Document, Feed, Archive, Member, Pile}
 use Rattle.atom_writer.specs.declared.doc.FeedName.{FeedName}
 use Rattle.feed_commands.specs.Crash.{EndsApplying, IsStatusAfterLoad, MakesStoreAt}
@@ -38,12 +39,13 @@ text-ends r (Show Feed) once textual made applied = tt
 text-ends r (Show (Archive number)) once textual made applied = tt
 text-ends r (Show (Member number)) once textual made applied = tt
 text-ends r (Show Pile) once textual made applied = absurd once
-text-ends r (Serve listen requests) once textual made applied = absurd once
+text-ends r (Serve listen requests service) once textual made applied = absurd once
 text-ends r (Mirror base true report capacity) once textual made applied = absurd textual
 text-ends r (Mirror base false report capacity) once textual made applied = absurd textual
 text-ends r Audit once textual made applied = absurd textual
 text-ends r (Drill seed count) once textual made applied = absurd textual
 text-ends r (Foreign from) once textual made applied = absurd textual
+text-ends r (Discover address) once textual made applied = absurd textual
 
 -- a run whose command wasn't read for want of memory: each object but the output is as it was
 module _ (disk : DiskState) (moments : ℕ → ℕ) (door : DoorState) (stays_at : List ℕ → Type 0)
@@ -93,7 +95,7 @@ module _ (disk : DiskState) (moments : ℕ → ℕ) (door : DoorState) (stays_at
   unread-ends is_disk stays prints none is (Show (Member number)) = tt
   unread-ends is_disk stays prints none is (Show Pile) = λ sink done unsent.
       cut-at-once _ _ _ _ NoMemory _ is (prints sink)
-  unread-ends is_disk stays prints none is (Serve listen requests) = (search rules, stays listen)
+  unread-ends is_disk stays prints none is (Serve listen requests service) = (search rules, stays listen)
   unread-ends is_disk stays prints none is (Mirror base true report capacity) = search rules
   unread-ends is_disk stays prints none is (Mirror base false report capacity) = search rules
   unread-ends is_disk stays prints none is Audit = search rules
@@ -110,4 +112,9 @@ module _ (disk : DiskState) (moments : ℕ → ℕ) (door : DoorState) (stays_at
           failed = λ e. absurd (omega (arith, e, is));
         };
         own = λ head history serves same answered. absurd (answered-refusal NoMemory (subst IsAnswered is answered));
+      }
+  unread-ends is_disk stays prints none is (Discover address) = λ seen.
+      record {
+        asks = record { once = λ read. absurd (read is); most = inl refl };
+        own = λ name is_name url there answered. absurd (answered-refusal NoMemory (subst IsAnswered is answered));
       }

@@ -3,7 +3,7 @@ use Rattle.std.proofs.Common.{◌≡◌, ◌⊎◌, inl, inr, ⊎_elim, ℕ, Boo
 use Rattle.tool_words.specs.Words.{IsCommandOf}
 use Rattle.tool_words.specs.declared.command.Command.{Command}
 use Rattle.tool_words.specs.declared.fault.WordsFault.{WordsFault}
-use Rattle.tool_words.specs.declared.command.Command.TheVariants.{Foreign, Show, Mirror}
+use Rattle.tool_words.specs.declared.command.Command.TheVariants.{Discover, Foreign, Show, Mirror}
 use Rattle.tool_words.specs.declared.command.Show.{Show as Shown}
 use Rattle.tool_words.specs.declared.command.Show.TheVariants.{Pile}
 use Rattle.tool_words.specs.declared.fault.WordsFault.TheVariants.{NoMemory, Usage}
@@ -12,6 +12,8 @@ use Rattle.document_server.specs.declared.line.Line.{Line}
 use Rattle.feed_disk.specs.Disk.{DiskState}
 use Rattle.feed_life.specs.Life.{LifeValue}
 use Rattle.doc_source.specs.Fetch.{FetchState}
+use Rattle.chain_links.specs.Checked.{IsUrlText}
+use Rattle.discover_command.specs.Ends.{MayEndDiscover}
 use Rattle.foreign_command.specs.Ends.{MayEndForeign}
 use Rattle.foreign_mirror.specs.Walk.{IsStart}
 use Rattle.command_ends.specs.declared.fault.Fault.{Fault}
@@ -215,6 +217,9 @@ audit-other n may = (λ e. omega arith, λ e. omega arith, λ e. omega arith)
 pub foreign-other : (n : ℕ) → MayEndForeign n → (n ≡ 2 → ⊥) × (n ≡ 4 → ⊥) × (n ≡ 9 → ⊥)
 foreign-other n may = (λ e. omega arith, λ e. omega arith, λ e. omega arith)
 
+pub discover-other : (n : ℕ) → MayEndDiscover n → (n ≡ 2 → ⊥) × (n ≡ 4 → ⊥) × (n ≡ 9 → ⊥)
+discover-other n may = (λ e. omega arith, λ e. omega arith, λ e. omega arith)
+
 pub drill-other : (n : ℕ) → MayEndDrill n → (n ≡ 2 → ⊥) × (n ≡ 4 → ⊥) × (n ≡ 7 → ⊥) × (n ≡ 9 → ⊥)
 drill-other n may = (λ e. omega arith, λ e. omega arith, λ e. omega arith, λ e. omega arith)
 
@@ -274,6 +279,19 @@ foreign-status n (inr (inr (inl e))) = (ends.NoMemory, e)
 foreign-status n (inr (inr (inr (inl e)))) = (ends.FetchFault, e)
 foreign-status n (inr (inr (inr (inr e)))) = (ends.OutputFault, e)
 
+-- the status of `discover` is one of the program's
+pub discover-status : (n : ℕ) → MayEndDiscover n → IsStatus n
+discover-status n (inl e) = (ends.Done, e)
+discover-status n (inr (inl e)) = (ends.Incomplete, e)
+discover-status n (inr (inr (inl e))) = (ends.NoMemory, e)
+discover-status n (inr (inr (inr (inl e)))) = (ends.FetchFault, e)
+discover-status n (inr (inr (inr (inr (inl e))))) = (ends.OutputFault, e)
+discover-status n (inr (inr (inr (inr (inr e))))) = (ends.BadInput, e)
+
 -- the address of the words of `foreign` is one that a walk may begin at
 pub start-of : {words : List (List ℕ)} {from : List ℕ} → IsCommandOf words (Foreign from) → IsStart from
 start-of (rest, spelt, is) = record { is_url = is.is_from.is_url; http = is.is_from.http }
+
+-- the address of the words of `discover` is one that the parser of the URL Standard leaves as it is
+pub url-of : {words : List (List ℕ)} {address : List ℕ} → IsCommandOf words (Discover address) → IsUrlText address
+url-of (rest, spelt, is) = is.is_address.is_url

@@ -25,7 +25,7 @@ use Rattle.tool_words.specs.declared.command.Command.TheVariants.{Apply, Init, S
 abbrev pub AddsNothing : Command → Type 0
 AddsNothing (Init name window capacity) = ⊥
 AddsNothing (Apply None) = ⊥
-AddsNothing (Serve listen requests) = ⊥
+AddsNothing (Serve listen requests service) = ⊥
 AddsNothing _ = Unit {0}
 
 -- the words are those of a command that adds nothing to a store and makes none, or of no command

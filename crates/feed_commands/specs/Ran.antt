@@ -9,11 +9,13 @@ use Rattle.document_server.specs.Door.{DoorState}
 use Rattle.document_server.specs.declared.line.Line.{Line}
 use Rattle.feed_disk.specs.Disk.{DiskState}
 use Rattle.feed_life.specs.Life.{LifeValue}
+use Rattle.discover_command.specs.Ends.{EndsDiscover}
 use Rattle.foreign_command.specs.Ends.{EndsForeign}
 use Rattle.mirror_commands.specs.Audit.{EndsAuditing}
 use Rattle.mirror_commands.specs.Mirroring.{EndsFetching, EndsMirroring}
 use Rattle.tool_words.specs.declared.command.Command.{Command}
 use Rattle.tool_words.specs.declared.command.Command.TheVariants.{Init, Apply, Serve, Show, Mirror, Audit, Drill, Foreign}
+use Rattle.tool_words.specs.declared.command.Command.TheVariants.{Discover}
 use Rattle.tool_words.specs.declared.command.Show.TheVariants.{Pile}
 use Rattle.feed_commands.specs.Crash.{EndsApplying, IsStatusAfterLoad, MakesStoreAt}
 use Rattle.feed_commands.specs.Drill.{EndsDrilling}
@@ -55,6 +57,7 @@ pub record Ran : Type 1 where
 -- - `audit`: what the status says of the certificate and the documents.
 -- - `drill`: the life whose summary was printed.
 -- - `foreign`: the addresses asked, and the output over documents of one of this project's own feeds.
+-- - `discover`: the address asked, and the output over the service document of one of this project's own feeds.
 abbrev pub EndsOf : Command → Ran → Type 0
 EndsOf (Init name window capacity) r =
     r.sees_disk → MakesStoreAt r.disk r.left name window capacity r.sees_clock (r.moments 0)
@@ -66,8 +69,8 @@ EndsOf (Apply None) r =
 EndsOf (Show Pile) r =
     r.sees_output → r.ended ≢ code_of status.Done → r.ended ≢ code_of status.OutputFault
     → EndsCut r.disk.content r.sees_disk r.output r.taken r.ended
-EndsOf (Serve listen requests) r =
-    EndsServing requests r.disk r.left r.moments r.door r.shut r.sees_disk r.sees_clock r.sees_door r.sees_output
+EndsOf (Serve listen requests service) r =
+    EndsServing service requests r.disk r.left r.moments r.door r.shut r.sees_disk r.sees_clock r.sees_door r.sees_output
     r.output r.taken r.lines r.ended × r.stays_at listen
 EndsOf (Mirror base false report capacity) r =
     r.sees_disk → r.sees_input → EndsMirroring report capacity base r.disk r.left r.input r.rest r.sees_output r.output
@@ -78,4 +81,6 @@ EndsOf (Mirror base true report capacity) r =
 EndsOf Audit r = r.sees_input → EndsAuditing r.input.left r.ended
 EndsOf (Drill seed count) r = EndsDrilling seed count r.life r.ended
 EndsOf (Foreign from) r = r.sees_fetch → EndsForeign from r.fetch r.fetched r.sees_output r.output r.taken r.ended
+EndsOf (Discover address) r =
+    r.sees_fetch → EndsDiscover address r.fetch r.fetched r.sees_output r.output r.taken r.ended
 EndsOf _ r = Unit {0}

@@ -1,6 +1,7 @@
 -- The answer of each command, and how the program ends.
 use Rattle.std.specs.Prelude.{◌≡◌, ◌⊎◌, ℕ, ◌+◌, ◌≤◌, List, length, Option, Some, None, [], Bool, true, false}
 use Rattle.atom_values.specs.Counts.{CountsFault, HasRisen}
+use Rattle.chain_links.specs.Checked.{IsUrlText}
 use Rattle.document_server.specs.Door.{DoorState}
 use Rattle.document_server.specs.declared.line.Line.{Line}
 use Rattle.feed_disk.specs.Disk.{DiskState}
@@ -18,6 +19,7 @@ use Rattle.feed_commands.specs.Apply.{answer, history_step, test_head}
 use Rattle.mirror_commands.specs.Audit.{IsAuditUnrefused, IsAudited, audit_limit}
 use Rattle.feed_commands.specs.Drill.{drill_answer}
 use Rattle.feed_life.specs.Life.{LifeValue}
+use Rattle.discover_command.specs.Answer.{IsDiscoverAnswer}
 use Rattle.foreign_command.specs.Answer.{IsForeignAnswer}
 use Rattle.foreign_mirror.specs.Walk.{IsStart}
 use Rattle.mirror_commands.specs.FetchEnds.{IsWalkAnswer, IsWalkEnd}
@@ -33,6 +35,7 @@ use Rattle.member_rules.specs.Head.{window_limit, capacity_floor, capacity_limit
 use Rattle.tool_words.specs.Words.{IsCommandOf, request_limit}
 use Rattle.tool_words.specs.declared.command.Command.{Command}
 use Rattle.tool_words.specs.declared.command.Command.TheVariants.{Init, Apply, Serve, Show, Mirror, Audit, Drill, Foreign}
+use Rattle.tool_words.specs.declared.command.Command.TheVariants.{Discover}
 use Rattle.tool_words.specs.declared.command.Show.TheVariants.{Document, Feed, Archive, Member, Pile}
 
 -- the ranges of a command's values
@@ -41,8 +44,9 @@ HasRange (Init name window capacity) =
     ((1 ≤ window) × (window ≤ window_limit)) × ((capacity_floor ≤ capacity) × (capacity ≤ capacity_limit))
     × (length name.title ≤ title_limit) × (length name.author ≤ title_limit)
 HasRange (Apply (Some window)) = (1 ≤ window) × (window ≤ window_limit)
-HasRange (Serve listen requests) = (1 ≤ requests) × (requests ≤ request_limit)
+HasRange (Serve listen requests service) = (1 ≤ requests) × (requests ≤ request_limit)
 HasRange (Foreign from) = IsStart from
+HasRange (Discover address) = IsUrlText address
 HasRange _ = Unit {0}
 
 -- The objects that each command depends on
@@ -75,40 +79,43 @@ UsesDisk (Show Document) = ⊥
 UsesDisk Audit = ⊥
 UsesDisk (Drill seed count) = ⊥
 UsesDisk (Foreign from) = ⊥
+UsesDisk (Discover address) = ⊥
 UsesDisk _ = Unit {0}
 
 -- whether the command uses the clock
 abbrev pub UsesClock : Command → Type 0
 UsesClock (Init name window capacity) = Unit {0}
 UsesClock (Apply window) = Unit {0}
-UsesClock (Serve listen requests) = Unit {0}
+UsesClock (Serve listen requests service) = Unit {0}
 UsesClock _ = ⊥
 
 -- whether the command asks the source of documents
 abbrev pub Fetches : Command → Type 0
 Fetches (Mirror base true report capacity) = Unit {0}
 Fetches (Foreign from) = Unit {0}
+Fetches (Discover address) = Unit {0}
 Fetches _ = ⊥
 
 -- whether the command has an answer that disk, clock, input and source determine: each but `serve`, which depends on
 -- the door
 abbrev pub IsAnswering : Command → Type 0
-IsAnswering (Serve listen requests) = ⊥
+IsAnswering (Serve listen requests service) = ⊥
 IsAnswering _ = Unit {0}
 
 -- whether all that the command prints is made before the first byte is printed: each but `serve` and `show pile`
 abbrev pub IsAtOnce : Command → Type 0
-IsAtOnce (Serve listen requests) = ⊥
+IsAtOnce (Serve listen requests service) = ⊥
 IsAtOnce (Show Pile) = ⊥
 IsAtOnce _ = Unit {0}
 
 -- whether the command has one defined end, with the status 0, and returns nothing but what it prints: each but
--- `mirror`, `audit`, `drill` and `foreign`
+-- `mirror`, `audit`, `drill`, `foreign` and `discover`
 abbrev pub IsTextual : Command → Type 0
 IsTextual (Mirror base fetch report capacity) = ⊥
 IsTextual Audit = ⊥
 IsTextual (Drill seed count) = ⊥
 IsTextual (Foreign from) = ⊥
+IsTextual (Discover address) = ⊥
 IsTextual _ = Unit {0}
 
 -- the words are those of a command that prints at once, or of none
@@ -117,7 +124,7 @@ PrintsAtOnce words = (command : Command) → IsCommandOf words command → IsAtO
 
 -- the words are those of another command than `serve`, or of none
 abbrev pub ServesNot : List (List ℕ) → Type 0
-ServesNot words = (listen : List ℕ) (requests : ℕ) → ¬ IsCommandOf words (Serve listen requests)
+ServesNot words = (listen : List ℕ) (requests : ℕ) (service : Bool) → ¬ IsCommandOf words (Serve listen requests service)
 
 -- the words are those of another command than `mirror`, or of none
 abbrev pub MirrorsNot : List (List ℕ) → Type 0
@@ -229,7 +236,8 @@ IsAnswer (Mirror base true report capacity) outside given =
 IsAnswer Audit outside given = IsAudited outside.input given
 IsAnswer (Drill seed count) outside given = given ≡ drill_answer seed count
 IsAnswer (Foreign from) outside given = IsForeignAnswer outside.answers from given
-IsAnswer (Serve listen requests) outside given = ⊥
+IsAnswer (Discover address) outside given = IsDiscoverAnswer outside.answers address given
+IsAnswer (Serve listen requests service) outside given = ⊥
 IsAnswer command outside given = IsOfStore command outside given ⊎ IsBadStore outside.content given
 
 -- The answer of a command on a disk whose content opens to a store or loads to a mirror, and the answer of the other
@@ -245,7 +253,8 @@ IsDueAnswer (Mirror base true report capacity) outside given =
 IsDueAnswer Audit outside given = IsAudited outside.input given
 IsDueAnswer (Drill seed count) outside given = given ≡ drill_answer seed count
 IsDueAnswer (Foreign from) outside given = IsForeignAnswer outside.answers from given
-IsDueAnswer (Serve listen requests) outside given = ⊥
+IsDueAnswer (Discover address) outside given = IsDiscoverAnswer outside.answers address given
+IsDueAnswer (Serve listen requests service) outside given = ⊥
 IsDueAnswer command outside given = IsOfStore command outside given
 
 -- the command's answer, which is the due one if there is one

@@ -1,9 +1,10 @@
 -- `serve`: the lines that are printed after a session, and how the program ends.
 use Rattle.std.specs.Prelude.{◌≡◌, ◌⊎◌, ℕ, ◌≤◌, List, [], ◌++◌, length, flat_map, codes, decimal, Option, Some, None}
-use Rattle.std.specs.Prelude.{Result, Ok, Err}
+use Rattle.std.specs.Prelude.{Result, Ok, Err, Bool}
 use Rattle.atom_values.specs.Counts.{HasRisen}
 use Rattle.atom_values.specs.declared.memory.Failed.{Failed}
 use Rattle.document_server.specs.Door.{DoorState}
+use Rattle.document_server.specs.Served.{answers_of}
 use Rattle.document_server.specs.Serving.{IsEndOf, Serves}
 use Rattle.document_server.specs.declared.line.Line.{Line}
 use Rattle.document_server.specs.declared.session.End.{End}
@@ -81,9 +82,10 @@ pub record IsServedWhole (before after : DiskState) (door rest : DoorState) (out
   pub ends : ¬ HasRisen before.faults after.faults → ¬ HasRisen door.faults rest.faults → ¬ HasRisen output.faults taken.faults
       → (ended ≡ code_of ends.Done) ⊎ (ended ≡ code_of ends.NoMemory)
 
--- How the program ends after a session of at most `requests` connections: by the end of the session, or by a failure
--- of the output after a session that came to its defined end.
-pub record EndsServing (requests : ℕ) (before after : DiskState) (moments : ℕ → ℕ) (door rest : DoorState)
+-- How the program ends after a session of at most `requests` connections, which serves the service document and the
+-- listing if `service`: by the end of the session, or by a failure of the output after a session that came to its
+-- defined end.
+pub record EndsServing (service : Bool) (requests : ℕ) (before after : DiskState) (moments : ℕ → ℕ) (door rest : DoorState)
     (disk_observable clock_observable door_observable output_observable : Type 0) (output taken : SinkState)
     (lines : List Line) (ended : ℕ) : Type 0 where
   pub end : End
@@ -93,7 +95,7 @@ pub record EndsServing (requests : ℕ) (before after : DiskState) (moments : �
   pub prints : output_observable → Prints output taken (session_text lines (end_fault end))
   pub most : length lines ≤ requests
   pub serves : IsOpened end
-      → Serves before after moments door rest disk_observable clock_observable door_observable lines
+      → Serves (answers_of service) before after moments door rest disk_observable clock_observable door_observable lines
       (end ≡ session.DiskFault)
   pub ends : IsEndOf requests door_observable rest lines end
   pub unopened : ¬ IsOpened end → ServesNothing before after door rest disk_observable lines

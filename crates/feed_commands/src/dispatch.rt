@@ -33,6 +33,7 @@ use crate::commands::show::show;
 use crate::commands::store;
 use atom_values::{Failed, Many};
 use command_ends::{Fault, Status, print_fault};
+use discover_command::discover;
 use doc_source::{Fetch, Sink, Source, write_all};
 use document_server::{Clock, Door, Line, MAX_CONNECTIONS};
 use feed_disk::Disk;
@@ -76,7 +77,7 @@ impl Ended {
 /// - `show` reads the input as one document and prints its summary. `show feed`, `show archive J` and `show member N`
 ///   print a document of the store, and `show pile` the subscription document and all archives as a pile.
 /// - `serve` serves the feed of the store at an address, one connection after the other, and then prints a line for
-///   each.
+///   each. With `--service` it also serves the service document and the listing of members.
 /// - `mirror` mirrors the feed below a base address into the mirror's area of the disk, and prints a certificate of
 ///   what it holds, or the address of the first missing document. With `--report` it prints a report instead, which has
 ///   a line for each refused document and each live entry. The documents come from the pile that is the input, or from
@@ -87,6 +88,7 @@ impl Ended {
 ///   summary of their life.
 /// - `foreign` walks the archived feed of any server and prints its live entries, or the line of the address at which its
 ///   chain breaks off.
+/// - `discover` reads the service document of any server and prints its collections, each with whether it takes entries.
 ///
 /// At any other end the line of that end is printed. A failure to print that line changes no status.
 pub fn run<D: Disk, C: Clock, L: Door, F: Fetch, I: Source, O: Sink>(
@@ -143,8 +145,8 @@ pub fn run<D: Disk, C: Clock, L: Door, F: Fetch, I: Source, O: Sink>(
 
     // What is said of the command beside its answer. `init` and `apply`: what a crash leaves. `show pile`: the documents
     // that were printed before a fault. `serve`: the session. `mirror`: what a crash leaves of its area, and its output
-    // over documents that one feed served. `audit`: the meaning of its status. `drill`: its life. `foreign`: the
-    // addresses asked, and its output over one of this project's own feeds.
+    // over documents that one feed served. `audit`: the meaning of its status. `drill`: its life. `foreign` and
+    // `discover`: the addresses asked, and the output over one of this project's own feeds.
     ensures ends { (command : CommandValue) → IsCommandOf (map string_bytes words.now) command → EndsOf command record {
       disk = D.state disk.old;
       left = D.state disk.new;
@@ -187,9 +189,20 @@ pub fn run<D: Disk, C: Clock, L: Door, F: Fetch, I: Source, O: Sink>(
         }
     };
     match command {
-        Command::Serve { listen, requests } => {
-            serve(alloc, listen.slice(), requests, disk, clock, door, output)
-        }
+        Command::Serve {
+            listen,
+            requests,
+            service,
+        } => serve(
+            alloc,
+            listen.slice(),
+            requests,
+            service,
+            disk,
+            clock,
+            door,
+            output,
+        ),
         Command::Show(Show::Pile) => Ended::with_status(alloc, show_pile(alloc, disk, output)),
         Command::Mirror {
             base,
@@ -214,6 +227,9 @@ pub fn run<D: Disk, C: Clock, L: Door, F: Fetch, I: Source, O: Sink>(
         Command::Foreign { from } => {
             Ended::with_status(alloc, foreign(alloc, from.slice(), fetch, output))
         }
+        Command::Discover { address } => {
+            Ended::with_status(alloc, discover(alloc, address.slice(), fetch, output))
+        }
         command => match answer(alloc, command, disk, clock, input) {
             Ok(text) => match write_all(output, text.as_slice()) {
                 Ok(()) => Ended::with_status(alloc, Status::Done),
@@ -225,10 +241,11 @@ pub fn run<D: Disk, C: Clock, L: Door, F: Fetch, I: Source, O: Sink>(
 }
 
 /// The line for words that name no command. Its names are those of the finished program.
-const USAGE: &[u8] = b"usage: feed_tool init, apply, show, serve, mirror, audit, drill, foreign\n";
+const USAGE: &[u8] =
+    b"usage: feed_tool init, apply, show, serve, mirror, audit, drill, foreign, discover\n";
 
-/// Returns what the command prints at its defined end. `serve`, `show pile`, `mirror`, `audit`, `drill` and
-/// `foreign` print by themselves.
+/// Returns what the command prints at its defined end. `serve`, `show pile`, `mirror`, `audit`, `drill`, `foreign` and
+/// `discover` print by themselves.
 fn answer<D: Disk, C: Clock, I: Source>(
     alloc: Global,
     command: Command,
@@ -293,6 +310,7 @@ fn answer<D: Disk, C: Clock, I: Source>(
         | Command::Mirror { .. }
         | Command::Audit
         | Command::Drill { .. }
-        | Command::Foreign { .. } => unreachable!(),
+        | Command::Foreign { .. }
+        | Command::Discover { .. } => unreachable!(),
     }
 }

@@ -1,5 +1,6 @@
 ghost use Rattle.feed_commands.specs.Run.{OneAnswer};
 
+use discover_command::discover_has_one_answer;
 use feed_recovery::stores_open_in_one_way;
 use foreign_command::foreign_has_one_answer;
 
@@ -10,4 +11,5 @@ pub fn commands_have_one_answer()
     // Their contracts are laws that the proof uses.
     stores_open_in_one_way();
     foreign_has_one_answer();
+    discover_has_one_answer();
 }

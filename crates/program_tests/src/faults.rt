@@ -12,7 +12,8 @@ use std::process::Abort;
 
 const FAULT: &[u8] = b"input fault\n";
 
-const USAGE: &[u8] = b"usage: feed_tool init, apply, show, serve, mirror, audit, drill, foreign\n";
+const USAGE: &[u8] =
+    b"usage: feed_tool init, apply, show, serve, mirror, audit, drill, foreign, discover\n";
 
 /// Words that name no command.
 static NO_COMMANDS: [&[&str]; 16] = [

@@ -246,7 +246,7 @@ fn text_of(rt: &impl Abort, alloc: Global, date: &str, rest: &str) -> Vec<u8> {
 }
 
 /// The offer of a text at an address.
-fn offer_of(rt: &impl Abort, alloc: Global, address: &[u8], text: Vec<u8>) -> Offer
+pub fn offer_of(rt: &impl Abort, alloc: Global, address: &[u8], text: Vec<u8>) -> Offer
     ensures { length result.bytes ≤ offer_limit }
 {
     assert!(rt; text.len() <= 67_108_864);

@@ -15,6 +15,8 @@ mod certificates;
 #[cfg(test)]
 mod covered;
 #[cfg(test)]
+mod discover;
+#[cfg(test)]
 mod documents;
 #[cfg(test)]
 mod drills;

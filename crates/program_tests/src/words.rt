@@ -195,7 +195,20 @@ static INIT: [(&str, &str); 44] = [
 ];
 
 /// Words of `serve` and words like them, in the same form.
-static SERVE: [(&str, &str); 51] = [
+static SERVE: [(&str, &str); 58] = [
+    (
+        "serve --listen a --requests 5 --service",
+        "serve a 5 service",
+    ),
+    (
+        "serve --service --requests=5 --listen a",
+        "serve a 5 service",
+    ),
+    ("serve --listen a --requests 5 --service --service", "usage"),
+    ("serve --listen a --requests 5 --service=yes", "usage"),
+    ("serve --listen a --requests 5 --service yes", "usage"),
+    ("serve --listen --service --requests 5", "usage"),
+    ("serve --service", "usage"),
     (
         "serve --listen 127.0.0.1:80 --requests 5",
         "serve 127.0.0.1:80 5",
@@ -392,6 +405,43 @@ static FOREIGN: [(&str, &str); 32] = [
     ("Foreign --from http://a.example/", "usage"),
 ];
 
+/// Words of `discover` and words like them, in the same form.
+static DISCOVER: [(&str, &str); 24] = [
+    (
+        "discover http://a.example/service",
+        "discover http://a.example/service",
+    ),
+    (
+        "discover http://127.0.0.1:8080/",
+        "discover http://127.0.0.1:8080/",
+    ),
+    (
+        "discover http://a.example/%C3%A4?q=1#f",
+        "discover http://a.example/%C3%A4?q=1#f",
+    ),
+    ("discover http://a.example", "usage"),
+    ("discover http://a.example:80/", "usage"),
+    ("discover http://A.example/", "usage"),
+    ("discover HTTP://a.example/", "usage"),
+    ("discover http://a.example/a/../b", "usage"),
+    ("discover http://a.example/a_b", "usage"),
+    ("discover https://a.example/", "usage"),
+    ("discover http:", "usage"),
+    ("discover a.example/service", "usage"),
+    ("discover", "usage"),
+    ("discover ", "usage"),
+    ("discover -", "usage"),
+    ("discover --", "usage"),
+    ("discover -- http://a.example/", "usage"),
+    ("discover http://a.example/ --", "usage"),
+    ("discover http://a.example/ http://a.example/", "usage"),
+    ("discover http://a.example/ ", "usage"),
+    ("discover --address http://a.example/", "usage"),
+    ("discover --address=http://a.example/", "usage"),
+    ("discover http://a.example/ --fetch", "usage"),
+    ("Discover http://a.example/", "usage"),
+];
+
 /// Each row has words as above, a letter, how many times it replaces each `%`, and whether the words are read.
 static LENGTHS: [(&str, &str, usize, bool); 9] = [
     ("init *base *uuid --title % --author=%", "x", 1_024, true),
@@ -541,10 +591,11 @@ fn printed(rt: &impl Abort, alloc: Global, command: &Command) -> String {
             window: Some(window),
         } => numbered(rt, alloc, "apply", u64::from(*window)),
         Command::Show(show) => shown(rt, alloc, *show),
-        Command::Serve { listen, requests } => {
-            let words = titled(rt, alloc, "serve", listen.slice());
-            numbered(rt, alloc, words.as_str(), u64::from(*requests))
-        }
+        Command::Serve {
+            listen,
+            requests,
+            service,
+        } => served(rt, alloc, listen.slice(), *requests, *service),
         Command::Mirror {
             base,
             fetch,
@@ -557,12 +608,20 @@ fn printed(rt: &impl Abort, alloc: Global, command: &Command) -> String {
             numbered(rt, alloc, words.as_str(), u64::from(*count))
         }
         Command::Foreign { from } => titled(rt, alloc, "foreign", from.slice()),
+        Command::Discover { address } => titled(rt, alloc, "discover", address.slice()),
         Command::Init {
             name,
             window,
             capacity,
         } => named(rt, alloc, name, *window, *capacity),
     }
+}
+
+/// Returns what words of `serve` are read as: the address, the number of requests, and the flag if it is set.
+fn served(rt: &impl Abort, alloc: Global, listen: &[u8], requests: u32, service: bool) -> String {
+    let listen = utf8(rt, listen);
+    let service = if service { " service" } else { "" };
+    format!(in alloc; "serve {listen} {requests}{service}").expect(rt, "memory")
 }
 
 /// Returns what words of `mirror` are read as: the base address without `http://feed.example`, the flags that are set,
@@ -663,6 +722,11 @@ fn reads_words_of_mirror(rt: HostRuntime) {
 #[test]
 fn reads_words_of_foreign(rt: HostRuntime) {
     reads_rows(&rt, rt.alloc(), &FOREIGN);
+}
+
+#[test]
+fn reads_words_of_discover(rt: HostRuntime) {
+    reads_rows(&rt, rt.alloc(), &DISCOVER);
 }
 
 /// Returns what a line is read as.

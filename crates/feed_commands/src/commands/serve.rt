@@ -62,12 +62,14 @@ impl SessionFault {
     }
 }
 
-/// Serves the feed at the address `listen`, at most `requests` connections, and then prints a line for each. If the
-/// session ended by a fault, the fault's line comes after them.
+/// Serves the feed at the address `listen`, at most `requests` connections, and then prints a line for each. If
+/// `service`, it also serves the service document and the listing of members. If the session ended by a fault, the
+/// fault's line comes after the others.
 pub fn serve<D: Disk, C: Clock, L: Door, O: Sink>(
     alloc: Global,
     listen: &[u8],
     requests: u32,
+    service: bool,
     disk: &mut D,
     clock: &mut C,
     door: &mut L,
@@ -75,7 +77,7 @@ pub fn serve<D: Disk, C: Clock, L: Door, O: Sink>(
 ) -> Ended
     requires some { 1 ≤ requests }
     requires few { requests ≤ connection_limit }
-    ensures serves { EndsServing requests (D.state disk.old) (D.state disk.new) (C.coming clock.old)
+    ensures serves { EndsServing service requests (D.state disk.old) (D.state disk.new) (C.coming clock.old)
         (L.state door.old) (L.state door.new) D.observable C.observable L.observable O.observable
         (O.state output.old) (O.state output.new) result.lines.items result.status }
     ensures address { L.only_at door.old listen.now → L.only_at door.new listen.now }
@@ -90,7 +92,7 @@ pub fn serve<D: Disk, C: Clock, L: Door, O: Sink>(
     ensures mirror { LeavesAlone (D.state disk.old) (D.state disk.new) Mirror }
     ensures life { result.life ≡ None }
 {
-    let session = document_server::serve(alloc, disk, clock, door, listen, requests);
+    let session = document_server::serve(alloc, disk, clock, door, listen, requests, service);
     let fault = SessionFault::of(session.end);
     let printed = print_session(output, session.lines.as_slice(), fault);
     Ended {

@@ -1,6 +1,6 @@
 use Rattle.std.proofs.Common.{rules, ◌≡◌, ◌⊎◌, inl, inr, ⊎_elim, ℕ, None, Err, true, false, refl, sym, subst, ap, ◌∙◌, arith}
 use Rattle.std.proofs.lemmas.Result.{on_ok_weaker}
-use Rattle.tool_words.specs.declared.command.Command.TheVariants.{Audit, Drill, Foreign, Mirror, Serve, Show}
+use Rattle.tool_words.specs.declared.command.Command.TheVariants.{Audit, Discover, Drill, Foreign, Mirror, Serve, Show}
 use Rattle.tool_words.specs.declared.command.Show.TheVariants.{Pile}
 use Rattle.mirror_commands.specs.declared.report_fault.ReportFault.TheVariants.{Other}
 use Rattle.command_ends.specs.declared.fault.Fault.TheVariants.{Disk, Input, NoMemory}
@@ -21,7 +21,8 @@ use Rattle.mirror_commands.proofs.MirrorEndLemmas.{fault-complete}
 use Rattle.feed_commands.proofs.PileEndLemmas.{pile-is_status}
 use Rattle.command_ends.proofs.PrintLemmas.{alone-fault, prints-from}
 use Rattle.feed_commands.proofs.RunLemmas.{ends-done, ends-refused, ends-unsent, no_command, read_all, read_as}
-use Rattle.feed_commands.proofs.RunLemmas.{audit-status, fetched-status, foreign-status, mirror-status, read_words-of}
+use Rattle.feed_commands.proofs.RunLemmas.{audit-status, discover-status, fetched-status, foreign-status, mirror-status}
+use Rattle.feed_commands.proofs.RunLemmas.{discover-other, read_words-of, url-of}
 use Rattle.feed_commands.proofs.RunLemmas.{audit-other, bare-none, drill-other, faults-none, fetched-other, foreign-other}
 use Rattle.feed_commands.proofs.RunLemmas.{mirror-other, start-of}
 use Rattle.feed_commands.proofs.RunLemmas.{pile-other, serve-other, unused-all, unused-by, words-of, words-refused, words-unread}
@@ -100,13 +101,13 @@ pub returns-in-Serve-clause-statuses : goal.returns-in-Serve-clause-statuses
 returns-in-Serve-clause-statuses g c = serve-status c.serve.result.status c.serve.ensures.statuses
 
 pub returns-in-Serve-clause-words : goal.returns-in-Serve-clause-words
-returns-in-Serve-clause-words g c = words-of (Serve c.in-Serve.listen c.in-Serve.requests)
+returns-in-Serve-clause-words g c = words-of (Serve c.in-Serve.listen c.in-Serve.requests c.in-Serve.service)
     (read_as _ c.in-Ok.is c.in-Serve.is c.read_words.ensures.found)
     (serve-other _ c.serve.ensures.statuses).0
 
 pub returns-in-Serve-clause-alone : goal.returns-in-Serve-clause-alone
 returns-in-Serve-clause-alone g c = λ sink once.
-    absurd (once (Serve c.in-Serve.listen c.in-Serve.requests)
+    absurd (once (Serve c.in-Serve.listen c.in-Serve.requests c.in-Serve.service)
     (read_as _ c.in-Ok.is c.in-Serve.is c.read_words.ensures.found))
 
 pub returns-in-Serve-clause-faults : goal.returns-in-Serve-clause-faults
@@ -116,23 +117,23 @@ returns-in-Serve-clause-faults g c = record {
   input_read = λ command of_words. omega arith;
   output_faults = c.serve.ensures.output_faults;
   door_faults = shared-counts c.serve.ensures.door_faults;
-  fetch_faults = shared-other (λ others. others _ _ (read_as _ c.in-Ok.is c.in-Serve.is c.read_words.ensures.found));
+  fetch_faults = shared-other (λ others. others _ _ _ (read_as _ c.in-Ok.is c.in-Serve.is c.read_words.ensures.found));
 }
 
 pub returns-in-Serve-clause-safe : goal.returns-in-Serve-clause-safe
 returns-in-Serve-clause-safe g c = λ others.
-    absurd (others (Serve c.in-Serve.listen c.in-Serve.requests)
+    absurd (others (Serve c.in-Serve.listen c.in-Serve.requests c.in-Serve.service)
     (read_as _ c.in-Ok.is c.in-Serve.is c.read_words.ensures.found))
 
 pub returns-in-Serve-clause-unused : goal.returns-in-Serve-clause-unused
 returns-in-Serve-clause-unused g c =
     let of_words = read_as _ c.in-Ok.is c.in-Serve.is c.read_words.ensures.found in
-    unused-by (Serve c.in-Serve.listen c.in-Serve.requests) of_words (λ unused. absurd (unused tt))
-    (λ unused. absurd (unused tt)) (λ _. refl) (λ others. absurd (others _ _ of_words)) (λ _. refl)
+    unused-by (Serve c.in-Serve.listen c.in-Serve.requests c.in-Serve.service) of_words (λ unused. absurd (unused tt))
+    (λ unused. absurd (unused tt)) (λ _. refl) (λ others. absurd (others _ _ _ of_words)) (λ _. refl)
 
 pub returns-in-Serve-clause-bare : goal.returns-in-Serve-clause-bare
 returns-in-Serve-clause-bare g c = record {
-  no_lines = λ others. absurd (others _ _ (read_as _ c.in-Ok.is c.in-Serve.is c.read_words.ensures.found));
+  no_lines = λ others. absurd (others _ _ _ (read_as _ c.in-Ok.is c.in-Serve.is c.read_words.ensures.found));
   no_life = λ _. c.serve.ensures.life;
 }
 
@@ -534,6 +535,64 @@ returns-in-Foreign-clause-unused g c =
 
 pub returns-in-Foreign-clause-bare : goal.returns-in-Foreign-clause-bare
 returns-in-Foreign-clause-bare g c = bare-none c.with_status-in-Foreign.ensures.alone
+
+-- `discover`
+
+pub discover-requires : goal.discover-requires
+discover-requires g c = rw c.slice-in-Discover.ensures
+    (url-of (read_as _ c.in-Ok.is c.in-Discover.is c.read_words.ensures.found))
+
+pub returns-in-Discover-clause-statuses : goal.returns-in-Discover-clause-statuses
+returns-in-Discover-clause-statuses g c = rw c.with_status-in-Discover.ensures.status
+    (discover-status _ c.discover.ensures.statuses)
+
+pub returns-in-Discover-clause-words : goal.returns-in-Discover-clause-words
+returns-in-Discover-clause-words g c = words-of (Discover c.in-Discover.address)
+    (read_as _ c.in-Ok.is c.in-Discover.is c.read_words.ensures.found)
+    (rw c.with_status-in-Discover.ensures.status (discover-other _ c.discover.ensures.statuses).0)
+
+pub returns-in-Discover-clause-answered : goal.returns-in-Discover-clause-answered
+returns-in-Discover-clause-answered g c = read_all _ c.in-Ok.is c.read_words.ensures.only
+    (rw c.in-Discover.is (λ seen. rw c.with_status-in-Discover.ensures.status
+    (λ answered. rw c.slice-in-Discover.ensures at (c.discover.ensures.answered (seen.fetch tt) answered))))
+
+pub returns-in-Discover-clause-alone : goal.returns-in-Discover-clause-alone
+returns-in-Discover-clause-alone g c = λ sink once. rw c.with_status-in-Discover.ensures.status
+    (c.discover.ensures.alone sink)
+
+pub returns-in-Discover-clause-faults : goal.returns-in-Discover-clause-faults
+returns-in-Discover-clause-faults g c =
+    let other = discover-other _ c.discover.ensures.statuses in
+    let of_words = read_as _ c.in-Ok.is c.in-Discover.is c.read_words.ensures.found in
+    rw c.with_status-in-Discover.ensures.status (record {
+      disk_faults = counts-none other.1;
+      input_faults = counts-none other.2;
+      input_read = λ command of_words. omega arith;
+      output_faults = c.discover.ensures.output_faults;
+      door_faults = shared-other (λ others. others (Discover c.in-Discover.address) of_words tt);
+      fetch_faults = shared-counts c.discover.ensures.fetch_faults;
+    })
+
+pub returns-in-Discover-clause-complete : goal.returns-in-Discover-clause-complete
+returns-in-Discover-clause-complete g c = read_all _ c.in-Ok.is c.read_words.ensures.only
+    (rw c.in-Discover.is (λ seen given due. record {
+      ends = λ disk fetch input output.
+          rw c.with_status-in-Discover.ensures.status
+          (c.discover.ensures.complete (seen.fetch tt) given (rw c.slice-in-Discover.ensures due) fetch output);
+    }))
+
+pub returns-in-Discover-clause-ends : goal.returns-in-Discover-clause-ends
+returns-in-Discover-clause-ends g c = read_all _ c.in-Ok.is c.read_words.ensures.only
+    (rw c.in-Discover.is (rw c.with_status-in-Discover.ensures.status (λ seen.
+    rw c.slice-in-Discover.ensures at (c.discover.ensures.asks seen))))
+
+pub returns-in-Discover-clause-unused : goal.returns-in-Discover-clause-unused
+returns-in-Discover-clause-unused g c =
+    unused-by (Discover c.in-Discover.address) (read_as _ c.in-Ok.is c.in-Discover.is c.read_words.ensures.found)
+    (λ _. refl) (λ _. refl) (λ _. refl) (λ _. refl) (λ unused. absurd (unused tt))
+
+pub returns-in-Discover-clause-bare : goal.returns-in-Discover-clause-bare
+returns-in-Discover-clause-bare g c = bare-none c.with_status-in-Discover.ensures.alone
 
 -- the other commands: the answer was printed
 
