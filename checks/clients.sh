@@ -581,7 +581,7 @@ await_end
 compare 'the lines of a session with pages' 0 <"$work/lines"
 
 # Perl's client for Atom's publishing protocol finds the collection by the service document. It sends content that is
-# XML as xhtml, so this content isn't.
+# XML as xhtml, so this content isn't, and it reads a text without `type` as base64, so it is HTML.
 if perl -MAtompub::Client -e 1 2>/dev/null; then
     start "$work/pages" 8 5 --service
     http_proxy="http://127.0.0.1:$port/" perl - "$base" >"$work/output" 2>"$work/errors" <<'PERL'
@@ -597,7 +597,7 @@ my ($collection) = $workspace->collections;
 printf "%s: %s\n", $collection->title, $collection->href;
 my $entry = XML::Atom::Entry->new;
 $entry->title('From Perl');
-$entry->content('a & b');
+$entry->content('<p>a & b');
 my $address = $client->createEntry($collection->href, $entry) or die $client->errstr;
 print "$address\n";
 my $read = $client->getEntry($address) or die $client->errstr;
@@ -610,7 +610,7 @@ $client->deleteEntry($address) or die $client->errstr;
 print "deleted\n";
 PERL
     echo $? >"$work/status"
-    printf 'Feed: %s/feed\n%s/member/4\nFrom Perl: a & b\nEdited by Perl, b, c\ndeleted\n' $base $base |
+    printf 'Feed: %s/feed\n%s/member/4\nFrom Perl: <p>a & b\nEdited by Perl, c, b\ndeleted\n' $base $base |
         compare "Perl's Atompub" 0
     printf '200 5\n201 6\n200 6\n200 7\n200 7\n200 8\n' >>"$work/lines"
     use_up 8
