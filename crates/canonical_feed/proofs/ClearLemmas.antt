@@ -29,7 +29,7 @@ use Rattle.xml_tokens.specs.Children.{Child, attribute, same_name}
 use Rattle.feed_reader.specs.declared.fault.FeedWhy.{FeedWhy}
 use Rattle.feed_reader.specs.declared.fault.FeedWhy.TheVariants.{Token, NotAFeed, Missing, Twice, BadDate, TooLong}
 use Rattle.feed_reader.specs.declared.fault.FeedWhy.TheVariants.{BadLink, TooMany}
-use Rattle.feed_reader.specs.Order.{Placed, IsFaultless, all_placed, count_before, name_of}
+use Rattle.xml_tokens.specs.Order.{Placed, IsFaultless, all_placed, count_before, name_of}
 use Rattle.feed_reader.specs.Feed.{item_limit, joined_to}
 use Rattle.feed_reader.specs.FeedFaults.{Within, IsFault, feed_rules}
 use Rattle.feed_reader.specs.FeedFaults.Within.{at_root, in_feed}

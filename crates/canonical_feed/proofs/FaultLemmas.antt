@@ -29,7 +29,7 @@ use Rattle.xml_tokens.specs.Children.{Child, child, same_name}
 use Rattle.feed_reader.specs.declared.fault.FeedWhy.{FeedWhy}
 use Rattle.feed_reader.specs.declared.fault.FeedWhy.TheVariants.{Token, NotAFeed, Missing, Twice, BadDate, TooLong}
 use Rattle.feed_reader.specs.declared.fault.FeedWhy.TheVariants.{BadLink, TooMany}
-use Rattle.feed_reader.specs.Order.{Placed, IsFaultless, all_placed, count_before}
+use Rattle.xml_tokens.specs.Order.{Placed, IsFaultless, all_placed, count_before}
 use Rattle.feed_reader.specs.Feed.{cut_text, item_limit, whole_text}
 use Rattle.feed_reader.specs.FeedFaults.{Within, IsFault, LacksChild, feed_rules, kind_in, within_kind}
 use Rattle.feed_reader.specs.FeedFaults.Within.{in_entry}

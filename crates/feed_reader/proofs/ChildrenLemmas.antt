@@ -11,7 +11,7 @@ use Rattle.xml_tokens.proofs.ProgressLemmas.{err_is}
 use Rattle.xml_tokens.specs.Tree.{Name, Element, Content}
 use Rattle.xml_tokens.specs.Tree.Content.{nothing, said, element}
 use Rattle.xml_tokens.specs.Children.{children, named, named_in, joined, with_child}
-use Rattle.feed_reader.specs.Order.{Rules, all_placed}
+use Rattle.xml_tokens.specs.Order.{Rules, all_placed}
 use Rattle.feed_reader.specs.Rest.{elements_only}
 use Rattle.xml_tokens.proofs.ContentLemmas.{says}
 

@@ -18,7 +18,7 @@ use Rattle.feed_reader.specs.declared.fault.FeedWhy.{FeedWhy}
 use Rattle.feed_reader.specs.declared.fault.FeedWhy.TheVariants.{BadLink, TooMany}
 use Rattle.feed_reader.specs.declared.parts.FeedParts.{FeedParts}
 use Rattle.feed_reader.specs.declared.values.ForeignGone.{ForeignGone}
-use Rattle.feed_reader.specs.Order.{IsFirst, all_placed, count_before}
+use Rattle.xml_tokens.specs.Order.{IsFirst, all_placed, count_before}
 use Rattle.feed_reader.specs.Feed.{IsEntryOf, IsForeignEntry, IsForeignGone, IsGoneOf, cut_text, item_limit, prev_of}
 use Rattle.feed_reader.specs.Feed.{whole_text}
 use Rattle.feed_reader.specs.FeedFaults.{IsTooLong, LacksAttribute, StatesNone, feed_rules, is_atom, kind_in}
@@ -40,7 +40,7 @@ use Rattle.feed_reader.proofs.FeedPartLemmas.{count_child, the_child, zip_length
 use Rattle.feed_reader.proofs.FeedReadLemmas.{entries_name, feed_after, feed_child, feed_read_entry, feed_read_gone, feed_read_id}
 use Rattle.feed_reader.proofs.FeedReadLemmas.{feed_read_link_kept, feed_read_link_taken, feed_read_other, feed_read_updated}
 use Rattle.feed_reader.proofs.FeedReadLemmas.{gone_name, own_linked}
-use Rattle.feed_reader.proofs.OrderLemmas.{IsOwn, elements_of, first_with_child, placed}
+use Rattle.xml_tokens.proofs.OrderLemmas.{IsOwn, elements_of, first_with_child, placed}
 
 -- the rest of an element is read over
 pub rest_skipped : (S : Content → Unit {0} → Type 0) (total : ℕ) (first : List Event) (from : Point) (new : Elements)

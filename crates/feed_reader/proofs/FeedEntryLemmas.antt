@@ -12,7 +12,7 @@ use Rattle.xml_tokens.specs.Tree.{Element, Content}
 use Rattle.xml_tokens.specs.Tree.Content.{nothing}
 use Rattle.xml_tokens.specs.Children.{Child, child, same_name, with_child}
 use Rattle.xml_tokens.specs.Names.{atom}
-use Rattle.feed_reader.specs.Order.{IsFirst, all_placed}
+use Rattle.xml_tokens.specs.Order.{IsFirst, all_placed}
 use Rattle.feed_reader.specs.Feed.{StatesMoment, cut_text, whole_text}
 use Rattle.feed_reader.specs.FeedFaults.{feed_rules, kind_in, within_kind}
 use Rattle.feed_reader.specs.FeedFaults.Within.{in_entry, in_skipped}
@@ -20,7 +20,7 @@ use Rattle.feed_reader.specs.FeedReading.{AreNoted, IsEntryRead, IsEntrySoFar, I
 use Rattle.feed_reader.proofs.NamedLemmas.{name_is}
 use Rattle.feed_reader.proofs.FeedOwnLemmas.{child_first, own_none}
 use Rattle.feed_reader.proofs.FeedPartLemmas.{child_new, child_other, the_child}
-use Rattle.feed_reader.proofs.OrderLemmas.{IsOwn, elements_of, first_before_child, placed}
+use Rattle.xml_tokens.proofs.OrderLemmas.{IsOwn, elements_of, first_before_child, placed}
 
 pub some_mapped : {A B : Type 0} (f : A → B) (o : Option A) → is_some (option_map f o) ≡ is_some o
 some_mapped f None = refl

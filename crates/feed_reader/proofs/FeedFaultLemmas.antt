@@ -7,14 +7,14 @@ use Rattle.feed_reader.specs.declared.fault.FeedWhy.TheVariants.{Token, NotAFeed
 use Rattle.feed_reader.specs.declared.fault.FeedWhy.TheVariants.{BadLink, TooMany}
 use Rattle.xml_tokens.specs.declared.fault.TokenWhy.{TokenWhy}
 use Rattle.xml_tokens.specs.Tree.{Element, Content}
-use Rattle.feed_reader.specs.Order.{Placed, IsFaultless, all_placed, count_before, name_of}
+use Rattle.xml_tokens.specs.Order.{Placed, IsFaultless, all_placed, count_before, name_of}
 use Rattle.feed_reader.specs.Feed.{cut_text, item_limit, target, whole_text}
 use Rattle.feed_reader.specs.FeedFaults.{HasFault, IsFault, IsFirstPrev, IsTooLong, Kind, LacksAttribute, LacksChild}
 use Rattle.feed_reader.specs.FeedFaults.{StatesNone, Within, feed_rules, kind_in, rank}
 use Rattle.feed_reader.specs.FeedFaults.Kind.{feed, other_root, entry, tombstone, identifier, title, date, link, skipped}
 use Rattle.feed_reader.specs.FeedFaults.Within.{in_skipped}
 use Rattle.std.proofs.lemmas.Bool.Decides.{leb_tells}
-use Rattle.feed_reader.proofs.OrderLemmas.{AreRanked, IsOwn, NoneBelow, silent_place}
+use Rattle.xml_tokens.proofs.OrderLemmas.{AreRanked, IsOwn, NoneBelow, silent_place}
 
 -- the reason of a rank
 abbrev ranked : ℕ → FeedWhy

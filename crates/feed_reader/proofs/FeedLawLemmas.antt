@@ -18,7 +18,7 @@ use Rattle.feed_reader.specs.FeedLaws.{BytesHaveOneFeedRefusal, BytesSpellOneFee
 use Rattle.feed_reader.proofs.FeedFaultLemmas.{feed_ranked}
 use Rattle.xml_tokens.proofs.OneDocumentLemmas.{one_document}
 use Rattle.xml_tokens.proofs.OneRefusalLemmas.{document_not_refused, one_token_refusal}
-use Rattle.feed_reader.proofs.OrderLemmas.{no_first, one_first}
+use Rattle.xml_tokens.proofs.OrderLemmas.{no_first, one_first}
 
 -- a text states one timestamp at most
 one_date : (text : List ℕ) (a b : ℤ) → States text a → States text b → a ≡ b

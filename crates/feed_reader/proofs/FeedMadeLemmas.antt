@@ -11,7 +11,7 @@ use Rattle.feed_reader.specs.declared.text.Required.{Required}
 use Rattle.xml_tokens.specs.Tree.{Element, Content}
 use Rattle.xml_tokens.specs.Tree.Content.{nothing, element}
 use Rattle.xml_tokens.specs.Children.{child}
-use Rattle.feed_reader.specs.Order.{IsFaultless, IsFirst, Placed, all_placed, count_before}
+use Rattle.xml_tokens.specs.Order.{IsFaultless, IsFirst, Placed, all_placed, count_before}
 use Rattle.feed_reader.specs.Feed.{item_limit}
 use Rattle.feed_reader.specs.FeedFaults.{LacksChild, Within, feed_rules, is_atom, kind_in, within_kind}
 use Rattle.feed_reader.specs.FeedFaults.Kind.{entry, feed}
@@ -19,7 +19,7 @@ use Rattle.feed_reader.specs.FeedFaults.Within.{at_root, in_entry, in_feed}
 use Rattle.feed_reader.specs.FeedReading.{AreNoted, IsEntryMade}
 use Rattle.feed_reader.proofs.FeedFaultLemmas.{own_entry, own_entry_lacks, own_entry_many, own_feed, own_feed_lacks}
 use Rattle.feed_reader.proofs.FeedFaultLemmas.{own_other_root}
-use Rattle.feed_reader.proofs.OrderLemmas.{IsOwn, first_of_element, first_own, placed}
+use Rattle.xml_tokens.proofs.OrderLemmas.{IsOwn, first_of_element, first_own, placed}
 
 pub none_is : {A : Type 0} (o : Option A) → is_some o ≡ false → o ≡ None
 none_is None is = refl

@@ -10,7 +10,7 @@ use Rattle.feed_reader.specs.declared.fault.FeedWhy.TheVariants.{Twice}
 use Rattle.xml_tokens.specs.Tree.{Name, Element, Content}
 use Rattle.xml_tokens.specs.Children.{first_of, named, same_name, with_child}
 use Rattle.xml_tokens.specs.Names.{tombstones}
-use Rattle.feed_reader.specs.Order.{IsFaultless, IsFirst, Placed, all_placed}
+use Rattle.xml_tokens.specs.Order.{IsFaultless, IsFirst, Placed, all_placed}
 use Rattle.feed_reader.specs.Feed.{cut_text, whole_text}
 use Rattle.feed_reader.specs.FeedFaults.{IsTooLong, Kind, Within, feed_rules, is_atom, kind_in, within_kind}
 use Rattle.feed_reader.specs.FeedFaults.Kind.{entry, tombstone, identifier, title, date, link, skipped}
@@ -19,7 +19,7 @@ use Rattle.feed_reader.specs.FeedReading.{IsDated, IsFilled}
 use Rattle.feed_reader.proofs.FeedFaultLemmas.{own_date, own_date_bad, own_identifier, own_identifier_long, own_title}
 use Rattle.feed_reader.proofs.FeedFaultLemmas.{own_title_long, own_twice, skipped_faultless}
 use Rattle.feed_reader.proofs.FeedPartLemmas.{count_none, count_some, the_child}
-use Rattle.feed_reader.proofs.OrderLemmas.{IsOwn, at_tag, elements_of, first_of_element, first_with_child, placed}
+use Rattle.xml_tokens.proofs.OrderLemmas.{IsOwn, at_tag, elements_of, first_of_element, first_with_child, placed}
 
 or_none : {A : Type 0} (o : Option A) → option_or o None ≡ o
 or_none None = refl

@@ -12,7 +12,7 @@ use Rattle.feed_reader.specs.declared.text.Required.{Required}
 use Rattle.xml_tokens.specs.Tree.{Name, Element, Content}
 use Rattle.xml_tokens.specs.Children.{Child, children, first_of, named, named_in, same_name, with_child}
 use Rattle.xml_tokens.specs.Names.{atom, tombstones}
-use Rattle.feed_reader.specs.Order.{IsFirst, count_before}
+use Rattle.xml_tokens.specs.Order.{IsFirst, count_before}
 use Rattle.feed_reader.specs.Feed.{IsEntryOf, IsGoneOf, cut_text, is_prev, target, whole_text}
 use Rattle.feed_reader.specs.FeedFaults.{Within, feed_rules, is_prev_link}
 use Rattle.feed_reader.specs.FeedFaults.Within.{in_entry, in_feed}
@@ -20,7 +20,7 @@ use Rattle.feed_reader.specs.FeedReading.{AreNoted, IsEntrySoFar, IsFeedSoFar, I
 use Rattle.feed_reader.specs.Rest.{elements_only}
 use Rattle.feed_reader.proofs.ChildrenLemmas.{only_named, only_placed}
 use Rattle.feed_reader.proofs.NamedLemmas.{name_is}
-use Rattle.feed_reader.proofs.OrderLemmas.{elements_of}
+use Rattle.xml_tokens.proofs.OrderLemmas.{elements_of}
 use Rattle.feed_reader.proofs.NamedLemmas.{named_more, named_other}
 
 module _ (c : Content) where

@@ -14,7 +14,7 @@ use Rattle.feed_reader.specs.declared.values.ForeignGone.{ForeignGone}
 use Rattle.xml_tokens.specs.Tree.{Name, Element, Content}
 use Rattle.xml_tokens.specs.Children.{child, children, named, same_name, with_child}
 use Rattle.xml_tokens.specs.Names.{atom, tombstones}
-use Rattle.feed_reader.specs.Order.{IsFirst, all_placed}
+use Rattle.xml_tokens.specs.Order.{IsFirst, all_placed}
 use Rattle.feed_reader.specs.Feed.{IsEntryOf, IsForeignEntry, IsForeignGone, IsGoneOf, cut_text, is_prev, prev_of, target}
 use Rattle.feed_reader.specs.FeedFaults.{feed_rules, is_prev_link, kind_in}
 use Rattle.feed_reader.specs.FeedFaults.Kind.{link}
@@ -25,7 +25,7 @@ use Rattle.feed_reader.proofs.FeedEntryLemmas.{moment_new, some_mapped, some_mom
 use Rattle.feed_reader.proofs.FeedFaultLemmas.{own_link, own_link_bad}
 use Rattle.feed_reader.proofs.FeedMadeLemmas.{none_is}
 use Rattle.feed_reader.proofs.FeedPartLemmas.{any_prev, child_new, child_other, find_kept, find_last, the_child, zip_push}
-use Rattle.feed_reader.proofs.OrderLemmas.{IsOwn, elements_of, first_before_child, placed}
+use Rattle.xml_tokens.proofs.OrderLemmas.{IsOwn, elements_of, first_before_child, placed}
 use Rattle.feed_reader.proofs.NamedLemmas.{named_more, named_other}
 
 abbrev pub links : Name

@@ -1,5 +1,3 @@
--- the elements of a document in order, and the first refusal, by any reader's rules
-pub mod OrderLemmas
 -- EntryParts, FeedParts: the children of a name
 pub mod NamedLemmas
 -- read_children: the elements of a content, whatever characters are between them

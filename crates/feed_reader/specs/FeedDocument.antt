@@ -6,7 +6,7 @@ use Rattle.feed_reader.specs.declared.fault.FeedWhy.TheVariants.{Token}
 use Rattle.xml_tokens.specs.Tree.{Element, Content, IsDocument}
 use Rattle.xml_tokens.specs.Tree.Content.{nothing, element}
 use Rattle.xml_tokens.specs.Refusal.{IsTokenRefusedAt}
-use Rattle.feed_reader.specs.Order.{Placed, IsFirst, all_placed}
+use Rattle.xml_tokens.specs.Order.{Placed, IsFirst, all_placed}
 use Rattle.feed_reader.specs.Feed.{DocumentValue, IsDocumentOf}
 use Rattle.feed_reader.specs.FeedFaults.{Within, feed_rules}
 use Rattle.feed_reader.specs.FeedFaults.Within.{at_root}

@@ -11,7 +11,7 @@ use Rattle.feed_reader.specs.declared.fault.FeedWhy.TheVariants.{BadLink, TooMan
 use Rattle.xml_tokens.specs.Tree.{Name, Element, Content}
 use Rattle.xml_tokens.specs.Children.{Child, same_name, attribute, attribute_in, child}
 use Rattle.xml_tokens.specs.Names.{atom, tombstones}
-use Rattle.feed_reader.specs.Order.{Placed, Rules, count_before, name_of}
+use Rattle.xml_tokens.specs.Order.{Placed, Rules, count_before, name_of}
 use Rattle.feed_reader.specs.Feed.{cut_text, is_prev, is_prev_relation, item_limit, target, whole_text}
 
 -- where an element is: at the root, in the feed, in an entry of it, or in an element that is skipped

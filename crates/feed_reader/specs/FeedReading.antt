@@ -24,7 +24,7 @@ use Rattle.xml_tokens.specs.Tree.{Element, Content}
 use Rattle.xml_tokens.specs.Tree.Content.{nothing, element}
 use Rattle.xml_tokens.specs.Children.{Child, attribute_in, child, named}
 use Rattle.xml_tokens.specs.Names.{atom, tombstones}
-use Rattle.feed_reader.specs.Order.{IsFaultless, IsFirst, all_placed}
+use Rattle.xml_tokens.specs.Order.{IsFaultless, IsFirst, all_placed}
 use Rattle.feed_reader.specs.Feed.{DocumentValue, IsDocumentOf, IsEntryOf, IsForeignDocument, IsForeignEntry, IsForeignGone}
 use Rattle.feed_reader.specs.Feed.{IsGoneOf, cut_text, is_prev, is_prev_relation, item_limit, joined_to, prev_of}
 use Rattle.feed_reader.specs.Feed.{whole_text}

@@ -1,4 +1,3 @@
-pub mod Order
 pub mod Feed
 pub mod FeedFaults
 pub mod FeedDocument

@@ -7,7 +7,7 @@ use Rattle.chain_links.specs.declared.address.Address.TheVariants.{Feed}
 use Rattle.atom_writer.specs.declared.doc.FeedName.{FeedName}
 use Rattle.xml_tokens.specs.Children.{Child}
 use Rattle.feed_reader.specs.Feed.{joined_to}
-use Rattle.feed_reader.specs.Order.{IsFaultless}
+use Rattle.xml_tokens.specs.Order.{IsFaultless}
 use Rattle.service_reader.specs.Service.{AreCollectionsOf, collections_of, is_entry_type, takes_entries}
 use Rattle.service_reader.specs.ServiceDocument.{IsRefusalIn}
 use Rattle.service_reader.specs.ServiceFaults.{service_rules}

@@ -9,8 +9,8 @@ use Rattle.xml_tokens.specs.declared.fault.TokenWhy.{TokenWhy}
 use Rattle.xml_tokens.specs.Tree.{Element, Content}
 use Rattle.xml_tokens.specs.Children.{Child}
 use Rattle.feed_reader.specs.Feed.{target}
-use Rattle.feed_reader.specs.Order.{IsFaultless, IsFirst, Placed}
-use Rattle.feed_reader.proofs.OrderLemmas.{AreRanked, IsOwn, at_tag, first_joined, first_stays}
+use Rattle.xml_tokens.specs.Order.{IsFaultless, IsFirst, Placed}
+use Rattle.xml_tokens.proofs.OrderLemmas.{AreRanked, IsOwn, at_tag, first_joined, first_stays}
 use Rattle.service_reader.specs.declared.fault.ServiceWhy.{ServiceWhy}
 use Rattle.service_reader.specs.declared.fault.ServiceWhy.TheVariants.{Token, NotAService, BadLink, TooMany}
 use Rattle.service_reader.specs.Service.{collection_limit, is_app}

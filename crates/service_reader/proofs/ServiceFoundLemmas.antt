@@ -13,12 +13,12 @@ use Rattle.xml_tokens.specs.Tree.{Element, Content, Event}
 use Rattle.xml_tokens.specs.Children.{Child, named, with_child}
 use Rattle.xml_tokens.specs.Names.{app}
 use Rattle.feed_reader.specs.Feed.{target}
-use Rattle.feed_reader.specs.Order.{IsFirst}
+use Rattle.xml_tokens.specs.Order.{IsFirst}
 use Rattle.feed_reader.specs.Rest.{IsRestRead, elements_only}
 use Rattle.feed_reader.proofs.ChildrenLemmas.{only_named}
 use Rattle.feed_reader.proofs.FeedPartLemmas.{the_child, zip_length, zip_push}
 use Rattle.feed_reader.proofs.NamedLemmas.{named_more, named_other}
-use Rattle.feed_reader.proofs.OrderLemmas.{IsOwn}
+use Rattle.xml_tokens.proofs.OrderLemmas.{IsOwn}
 use Rattle.service_reader.specs.declared.fault.ServiceWhy.{ServiceWhy}
 use Rattle.service_reader.specs.declared.fault.ServiceWhy.TheVariants.{BadLink, TooMany}
 use Rattle.service_reader.specs.declared.found.Found.{Found}

@@ -4,7 +4,7 @@ use Rattle.xml_tokens.specs.Tree.{Element, Content, IsDocument}
 use Rattle.xml_tokens.specs.Children.{Child}
 use Rattle.xml_tokens.proofs.OneDocumentLemmas.{one_document}
 use Rattle.xml_tokens.proofs.OneRefusalLemmas.{document_not_refused, one_token_refusal}
-use Rattle.feed_reader.proofs.OrderLemmas.{no_first, one_first}
+use Rattle.xml_tokens.proofs.OrderLemmas.{no_first, one_first}
 use Rattle.service_reader.specs.declared.fault.ServiceWhy.{ServiceWhy}
 use Rattle.service_reader.specs.declared.fault.ServiceWhy.TheVariants.{Token}
 use Rattle.service_reader.specs.declared.values.Collection.{Collection}

@@ -3,7 +3,7 @@ use Rattle.std.specs.Prelude.{◌≡◌, ◌⊎◌, ℕ, List, Option, Some, Non
 use Rattle.xml_tokens.specs.declared.fault.TokenWhy.{TokenWhy}
 use Rattle.xml_tokens.specs.Tree.{Element, Content, IsDocument}
 use Rattle.xml_tokens.specs.Refusal.{IsTokenRefusedAt}
-use Rattle.feed_reader.specs.Order.{IsFirst}
+use Rattle.xml_tokens.specs.Order.{IsFirst}
 use Rattle.service_reader.specs.declared.fault.ServiceWhy.{ServiceWhy}
 use Rattle.service_reader.specs.declared.fault.ServiceWhy.TheVariants.{Token}
 use Rattle.service_reader.specs.declared.values.Collection.{Collection}

@@ -3,7 +3,7 @@ use Rattle.std.specs.Prelude.{◌≡◌, ℕ, ◌≤◌, List, [], ◌∷◌, �
 use Rattle.xml_tokens.specs.Tree.{Element, Content}
 use Rattle.xml_tokens.specs.Children.{Child}
 use Rattle.feed_reader.specs.Feed.{target}
-use Rattle.feed_reader.specs.Order.{Placed, Rules, name_of}
+use Rattle.xml_tokens.specs.Order.{Placed, Rules, name_of}
 use Rattle.service_reader.specs.declared.fault.ServiceWhy.{ServiceWhy}
 use Rattle.service_reader.specs.declared.fault.ServiceWhy.TheVariants.{Token, NotAService, BadLink, TooMany}
 use Rattle.service_reader.specs.Service.{collection_limit, collections_of, is_app}

@@ -12,7 +12,7 @@ use Rattle.xml_tokens.specs.Children.{Child, first_of, named}
 use Rattle.xml_tokens.specs.Names.{app}
 use Rattle.xml_tokens.specs.Progress.{IsElementOf, IsFaultFrom, IsLed, first_point}
 use Rattle.xml_tokens.specs.Refusal.{IsTokenRefusedAt}
-use Rattle.feed_reader.specs.Order.{IsFirst}
+use Rattle.xml_tokens.specs.Order.{IsFirst}
 use Rattle.service_reader.specs.declared.accept.Accepts.{Accepts}
 use Rattle.service_reader.specs.declared.fault.ServiceRead.{ServiceRead}
 use Rattle.service_reader.specs.declared.fault.ServiceRead.TheVariants.{NotRead as ServiceNotRead}

@@ -16,7 +16,7 @@
 //! The law [`bytes_are_read_as_a_service_in_one_way`] states that bytes spell one list of collections at most or have
 //! one refusal at most, and not both.
 //!
-//! Stands on `xml_tokens` for the elements of a document, on `feed_reader` for the order of refusals and the meaning of
+//! Stands on `xml_tokens` for the elements of a document and the order of refusals, on `feed_reader` for the meaning of
 //! references, on `url` for addresses, and on `atom_values` for bytes and lists.
 #![tactic(auto)]
 

@@ -100,3 +100,5 @@ pub mod DocumentLemmas
 pub mod OneDocumentLemmas
 -- tokens_are_read_in_one_way: the clauses `refusals` and `apart`
 pub mod OneRefusalLemmas
+-- the crates above: the elements of a document in order, and the first refusal, by any reader's rules
+pub mod OrderLemmas

@@ -4,6 +4,7 @@ pub mod Stages
 pub mod Tree
 pub mod Names
 pub mod Children
+pub mod Order
 pub mod Refusal
 pub mod Reading
 pub mod Scopes

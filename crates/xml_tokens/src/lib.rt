@@ -19,7 +19,9 @@
 //! The law [`tokens_are_read_in_one_way`] states that bytes have one tree at most or one refusal of a token at most,
 //! and not both.
 //!
-//! Stands on `atom_values`.
+//! `specs/Order.antt` defines the first element that a reader refuses, by the rules of any reader.
+//!
+//! Stands on `atom_values`, and on `memchr` for searches of bytes.
 #![tactic(auto)]
 
 mod characters;

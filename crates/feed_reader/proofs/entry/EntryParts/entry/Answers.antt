@@ -2,7 +2,7 @@ use Rattle.std.proofs.Common.{◌≡◌, [], true, sym, ap, subst, ◌∙◌, in
 use Rattle.std.specs.Prelude.{◌&&◌, IfSome, unwrap_or, codes}
 use Rattle.atom_values.specs.XmlText.{IsAtomText}
 use Rattle.xml_tokens.specs.Children.{child}
-use Rattle.feed_reader.specs.Order.{IsFirst, all_placed}
+use Rattle.xml_tokens.specs.Order.{IsFirst, all_placed}
 use Rattle.feed_reader.specs.FeedFaults.{feed_rules}
 use Rattle.feed_reader.specs.FeedFaults.Within.{in_entry}
 use Rattle.feed_reader.proofs.FeedEntryLemmas.{moment_rules, moment_states, none_from, title_text}

@@ -1,7 +1,7 @@
 use Rattle.std.proofs.Common.{◌≡◌, [], true, false, Some, subst, rules}
 use Rattle.std.specs.Prelude.{◌&&◌}
 use Rattle.xml_tokens.specs.Tree.Content.{nothing, element}
-use Rattle.feed_reader.specs.Order.{IsFirst, all_placed}
+use Rattle.xml_tokens.specs.Order.{IsFirst, all_placed}
 use Rattle.feed_reader.specs.declared.fault.FeedWhy.TheVariants.{Missing}
 use Rattle.feed_reader.specs.FeedFaults.{feed_rules}
 use Rattle.feed_reader.specs.FeedFaults.Within.{at_root, in_feed}

@@ -7,7 +7,7 @@ use Rattle.std.proofs.lemmas.List.Elements.{All-append, All-cons, All-nil, All-h
 use Rattle.xml_tokens.specs.Tree.{Name, Element, Content}
 use Rattle.xml_tokens.specs.Tree.Content.{nothing, said, element}
 use Rattle.xml_tokens.specs.Children.{Child, children, joined}
-use Rattle.feed_reader.specs.Order.{Placed, Rules, IsFaultless, IsFaultOf, IsFirst, IsFirstFault, all_placed}
+use Rattle.xml_tokens.specs.Order.{Placed, Rules, IsFaultless, IsFaultOf, IsFirst, IsFirstFault, all_placed}
 
 -- the elements of a content, without those inside them
 abbrev pub elements_of : Content → List Element
