@@ -1,4 +1,4 @@
-//! Tests of the public calls of `doc_source` and `mirror_walk`.
+//! Tests of the public calls of `doc_source`, `mirror_walk` and `feed_relay`.
 //!
 //! They are in a crate of their own, so that these crates are proved once, without their tests.
 //! A test drops large values by `drop`: a value that goes out of scope is proved to be dropped field by field, in each
@@ -33,5 +33,7 @@ mod orders;
 mod piles;
 #[cfg(test)]
 mod refusals;
+#[cfg(test)]
+mod relays;
 #[cfg(test)]
 mod walks;

@@ -257,7 +257,7 @@ fn area(rt: &impl Abort, alloc: Global, feeds: &Feeds, held: &[Given]) -> Vec<u8
 }
 
 /// A walk's counts, its refusal and its outcome.
-fn append_walked(rt: &impl Abort, alloc: Global, text: &mut String, walked: &Walked) {
+pub fn append_walked(rt: &impl Abort, alloc: Global, text: &mut String, walked: &Walked) {
     let (asked, taken) = (walked.asked, walked.taken);
     let (known, stale) = (walked.known, walked.stale);
     let counts = format!(in alloc; "{asked} {taken} {known} {stale} ").expect(rt, "memory");
