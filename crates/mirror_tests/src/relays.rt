@@ -231,7 +231,7 @@ fn read<D: Disk>(rt: &impl Abort, alloc: Global, disk: &mut D, address: Address)
     format!(in alloc; "{text} {spent}").expect(rt, "memory")
 }
 
-/// Addresses, the document that is held there, and whether a read of it spends a mirror whose next device call fails.
+/// Addresses, and the document that is held there. A read of it spends a mirror whose next device call fails.
 static ADDRESSES: [(Address, Option<Given>); 6] = [
     (Address::Feed, Some(Version(5))),
     (Address::Archive(1), Some(Archive(1))),
