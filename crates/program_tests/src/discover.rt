@@ -6,6 +6,7 @@ use crate::serve::door_of;
 use crate::store::made;
 use atom_values::Many;
 use doc_source::PileFetch;
+use feed_disk::Disk;
 use std::alloc::Global;
 use std::process::Abort;
 
