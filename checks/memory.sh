@@ -130,6 +130,29 @@ def certificate_of(base, version):
     return "".join(line + "\n" for line in lines).encode()
 
 
+def service_of(base):
+    """The service document of the feed."""
+    title = "<atom:title>Feed</atom:title>"
+    return (
+        f'{DECLARATION}<service xmlns="http://www.w3.org/2007/app" xmlns:atom="http://www.w3.org/2005/Atom"><workspace>{title}'
+        f'<collection href="{base}feed">{title}<accept>application/atom+xml;type=entry</accept></collection></workspace></service>\n'
+    ).encode()
+
+
+def listing_of(base, version):
+    """The list of members, of which operation n made member n."""
+    return "".join(f"{number} {base}member/{number}\n" for number in range(version, 0, -1)).encode()
+
+
+def walk_of(documents, version):
+    """The output of `foreign` over these documents."""
+    lines = [
+        f"entry urn:uuid:6d1f0c5a-93be-8c27-8000-{number:012x} {stamp(number)} {title_of(number)}\n"
+        for number in range(1, version + 1)
+    ]
+    return ("".join(lines) + f"complete {len(documents)} {version}\n").encode()
+
+
 def summary_of_drill(seed, count):
     """The summary of a drill, in which each operation is made in the end, with the timestamp of its request."""
     live, drawn = {}, seed
@@ -392,7 +415,7 @@ class Post(Case):
     def serve(self, room, refused):
         """Runs the server, and returns its status, its output and the replies."""
         port = ports.get()
-        process = start(room, ["serve", "--listen", f"127.0.0.1:{port}", "--requests", "1"], refused)
+        process = start(room, [*self.words, "--listen", f"127.0.0.1:{port}", "--requests", "1"], refused)
         replies, end = [], time.monotonic() + SECONDS
         try:
             while process.poll() is None and time.monotonic() < end:
@@ -417,13 +440,16 @@ class Post(Case):
             raise Lost(f"serve prints to standard error: {errors[:80]}")
         return process.returncode, printed, replies
 
+    # the reply and the line if nothing is refused, and the store after it
+    GIVEN, LINE, VERSION = CREATED, b"201 5\n", 5
+
     def play(self, room, refused):
         status, printed, replies = self.serve(room, refused)
         reply = replies[-1] if replies else b""
-        before, after = store_at(4), store_at(5)
+        before, after = store_at(4), store_at(self.VERSION)
         # the ways to end: status, output, reply, in which way this is, and what the store then may be
         ways = [
-            (0, b"201 5\n", self.CREATED, "as if nothing was refused", [after]),
+            (0, self.LINE, self.GIVEN, "as if nothing was refused", [after]),
             (0, b"503 4\n", self.NO_MEMORY, "no memory", [before]),
             (5, b"no memory\n", b"", "no memory", [before]),
             (4, b"disk fault\n", b"", "counted fault", [before]),
@@ -431,14 +457,22 @@ class Post(Case):
             (7, b"door fault\n", b"", "counted fault", [before]),
             (0, b"0 4\n", b"", "counted fault", [before]),
         ]
-        if reply and self.CREATED.startswith(reply):
-            ways.append((0, b"201 5\n", reply, "counted fault", [after]))
+        if reply and self.GIVEN.startswith(reply):
+            ways.append((0, self.LINE, reply, "counted fault", [after]))
         found = [way for way in ways if way[:3] == (status, printed, reply)]
         # Memory for a session is taken before it listens, so nobody can have connected.
         if not found or any(replies[:-1]) or (status == 5 and replies):
             raise Lost(f"status {status}, printed {printed}, replies {replies}")
         check("the store then", opened(room), *found[0][4])
         return found[0][3] if len(replies) < 2 else "counted fault"
+
+
+class List(Post):
+    """A GET of the list of members from `serve --service`, which changes nothing."""
+
+    REQUEST = b"GET /members HTTP/1.1\r\nHost: feed.example\r\n\r\n"
+    GIVEN = reply_of("200 OK", "text/plain;charset=utf-8", listing_of(BASE, 4))
+    LINE, VERSION = b"200 4\n", 4
 
 
 def answer_gets(listener, documents):
@@ -468,6 +502,7 @@ def cases():
     whole, fetched = documents_of(BASE, 13), documents_of(fetched_base, 13)
     some = [document for document in whole if document[0] != f"{BASE}archive/2"]
     served = {address.removeprefix(fetched_base[:-1]): document for address, document in fetched}
+    served["/service"] = service_of(fetched_base)
     threading.Thread(target=answer_gets, args=(listener, served), daemon=True).start()
     piles = [pile_of(whole[:count]) for count in range(len(whole))]
     missing = (3, f"missing {BASE}archive/2\n".encode())
@@ -479,10 +514,14 @@ def cases():
         Case("feed", ["show", "feed"], document_of(BASE, 13), version=13),
         Case("pile", ["show", "pile"], pile_of(whole), version=13, before=(b"", *piles)),
         Post("post", ["serve"], b"", version=4),
+        List("list", ["serve", "--service"], b"", version=4),
         Mirror("mirror", mirror, missing, some, given=pile_of(some)),
         Mirror("empty", mirror, (0, certificate_of(BASE, 0)), empty, given=pile_of(empty)),
         Mirror("fetch", ["mirror", "--base", fetched_base, "--fetch"], (0, certificate_of(fetched_base, 13)), fetched,
                faults=("files", "fetch")),
+        Case("foreign", ["foreign", "--from", f"{fetched_base}feed"], walk_of(fetched, 13), faults=("fetch",)),
+        Case("discover", ["discover", f"{fetched_base}service"], f"collection {fetched_base}feed entries\n".encode(),
+             faults=("fetch",)),
         Case("audit", ["audit"], b"accepted 13 13\n", given=certificate_of(BASE, 13) + pile_of(whole), faults=()),
         Case("drill", ["drill", "7", "20"], summary_of_drill(7, 20), faults=()),
     ]  # fmt: skip
