@@ -24,7 +24,7 @@ use mirror_walk::Mirror;
 /// Answers a request of a document that the mirror holds. The first of these that fits gives the reply:
 ///
 /// - 501 `not implemented` to a method that HTTP doesn't name.
-/// - 404 `not found` if the target is no address below the base, or a member's.
+/// - 404 `not found` if the target isn't an address below the base, or if it is the address of a member.
 /// - 405 `not allowed` with `Allow: GET` to another method than GET.
 /// - 404 `not found` if no document is held at the address.
 /// - 500 `disk`: the disk's count of faults rose, and the mirror is spent.

@@ -53,7 +53,7 @@ static REQUESTS: [(Verb, &str, Wanted); 24] = [
     (Get, "/archive/01", Line("404 Plain None NotFound")),
     (Get, "/service", Line("404 Plain None NotFound")),
     (Get, "/", Line("404 Plain None NotFound")),
-    // The method is looked at after a target that is no document's, and before a document that isn't held.
+    // A target that names no document is refused before the method, and a document that isn't held after it.
     (Post, "/service", Line("404 Plain None NotFound")),
     (Post, "/member/1", Line("404 Plain None NotFound")),
     (Delete, "/member/1", Line("404 Plain None NotFound")),
