@@ -236,7 +236,7 @@ for folder in store other; do
     echo 'ready' | compare "init of $folder" 0
 done
 ran "$work/store" serve --listen "127.0.0.1:$port" --requests 0
-echo 'usage: feed_tool init, apply, show, serve, mirror, audit, drill, foreign, discover' | compare 'no requests' 2
+echo 'usage: feed_tool init, apply, show, serve, mirror, audit, drill, foreign, discover, relay, scrub' | compare 'no requests' 2
 ran "$work/store" serve --listen nonsense --requests 1
 echo 'door fault' | compare 'an address that cannot be listened at' 7
 

@@ -46,7 +46,7 @@ TEXT
     echo '</feed>'
 }
 
-usage='usage: feed_tool init, apply, show, serve, mirror, audit, drill, foreign, discover'
+usage='usage: feed_tool init, apply, show, serve, mirror, audit, drill, foreign, discover, relay, scrub'
 
 # the example of the README, and what show prints of its document
 printf 'add Signed kernel images\nadd Mirror list\nchange 2 Mirror list <updated> & signed\nremove 1\n' >"$work/input"

@@ -42,7 +42,7 @@ MOST_DOCUMENTS = 10_000
 SILENT_SECONDS = 30
 UUID = "6d1f0c5a-93be-4c27-8d10-2b7f9e4a5c36"
 UUID_OF_MEMBER = "6d1f0c5a-93be-8c27-8000-{:012x}"
-USAGE = "usage: feed_tool init, apply, show, serve, mirror, audit, drill, foreign, discover\n"
+USAGE = "usage: feed_tool init, apply, show, serve, mirror, audit, drill, foreign, discover, relay, scrub\n"
 passed = failed = 0
 
 # The server

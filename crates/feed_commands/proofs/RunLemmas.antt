@@ -26,9 +26,10 @@ use Rattle.command_ends.specs.Fault.{fault_answer}
 use Rattle.doc_source.specs.Outside.{SinkState, SourceState}
 use Rattle.mirror_commands.specs.FetchEnds.{MayEndFetched}
 use Rattle.mirror_commands.specs.MirrorEnds.{MayEndMirror}
+use Rattle.relay_command.specs.Relay.{MayEndRelaying}
 use Rattle.feed_commands.specs.Outside.{Outside}
 use Rattle.feed_commands.specs.Run.{CountsFaults, EndsWith, Fetches, IsBare, IsGiven, IsSeen, IsSeenUnfetched, IsUsageOf}
-use Rattle.feed_commands.specs.Run.{LeavesUnused, NameNone, ReadsInput, ServesNot, UsesClock, UsesDisk}
+use Rattle.feed_commands.specs.Run.{LeavesUnused, NameNone, ReadsInput, UsesClock, UsesDisk, UsesDoor}
 use Rattle.command_ends.specs.Ends.{CountsOutput, IsDone, IsStatus}
 use Rattle.command_ends.specs.Status.{code_of}
 use Rattle.command_ends.proofs.EndLemmas.{no_done}
@@ -158,13 +159,13 @@ module _ {words : List (List ℕ)} {ended : ℕ} where
 
 pub unused-by : (command : Command) {words : List (List ℕ)} {same_disk same_clock same_input same_door same_fetch : Type 0}
     → IsCommandOf words command → (¬ UsesDisk command → same_disk) → (¬ UsesClock command → same_clock)
-    → (¬ ReadsInput command → same_input) → (ServesNot words → same_door) → (¬ Fetches command → same_fetch)
+    → (¬ ReadsInput command → same_input) → (¬ UsesDoor command → same_door) → (¬ Fetches command → same_fetch)
     → LeavesUnused words same_disk same_clock same_input same_door same_fetch
 unused-by command of_words disk clock input door fetch = record {
   disk = λ unused. disk (unused command of_words);
   clock = λ unused. clock (unused command of_words);
   input = λ unused. input (unused command of_words);
-  door = door;
+  door = λ unused. door (unused command of_words);
   fetch = λ unused. fetch (unused command of_words);
 }
 
@@ -211,6 +212,9 @@ mirror-other n may = (λ e. omega arith, λ e. omega arith)
 pub fetched-other : (n : ℕ) → MayEndFetched n → (n ≡ 2 → ⊥) × (n ≡ 9 → ⊥)
 fetched-other n may = (λ e. omega arith, λ e. omega arith)
 
+pub relay-other : (n : ℕ) → MayEndRelaying n → (n ≡ 2 → ⊥) × (n ≡ 9 → ⊥)
+relay-other n may = (λ e. omega arith, λ e. omega arith)
+
 pub audit-other : (n : ℕ) → MayEndAudit n → (n ≡ 2 → ⊥) × (n ≡ 4 → ⊥) × (n ≡ 7 → ⊥)
 audit-other n may = (λ e. omega arith, λ e. omega arith, λ e. omega arith)
 
@@ -231,6 +235,16 @@ serve-status n (inr (inr (inl e))) = (ends.NoMemory, e)
 serve-status n (inr (inr (inr (inl e)))) = (ends.BadStore, e)
 serve-status n (inr (inr (inr (inr (inl e))))) = (ends.DoorFault, e)
 serve-status n (inr (inr (inr (inr (inr e))))) = (ends.OutputFault, e)
+
+-- the status of `relay` is one of the program's
+pub relay-status : (n : ℕ) → MayEndRelaying n → IsStatus n
+relay-status n (inl e) = (ends.Done, e)
+relay-status n (inr (inl e)) = (ends.DiskFault, e)
+relay-status n (inr (inr (inl e))) = (ends.NoMemory, e)
+relay-status n (inr (inr (inr (inl e)))) = (ends.BadStore, e)
+relay-status n (inr (inr (inr (inr (inl e))))) = (ends.DoorFault, e)
+relay-status n (inr (inr (inr (inr (inr (inl e)))))) = (ends.OutputFault, e)
+relay-status n (inr (inr (inr (inr (inr (inr e)))))) = (ends.Refused, e)
 
 -- the status of `mirror` is one of the program's
 pub mirror-status : (n : ℕ) → MayEndMirror n → IsStatus n

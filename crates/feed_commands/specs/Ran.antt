@@ -8,14 +8,18 @@ use Rattle.doc_source.specs.Outside.{SinkState, SourceState}
 use Rattle.document_server.specs.Door.{DoorState}
 use Rattle.document_server.specs.declared.line.Line.{Line}
 use Rattle.feed_disk.specs.Disk.{DiskState}
+use Rattle.feed_disk.specs.Moments.{LeavesAlone}
+use Rattle.feed_disk.specs.declared.area.Area.{Area}
 use Rattle.feed_life.specs.Life.{LifeValue}
 use Rattle.discover_command.specs.Ends.{EndsDiscover}
 use Rattle.foreign_command.specs.Ends.{EndsForeign}
 use Rattle.mirror_commands.specs.Audit.{EndsAuditing}
 use Rattle.mirror_commands.specs.Mirroring.{EndsFetching, EndsMirroring}
+use Rattle.relay_command.specs.Relay.{EndsRelaying}
+use Rattle.scrub_command.specs.Answer.{EndsRepairing}
 use Rattle.tool_words.specs.declared.command.Command.{Command}
 use Rattle.tool_words.specs.declared.command.Command.TheVariants.{Init, Apply, Serve, Show, Mirror, Audit, Drill, Foreign}
-use Rattle.tool_words.specs.declared.command.Command.TheVariants.{Discover}
+use Rattle.tool_words.specs.declared.command.Command.TheVariants.{Discover, Relay, Scrub}
 use Rattle.tool_words.specs.declared.command.Show.TheVariants.{Pile}
 use Rattle.feed_commands.specs.Crash.{EndsApplying, IsStatusAfterLoad, MakesStoreAt}
 use Rattle.feed_commands.specs.Drill.{EndsDrilling}
@@ -58,6 +62,8 @@ pub record Ran : Type 1 where
 -- - `drill`: the life whose summary was printed.
 -- - `foreign`: the addresses asked, and the output over documents of one of this project's own feeds.
 -- - `discover`: the address asked, and the output over the service document of one of this project's own feeds.
+-- - `relay`: the session over the connections that the door gave, and what a crash leaves of the mirror's area.
+-- - `scrub`: no area changes. `scrub --repair`: what a crash leaves, and the store afterwards.
 abbrev pub EndsOf : Command → Ran → Type 0
 EndsOf (Init name window capacity) r =
     r.sees_disk → MakesStoreAt r.disk r.left name window capacity r.sees_clock (r.moments 0)
@@ -83,4 +89,11 @@ EndsOf (Drill seed count) r = EndsDrilling seed count r.life r.ended
 EndsOf (Foreign from) r = r.sees_fetch → EndsForeign from r.fetch r.fetched r.sees_output r.output r.taken r.ended
 EndsOf (Discover address) r =
     r.sees_fetch → EndsDiscover address r.fetch r.fetched r.sees_output r.output r.taken r.ended
+EndsOf (Relay base listen requests capacity) r =
+    EndsRelaying base requests r.disk r.left r.door r.shut r.sees_disk r.sees_door r.sees_output r.output r.taken r.ended
+    × r.stays_at listen
+EndsOf (Scrub false) r = (a : Area) → LeavesAlone r.disk r.left a
+EndsOf (Scrub true) r =
+    r.sees_disk → EndsRepairing r.disk r.left ((r.ended ≡ code_of status.Done) ⊎ (r.ended ≡ code_of status.OutputFault))
+    (r.ended ≡ code_of status.Full) (r.ended ≡ code_of status.BadStore)
 EndsOf _ r = Unit {0}

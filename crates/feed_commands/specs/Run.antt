@@ -21,6 +21,7 @@ use Rattle.feed_commands.specs.Drill.{drill_answer}
 use Rattle.feed_life.specs.Life.{LifeValue}
 use Rattle.discover_command.specs.Answer.{IsDiscoverAnswer}
 use Rattle.foreign_command.specs.Answer.{IsForeignAnswer}
+use Rattle.scrub_command.specs.Answer.{IsRepairAnswer, IsRepairEnd, IsScrubAnswer, IsSoundAnswer}
 use Rattle.foreign_mirror.specs.Walk.{IsStart}
 use Rattle.mirror_commands.specs.FetchEnds.{IsWalkAnswer, IsWalkEnd}
 use Rattle.mirror_commands.specs.MirrorEnds.{IsMirrorUnrefused, IsPileAnswer, IsPileEnd}
@@ -35,7 +36,7 @@ use Rattle.member_rules.specs.Head.{window_limit, capacity_floor, capacity_limit
 use Rattle.tool_words.specs.Words.{IsCommandOf, request_limit}
 use Rattle.tool_words.specs.declared.command.Command.{Command}
 use Rattle.tool_words.specs.declared.command.Command.TheVariants.{Init, Apply, Serve, Show, Mirror, Audit, Drill, Foreign}
-use Rattle.tool_words.specs.declared.command.Command.TheVariants.{Discover}
+use Rattle.tool_words.specs.declared.command.Command.TheVariants.{Discover, Relay, Scrub}
 use Rattle.tool_words.specs.declared.command.Show.TheVariants.{Document, Feed, Archive, Member, Pile}
 
 -- the ranges of a command's values
@@ -89,6 +90,18 @@ UsesClock (Apply window) = Unit {0}
 UsesClock (Serve listen requests service) = Unit {0}
 UsesClock _ = ⊥
 
+-- whether the command takes the connections of the door
+abbrev pub UsesDoor : Command → Type 0
+UsesDoor (Serve listen requests service) = Unit {0}
+UsesDoor (Relay base listen requests capacity) = Unit {0}
+UsesDoor _ = ⊥
+
+-- whether the command uses the mirror's area of the disk
+abbrev pub UsesMirror : Command → Type 0
+UsesMirror (Mirror base fetch report capacity) = Unit {0}
+UsesMirror (Relay base listen requests capacity) = Unit {0}
+UsesMirror _ = ⊥
+
 -- whether the command asks the source of documents
 abbrev pub Fetches : Command → Type 0
 Fetches (Mirror base true report capacity) = Unit {0}
@@ -96,15 +109,18 @@ Fetches (Foreign from) = Unit {0}
 Fetches (Discover address) = Unit {0}
 Fetches _ = ⊥
 
--- whether the command has an answer that disk, clock, input and source determine: each but `serve`, which depends on
--- the door
+-- whether the command has an answer that disk, clock, input and source determine: each but `serve` and `relay`, which
+-- depend on the door
 abbrev pub IsAnswering : Command → Type 0
 IsAnswering (Serve listen requests service) = ⊥
+IsAnswering (Relay base listen requests capacity) = ⊥
 IsAnswering _ = Unit {0}
 
--- whether all that the command prints is made before the first byte is printed: each but `serve` and `show pile`
+-- whether all that the command prints is made before the first byte is printed: each but `serve`, `relay` and
+-- `show pile`
 abbrev pub IsAtOnce : Command → Type 0
 IsAtOnce (Serve listen requests service) = ⊥
+IsAtOnce (Relay base listen requests capacity) = ⊥
 IsAtOnce (Show Pile) = ⊥
 IsAtOnce _ = Unit {0}
 
@@ -126,10 +142,13 @@ PrintsAtOnce words = (command : Command) → IsCommandOf words command → IsAtO
 abbrev pub ServesNot : List (List ℕ) → Type 0
 ServesNot words = (listen : List ℕ) (requests : ℕ) (service : Bool) → ¬ IsCommandOf words (Serve listen requests service)
 
--- the words are those of another command than `mirror`, or of none
-abbrev pub MirrorsNot : List (List ℕ) → Type 0
-MirrorsNot words =
-    (base : List ℕ) (fetch report : Bool) (capacity : ℕ) → ¬ IsCommandOf words (Mirror base fetch report capacity)
+-- the words are those of a command that takes no connections, or of none
+abbrev pub UsesNoDoor : List (List ℕ) → Type 0
+UsesNoDoor words = (command : Command) → IsCommandOf words command → ¬ UsesDoor command
+
+-- the words are those of another command than `mirror` and `relay`, or of none
+abbrev pub UsesNoMirror : List (List ℕ) → Type 0
+UsesNoMirror words = (command : Command) → IsCommandOf words command → ¬ UsesMirror command
 
 -- the words are those of another command than `drill`, or of none
 abbrev pub DrillsNot : List (List ℕ) → Type 0
@@ -166,7 +185,7 @@ pub record LeavesUnused (words : List (List ℕ)) (same_disk same_clock same_inp
   pub disk : UsesNoDisk words → same_disk
   pub clock : UsesNoClock words → same_clock
   pub input : ReadsNoInput words → same_input
-  pub door : ServesNot words → same_door
+  pub door : UsesNoDoor words → same_door
   pub fetch : FetchesNot words → same_fetch
 
 -- only `serve` returns lines, and only `drill` a life
@@ -193,7 +212,7 @@ pub record CountsFaults (words : List (List ℕ)) (disk left : DiskState) (door 
       → RisesAtMost (read_limit command) input.bytes_read rest.bytes_read
   pub output_faults : CountsOutput output.faults taken.faults ended
   pub door_faults : CountsShared door.faults shut.faults (ended ≡ code_of ends.DoorFault) (FetchesNot words)
-  pub fetch_faults : CountsShared fetch.faults fetched.faults (ended ≡ code_of ends.FetchFault) (ServesNot words)
+  pub fetch_faults : CountsShared fetch.faults fetched.faults (ended ≡ code_of ends.FetchFault) (UsesNoDoor words)
 
 -- contracts can see all that the command's answer depends on
 pub record IsSeen (command : Command) (disk_observable clock_observable input_observable fetch_observable : Type 0)
@@ -238,10 +257,13 @@ IsAnswer (Drill seed count) outside given = given ≡ drill_answer seed count
 IsAnswer (Foreign from) outside given = IsForeignAnswer outside.answers from given
 IsAnswer (Discover address) outside given = IsDiscoverAnswer outside.answers address given
 IsAnswer (Serve listen requests service) outside given = ⊥
+IsAnswer (Relay base listen requests capacity) outside given = ⊥
+IsAnswer (Scrub false) outside given = IsScrubAnswer outside.content given
+IsAnswer (Scrub true) outside given = IsRepairAnswer outside.content given
 IsAnswer command outside given = IsOfStore command outside given ⊎ IsBadStore outside.content given
 
--- The answer of a command on a disk whose content opens to a store or loads to a mirror, and the answer of the other
--- commands. There is one at most.
+-- The answer of a command on a disk whose content opens to a store, is sound, can be repaired or loads to a mirror, and the
+-- answer of the other commands. There is one at most.
 abbrev pub IsDueAnswer : Command → Outside → Answer → Type 0
 IsDueAnswer (Init name window capacity) outside given = IsInitAnswer outside.content given
 IsDueAnswer (Apply (Some window)) outside given = answer (test_head window) outside.moments outside.input ≡ given
@@ -255,6 +277,9 @@ IsDueAnswer (Drill seed count) outside given = given ≡ drill_answer seed count
 IsDueAnswer (Foreign from) outside given = IsForeignAnswer outside.answers from given
 IsDueAnswer (Discover address) outside given = IsDiscoverAnswer outside.answers address given
 IsDueAnswer (Serve listen requests service) outside given = ⊥
+IsDueAnswer (Relay base listen requests capacity) outside given = ⊥
+IsDueAnswer (Scrub false) outside given = IsSoundAnswer outside.content given
+IsDueAnswer (Scrub true) outside given = IsRepairEnd outside.content given
 IsDueAnswer command outside given = IsOfStore command outside given
 
 -- the command's answer, which is the due one if there is one

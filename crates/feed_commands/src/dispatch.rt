@@ -3,6 +3,7 @@ ghost use Rattle.atom_values.specs.Counts.{CountsFault};
 ghost use Rattle.atom_writer.specs.declared.doc.FeedName.{FeedName};
 ghost use Rattle.feed_disk.specs.Moments.{LeavesAlone};
 ghost use Rattle.feed_disk.specs.Raised.{RisesAtMost};
+ghost use Rattle.feed_disk.specs.declared.area.Area.{Area as AreaValue};
 ghost use Rattle.feed_disk.specs.declared.area.Area.TheVariants.{Mirror};
 ghost use Rattle.command_ends.specs.declared.status.Status.TheVariants as status;
 ghost use Rattle.command_ends.specs.Answer.{Answer, Prints};
@@ -15,14 +16,15 @@ ghost use Rattle.feed_commands.specs.Run.{HasRange, IsDueAnswer, IsGiven, IsSeen
 ghost use Rattle.command_ends.specs.Ends.{IsStatus, IsAnswered};
 ghost use Rattle.feed_commands.specs.Outside.{outside_of};
 ghost use Rattle.feed_commands.specs.Run.{CountsFaults, EndsWith, IsAtOnce, IsBare, IsComplete, IsSeenUnfetched};
-ghost use Rattle.feed_commands.specs.Run.{IsTextual, IsUsageOf, LeavesUnused, MirrorsNot, PrintsAtOnce, ReadsInput};
-ghost use Rattle.feed_commands.specs.Run.{UsesClock, UsesDisk, read_limit};
+ghost use Rattle.feed_commands.specs.Run.{IsTextual, IsUsageOf, LeavesUnused, PrintsAtOnce, ReadsInput};
+ghost use Rattle.feed_commands.specs.Run.{UsesClock, UsesDisk, UsesNoMirror, read_limit};
 ghost use Rattle.command_ends.specs.Ends.{IsAlone, alone_line};
 ghost use Rattle.feed_commands.specs.Ran.{EndsOf};
 ghost use Rattle.command_ends.specs.Status.{code_of};
 ghost use Rattle.tool_words.specs.Words.{IsCommandOf};
 ghost use Rattle.tool_words.specs.declared.command.Command.{Command as CommandValue};
-ghost use Rattle.tool_words.specs.declared.command.Command.TheVariants.{Init, Apply};
+ghost use Rattle.scrub_command.specs.Answer.{EndsRepairing, EndsWithStatus};
+ghost use Rattle.tool_words.specs.declared.command.Command.TheVariants.{Init, Apply, Scrub};
 
 use crate::commands::apply::apply;
 use crate::commands::drill::drill;
@@ -40,6 +42,8 @@ use feed_disk::Disk;
 use feed_life::Life;
 use foreign_command::foreign;
 use mirror_commands::{audit, mirror, mirror_fetched};
+use relay_command::relay;
+use scrub_command::{repair, scrub};
 use std::alloc::Global;
 use tool_words::{Command, Show, WordsFault, read_words};
 
@@ -89,6 +93,10 @@ impl Ended {
 /// - `foreign` walks the archived feed of any server and prints its live entries, or the line of the address at which its
 ///   chain breaks off.
 /// - `discover` reads the service document of any server and prints its collections, each with whether it takes entries.
+/// - `relay` serves the documents that the mirror's area holds at an address, one connection after the other, and then
+///   prints a line for each.
+/// - `scrub` says whether the store is sound, or names the first record or archive that isn't. `scrub --repair` makes the
+///   archives anew from the journal.
 ///
 /// At any other end the line of that end is printed. A failure to print that line changes no status.
 pub fn run<D: Disk, C: Clock, L: Door, F: Fetch, I: Source, O: Sink>(
@@ -136,17 +144,18 @@ pub fn run<D: Disk, C: Clock, L: Door, F: Fetch, I: Source, O: Sink>(
         (I.state input.old) (I.state input.new) (O.state output.old) (O.state output.new)
         result.status given.status }
 
-    // A crash within the command, or after it: the commands that add nothing to a store, and words that name none, leave
-    // the payloads that a crash could leave before. `mirror` alone reaches the mirror's area.
+    // A crash within the command, or after it: the commands that write nothing to a store, and words that name none, leave
+    // the payloads that a crash could leave before. `mirror` and `relay` alone reach the mirror's area.
     ensures safe { AddsNoOperation (map string_bytes words.now) → D.observable
         → KeepsPayloads (D.state disk.old) (D.state disk.new) }
-    ensures mirror { MirrorsNot (map string_bytes words.now)
+    ensures mirror { UsesNoMirror (map string_bytes words.now)
         → LeavesAlone (D.state disk.old) (D.state disk.new) Mirror }
 
     // What is said of the command beside its answer. `init` and `apply`: what a crash leaves. `show pile`: the documents
     // that were printed before a fault. `serve`: the session. `mirror`: what a crash leaves of its area, and its output
     // over documents that one feed served. `audit`: the meaning of its status. `drill`: its life. `foreign` and
-    // `discover`: the addresses asked, and the output over one of this project's own feeds.
+    // `discover`: the addresses asked, and the output over one of this project's own feeds. `relay`: the session, and
+    // what a crash leaves of the mirror's area. `scrub`: no area changes. `scrub --repair`: what a crash leaves.
     ensures ends { (command : CommandValue) → IsCommandOf (map string_bytes words.now) command → EndsOf command record {
       disk = D.state disk.old;
       left = D.state disk.new;
@@ -230,6 +239,16 @@ pub fn run<D: Disk, C: Clock, L: Door, F: Fetch, I: Source, O: Sink>(
         Command::Discover { address } => {
             Ended::with_status(alloc, discover(alloc, address.slice(), fetch, output))
         }
+        Command::Relay {
+            base,
+            listen,
+            requests,
+            capacity,
+        } => {
+            let at = listen.slice();
+            let status = relay(alloc, &base, at, requests, capacity, disk, door, output);
+            Ended::with_status(alloc, status)
+        }
         command => match answer(alloc, command, disk, clock, input) {
             Ok(text) => match write_all(output, text.as_slice()) {
                 Ok(()) => Ended::with_status(alloc, Status::Done),
@@ -242,10 +261,10 @@ pub fn run<D: Disk, C: Clock, L: Door, F: Fetch, I: Source, O: Sink>(
 
 /// The line for words that name no command. Its names are those of the finished program.
 const USAGE: &[u8] =
-    b"usage: feed_tool init, apply, show, serve, mirror, audit, drill, foreign, discover\n";
+    b"usage: feed_tool init, apply, show, serve, mirror, audit, drill, foreign, discover, relay, scrub\n";
 
-/// Returns what the command prints at its defined end. `serve`, `show pile`, `mirror`, `audit`, `drill`, `foreign` and
-/// `discover` print by themselves.
+/// Returns what the command prints at its defined end. `serve`, `show pile`, `mirror`, `audit`, `drill`, `foreign`,
+/// `discover` and `relay` print by themselves.
 fn answer<D: Disk, C: Clock, I: Source>(
     alloc: Global,
     command: Command,
@@ -282,6 +301,10 @@ fn answer<D: Disk, C: Clock, I: Source>(
         → EndsApplying (D.state disk.old) (D.state disk.new) (C.coming clock.old)
         (I.state input.old) (I.state input.new) C.observable I.observable
         (result ≡ Err Fault.Disk) (result ≡ Err Fault.Input) (EndsAfterLoad result) (HasAnswer result) }
+    ensures scrubbed { command ≡ Scrub false → (a : AreaValue) → LeavesAlone (D.state disk.old) (D.state disk.new) a }
+    ensures repaired { command ≡ Scrub true → D.observable
+        → EndsRepairing (D.state disk.old) (D.state disk.new) (IsOk result)
+        (EndsWithStatus result status.Full) (EndsWithStatus result status.BadStore) }
     ensures mirror { LeavesAlone (D.state disk.old) (D.state disk.new) Mirror }
     ensures no_disk { ¬ UsesDisk command → disk.new ≡ disk.old }
     ensures no_clock { ¬ UsesClock command → clock.new ≡ clock.old }
@@ -305,12 +328,15 @@ fn answer<D: Disk, C: Clock, I: Source>(
             // `run` calls `show_pile` itself.
             Show::Pile => unreachable!(),
         },
+        Command::Scrub { repair: false } => scrub(alloc, disk),
+        Command::Scrub { repair: true } => repair(alloc, disk),
         // `run` calls the functions of these commands itself.
         Command::Serve { .. }
         | Command::Mirror { .. }
         | Command::Audit
         | Command::Drill { .. }
         | Command::Foreign { .. }
-        | Command::Discover { .. } => unreachable!(),
+        | Command::Discover { .. }
+        | Command::Relay { .. } => unreachable!(),
     }
 }

@@ -13,7 +13,7 @@ use std::process::Abort;
 const FAULT: &[u8] = b"input fault\n";
 
 const USAGE: &[u8] =
-    b"usage: feed_tool init, apply, show, serve, mirror, audit, drill, foreign, discover\n";
+    b"usage: feed_tool init, apply, show, serve, mirror, audit, drill, foreign, discover, relay, scrub\n";
 
 /// Words that name no command.
 static NO_COMMANDS: [&[&str]; 16] = [

@@ -35,7 +35,11 @@ mod mirror;
 #[cfg(test)]
 mod pile;
 #[cfg(test)]
+mod relays;
+#[cfg(test)]
 mod runs;
+#[cfg(test)]
+mod scrubs;
 #[cfg(test)]
 mod serve;
 #[cfg(test)]

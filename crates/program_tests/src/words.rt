@@ -442,6 +442,70 @@ static DISCOVER: [(&str, &str); 24] = [
     ("Discover http://a.example/", "usage"),
 ];
 
+/// Words of `relay` and words like them, in the same form.
+static RELAY: [(&str, &str); 24] = [
+    (
+        "relay *base --listen a --requests 5",
+        "relay / a 5 1073741824",
+    ),
+    (
+        "relay --requests=005 --capacity 4096 --listen=b *base",
+        "relay / b 5 4096",
+    ),
+    (
+        "relay *base --listen a --requests 1000000 --capacity=68719476736",
+        "relay / a 1000000 68719476736",
+    ),
+    (
+        "relay --base=http://feed.example:8080/a/ --listen a --requests 1",
+        "relay :8080/a/ a 1 1073741824",
+    ),
+    ("relay *base --listen a --requests 1000001", "usage"),
+    ("relay *base --listen a --requests 0", "usage"),
+    (
+        "relay *base --listen a --requests 5 --capacity 4095",
+        "usage",
+    ),
+    (
+        "relay *base --listen a --requests 5 --capacity 68719476737",
+        "usage",
+    ),
+    ("relay *base --listen a --requests 5 --capacity", "usage"),
+    ("relay *base --listen a", "usage"),
+    ("relay *base --requests 5", "usage"),
+    ("relay --listen a --requests 5", "usage"),
+    ("relay", "usage"),
+    ("relay *base *base --listen a --requests 5", "usage"),
+    ("relay *base --listen a --listen a --requests 5", "usage"),
+    (
+        "relay --base http://feed.example:80/ --listen a --requests 5",
+        "usage",
+    ),
+    ("relay *base --listen a --requests 5 --fetch", "usage"),
+    ("relay *base --listen a --requests 5 --report", "usage"),
+    ("relay *base --listen a --requests 5 --service", "usage"),
+    ("relay *base --listen a --requests 5 --", "usage"),
+    ("relay *base --listen a --requests 5 ", "usage"),
+    ("relay *base --listen  --requests 5", "usage"),
+    ("relay / a 5", "usage"),
+    ("Relay *base --listen a --requests 5", "usage"),
+];
+
+/// Words of `scrub` and words like them, in the same form.
+static SCRUB: [(&str, &str); 11] = [
+    ("scrub", "scrub"),
+    ("scrub --repair", "scrub repair"),
+    ("scrub --repair --repair", "usage"),
+    ("scrub --repair=yes", "usage"),
+    ("scrub --repair yes", "usage"),
+    ("scrub repair", "usage"),
+    ("scrub --rep", "usage"),
+    ("scrub --", "usage"),
+    ("scrub ", "usage"),
+    ("scrub *base", "usage"),
+    ("Scrub", "usage"),
+];
+
 /// Each row has words as above, a letter, how many times it replaces each `%`, and whether the words are read.
 static LENGTHS: [(&str, &str, usize, bool); 9] = [
     ("init *base *uuid --title % --author=%", "x", 1_024, true),
@@ -609,6 +673,14 @@ fn printed(rt: &impl Abort, alloc: Global, command: &Command) -> String {
         }
         Command::Foreign { from } => titled(rt, alloc, "foreign", from.slice()),
         Command::Discover { address } => titled(rt, alloc, "discover", address.slice()),
+        Command::Relay {
+            base,
+            listen,
+            requests,
+            capacity,
+        } => relayed(rt, alloc, base, listen.slice(), (*requests, *capacity)),
+        Command::Scrub { repair: false } => text(rt, alloc, "scrub"),
+        Command::Scrub { repair: true } => text(rt, alloc, "scrub repair"),
         Command::Init {
             name,
             window,
@@ -637,6 +709,20 @@ fn mirrored(
     let fetch = if fetch { "fetch " } else { "" };
     let report = if report { "report " } else { "" };
     format!(in alloc; "mirror {base} {fetch}{report}{capacity}").expect(rt, "memory")
+}
+
+/// Returns what words of `relay` are read as: the base address without `http://feed.example`, the address to listen at,
+/// the number of requests, and the capacity.
+fn relayed(
+    rt: &impl Abort,
+    alloc: Global,
+    base: &Base,
+    listen: &[u8],
+    (requests, capacity): (u32, u64),
+) -> String {
+    let base = base_of(rt, base.text());
+    let listen = utf8(rt, listen);
+    format!(in alloc; "relay {base} {listen} {requests} {capacity}").expect(rt, "memory")
 }
 
 /// Returns a base address without `http://feed.example`.
@@ -727,6 +813,16 @@ fn reads_words_of_foreign(rt: HostRuntime) {
 #[test]
 fn reads_words_of_discover(rt: HostRuntime) {
     reads_rows(&rt, rt.alloc(), &DISCOVER);
+}
+
+#[test]
+fn reads_words_of_relay(rt: HostRuntime) {
+    reads_rows(&rt, rt.alloc(), &RELAY);
+}
+
+#[test]
+fn reads_words_of_scrub(rt: HostRuntime) {
+    reads_rows(&rt, rt.alloc(), &SCRUB);
 }
 
 /// Returns what a line is read as.

@@ -19,3 +19,8 @@ returns-in-Document-clause-answer g c = λ source. rw (c.in-Show.is, c.in-Docume
 pub returns-in-Document-clause-refused : goal.returns-in-Document-clause-refused
 returns-in-Document-clause-refused g c = λ source. rw (c.in-Show.is, c.in-Document.is) (IfErr-weaker c.show.result _ _
     (λ fault given refusal seen. document-given _ _ (given refusal (seen.input tt))) c.show.ensures.refused)
+
+pub returns-in-Scrub-default-false-clause-answer : goal.returns-in-Scrub-default-false-clause-answer
+returns-in-Scrub-default-false-clause-answer g c = λ source. rw c.in-Scrub-default-false.is
+    (IfOk-weaker c.scrub.result _ _ (λ written given seen. scrub-given _ _ (given (seen.disk tt)))
+    c.scrub.ensures.answer)

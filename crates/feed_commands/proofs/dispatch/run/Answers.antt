@@ -1,7 +1,10 @@
 use Rattle.std.proofs.Common.{rules, ◌≡◌, ◌⊎◌, inl, inr, ⊎_elim, ℕ, None, Err, true, false, refl, sym, subst, ap, ◌∙◌, arith}
 use Rattle.std.proofs.lemmas.Result.{on_ok_weaker}
+use Rattle.scrub_command.proofs.RepairEndLemmas.{ends-bad, ends-full, repair-weaker}
 use Rattle.tool_words.specs.declared.command.Command.TheVariants.{Audit, Discover, Drill, Foreign, Mirror, Serve, Show}
 use Rattle.tool_words.specs.declared.command.Show.TheVariants.{Pile}
+use Rattle.feed_disk.specs.declared.area.Area.TheVariants.{Journal, Sealed}
+use Rattle.feed_recovery.proofs.LoadedLemmas.{alone-payloads}
 use Rattle.mirror_commands.specs.declared.report_fault.ReportFault.TheVariants.{Other}
 use Rattle.command_ends.specs.declared.fault.Fault.TheVariants.{Disk, Input, NoMemory}
 use Rattle.command_ends.specs.Answer.{Answer}
@@ -25,6 +28,7 @@ use Rattle.feed_commands.proofs.RunLemmas.{audit-status, discover-status, fetche
 use Rattle.feed_commands.proofs.RunLemmas.{discover-other, read_words-of, url-of}
 use Rattle.feed_commands.proofs.RunLemmas.{audit-other, bare-none, drill-other, faults-none, fetched-other, foreign-other}
 use Rattle.feed_commands.proofs.RunLemmas.{mirror-other, start-of}
+use Rattle.feed_commands.proofs.RunLemmas.{relay-other, relay-status}
 use Rattle.feed_commands.proofs.RunLemmas.{pile-other, serve-other, unused-all, unused-by, words-of, words-refused, words-unread}
 use Rattle.feed_commands.proofs.RunLemmas.{drill-status, mirror-is, seen-unfetched, serve-status, show-pile, usage}
 use Rattle.feed_commands.proofs.dispatch.run.Goals as goal
@@ -117,7 +121,8 @@ returns-in-Serve-clause-faults g c = record {
   input_read = λ command of_words. omega arith;
   output_faults = c.serve.ensures.output_faults;
   door_faults = shared-counts c.serve.ensures.door_faults;
-  fetch_faults = shared-other (λ others. others _ _ _ (read_as _ c.in-Ok.is c.in-Serve.is c.read_words.ensures.found));
+  fetch_faults = shared-other (λ others.
+      others _ (read_as _ c.in-Ok.is c.in-Serve.is c.read_words.ensures.found) tt);
 }
 
 pub returns-in-Serve-clause-safe : goal.returns-in-Serve-clause-safe
@@ -129,7 +134,7 @@ pub returns-in-Serve-clause-unused : goal.returns-in-Serve-clause-unused
 returns-in-Serve-clause-unused g c =
     let of_words = read_as _ c.in-Ok.is c.in-Serve.is c.read_words.ensures.found in
     unused-by (Serve c.in-Serve.listen c.in-Serve.requests c.in-Serve.service) of_words (λ unused. absurd (unused tt))
-    (λ unused. absurd (unused tt)) (λ _. refl) (λ others. absurd (others _ _ _ of_words)) (λ _. refl)
+    (λ unused. absurd (unused tt)) (λ _. refl) (λ unused. absurd (unused tt)) (λ _. refl)
 
 pub returns-in-Serve-clause-bare : goal.returns-in-Serve-clause-bare
 returns-in-Serve-clause-bare g c = record {
@@ -140,6 +145,54 @@ returns-in-Serve-clause-bare g c = record {
 pub returns-in-Serve-clause-ends : goal.returns-in-Serve-clause-ends
 returns-in-Serve-clause-ends g c = read_all _ c.in-Ok.is c.read_words.ensures.only
     (rw c.in-Serve.is (c.serve.ensures.serves, rw c.slice.ensures at c.serve.ensures.address))
+
+-- `relay`
+
+pub returns-in-Relay-clause-statuses : goal.returns-in-Relay-clause-statuses
+returns-in-Relay-clause-statuses g c =
+    rw c.with_status-in-Relay.ensures.status (relay-status _ c.relay-status.ensures.statuses)
+
+pub returns-in-Relay-clause-words : goal.returns-in-Relay-clause-words
+returns-in-Relay-clause-words g c =
+    words-of _ (read_as _ c.in-Ok.is c.in-Relay.is c.read_words.ensures.found)
+    (rw c.with_status-in-Relay.ensures.status (relay-other _ c.relay-status.ensures.statuses).0)
+
+pub returns-in-Relay-clause-alone : goal.returns-in-Relay-clause-alone
+returns-in-Relay-clause-alone g c = λ sink once.
+    absurd (once _ (read_as _ c.in-Ok.is c.in-Relay.is c.read_words.ensures.found))
+
+pub returns-in-Relay-clause-faults : goal.returns-in-Relay-clause-faults
+returns-in-Relay-clause-faults g c =
+    rw c.with_status-in-Relay.ensures.status (record {
+      disk_faults = c.relay-status.ensures.disk_faults;
+      input_faults = counts-none (relay-other _ c.relay-status.ensures.statuses).1;
+      input_read = λ command of_words. omega arith;
+      output_faults = c.relay-status.ensures.output_faults;
+      door_faults = shared-counts c.relay-status.ensures.door_faults;
+      fetch_faults = shared-other (λ others.
+          others _ (read_as _ c.in-Ok.is c.in-Relay.is c.read_words.ensures.found) tt);
+    })
+
+pub returns-in-Relay-clause-safe : goal.returns-in-Relay-clause-safe
+returns-in-Relay-clause-safe g c = λ others observable.
+    alone-payloads _ _ (c.relay-status.ensures.others Journal (λ e. cc)) (c.relay-status.ensures.others Sealed (λ e. cc))
+
+pub returns-in-Relay-clause-mirror : goal.returns-in-Relay-clause-mirror
+returns-in-Relay-clause-mirror g c = λ others.
+    absurd (others _ (read_as _ c.in-Ok.is c.in-Relay.is c.read_words.ensures.found) tt)
+
+pub returns-in-Relay-clause-unused : goal.returns-in-Relay-clause-unused
+returns-in-Relay-clause-unused g c =
+    unused-by _ (read_as _ c.in-Ok.is c.in-Relay.is c.read_words.ensures.found) (λ unused. absurd (unused tt))
+    (λ _. refl) (λ _. refl) (λ unused. absurd (unused tt)) (λ _. refl)
+
+pub returns-in-Relay-clause-bare : goal.returns-in-Relay-clause-bare
+returns-in-Relay-clause-bare g c = bare-none c.with_status-in-Relay.ensures.alone
+
+pub returns-in-Relay-clause-ends : goal.returns-in-Relay-clause-ends
+returns-in-Relay-clause-ends g c = read_all _ c.in-Ok.is c.read_words.ensures.only
+    (rw c.in-Relay.is (rw c.with_status-in-Relay.ensures.status c.relay-status.ensures.ends,
+    rw c.slice-at.ensures at c.relay-status.ensures.address))
 
 -- `show pile`
 
@@ -262,7 +315,7 @@ pub returns-in-Mirror-default-true-default-default-clause-mirror :
 returns-in-Mirror-default-true-default-default-clause-mirror g c = λ others.
     let arm = c.in-Mirror-default-true-default-default in
     let is = mirror-is arm.is arm.fetch-test in
-    absurd (others _ true _ _ (read_as _ c.in-Ok.is is c.read_words.ensures.found))
+    absurd (others _ (read_as _ c.in-Ok.is is c.read_words.ensures.found) tt)
 
 pub returns-in-Mirror-default-true-default-default-clause-unused :
     goal.returns-in-Mirror-default-true-default-default-clause-unused
@@ -358,7 +411,7 @@ pub returns-in-Mirror-default-false-default-default-clause-mirror :
 returns-in-Mirror-default-false-default-default-clause-mirror g c = λ others.
     let arm = c.in-Mirror-default-false-default-default in
     let is = mirror-is arm.is arm.fetch-test in
-    absurd (others _ false _ _ (read_as _ c.in-Ok.is is c.read_words.ensures.found))
+    absurd (others _ (read_as _ c.in-Ok.is is c.read_words.ensures.found) tt)
 
 pub returns-in-Mirror-default-false-default-default-clause-unused :
     goal.returns-in-Mirror-default-false-default-default-clause-unused
@@ -664,7 +717,12 @@ returns-in-Ok-write_all-clause-ends g c = read_all _ c.in-Ok.is c.read_words.ens
           (λ e. absurd (omega (arith, e, c.with_status-in-Ok-write_all.ensures.status)))
           (λ e. absurd (omega (arith, e, c.with_status-in-Ok-write_all.ensures.status))) (λ e. tt) applied.safe;
       opens = λ clock source answered. applied.opens clock source tt;
-    }))
+    })
+    c.answer.ensures.scrubbed
+    (λ is observable. repair-weaker (λ _. tt)
+    (λ e. absurd (omega (arith, e, c.with_status-in-Ok-write_all.ensures.status)))
+    (λ e. absurd (omega (arith, e, c.with_status-in-Ok-write_all.ensures.status)))
+    (c.in-Ok-answer.ensures.repaired is observable)))
 
 -- the output failed
 
@@ -725,7 +783,12 @@ returns-in-Ok-answer-clause-ends g c = read_all _ c.in-Ok.is c.read_words.ensure
           (λ e. absurd (omega (arith, e, c.with_status-in-Err-write_all.ensures.status)))
           (λ e. absurd (omega (arith, e, c.with_status-in-Err-write_all.ensures.status))) (λ e. tt) applied.safe;
       opens = λ clock source answered. applied.opens clock source tt;
-    }))
+    })
+    c.answer.ensures.scrubbed
+    (λ is observable. repair-weaker (λ _. tt)
+    (λ e. absurd (omega (arith, e, c.with_status-in-Err-write_all.ensures.status)))
+    (λ e. absurd (omega (arith, e, c.with_status-in-Err-write_all.ensures.status)))
+    (c.in-Ok-answer.ensures.repaired is observable)))
 
 -- the command has a fault
 
@@ -815,4 +878,10 @@ returns-clause-ends g c = read_all _ c.in-Ok.is c.read_words.ensures.only
           (λ ends. loaded_fault c.in-Err.fault (subst IsStatusAfterLoad is ends)) applied.safe;
       opens = λ clock source answered.
           applied.opens clock source (answered-refusal c.in-Err.fault (subst IsAnswered is answered));
-    }))
+    })
+    c.answer.ensures.scrubbed
+    (λ same observable.
+    let is = c.with_status-in-Err.ensures.status ∙ ap code_of c.print_fault-in-Err.ensures.status in
+    repair-weaker (⊎_elim (λ e. absurd (no_end c.in-Err.fault (sym is ∙ e)))
+    (λ e. absurd (no_output c.in-Err.fault (sym is ∙ e))))
+    (ends-full refl is) (ends-bad refl is) (c.in-Err.ensures.repaired same observable)))
