@@ -1,27 +1,24 @@
 -- The payloads, the images and the moments of a gate that is closed after the first payloads of an area.
-use Rattle.std.proofs.Common.{◌≡◌, ◌≢◌, inl, inr, ◌⊎◌, ⊎_elim, ℕ, zero, suc, ◌+◌, ◌-◌, ◌<◌, ◌≤◌, min, max, Bool, List, [], ◌∷◌}
-use Rattle.std.proofs.Common.{◌++◌, length, get_or, take, drop, refl, sym, ◌∙◌, ap, subst, arith, length-append, length-take}
+use Rattle.std.proofs.Common.{◌≡◌, inl, inr, ℕ, zero, suc, ◌+◌, ◌-◌, ◌<◌, ◌≤◌, min, max, false, List, [], ◌∷◌}
+use Rattle.std.proofs.Common.{◌++◌, length, get_or, take, drop, refl, sym, ◌∙◌, ap, subst, arith, length-take}
 use Rattle.std.proofs.Common.{length-drop, take-append-drop, add-zero, get_or-drop}
-use Rattle.std.specs.Prelude.{IsTrue, ◌↔◌}
 use Rattle.std.proofs.lemmas.Bool.{cases_Bool, cases_eq, cases_lt}
-use Rattle.std.proofs.lemmas.List.{append-nil, drop-drop, take_at, drop_more, take-map}
+use Rattle.std.proofs.lemmas.List.{append-nil, drop-drop, drop_more, take-map, take_all, take_at}
 use Rattle.feed_disk.specs.Disk.{DiskState, written, Torn, TornFrom}
-use Rattle.feed_disk.specs.Moments.{AlwaysLeaves, NowOnly}
+use Rattle.feed_disk.specs.Moments.{AlwaysLeaves}
 use Rattle.feed_disk.specs.declared.area.Area.{Area}
 use Rattle.feed_disk.proofs.MomentLemmas.{always_weaker}
 use Rattle.feed_journal.specs.Limits.{payload_count_limit}
-use Rattle.feed_journal.specs.Log.{LogValue, payloads_at, Follow, KeepsLog, IsListed, IsSynced, KeepsAll, KeepsFirst}
-use Rattle.feed_journal.specs.Log.{ListsOnly, RestsAt}
+use Rattle.feed_journal.specs.Log.{LogValue, payloads_at, Follow, KeepsLog, KeepsAll, KeepsFirst}
+use Rattle.feed_journal.specs.Log.{ListsOnly}
 use Rattle.feed_journal.specs.Records.{length_at, has_frame, records_up_to, records, size_of, frames, Begins, HasFirst}
-use Rattle.feed_journal.specs.Records.{IsClosed, IsWhole, StartsWith, padded}
-use Rattle.feed_journal.specs.Scan.{IsClosedAt}
+use Rattle.feed_journal.specs.Records.{IsClosed, IsWhole, StartsWith}
 use Rattle.feed_journal.specs.declared.extent.Extent.{Extent}
 use Rattle.feed_journal.proofs.AppendLemmas.{take-written, drop-written}
-use Rattle.feed_journal.proofs.ExtentLemmas.{follow_above, extents_same}
+use Rattle.feed_journal.proofs.ExtentLemmas.{follow_above, extents_same, length-payloads}
 use Rattle.feed_journal.proofs.ReadLemmas.{heads}
 use Rattle.feed_journal.proofs.RecordLemmas.{closed_none, few_read, frame_parts, length-frames, reads_more, reads_none}
-use Rattle.feed_journal.proofs.RecordLemmas.{reads_same, size-above, size-many}
-use Rattle.feed_journal.proofs.SettleLemmas.{padded_long, padded_short}
+use Rattle.feed_journal.proofs.RecordLemmas.{read_size, reads_same, size-above, size-many}
 
 -- the first payloads are those that a smaller limit reads
 pub take-records : (k n : ℕ) (bytes : List ℕ) → take k (records_up_to n bytes) ≡ records_up_to (min k n) bytes
@@ -41,24 +38,6 @@ take-records (suc k) (suc n) bytes = elim (cases_Bool (has_frame bytes)) [
       ∙ ap (λ (m : ℕ). records_up_to m bytes) fewer
   | inr none ↦ ap (take (suc k)) (reads_none (suc n) bytes none)
       ∙ sym (reads_none (min (suc k) (suc n)) bytes none)
-]
-
--- the frames of the payloads, and a gate, are no longer than the bytes
-pub read_size : (n : ℕ) (bytes : List ℕ) → size_of (records_up_to n bytes) ≤ max 1 (length bytes)
-read_size zero bytes = omega arith
-read_size (suc n) bytes = elim (cases_Bool (has_frame bytes)) [
-  | inl has ↦
-      let len = length_at bytes in
-      omega (
-        arith,
-        ap size_of (reads_more n bytes has),
-        read_size n (drop (len + 5) bytes),
-        (frame_parts bytes has).2,
-        length-take len (drop 5 bytes),
-        length-drop 5 bytes,
-        length-drop (len + 5) bytes,
-      )
-  | inr none ↦ omega (arith, ap size_of (reads_none (suc n) bytes none))
 ]
 
 module _ (payloads : List (List ℕ)) (bytes : List ℕ) (first : HasFirst payloads bytes) where
@@ -133,8 +112,8 @@ module _ (old new : List ℕ) (open_one : IsWhole old → ⊥) (torn : Torn (siz
   abbrev at : ℕ
   at = size_of (records old) - 1
 
-  long : 6 ≤ length old
-  long = elim (cases_lt (length old) 6) [
+  not_short : 6 ≤ length old
+  not_short = elim (cases_lt (length old) 6) [
     | inl short ↦ absurd (open_one (inl short))
     | inr enough ↦ enough
   ]
@@ -148,7 +127,7 @@ module _ (old new : List ℕ) (open_one : IsWhole old → ⊥) (torn : Torn (siz
   inside : at < length old
   inside = omega (
     arith,
-    long,
+    not_short,
     read_size (min (length old) payload_count_limit) old,
     size-above (records old),
   )
@@ -248,7 +227,7 @@ module _ (extents kept : List Extent) (size : ℕ) (content : List ℕ) (rules :
   abbrev pub payloads : List (List ℕ)
   payloads = take (length kept) (records content)
 
-  fuel : ℕ
+  abbrev fuel : ℕ
   fuel = min (length kept) (min (length content) payload_count_limit)
 
   kept_list : payloads_at kept content ≡ payloads
@@ -339,6 +318,34 @@ module _ (extents kept : List Extent) (size : ℕ) (content : List ℕ) (rules :
               ∙ ap (λ (l : List ℕ). frames payloads ++ l) back;
         }
 
+-- the same where all payloads are kept
+module _ (extents : List Extent) (size : ℕ) (content : List ℕ) (rules : KeepsLog extents size)
+    (listed : payloads_at extents content ≡ records content) where
+  is_all : extents ≡ take (length extents) extents
+  is_all = sym (take_all (length extents) extents (omega arith))
+
+  all_payloads : take (length extents) (records content) ≡ records content
+  all_payloads = take_all (length extents) (records content)
+      (omega (arith, ap length listed, length-payloads extents content))
+
+  pub all_within : size - 1 ≤ length content
+  all_within = gate_within extents extents size content rules is_all listed
+
+  pub all_gate : size - 1 ≡ size_of (records content) - 1
+  all_gate = is_gate extents extents size content rules is_all listed
+      ∙ ap (λ (l : List (List ℕ)). size_of l - 1) all_payloads
+
+  module _ (new : List ℕ) (wrote : new ≡ written content (size - 1) (0 ∷ [])) where
+    pub lists_all : (log : LogValue) → log.extents ≡ extents → log.size ≡ size
+        → ListsOnly (records content) log content new
+    lists_all log is end = subst (λ (l : List (List ℕ)). ListsOnly l log content new) all_payloads
+        (lists_only extents extents size content rules is_all listed new wrote log is end)
+
+    pub begins_all : StartsWith (records content) content → Begins (records content) new
+    begins_all starts = subst (λ (l : List (List ℕ)). Begins l new) all_payloads
+        (begins_kept extents extents size content rules is_all listed new wrote
+        (subst (λ (l : List (List ℕ)). StartsWith l content) (sym all_payloads) starts))
+
 -- the first extents
 follow_take : (from k : ℕ) (extents : List Extent) (size : ℕ) (d : Extent) → Follow from extents size
     → k < length extents → Follow from (take k extents) ((get_or extents k d).offset - 4)
@@ -347,24 +354,16 @@ follow_take from zero (extent ∷ extents) size d follow inside = omega (arith, 
 follow_take from (suc k) (extent ∷ extents) size d follow inside =
     (follow.0, follow.1, follow_take (from + extent.length + 5) k extents size d follow.2 (omega arith))
 
+pub follow_offset : (from k : ℕ) (extents : List Extent) (size : ℕ) (d : Extent) → Follow from extents size
+    → k < length extents → 4 ≤ (get_or extents k d).offset
+follow_offset from k [] size d follow inside = absurd (omega arith)
+follow_offset from zero (extent ∷ extents) size d follow inside = omega (arith, follow.0)
+follow_offset from (suc k) (extent ∷ extents) size d follow inside =
+    follow_offset (from + extent.length + 5) k extents size d follow.2 (omega arith)
+
 pub keeps_take : (k : ℕ) (extents : List Extent) (size : ℕ) (d : Extent) → KeepsLog extents size → k < length extents
     → KeepsLog (take k extents) ((get_or extents k d).offset - 4)
 keeps_take k extents size d keeps inside = record {
   follow = follow_take 0 k extents size d keeps.follow inside;
   few = omega (arith, keeps.few, length-take k extents);
 }
-
--- the byte after the frames tells whether the content is whole
-pub closed_whole : (whole : Bool) (end : ℕ) (content : List ℕ) → end ≡ size_of (records content) - 1
-    → (IsTrue whole ↔ IsClosedAt end content) → (IsTrue whole ↔ IsWhole content)
-closed_whole whole end content is tells =
-    subst (λ (e : ℕ). IsTrue whole ↔ ((length content < 6) ⊎ (get_or content e 0 ≢ 1))) is tells
-
-pub padded_whole : (whole : Bool) (old : List ℕ) → (IsTrue whole ↔ IsWhole (padded old)) → (IsTrue whole ↔ IsWhole old)
-padded_whole whole old tells = elim (cases_lt (length old) 6) [
-  | inl short ↦ (
-      λ _. inl short,
-      λ _. tells.1 (inl (omega (arith, ap length (padded_short old short), length-drop 1 old, short))),
-    )
-  | inr long ↦ subst (λ (l : List ℕ). IsTrue whole ↔ IsWhole l) (padded_long old long) tells
-]

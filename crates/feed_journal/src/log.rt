@@ -324,7 +324,8 @@ impl Log {
 
     /// Returns the number of bytes up to the gate after the first `len` payloads, which is counted too.
     fn size_of_first(&self, len: u32) -> u64
-        requires { len ≤ length self.now.extents }
+        requires unspent { self.now.spent ≡ false }
+        requires within { len ≤ length self.now.extents }
         ensures { KeepsLog (take len self.now.extents) result }
     {
         match self.places.get(len as usize) {
