@@ -2,6 +2,8 @@
 pub mod AheadLemmas
 -- `Frames::append`: `moments`, for the two writes, and the content after them
 pub mod AppendLemmas
+-- `Frames::close` and `Frames::cut`: `kept`, `moments`, `all` and `rests`; the clauses `whole`
+pub mod CutLemmas
 -- `Frames::append`: `moments` for the four device calls, and the clauses on the number of device calls
 pub mod CallLemmas
 -- the rule of `Log`, and the clauses `listed`

@@ -12,7 +12,7 @@ use Rattle.feed_journal.proofs.ExtentLemmas.{follow_above}
 use Rattle.feed_journal.proofs.RecordLemmas.{frame_parts, reads_more, reads_none}
 
 -- the first items and the rests of equal lists
-heads : {T : Type 0} (x y : T) (xs ys : List T) → x ∷ xs ≡ y ∷ ys → (x ≡ y) × (xs ≡ ys)
+pub heads : {T : Type 0} (x y : T) (xs ys : List T) → x ∷ xs ≡ y ∷ ys → (x ≡ y) × (xs ≡ ys)
 heads x y xs ys same = (cc, cc)
 
 pub extents_within : (n from : ℕ) (extents : List Extent) (size : ℕ) (content : List ℕ) → Follow from extents size

@@ -1,13 +1,14 @@
 -- The frames of an area that were read in one pass.
-use Rattle.std.proofs.Common.{◌≡◌, ℕ, ◌+◌, ◌-◌, ◌<◌, ◌≤◌, List, length, drop, None, subst, arith}
+use Rattle.std.proofs.Common.{◌≡◌, ℕ, ◌+◌, ◌-◌, ◌<◌, ◌≤◌, List, length, drop, None, ap, subst, arith}
+use Rattle.std.specs.Prelude.{IsTrue, ◌↔◌}
 use Rattle.feed_journal.specs.Limits.{payload_count_limit}
 use Rattle.feed_journal.specs.Log.{LogValue, Follow, IsListed, IsLog, IsScanned}
-use Rattle.feed_journal.specs.Reading.{AreFirst}
+use Rattle.feed_journal.specs.Reading.{AreFirst, IsAtEnd}
 use Rattle.feed_journal.specs.Records.{records, size_of, Begins, IsClosed}
-use Rattle.feed_journal.specs.Scan.{IsNext}
+use Rattle.feed_journal.specs.Scan.{IsClosedAt, IsNext}
 use Rattle.feed_journal.specs.declared.extent.Extent.{Extent}
 use Rattle.feed_journal.proofs.ExtentLemmas.{follow_above}
-use Rattle.feed_journal.proofs.LoadLemmas.{size_is, begins_so}
+use Rattle.feed_journal.proofs.LoadLemmas.{size_is, begins_so, closed_whole}
 use Rattle.feed_journal.proofs.ScanLemmas.{found_end, found_last, found_most}
 
 pub follow_end : (extents : List Extent) (size : ℕ) → Follow 0 extents size → Follow 0 extents (size - 1 + 1)
@@ -42,3 +43,10 @@ module _ (log : LogValue) (content : List ℕ) (keeps : IsLog log)
 
     pub all_begin : IsClosed content → Begins (records content) content
     all_begin closed = begins_so log.extents (log.size - 1) content follow first.below scanned closed
+
+    pub at_end : (IsTrue log.whole ↔ IsClosedAt (log.size - 1) content) → IsAtEnd log content
+    at_end tells = record {
+      whole = closed_whole log.whole (log.size - 1) content (ap (λ (n : ℕ). n - 1) all_listed.1) tells;
+      starts = record { rest = drop (log.size - 1) content; is = scanned.begins };
+      begins = all_begin;
+    }

@@ -1,5 +1,5 @@
 -- The payloads of an area.
-use Rattle.std.proofs.Common.{◌≡◌, ◌≢◌, inl, inr, ℕ, zero, suc, ◌+◌, ◌-◌, ◌*◌, ◌<◌, ◌≤◌, true, false, ◌&&◌, leb, eqb}
+use Rattle.std.proofs.Common.{◌≡◌, ◌≢◌, inl, inr, ℕ, zero, suc, ◌+◌, ◌-◌, ◌*◌, ◌<◌, ◌≤◌, max, true, false, ◌&&◌, leb, eqb}
 use Rattle.std.proofs.Common.{List, [], ◌∷◌, ◌++◌, length, get_or, take, drop, refl, sym, ◌∙◌, ap, subst, arith}
 use Rattle.std.proofs.Common.{zero-add, add_comm, length-append, length-take, length-drop, get_or-take}
 use Rattle.std.specs.Int.{w32, to_be_bytes, from_be_bytes}
@@ -156,6 +156,24 @@ few_read zero bytes = omega arith
 few_read (suc n) bytes = elim (cases_Bool (has_frame bytes)) [
   | inl has ↦ omega (arith, ap length (reads_more n bytes has), few_read n (drop (length_at bytes + 5) bytes))
   | inr none ↦ omega (arith, ap length (reads_none (suc n) bytes none))
+]
+
+-- the frames of the payloads, and a gate, are no longer than the bytes
+pub read_size : (n : ℕ) (bytes : List ℕ) → size_of (records_up_to n bytes) ≤ max 1 (length bytes)
+read_size zero bytes = omega arith
+read_size (suc n) bytes = elim (cases_Bool (has_frame bytes)) [
+  | inl has ↦
+      let len = length_at bytes in
+      omega (
+        arith,
+        ap size_of (reads_more n bytes has),
+        read_size n (drop (len + 5) bytes),
+        (frame_parts bytes has).2,
+        length-take len (drop 5 bytes),
+        length-drop 5 bytes,
+        length-drop (len + 5) bytes,
+      )
+  | inr none ↦ omega (arith, ap size_of (reads_none (suc n) bytes none))
 ]
 
 -- An area with the same bytes before the offset at which the frames end, and at least one byte from there on, has the

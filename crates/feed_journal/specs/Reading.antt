@@ -1,9 +1,9 @@
 -- The frames of an area as they are read one after the other.
-use Rattle.std.specs.Prelude.{◌≡◌, ℕ, ◌+◌, ◌-◌, ◌<◌, List, [], ◌∷◌, ◌++◌, length, min, drop}
+use Rattle.std.specs.Prelude.{◌≡◌, ◌↔◌, IsTrue, ℕ, ◌+◌, ◌-◌, ◌<◌, List, [], ◌∷◌, ◌++◌, length, min, drop}
 use Rattle.feed_journal.specs.Ahead.{AheadValue, IsAhead}
 use Rattle.feed_journal.specs.Limits.{header_length, payload_count_limit}
 use Rattle.feed_journal.specs.Log.{LogValue, IsLog, payloads_at}
-use Rattle.feed_journal.specs.Records.{records, records_up_to, frames}
+use Rattle.feed_journal.specs.Records.{records, records_up_to, frames, Begins, IsClosed, IsWhole, StartsWith}
 use Rattle.feed_journal.specs.declared.extent.Extent.{Extent}
 
 -- the frames that were read, as a log; the size of the area; and the bytes that were read ahead
@@ -24,6 +24,12 @@ pub record IsReading (reading : ReadingValue) (content : List ℕ) : Type 0 wher
   pub size : reading.limit ≡ length content
   pub first : AreFirst reading.log.extents (reading.log.size - 1) content
   pub ahead : IsAhead reading.ahead content
+
+-- all frames of the content were read, so the log tells whether it is whole
+pub record IsAtEnd (log : LogValue) (content : List ℕ) : Type 0 where
+  pub whole : IsTrue log.whole ↔ IsWhole content
+  pub starts : StartsWith (records content) content
+  pub begins : IsClosed content → Begins (records content) content
 
 -- one more frame was read, with its whole payload; of the rest only the count of calls changed
 pub record HasRead (extent : Extent) (payload : List ℕ) (before after : LogValue) : Type 0 where

@@ -61,6 +61,15 @@ pub record Begins (payloads : List (List ℕ)) (bytes : List ℕ) : Type 0 where
   pub closed : gate ≢ open_gate
   pub is : bytes ≡ frames payloads ++ gate ∷ rest
 
+-- the bytes begin with the frames of these payloads
+pub record StartsWith (payloads : List (List ℕ)) (bytes : List ℕ) : Type 0 where
+  pub rest : List ℕ
+  pub is : bytes ≡ frames payloads ++ rest
+
+-- the first payloads of the bytes are these
+abbrev pub HasFirst : List (List ℕ) → List ℕ → Type 0
+HasFirst payloads bytes = take (length payloads) (records bytes) ≡ payloads
+
 -- the payloads before an append, or those after it
 abbrev pub IsBeforeOrAfter : List (List ℕ) → List ℕ → List (List ℕ) → Type 0
 IsBeforeOrAfter before payload payloads = (payloads ≡ before) ⊎ (payloads ≡ before ++ payload ∷ [])

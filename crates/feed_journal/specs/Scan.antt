@@ -1,9 +1,10 @@
 -- The reading of one frame's header.
-use Rattle.std.specs.Prelude.{◌≡◌, ℕ, true, false, List, ◌∷◌, take, slice_index, Option, None, Some}
+use Rattle.std.specs.Prelude.{◌≡◌, ◌≢◌, ◌⊎◌, ◌<◌, ℕ, true, false, List, ◌∷◌, length, take, slice_index, Option, None}
+use Rattle.std.specs.Prelude.{Some}
 use Rattle.std.specs.Prelude.{if◌then◌else◌}
 use Rattle.std.specs.Prelude.{◌==◌, ◌&&◌, nat_le, nat_lt}
 use Rattle.std.specs.Int.{w32, to_be_bytes}
-use Rattle.feed_journal.specs.Limits.{payload_limit, header_length, open_gate}
+use Rattle.feed_journal.specs.Limits.{payload_limit, header_length, least_size, open_gate}
 use Rattle.feed_journal.specs.Records.{has_frame, length_at}
 
 -- the payload's length by this header of a frame, if it is that of a payload before the last of the bytes after it
@@ -19,6 +20,10 @@ IsNext bytes (Some n) =
     (has_frame bytes ≡ true)
     × (length_at bytes ≡ n)
     × (take header_length bytes ≡ open_gate ∷ to_be_bytes w32 n)
+
+-- the bytes are too few for a payload, or the byte at this offset isn't an open gate
+abbrev pub IsClosedAt : ℕ → List ℕ → Type 0
+IsClosedAt end bytes = (length bytes < least_size) ⊎ (slice_index bytes end ≢ open_gate)
 
 -- the number of bytes of a header that was found
 abbrev pub header_bytes : Option ℕ → ℕ

@@ -1,4 +1,4 @@
-ghost use Rattle.std.specs.Prelude.{◌≡◌, List, [], ◌∷◌, ◌++◌};
+ghost use Rattle.std.specs.Prelude.{◌≡◌, List, [], ◌∷◌, ◌++◌, take};
 ghost use Rattle.std.specs.Borrow.{ftrue};
 ghost use Rattle.feed_journal.specs.declared.extent.Extent.{Extent as ExtentValue};
 
@@ -21,6 +21,13 @@ impl Extents {
     /// No extents.
     pub(crate) fn new() -> Extents
         ensures { result.list ≡ [] }
+    {
+        Extents {}
+    }
+
+    /// The first `_count` of these extents.
+    pub(crate) fn first(_count: u32, _of: &Extents) -> Extents
+        ensures { result.list ≡ take _count _of.now.list }
     {
         Extents {}
     }

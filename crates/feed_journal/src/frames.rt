@@ -1,12 +1,14 @@
 ghost use Rattle.std.specs.Prelude.{◌≡◌, ◌≢◌, ◌+◌, ◌<◌, ◌≤◌, ℕ, List, [], ◌∷◌, ◌++◌, length, slice_get, true, false};
 ghost use Rattle.std.specs.Prelude.{take, drop, Some, OnOk, OnErr, IfOk, IsTrue, ◌↔◌};
 ghost use Rattle.atom_values.specs.Counts.{CountsFault};
-ghost use Rattle.feed_disk.specs.Moments.{LeavesAlone};
+ghost use Rattle.feed_disk.specs.Disk.{written, TornFrom};
+ghost use Rattle.feed_disk.specs.Moments.{AlwaysLeaves, LeavesAlone};
 ghost use Rattle.feed_disk.specs.Raised.{raised};
 ghost use Rattle.feed_disk.specs.declared.area.Area.{Area as AreaValue};
-ghost use Rattle.feed_journal.specs.Limits.{payload_limit, payload_count_limit, header_length};
-ghost use Rattle.feed_journal.specs.Log.{HasRoomFor, IsAppended, IsListed, IsLog, IsSynced, KeepsAtRest, KeepsLog, LeavesOneList};
-ghost use Rattle.feed_journal.specs.Log.{ListsPayload, MakesCalls, MakesOrFails, MakesSome, payload_lengths, payloads_at};
+ghost use Rattle.feed_journal.specs.Limits.{payload_limit, payload_count_limit, header_length, closed_gate};
+ghost use Rattle.feed_journal.specs.Log.{HasRoomFor, IsAppended, IsListed, IsLog, IsSynced, KeepsAll, KeepsAtRest};
+ghost use Rattle.feed_journal.specs.Log.{KeepsFirst, KeepsLog, LeavesOneList, ListsOnly, ListsPayload, MakesCalls};
+ghost use Rattle.feed_journal.specs.Log.{MakesOrFails, MakesSome, RestsAt, payload_lengths, payloads_at};
 ghost use Rattle.feed_journal.specs.Records.{records};
 
 use crate::append::write_frame;
@@ -14,8 +16,9 @@ use crate::extent::Extent;
 use crate::extents::Extents;
 use crate::fault::{DiskFault, LogFault};
 use crate::framed::Framed;
-use crate::limits::HEADER_LENGTH;
+use crate::limits::{CLOSED_GATE, HEADER_LENGTH};
 use crate::read::read_exactly;
+use crate::synced_write::write_and_sync;
 use feed_disk::{Area, Disk};
 use std::alloc::Global;
 use std::marker::Model;
@@ -32,6 +35,7 @@ pub struct Frames {
     calls: u64,
     /// Whether a device call failed. Only contracts read it.
     spent: bool,
+    whole: bool,
     extents: Extents,
 }
 
@@ -47,6 +51,7 @@ impl Model for Frames {
       size = f.size;
       calls = f.calls;
       spent = f.spent;
+      whole = f.whole;
       spare = 1;
     } };
 
@@ -54,8 +59,15 @@ impl Model for Frames {
 }
 
 impl Frames {
-    /// The frames of an area that end before the closed gate at `size - 1`.
-    pub(crate) fn of(alloc: Global, area: Area, extents: Extents, size: u64, calls: u64) -> Frames
+    /// The frames of an area that end before the gate at `size - 1`.
+    pub(crate) fn of(
+        alloc: Global,
+        area: Area,
+        extents: Extents,
+        size: u64,
+        calls: u64,
+        whole: bool,
+    ) -> Frames
         requires { KeepsLog extents.list size }
         ensures { result ≡ record {
           area = area;
@@ -63,6 +75,7 @@ impl Frames {
           size = size;
           calls = calls;
           spent = false;
+          whole = whole;
           spare = 1;
         } }
     {
@@ -72,6 +85,7 @@ impl Frames {
             size,
             calls,
             spent: false,
+            whole,
             extents,
         }
     }
@@ -100,6 +114,13 @@ impl Frames {
         ensures spare { self.now.spare ≡ 1 }
     {
         self.size
+    }
+
+    /// Returns whether the area was whole as it was read, or it was appended to or cut since then.
+    pub fn is_whole(&self) -> bool
+        ensures { result ≡ self.now.whole }
+    {
+        self.whole
     }
 
     /// Returns whether the area's frames with this payload fit into this capacity.
@@ -143,6 +164,108 @@ impl Frames {
         self.calls = calls;
         match outcome {
             Ok(()) => Ok(self.add(framed.length())),
+            Err(_) => {
+                self.spent = true;
+                Err(DiskFault)
+            }
+        }
+    }
+
+    /// Closes the gate after the payloads, in two device calls: a write of one byte and a sync. Takes no memory.
+    ///
+    /// At any moment of the call, a crash leaves the payloads first that each image before had first. If the area was
+    /// synced and not whole, it leaves exactly its payloads.
+    ///
+    /// Error: `DiskFault` where the disk's count of faults rose. Then the frames are spent.
+    pub fn close<D: Disk>(&mut self, disk: &mut D) -> Result<(), DiskFault>
+        requires unspent { self.old.spent ≡ false }
+        requires listed { D.observable → payloads_at self.old.extents ((D.state disk.old).content self.old.area)
+            ≡ records ((D.state disk.old).content self.old.area) }
+        ensures ok { OnOk result (self.new ≡ record self.old { calls = self.new.calls; whole = true }) }
+        ensures err { OnErr result (self.new ≡ record self.old { calls = self.new.calls; spent = true }) }
+        ensures kept { OnOk result (D.observable
+            → ListsOnly (records ((D.state disk.old).content self.old.area)) self.new
+            ((D.state disk.old).content self.old.area) ((D.state disk.new).content self.old.area)) }
+        ensures moments { D.observable → KeepsFirst (D.state disk.old) (D.state disk.new) self.old.area
+            (records ((D.state disk.old).content self.old.area)) }
+        ensures all { D.observable → KeepsAll (D.state disk.old) (D.state disk.new) self.old.area }
+        ensures rests { OnOk result (D.observable → RestsAt (D.state disk.old) (D.state disk.new) self.old.area
+            (records ((D.state disk.old).content self.old.area))) }
+        ensures certain { OnOk result (D.observable → IsSynced (D.state disk.new) self.old.area) }
+        ensures others { (a : AreaValue) → a ≢ self.old.area
+            → LeavesAlone (D.state disk.old) (D.state disk.new) a }
+        ensures calls { MakesOrFails (D.state disk.old) (D.state disk.new) self.old.calls self.new.calls 2
+            result }
+        ensures read { (D.state disk.new).bytes_read ≡ (D.state disk.old).bytes_read }
+    {
+        let gate = self.size - 1;
+        self.write_gate(disk, gate)?;
+        self.whole = true;
+        Ok(())
+    }
+
+    /// Keeps the first of the payloads, whose extents are `kept`, and closes the gate at `size - 1` after them, as
+    /// `crate::Log::cut` does.
+    pub(crate) fn cut<D: Disk>(
+        &mut self,
+        disk: &mut D,
+        kept: Extents,
+        size: u64,
+    ) -> Result<(), DiskFault>
+        requires unspent { self.old.spent ≡ false }
+        requires first { kept.list ≡ take (length kept.list) self.old.extents }
+        requires rules { KeepsLog kept.list size }
+        requires listed { D.observable → payloads_at self.old.extents ((D.state disk.old).content self.old.area)
+            ≡ records ((D.state disk.old).content self.old.area) }
+        ensures ok { OnOk result (self.new ≡ record self.old {
+          extents = kept.list;
+          size = size;
+          calls = self.new.calls;
+          whole = true;
+        }) }
+        ensures err { OnErr result (self.new ≡ record self.old { calls = self.new.calls; spent = true }) }
+        ensures kept { OnOk result (D.observable
+            → ListsOnly (take (length kept.list) (records ((D.state disk.old).content self.old.area))) self.new
+            ((D.state disk.old).content self.old.area) ((D.state disk.new).content self.old.area)) }
+        ensures moments { D.observable → KeepsFirst (D.state disk.old) (D.state disk.new) self.old.area
+            (take (length kept.list) (records ((D.state disk.old).content self.old.area))) }
+        ensures rests { OnOk result (D.observable → RestsAt (D.state disk.old) (D.state disk.new) self.old.area
+            (take (length kept.list) (records ((D.state disk.old).content self.old.area)))) }
+        ensures certain { OnOk result (D.observable → IsSynced (D.state disk.new) self.old.area) }
+        ensures others { (a : AreaValue) → a ≢ self.old.area
+            → LeavesAlone (D.state disk.old) (D.state disk.new) a }
+        ensures calls { MakesOrFails (D.state disk.old) (D.state disk.new) self.old.calls self.new.calls 2
+            result }
+        ensures read { (D.state disk.new).bytes_read ≡ (D.state disk.old).bytes_read }
+    {
+        self.write_gate(disk, size - 1)?;
+        self.extents = kept;
+        self.size = size;
+        self.whole = true;
+        Ok(())
+    }
+
+    /// Writes a closed gate at this offset of the area and syncs it, in two device calls.
+    fn write_gate<D: Disk>(&mut self, disk: &mut D, gate: u64) -> Result<(), DiskFault>
+        requires within { D.observable → gate ≤ length ((D.state disk.old).content self.old.area) }
+        ensures log { OnOk result (self.new ≡ record self.old { calls = self.new.calls }) }
+        ensures err { OnErr result (self.new ≡ record self.old { calls = self.new.calls; spent = true }) }
+        ensures content { OnOk result (D.observable → (D.state disk.new).content self.old.area
+            ≡ written ((D.state disk.old).content self.old.area) gate (closed_gate ∷ [])) }
+        ensures certain { OnOk result (D.observable → IsSynced (D.state disk.new) self.old.area) }
+        ensures moments { AlwaysLeaves (D.state disk.old) (D.state disk.new) self.old.area
+            (TornFrom gate 1 ((D.state disk.old).image_now self.old.area)) }
+        ensures others { (a : AreaValue) → a ≢ self.old.area
+            → LeavesAlone (D.state disk.old) (D.state disk.new) a }
+        ensures calls { MakesOrFails (D.state disk.old) (D.state disk.new) self.old.calls self.new.calls 2
+            result }
+        ensures read { (D.state disk.new).bytes_read ≡ (D.state disk.old).bytes_read }
+    {
+        let mut calls = self.calls;
+        let outcome = write_and_sync(disk, self.area, gate, &[CLOSED_GATE], &mut calls);
+        self.calls = calls;
+        match outcome {
+            Ok(()) => Ok(()),
             Err(_) => {
                 self.spent = true;
                 Err(DiskFault)
@@ -242,6 +365,13 @@ impl Frames {
         }
     }
 
+    /// Returns the extents of the payloads.
+    pub(crate) fn extents(&self) -> &Extents
+        ensures { result.now.list ≡ self.now.extents }
+    {
+        &self.extents
+    }
+
     /// Adds the frame of a payload that was appended, and returns where the payload is.
     fn add(&mut self, length: u32) -> Extent
         requires room { HasRoomFor length (record self.old { spare = 1 }) }
@@ -250,6 +380,7 @@ impl Frames {
         ensures log { self.new ≡ record self.old {
           extents = self.old.extents ++ result ∷ [];
           size = self.old.size + length + header_length;
+          whole = true;
         } }
         ensures rules { IsLog self.new }
     {
@@ -260,6 +391,7 @@ impl Frames {
         };
         self.extents = Extents::with(&self.extents, &extent);
         self.size += u64::from(length) + HEADER_LENGTH;
+        self.whole = true;
         extent
     }
 }

@@ -1,12 +1,12 @@
-ghost use Rattle.std.specs.Prelude.{◌≡◌, ◌≢◌, ◌+◌, ◌≤◌, ℕ, List, [], length, take, drop, slice_get, false};
+ghost use Rattle.std.specs.Prelude.{◌≡◌, ◌≢◌, ◌+◌, ◌-◌, ◌≤◌, ℕ, List, [], length, take, drop, slice_get, false};
 ghost use Rattle.std.specs.Prelude.{Some, None, OnOk, IfOk, IfSome};
 ghost use Rattle.atom_values.specs.Counts.{CountsFault};
 ghost use Rattle.feed_disk.specs.Moments.{AlwaysLeaves, LeavesAlone};
 ghost use Rattle.feed_disk.specs.declared.area.Area.{Area as AreaValue};
 ghost use Rattle.feed_journal.specs.Ahead.{IsAhead};
-ghost use Rattle.feed_journal.specs.Log.{IsListed, IsLog, IsSynced, MakesCalls, MakesSome};
-ghost use Rattle.feed_journal.specs.Reading.{HasRead, IsReading, LacksNext};
-ghost use Rattle.feed_journal.specs.Records.{records, padded, size_of, Begins, IsClosed, IsWhole, StandsFor};
+ghost use Rattle.feed_journal.specs.Log.{IsListed, IsLog, IsScanned, IsSynced, MakesCalls, MakesSome};
+ghost use Rattle.feed_journal.specs.Reading.{HasRead, IsAtEnd, IsReading, LacksNext};
+ghost use Rattle.feed_journal.specs.Records.{records, padded, size_of, IsClosed, IsWhole, StandsFor};
 
 use crate::ahead::Ahead;
 use crate::extent::Extent;
@@ -14,7 +14,7 @@ use crate::extents::Extents;
 use crate::fault::LogFault;
 use crate::frames::Frames;
 use crate::limits::{HEADER_LENGTH, PAYLOAD_COUNT_LIMIT};
-use crate::scan::next_frame;
+use crate::scan::{is_whole, next_frame};
 use crate::settle::settle_area;
 use feed_disk::{Area, Disk};
 use std::alloc::Global;
@@ -46,6 +46,8 @@ pub struct FrameReader {
     /// The size of the area.
     limit: u64,
     calls: u64,
+    /// Whether the area is whole, once the last frame was read.
+    whole: bool,
     ahead: Ahead,
 }
 
@@ -63,6 +65,7 @@ impl Model for FrameReader {
         size = r.size;
         calls = r.calls;
         spent = false;
+        whole = r.whole;
         spare = 1;
       };
       limit = r.limit;
@@ -120,8 +123,51 @@ impl FrameReader {
             size: 1,
             limit,
             calls,
+            whole: false,
             ahead,
         })
+    }
+
+    /// Returns the reader of an area as [`FrameReader::open`] does, without a sync and a write, or `None` if the area
+    /// has no bytes. A crash may change what it reads.
+    ///
+    /// Errors: `DiskFault` where the disk's count of faults rose. `NoMemory`, which hides no failed device call. Never
+    /// `Changed`.
+    ///
+    /// Cost: a device call, and one allocation.
+    pub fn look<D: Disk>(
+        alloc: Global,
+        disk: &mut D,
+        area: Area,
+    ) -> Result<Option<FrameReader>, LogFault>
+        ensures none { IfOk result (λ found. IfSome found (λ reader. (reader.log.area ≡ area)
+            × (reader.log.extents ≡ []) × (reader.log.spent ≡ false))) }
+        ensures reading { IfOk result (λ found. IfSome found (λ reader. D.observable
+            → IsReading reader ((D.state disk.new).content area))) }
+        ensures empty { result ≡ Ok None → D.observable → (D.state disk.new).content area ≡ [] }
+        ensures areas { (a : AreaValue) → LeavesAlone (D.state disk.old) (D.state disk.new) a }
+        ensures calls { IfOk result (λ found. IfSome found (λ reader.
+            (n : ℕ) × MakesCalls (D.state disk.old) (D.state disk.new) 0 reader.log.calls n)) }
+        ensures faults { CountsFault (D.state disk.old).faults (D.state disk.new).faults
+            (result ≡ Err LogFault.DiskFault) }
+        ensures unchanged { (index : ℕ) → result ≢ Err (LogFault.Changed index) }
+    {
+        let limit = disk.size(area)?;
+        if limit == 0 {
+            return Ok(None);
+        }
+        let ahead = Ahead::new(alloc, BYTES_AHEAD)?;
+        Ok(Some(FrameReader {
+            alloc,
+            area,
+            extents: Extents::new(),
+            count: 0,
+            size: 1,
+            limit,
+            calls: 1,
+            whole: false,
+            ahead,
+        }))
     }
 
     /// Reads the next frame, or returns `None` after the last one.
@@ -130,7 +176,7 @@ impl FrameReader {
     /// fewer bytes of the payload than its header says. Never on a disk whose content contracts see. `NoMemory`. No
     /// other error hides a failed device call. After an error, drop the reader.
     ///
-    /// Cost: at most two device calls.
+    /// Cost: at most two device calls, and after the last frame at most one more.
     pub fn next<D: Disk>(&mut self, disk: &mut D) -> Result<Option<Frame>, LogFault>
         requires unspent { self.old.log.spent ≡ false }
         requires reading { D.observable → IsReading self.old ((D.state disk.old).content self.old.log.area) }
@@ -139,14 +185,13 @@ impl FrameReader {
         ensures payload { IfOk result (λ found. IfSome found (λ frame. D.observable
             → slice_get (records ((D.state disk.old).content self.old.log.area)) (length self.old.log.extents)
             ≡ Some frame.payload.items)) }
-        ensures last { result ≡ Ok None → self.new.log ≡ record self.old.log { calls = self.new.log.calls } }
+        ensures last { result ≡ Ok None
+            → self.new.log ≡ record self.old.log { calls = self.new.log.calls; whole = self.new.log.whole } }
         ensures listed { result ≡ Ok None → D.observable
             → IsListed self.new.log ((D.state disk.old).content self.old.log.area)
             × (self.new.log.size ≡ size_of (records ((D.state disk.old).content self.old.log.area))) }
-        ensures begins { result ≡ Ok None → D.observable
-            → IsClosed ((D.state disk.old).content self.old.log.area)
-            → Begins (records ((D.state disk.old).content self.old.log.area))
-            ((D.state disk.old).content self.old.log.area) }
+        ensures end { result ≡ Ok None → D.observable
+            → IsAtEnd self.new.log ((D.state disk.old).content self.old.log.area) }
         ensures reading { OnOk result (D.observable
             → IsReading self.new ((D.state disk.new).content self.new.log.area)) }
         ensures rules { OnOk result (IsLog self.new.log × (self.new.log.size ≤ self.new.limit)
@@ -160,7 +205,7 @@ impl FrameReader {
     {
         let end = self.size - 1;
         if self.count as usize >= PAYLOAD_COUNT_LIMIT || self.limit - end <= HEADER_LENGTH {
-            return Ok(None);
+            return self.end(disk);
         }
         let Some(length) = next_frame(
             disk,
@@ -171,7 +216,7 @@ impl FrameReader {
             &mut self.calls,
         )?
         else {
-            return Ok(None);
+            return self.end(disk);
         };
         let extent = Extent {
             offset: end + HEADER_LENGTH,
@@ -182,6 +227,39 @@ impl FrameReader {
         self.count += 1;
         self.size += u64::from(length) + HEADER_LENGTH;
         Ok(Some(Frame { extent, payload }))
+    }
+
+    /// Reads whether the area is whole, after its last frame, and returns `None`.
+    fn end<D: Disk>(&mut self, disk: &mut D) -> Result<Option<Frame>, LogFault>
+        requires reading { D.observable → IsReading self.old ((D.state disk.old).content self.old.log.area) }
+        requires scanned { D.observable → IsScanned self.old.log.extents (self.old.log.size - 1)
+            ((D.state disk.old).content self.old.log.area) }
+        ensures none { IfOk result (λ found. found ≡ None) }
+        ensures rest { self.new.log
+            ≡ record self.old.log { calls = self.new.log.calls; whole = self.new.log.whole } }
+        ensures listed { D.observable → IsListed self.new.log ((D.state disk.old).content self.old.log.area)
+            × (self.new.log.size ≡ size_of (records ((D.state disk.old).content self.old.log.area))) }
+        ensures end { OnOk result (D.observable
+            → IsAtEnd self.new.log ((D.state disk.old).content self.old.log.area)) }
+        ensures reading { OnOk result (D.observable
+            → IsReading self.new ((D.state disk.new).content self.new.log.area)) }
+        ensures rules { IsLog self.new.log × (self.new.log.size ≤ self.new.limit)
+            × (self.new.limit ≡ self.old.limit) }
+        ensures unchanged { (n : ℕ) → result ≢ Err (LogFault.Changed n) }
+        ensures areas { (a : AreaValue) → LeavesAlone (D.state disk.old) (D.state disk.new) a }
+        ensures calls { MakesSome (D.state disk.old) (D.state disk.new) self.old.log.calls self.new.log.calls }
+        ensures faults { CountsFault (D.state disk.old).faults (D.state disk.new).faults
+            (result ≡ Err LogFault.DiskFault) }
+    {
+        self.whole = is_whole(
+            disk,
+            self.area,
+            self.size - 1,
+            self.limit,
+            &mut self.ahead,
+            &mut self.calls,
+        )?;
+        Ok(None)
     }
 
     /// Reads the payload of the next frame, which is at this extent.
@@ -218,6 +296,13 @@ impl FrameReader {
         Ok(payload)
     }
 
+    /// Returns whether the area is whole. It is known once [`FrameReader::next`] returned `None`.
+    pub fn is_whole(&self) -> bool
+        ensures { result ≡ self.now.log.whole }
+    {
+        self.whole
+    }
+
     /// Returns the frames that were read, which are all of the area after [`FrameReader::next`] returned `None`.
     pub fn finish(self) -> Frames
         ensures { result ≡ self.log }
@@ -228,8 +313,9 @@ impl FrameReader {
             extents,
             size,
             calls,
+            whole,
             ..
         } = self;
-        Frames::of(alloc, area, extents, size, calls)
+        Frames::of(alloc, area, extents, size, calls, whole)
     }
 }

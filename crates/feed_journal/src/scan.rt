@@ -1,4 +1,5 @@
-ghost use Rattle.std.specs.Prelude.{◌≡◌, ◌≢◌, ◌+◌, ◌*◌, ◌<◌, ◌≤◌, ℕ, length, drop, take, IfOk, IfSome};
+ghost use Rattle.std.specs.Prelude.{◌≡◌, ◌≢◌, ◌+◌, ◌*◌, ◌<◌, ◌≤◌, ℕ, [], length, drop, take, IfOk, OnOk};
+ghost use Rattle.std.specs.Prelude.{IfSome, IsTrue, ◌↔◌};
 ghost use Rattle.std.specs.Int.{w32, to_be_bytes};
 ghost use Rattle.atom_values.specs.Counts.{CountsFault, HasCause};
 ghost use Rattle.feed_disk.specs.Moments.{LeavesAlone};
@@ -7,21 +8,17 @@ ghost use Rattle.feed_disk.specs.declared.area.Area.{Area as AreaValue};
 ghost use Rattle.feed_journal.specs.Ahead.{Gives, IsAhead};
 ghost use Rattle.feed_journal.specs.Limits.{payload_limit, header_length};
 ghost use Rattle.feed_journal.specs.Log.{KeepsLog, MakesSome, IsScanned};
-ghost use Rattle.feed_journal.specs.Scan.{IsHeader, IsNext, header_bytes};
+ghost use Rattle.feed_journal.specs.Scan.{IsClosedAt, IsHeader, IsNext, header_bytes};
 ghost use Rattle.feed_journal.specs.declared.fault.LogFault.TheVariants.{DiskFault as DiskFailed, Changed};
 
 use crate::ahead::Ahead;
 use crate::extent::Extent;
 use crate::extents::Extents;
 use crate::fault::LogFault;
-use crate::limits::{HEADER_LENGTH, OPEN_GATE, PAYLOAD_COUNT_LIMIT, PAYLOAD_LIMIT};
+use crate::limits::{HEADER_LENGTH, LEAST_SIZE, OPEN_GATE, PAYLOAD_COUNT_LIMIT, PAYLOAD_LIMIT};
 use atom_values::Failed;
 use feed_disk::{Area, Disk};
 use std::alloc::Global;
-
-/// The number of bytes that are read ahead for headers. It is small, so that an area of large payloads isn't read
-/// whole.
-const HEADERS_AHEAD: usize = 4_096;
 
 /// Returns the length of the payload whose frame has this header, if that payload ends before the last of the
 /// `after` bytes after the header.
@@ -69,6 +66,35 @@ pub fn next_frame<D: Disk>(
     Ok(length_in(header, size - at - HEADER_LENGTH))
 }
 
+/// Returns whether an area of this size is whole, whose frames end at offset `end`. It counts its device call.
+pub fn is_whole<D: Disk>(
+    disk: &mut D,
+    area: Area,
+    end: u64,
+    size: u64,
+    ahead: &mut Ahead,
+    calls: &mut u64,
+) -> Result<bool, Failed>
+    requires within { end < size }
+    requires size { D.observable → size ≡ length ((D.state disk.old).content area) }
+    requires ahead { D.observable → IsAhead ahead.old ((D.state disk.old).content area) }
+    ensures whole { IfOk result (λ whole. D.observable
+        → (IsTrue whole ↔ IsClosedAt end ((D.state disk.old).content area))) }
+    ensures areas { (a : AreaValue) → LeavesAlone (D.state disk.old) (D.state disk.new) a }
+    ensures calls { MakesSome (D.state disk.old) (D.state disk.new) calls.old calls.new }
+    ensures cause { HasCause (D.state disk.old).faults (D.state disk.new).faults result }
+    ensures ahead { D.observable → IsAhead ahead.new ((D.state disk.new).content area) }
+    ensures read { OnOk result (raised (D.state disk.old).bytes_read 0 ≤ (D.state disk.new).bytes_read) }
+{
+    if size < LEAST_SIZE {
+        return Ok(true);
+    }
+    let mut gate = [OPEN_GATE];
+    let _count = ahead.read(disk, area, end, &mut gate, calls)?;
+    let [gate] = gate;
+    Ok(gate != OPEN_GATE)
+}
+
 /// The payloads that a scan found.
 #[derive(Drop)]
 pub struct Scanned {
@@ -85,15 +111,18 @@ pub fn scan<D: Disk>(
     disk: &mut D,
     area: Area,
     size: u64,
+    ahead: &mut Ahead,
     calls: &mut u64,
 ) -> Result<Scanned, LogFault>
     requires some { 0 < size }
     requires size { D.observable → size ≡ length ((D.state disk.old).content area) }
+    requires none { ahead.old.bytes ≡ [] }
     ensures rules { IfOk result (λ found. KeepsLog found.extents.list (found.end + 1)
         × (found.places.items ≡ found.extents.list)) }
     ensures within { IfOk result (λ found. found.end < size) }
     ensures scanned { IfOk result (λ found.
         D.observable → IsScanned found.extents.list found.end ((D.state disk.old).content area)) }
+    ensures ahead { OnOk result (D.observable → IsAhead ahead.new ((D.state disk.new).content area)) }
     ensures areas { (a : AreaValue) → LeavesAlone (D.state disk.old) (D.state disk.new) a }
     ensures calls { MakesSome (D.state disk.old) (D.state disk.new) calls.old calls.new }
     ensures faults { CountsFault (D.state disk.old).faults (D.state disk.new).faults (result ≡ Err DiskFailed) }
@@ -101,7 +130,6 @@ pub fn scan<D: Disk>(
     ensures read { IfOk result (λ found. raised (D.state disk.old).bytes_read
         (header_length * length found.extents.list) ≤ (D.state disk.new).bytes_read) }
 {
-    let mut ahead = Ahead::new(alloc, HEADERS_AHEAD)?;
     let mut places = Vec::new(alloc);
     let mut extents = Extents::new();
     let mut end = 0;
@@ -114,7 +142,7 @@ pub fn scan<D: Disk>(
                 end,
             });
         }
-        let Some(length) = next_frame(disk, area, end, size, &mut ahead, calls)? else {
+        let Some(length) = next_frame(disk, area, end, size, ahead, calls)? else {
             return Ok(Scanned {
                 places,
                 extents,

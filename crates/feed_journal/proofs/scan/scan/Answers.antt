@@ -20,9 +20,9 @@ use Rattle.feed_journal.proofs.scan.scan.Goals.{then-full-via-else-full+then-siz
 pub frames-init : goal.frames-init
 frames-init g c = record {
   ahead = λ tells. subst (λ (l : List ℕ).
-      l ≡ take (length l) (drop c.in_ok-ahead.ahead.from ((g.D.Disk.state c.args.disk.now).content c.args.area)))
-      (sym c.in_ok-ahead.ensures) refl;
-  read = omega (arith, ap length c.new-extents.ensures, ap length c.in_ok-ahead.ensures);
+      l ≡ take (length l) (drop c.args.ahead.now.from ((g.D.Disk.state c.args.disk.now).content c.args.area)))
+      (sym c.requires.none) refl;
+  read = omega (arith, ap length c.new-extents.ensures, ap length c.requires.none);
   rules = subst (λ (l : List Extent). KeepsLog l 1) (sym c.new-extents.ensures)
       (record { follow = refl; few = omega arith });
   same = c.new-places.ensures.items ∙ sym c.new-extents.ensures;

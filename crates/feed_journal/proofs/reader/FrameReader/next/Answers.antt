@@ -6,14 +6,14 @@ use Rattle.feed_disk.proofs.MomentLemmas.{alone_joins}
 use Rattle.feed_disk.specs.declared.area.Area.{Area}
 use Rattle.feed_journal.specs.Ahead.{IsAhead}
 use Rattle.feed_journal.specs.Limits.{payload_limit, payload_count_limit}
-use Rattle.feed_journal.specs.Log.{KeepsLog, IsLog, LogValue, MakesSome}
+use Rattle.feed_journal.specs.Log.{KeepsLog, IsLog, IsScanned, LogValue, MakesSome}
 use Rattle.feed_journal.specs.Reading.{AreFirst, IsReading, LacksNext, ReadingValue}
 use Rattle.feed_journal.specs.Records.{records}
 use Rattle.feed_journal.specs.Scan.{IsNext}
 use Rattle.feed_journal.specs.declared.extent.Extent.{Extent}
 use Rattle.feed_journal.proofs.CallLemmas.{calls_more}
 use Rattle.feed_journal.proofs.ExtentLemmas.{follow_above, keeps_push}
-use Rattle.feed_journal.proofs.ReadingLemmas.{all_begin, all_listed, follow_end, scanned_end, scanned_last, scanned_most}
+use Rattle.feed_journal.proofs.ReadingLemmas.{follow_end, scanned_end, scanned_last, scanned_most}
 use Rattle.feed_journal.proofs.ScanLemmas.{found_more, payload_next}
 use Rattle.feed_journal.proofs.reader.FrameReader.next.Goals as goal
 use Rattle.feed_journal.proofs.reader.FrameReader.next.Goals.{then-self-ge-PAYLOAD_COUNT_LIMIT-via-then-self-ge-PAYLOAD_COUNT_LIMIT}
@@ -22,13 +22,13 @@ use Rattle.feed_journal.proofs.reader.FrameReader.next.Goals.{then-self-ge-PAYLO
 pub overflow_sub-end : goal.overflow_sub-end
 overflow_sub-end g c = follow_above 0 c.self.inside.extents.list c.self.inside.size c.self.invariant.0.follow
 
-pub returns-then-self-ge-PAYLOAD_COUNT_LIMIT-clause-listed : goal.returns-then-self-ge-PAYLOAD_COUNT_LIMIT-clause-listed
-returns-then-self-ge-PAYLOAD_COUNT_LIMIT-clause-listed g c = λ _ tells.
+pub end-requires-clause-scanned : goal.end-requires-clause-scanned
+end-requires-clause-scanned g c = λ tells.
     let s = g.D.Disk.state c.args.disk.now in
     let log = c.args.self.now.log in
     let reading = c.requires.reading tells in
     let keeps : IsLog log = subst (λ (v : ReadingValue). IsLog v.log) c.self.view_is c.self.invariant.0 in
-    all_listed log (s.content log.area) keeps reading.first (elim c.then-self-ge-PAYLOAD_COUNT_LIMIT.branch [
+    elim c.then-self-ge-PAYLOAD_COUNT_LIMIT.branch [
       | then-self-ge-PAYLOAD_COUNT_LIMIT-via-then-self-ge-PAYLOAD_COUNT_LIMIT w ↦
           scanned_most log (s.content log.area) keeps reading.first (omega (
             arith,
@@ -45,72 +45,41 @@ returns-then-self-ge-PAYLOAD_COUNT_LIMIT-clause-listed g c = λ _ tells.
             ap (λ (v : ReadingValue). v.limit) c.self.view_is,
             ap (λ (v : ReadingValue). v.log.size) c.self.view_is,
           ))
-    ])
+    ]
 
-pub returns-then-self-ge-PAYLOAD_COUNT_LIMIT-clause-begins : goal.returns-then-self-ge-PAYLOAD_COUNT_LIMIT-clause-begins
-returns-then-self-ge-PAYLOAD_COUNT_LIMIT-clause-begins g c = λ _ tells closed.
+pub end-requires-in_default-clause-scanned : goal.end-requires-in_default-clause-scanned
+end-requires-in_default-clause-scanned g c = λ tells.
     let s = g.D.Disk.state c.args.disk.now in
-    let log = c.args.self.now.log in
-    let reading = c.requires.reading tells in
-    let keeps : IsLog log = subst (λ (v : ReadingValue). IsLog v.log) c.self.view_is c.self.invariant.0 in
-    all_begin log (s.content log.area) keeps reading.first (elim c.then-self-ge-PAYLOAD_COUNT_LIMIT.branch [
-      | then-self-ge-PAYLOAD_COUNT_LIMIT-via-then-self-ge-PAYLOAD_COUNT_LIMIT w ↦
-          scanned_most log (s.content log.area) keeps reading.first (omega (
-            arith,
-            w.if-self-ge-PAYLOAD_COUNT_LIMIT.true,
-            c.self.invariant.1,
-            ap (λ (v : ReadingValue). length v.log.extents) c.self.view_is,
-          ))
-      | then-self-ge-PAYLOAD_COUNT_LIMIT-via-else-self-ge-PAYLOAD_COUNT_LIMIT+then-self-end-le-HEADER_LENGTH w ↦
-          scanned_end log (s.content log.area) keeps reading.first (omega (
-            arith,
-            w.if-self-end-le-HEADER_LENGTH.true,
-            reading.size,
-            follow_above 0 c.self.inside.extents.list c.self.inside.size c.self.invariant.0.follow,
-            ap (λ (v : ReadingValue). v.limit) c.self.view_is,
-            ap (λ (v : ReadingValue). v.log.size) c.self.view_is,
-          ))
-    ]) closed
-
-pub returns-in_default-clause-listed : goal.returns-in_default-clause-listed
-returns-in_default-clause-listed g c = λ _ tells.
-    let s = g.D.Disk.state c.args.disk.now in
-    let content = s.content c.args.self.now.log.area in
+    let content = s.content c.self.inside.area in
     let log : LogValue = record {
       area = c.self.inside.area;
       extents = c.self.inside.extents.list;
       size = c.self.inside.size;
       calls = c.next_frame.new.calls;
       spent = false;
+      whole = c.self.inside.whole;
       spare = 1;
     } in
     let first : AreFirst log.extents (log.size - 1) content =
-    subst (λ (v : ReadingValue). AreFirst v.log.extents (v.log.size - 1) content) (sym c.self.view_is)
+    subst (λ (v : ReadingValue). AreFirst v.log.extents (v.log.size - 1) (s.content v.log.area)) (sym c.self.view_is)
     (c.requires.reading tells).first in
     let next : IsNext (drop (log.size - 1) content) None =
-    subst (λ (v : ReadingValue). IsNext (drop (log.size - 1) (s.content v.log.area)) None) c.self.view_is
-    (subst (IsNext (drop (log.size - 1) (s.content log.area))) c.in_default.is (c.in_ok-length.ensures.found tells)) in
-    all_listed log content c.self.invariant.0 first (scanned_last log content c.self.invariant.0 first next)
+    subst (IsNext (drop (log.size - 1) content)) c.in_default.is (c.in_ok-length.ensures.found tells) in
+    subst (IsScanned log.extents (log.size - 1)) (sym (c.next_frame.ensures.areas c.self.inside.area).content)
+    (scanned_last log content c.self.invariant.0 first next)
 
-pub returns-in_default-clause-begins : goal.returns-in_default-clause-begins
-returns-in_default-clause-begins g c = λ _ tells closed.
+pub returns-in_default-clause-areas : goal.returns-in_default-clause-areas
+returns-in_default-clause-areas g c = λ a.
+    alone_joins (g.D.Disk.state c.args.disk.now) (g.D.Disk.state c.next_frame.new.disk)
+    (g.D.Disk.state c.end-in_default.new.disk) a (c.next_frame.ensures.areas a) (c.end-in_default.ensures.areas a)
+
+pub returns-in_default-clause-calls : goal.returns-in_default-clause-calls
+returns-in_default-clause-calls g c =
     let s = g.D.Disk.state c.args.disk.now in
-    let content = s.content c.args.self.now.log.area in
-    let log : LogValue = record {
-      area = c.self.inside.area;
-      extents = c.self.inside.extents.list;
-      size = c.self.inside.size;
-      calls = c.next_frame.new.calls;
-      spent = false;
-      spare = 1;
-    } in
-    let first : AreFirst log.extents (log.size - 1) content =
-    subst (λ (v : ReadingValue). AreFirst v.log.extents (v.log.size - 1) content) (sym c.self.view_is)
-    (c.requires.reading tells).first in
-    let next : IsNext (drop (log.size - 1) content) None =
-    subst (λ (v : ReadingValue). IsNext (drop (log.size - 1) (s.content v.log.area)) None) c.self.view_is
-    (subst (IsNext (drop (log.size - 1) (s.content log.area))) c.in_default.is (c.in_ok-length.ensures.found tells)) in
-    all_begin log content c.self.invariant.0 first (scanned_last log content c.self.invariant.0 first next) closed
+    let t = g.D.Disk.state c.end-in_default.new.disk in
+    subst (λ (v : ReadingValue). MakesSome s t v.log.calls c.end-in_default.new.self.log.calls) c.self.view_is
+    (calls_more s (g.D.Disk.state c.next_frame.new.disk) t c.self.inside.calls c.next_frame.new.calls
+    c.end-in_default.new.self.log.calls c.next_frame.ensures.calls c.end-in_default.ensures.calls)
 
 pub returns-in_err-payload-clause-changed : goal.returns-in_err-payload-clause-changed
 returns-in_err-payload-clause-changed g c = λ index is.
@@ -156,8 +125,8 @@ returns-clause-calls g c =
     (calls_more s (g.D.Disk.state c.next_frame.new.disk) t c.self.inside.calls c.next_frame.new.calls
     c.payload.new.self.log.calls c.next_frame.ensures.calls c.payload.ensures.calls))
 
-pub invariant_of-self-3 : goal.invariant_of-self-3
-invariant_of-self-3 g c =
+pub invariant_of-self-2 : goal.invariant_of-self-2
+invariant_of-self-2 g c =
     let extents = c.self.inside.extents.list in
     let size = c.self.inside.size in
     let n = c.in-Some.length in
