@@ -91,7 +91,7 @@ module _ (base : List ℕ) (kept : List KeptValue) (extents : List Extent) (inde
   refused-after loaded before count within NoMemory refused = tt
 
 abbrev no_payloads : LogValue
-no_payloads = record { area = MirrorArea; extents = []; size = 1; calls = 0; spent = false; spare = 0 }
+no_payloads = record { area = MirrorArea; extents = []; size = 1; calls = 0; spent = false; whole = true; spare = 0 }
 
 -- `Mirror::load`: the log isn't loaded only if a call fails or memory runs out
 pub log-refused : (base : List ℕ) (fault : LogFault) → ((n : ℕ) → fault ≢ Changed n) → IsRefusal base (fault_of fault)

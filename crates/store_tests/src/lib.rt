@@ -8,6 +8,8 @@
 #[cfg(test)]
 mod commits;
 #[cfg(test)]
+mod cuts;
+#[cfg(test)]
 mod disks;
 #[cfg(test)]
 mod faults;

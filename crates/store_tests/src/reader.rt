@@ -83,12 +83,12 @@ fn an_empty_area_has_no_frame(rt: HostRuntime) {
 
 #[test]
 fn a_failed_call_of_a_reader_is_a_disk_fault(rt: HostRuntime) {
-    // The load makes the device calls 1 to 5, and the reader's opening 6 and 7. The log reads each of 7 payloads in one
-    // call. The reader makes one call for the four short frames, one for the payload of 65,535 bytes, and two for each
-    // of the frames behind it.
-    for call in 1u64..21 {
+    // The load makes the device calls 1 to 6, and the reader's opening 7 and 8. The log reads each of 7 payloads in one
+    // call. The reader makes one call for the four short frames, one for the payload of 65,535 bytes, two for each of
+    // the frames behind it, and one for the gate after them.
+    for call in 1u64..23 {
         let fault = read_cut(&rt, rt.alloc(), 0, call).err();
         assert!(rt; fault == Some(LogFault::DiskFault), "call {call}");
     }
-    assert!(rt; read_cut(&rt, rt.alloc(), 0, 21) == Ok(Some(7)));
+    assert!(rt; read_cut(&rt, rt.alloc(), 0, 23) == Ok(Some(7)));
 }
