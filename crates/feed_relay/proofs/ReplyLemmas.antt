@@ -3,9 +3,8 @@ use Rattle.std.proofs.Common.{◌≡◌, ◌≢◌, inl, inr, ℕ, List, Option,
 use Rattle.chain_links.specs.Address.{IsAddress, IsTarget, printed}
 use Rattle.chain_links.specs.declared.address.Address.{Address}
 use Rattle.chain_links.specs.declared.address.Address.TheVariants.{Feed, Archive, Member}
-use Rattle.feed_relay.specs.Reply.{IsOfAddress, IsRelayed, IsShown, SendsHeld, SendsServed}
-use Rattle.feed_relay.specs.Reply.{disk_changed, disk_fault, document_reply, no_memory, not_found}
-use Rattle.http_face.specs.Reply.{HasPhrase, body_text}
+use Rattle.feed_relay.specs.Reply.{feed_reply, IsOfAddress, IsRelayed, IsShown, SendsHeld, SendsServed}
+use Rattle.http_face.specs.Reply.{HasPhrase, body_text, disk_changed, disk_fault, no_memory, not_found}
 use Rattle.http_face.specs.Request.{RequestValue}
 use Rattle.http_face.specs.declared.reply.Reply.{Reply}
 use Rattle.http_face.specs.declared.request.Verb.{Verb}
@@ -15,7 +14,7 @@ use Rattle.member_rules.specs.Served.{Served}
 use Rattle.member_rules.specs.declared.operation.Op.{Op}
 use Rattle.mirror_walk.specs.Holding.{KeptValue, text_at}
 
-pub same-bytes : (one other : List ℕ) → document_reply one ≡ document_reply other → one ≡ other
+pub same-bytes : (one other : List ℕ) → feed_reply one ≡ feed_reply other → one ≡ other
 same-bytes one other e = ap (λ (r : Reply). body_text r.body) e
 
 module _ (observable : Type 0) (base : List ℕ) (kept : List KeptValue) (request : RequestValue) (reply : Reply)
@@ -67,7 +66,7 @@ module _ (observable : Type 0) (base : List ℕ) (kept : List KeptValue) (reques
 
   pub get-served : (head : HeadValue) (history : List Op) → IsShown observable (text_at kept address) reply → observable
       → reply.status ≡ 200
-      → ((bytes : List ℕ) → reply ≡ document_reply bytes → Served head history (printed base address) bytes)
+      → ((bytes : List ℕ) → reply ≡ feed_reply bytes → Served head history (printed base address) bytes)
       → SendsServed head history base request reply
   get-served head history shown tells ok served =
       let held = get-held shown tells ok in record {
@@ -82,7 +81,7 @@ module _ (observable : Type 0) (base : List ℕ) (kept : List KeptValue) (reques
   changed-of : (text : Option (List ℕ)) → IsShown observable text reply → reply ≡ disk_changed → ¬ observable
   changed-of None shown e = absurd (omega (arith, sym (status-is not_found shown) ∙ status-is disk_changed e))
   changed-of (Some text) (inl sent) e =
-      absurd (omega (arith, sym (status-is (document_reply sent.bytes) sent.is) ∙ status-is disk_changed e))
+      absurd (omega (arith, sym (status-is (feed_reply sent.bytes) sent.is) ∙ status-is disk_changed e))
   changed-of (Some text) (inr (inl is)) e =
       absurd (omega (arith, sym (status-is no_memory is) ∙ status-is disk_changed e))
   changed-of (Some text) (inr (inr (inl is))) e = absurd (let other = ap (λ (r : Reply). r.body) (sym is ∙ e) in cc)
@@ -94,7 +93,7 @@ module _ (observable : Type 0) (base : List ℕ) (kept : List KeptValue) (reques
   memory-of : (text : Option (List ℕ)) → IsShown observable text reply → reply.status ≡ 503 → reply ≡ no_memory
   memory-of None shown e = absurd (omega (arith, sym (status-is not_found shown) ∙ e))
   memory-of (Some text) (inl sent) e =
-      absurd (omega (arith, sym (status-is (document_reply sent.bytes) sent.is) ∙ e))
+      absurd (omega (arith, sym (status-is (feed_reply sent.bytes) sent.is) ∙ e))
   memory-of (Some text) (inr (inl is)) e = is
   memory-of (Some text) (inr (inr (inl is))) e = absurd (omega (arith, sym (status-is disk_fault is) ∙ e))
   memory-of (Some text) (inr (inr (inr is))) e = absurd (omega (arith, sym (status-is disk_changed is.1) ∙ e))
@@ -107,7 +106,7 @@ module _ (observable : Type 0) (base : List ℕ) (kept : List KeptValue) (reques
 
   status-of : (text : Option (List ℕ)) → IsShown observable text reply → HasPhrase reply.status
   status-of None shown = phrase-of not_found shown refl
-  status-of (Some text) (inl sent) = phrase-of (document_reply sent.bytes) sent.is refl
+  status-of (Some text) (inl sent) = phrase-of (feed_reply sent.bytes) sent.is refl
   status-of (Some text) (inr (inl is)) = phrase-of no_memory is refl
   status-of (Some text) (inr (inr (inl is))) = phrase-of disk_fault is refl
   status-of (Some text) (inr (inr (inr is))) = phrase-of disk_changed is.1 refl

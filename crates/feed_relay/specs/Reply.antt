@@ -3,11 +3,9 @@ use Rattle.std.specs.Prelude.{◌≡◌, ◌≢◌, ◌⊎◌, ℕ, List, length
 use Rattle.chain_links.specs.Address.{IsAddress, IsTarget, printed}
 use Rattle.chain_links.specs.declared.address.Address.{Address}
 use Rattle.chain_links.specs.declared.address.Address.TheVariants.{Feed, Archive, Member}
-use Rattle.http_face.specs.Reply.{line_reply}
+use Rattle.http_face.specs.Reply.{disk_changed, disk_fault, document_reply, no_memory, not_allowed, not_found, not_implemented}
 use Rattle.http_face.specs.Request.{RequestValue}
 use Rattle.http_face.specs.declared.reply.Allow.TheVariants.{OfArchive}
-use Rattle.http_face.specs.declared.reply.Body.TheVariants.{Made, Fixed}
-use Rattle.http_face.specs.declared.reply.Line7.TheVariants as line
 use Rattle.http_face.specs.declared.reply.Media.TheVariants as media
 use Rattle.http_face.specs.declared.reply.Reply.{Reply}
 use Rattle.http_face.specs.declared.request.Verb.{Verb}
@@ -18,34 +16,8 @@ use Rattle.member_rules.specs.declared.operation.Op.{Op}
 use Rattle.mirror_walk.specs.Holding.{KeptValue, text_at}
 
 -- the bytes of a document
-abbrev pub document_reply : List ℕ → Reply
-document_reply bytes =
-    record { status = 200; media = media.Feed; location = None; allow = None; body = Made bytes }
-
--- a method other than GET; an archive allows GET alone too
-abbrev pub not_allowed : Reply
-not_allowed = record {
-  status = 405;
-  media = media.Plain;
-  location = None;
-  allow = Some OfArchive;
-  body = Fixed line.NotAllowed;
-}
-
-abbrev pub not_implemented : Reply
-not_implemented = line_reply 501 line.NotImplemented
-
-abbrev pub not_found : Reply
-not_found = line_reply 404 line.NotFound
-
-abbrev pub disk_fault : Reply
-disk_fault = line_reply 500 line.Disk
-
-abbrev pub disk_changed : Reply
-disk_changed = line_reply 500 line.Changed
-
-abbrev pub no_memory : Reply
-no_memory = line_reply 503 line.NoMemory
+abbrev pub feed_reply : List ℕ → Reply
+feed_reply bytes = document_reply media.Feed bytes
 
 -- The reply by a disk. `observable` says whether contracts see the disk's content.
 
@@ -54,7 +26,7 @@ pub record IsSent (observable : Type 0) (text : List ℕ) (reply : Reply) : Type
   pub bytes : List ℕ
   pub long : length bytes ≡ length text
   pub seen : observable → bytes ≡ text
-  pub is : reply ≡ document_reply bytes
+  pub is : reply ≡ feed_reply bytes
 
 -- a document isn't sent: memory ran out, a device call failed, or the disk gave less than the document
 abbrev pub IsUnread : Type 0 → Reply → Type 0
@@ -66,10 +38,10 @@ abbrev pub IsShown : Type 0 → Option (List ℕ) → Reply → Type 0
 IsShown observable None reply = reply ≡ not_found
 IsShown observable (Some text) reply = IsSent observable text reply ⊎ IsUnread observable reply
 
--- a request of the feed's or an archive's address
+-- a request of the feed's or an archive's address; a relay allows GET alone, as an archive does
 abbrev pub IsOfDocument : Type 0 → Option (List ℕ) → Verb → Reply → Type 0
 IsOfDocument observable text Get reply = IsShown observable text reply
-IsOfDocument observable text _ reply = reply ≡ not_allowed
+IsOfDocument observable text _ reply = reply ≡ not_allowed OfArchive
 
 -- a request of an address; a relay has no members' documents
 abbrev pub IsOfAddress : Type 0 → List KeptValue → Address → Verb → Reply → Type 0
@@ -99,7 +71,7 @@ pub record SendsHeld (base : List ℕ) (kept : List KeptValue) (request : Reques
   pub target : IsTarget base address request.target
   pub bytes : List ℕ
   pub held : text_at kept address ≡ Some bytes
-  pub is : reply ≡ document_reply bytes
+  pub is : reply ≡ feed_reply bytes
 
 -- the feed with this head served the document that the reply is, at the address that the request names
 pub record SendsServed (head : HeadValue) (history : List Op) (base : List ℕ) (request : RequestValue) (reply : Reply)
@@ -109,4 +81,4 @@ pub record SendsServed (head : HeadValue) (history : List Op) (base : List ℕ) 
   pub target : IsTarget base address request.target
   pub bytes : List ℕ
   pub served : Served head history (printed base address) bytes
-  pub is : reply ≡ document_reply bytes
+  pub is : reply ≡ feed_reply bytes

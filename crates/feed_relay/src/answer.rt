@@ -3,9 +3,8 @@ ghost use Rattle.atom_values.specs.Counts.{CountsFault};
 ghost use Rattle.chain_links.specs.Address.{printed};
 ghost use Rattle.feed_disk.specs.Moments.{LeavesAlone};
 ghost use Rattle.feed_disk.specs.declared.area.Area.{Area as AreaValue};
-ghost use Rattle.feed_relay.specs.Reply.{IsRelayed, IsShown, SendsHeld, SendsServed, disk_changed, disk_fault};
-ghost use Rattle.feed_relay.specs.Reply.{document_reply, no_memory, not_allowed};
-ghost use Rattle.http_face.specs.Reply.{HasPhrase};
+ghost use Rattle.feed_relay.specs.Reply.{IsRelayed, IsShown, SendsHeld, SendsServed, feed_reply};
+ghost use Rattle.http_face.specs.Reply.{HasPhrase, disk_changed, disk_fault, no_memory};
 ghost use Rattle.member_rules.specs.Head.{HeadValue};
 ghost use Rattle.member_rules.specs.Served.{Served};
 ghost use Rattle.member_rules.specs.declared.operation.Op.{Op};
@@ -14,11 +13,10 @@ ghost use Rattle.mirror_walk.specs.Mirror.{StandsFor, is_spent};
 ghost use Rattle.mirror_walk.specs.Published.{HoldsServed};
 ghost use Rattle.mirror_walk.specs.Rereading.{HasReadBack};
 
-use atom_values::Bytes;
 use chain_links::{Address, Base};
 use feed_disk::Disk;
 use feed_journal::LogFault;
-use http_face::{Allow, Body, Line7, Media, Reply, Request, Verb};
+use http_face::{Allow, Line7, Media, Reply, Request, Verb};
 use mirror_walk::Mirror;
 
 /// Answers a request of a document that the mirror holds. The first of these that fits gives the reply:
@@ -71,31 +69,8 @@ pub fn relay_answer<D: Disk>(
     }
     match request.verb {
         Verb::Get => show(mirror, disk, address),
-        _ => refused_method(),
-    }
-}
-
-/// The reply to a method that the documents don't allow (RFC 9110 section 15.5.6).
-fn refused_method() -> Reply
-    ensures { result ≡ not_allowed }
-{
-    Reply {
-        // An archive allows GET alone too.
-        allow: Some(Allow::OfArchive),
-        ..Reply::line(405, Line7::NotAllowed)
-    }
-}
-
-/// The reply that is a document.
-fn document(text: Vec<u8>) -> Reply
-    ensures { result ≡ document_reply text.items }
-{
-    Reply {
-        status: 200,
-        media: Media::Feed,
-        location: None,
-        allow: None,
-        body: Body::Made(Bytes::from_vec(text)),
+        // Like an archive, each document allows GET alone.
+        _ => Reply::not_allowed(Allow::OfArchive),
     }
 }
 
@@ -105,14 +80,14 @@ fn show<D: Disk>(mirror: &mut Mirror, disk: &mut D, address: Address) -> Reply
     requires stands { D.observable → StandsFor (D.state disk.old) mirror.old }
     ensures shown { IsShown D.observable (text_at mirror.old.kept address) result }
     ensures served { D.observable → (head : HeadValue) (history : List Op)
-        → HoldsServed head history mirror.old.kept → (bytes : List ℕ) → result ≡ document_reply bytes
+        → HoldsServed head history mirror.old.kept → (bytes : List ℕ) → result ≡ feed_reply bytes
         → Served head history (printed mirror.old.base address) bytes }
     ensures areas { (a : AreaValue) → LeavesAlone (D.state disk.old) (D.state disk.new) a }
     ensures mirror { HasReadBack D.observable (D.state disk.new) mirror.old mirror.new (result ≡ disk_fault) }
     ensures faults { CountsFault (D.state disk.old).faults (D.state disk.new).faults (result ≡ disk_fault) }
 {
     match mirror.document(disk, address) {
-        Ok(Some(text)) => document(text),
+        Ok(Some(text)) => Reply::document(Media::Feed, text),
         Ok(None) => Reply::line(404, Line7::NotFound),
         Err(LogFault::DiskFault) => Reply::line(500, Line7::Disk),
         Err(LogFault::Changed { .. }) => Reply::line(500, Line7::Changed),

@@ -2,6 +2,8 @@
 use Rattle.std.specs.Prelude.{◌≡◌, ◌<◌, ◌^◌, ℕ, List, [], ◌++◌, length, min, IsSome, Option, Some, None, unwrap_or, option_map, codes, decimal}
 use Rattle.atom_values.specs.Counts.{counter_limit}
 use Rattle.http.specs.StatusCode.{reason_phrase}
+use Rattle.http_face.specs.declared.fault.RequestFault.{RequestFault}
+use Rattle.http_face.specs.declared.fault.RequestFault.TheVariants as fault
 use Rattle.http_face.specs.declared.reply.Allow.{Allow}
 use Rattle.http_face.specs.declared.reply.Allow.TheVariants.{OfFeed, OfArchive, OfMember}
 use Rattle.http_face.specs.declared.reply.Body.{Body}
@@ -54,6 +56,44 @@ body_text (Fixed line) = line_text line
 abbrev pub line_reply : ℕ → Line7 → Reply
 line_reply status line =
     record { status = status; media = Plain; location = None; allow = None; body = Fixed line }
+
+-- a reply that is a document
+abbrev pub document_reply : Media → List ℕ → Reply
+document_reply kind document =
+    record { status = 200; media = kind; location = None; allow = None; body = Made document }
+
+-- the reply to a method that the target doesn't allow (RFC 9110 section 15.5.6)
+abbrev pub not_allowed : Allow → Reply
+not_allowed allow =
+    record { status = 405; media = Plain; location = None; allow = Some allow; body = Fixed line.NotAllowed }
+
+-- the reply to a method that HTTP doesn't name (RFC 9110 section 15.6.2)
+abbrev pub not_implemented : Reply
+not_implemented = line_reply 501 line.NotImplemented
+
+abbrev pub not_found : Reply
+not_found = line_reply 404 line.NotFound
+
+-- the replies that have another cause than the request and what is held
+abbrev pub no_memory : Reply
+no_memory = line_reply 503 line.NoMemory
+
+abbrev pub disk_fault : Reply
+disk_fault = line_reply 500 line.Disk
+
+abbrev pub disk_changed : Reply
+disk_changed = line_reply 500 line.Changed
+
+-- The reply to bytes that are no request (RFC 9110 section 15.5, RFC 6585 section 5). A failed connection gets none.
+abbrev pub fault_reply : RequestFault → Option Reply
+fault_reply fault.ConnFault = None
+fault_reply fault.BadHead = Some (line_reply 400 line.BadHead)
+fault_reply fault.HeadTooLarge = Some (line_reply 431 line.HeadTooLarge)
+fault_reply (fault.EndedEarly read) = Some (line_reply 400 line.EndedEarly)
+fault_reply fault.NoLength = Some (line_reply 411 line.NoLength)
+fault_reply fault.TwoLengths = Some (line_reply 400 line.TwoLengths)
+fault_reply (fault.BodyTooLarge length) = Some (line_reply 413 line.BodyTooLarge)
+fault_reply fault.NoMemory = Some no_memory
 
 -- a line of the head
 abbrev pub header : List ℕ → List ℕ → List ℕ

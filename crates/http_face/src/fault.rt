@@ -1,3 +1,7 @@
+ghost use Rattle.std.specs.Prelude.{◌≡◌, IfSome};
+ghost use Rattle.http_face.specs.Reply.{HasPhrase, fault_reply};
+
+use crate::reply::{Line7, Reply};
 use atom_values::{Failed, NoMemory};
 use std::alloc::AllocError;
 use std::error::Error;
@@ -22,6 +26,27 @@ pub enum RequestFault {
     BodyTooLarge { length: u128 },
     /// Memory ran out.
     NoMemory,
+}
+
+impl RequestFault {
+    /// The reply to bytes that are no request. `None` if the connection failed.
+    pub fn reply(self) -> Option<Reply>
+        ensures reply { result ≡ fault_reply self }
+        // The status line of the reply has a phrase.
+        ensures status { IfSome result (λ reply. HasPhrase reply.status) }
+    {
+        let (status, line) = match self {
+            RequestFault::ConnFault => return None,
+            RequestFault::BadHead => (400, Line7::BadHead),
+            RequestFault::HeadTooLarge => (431, Line7::HeadTooLarge),
+            RequestFault::EndedEarly { .. } => (400, Line7::EndedEarly),
+            RequestFault::NoLength => (411, Line7::NoLength),
+            RequestFault::TwoLengths => (400, Line7::TwoLengths),
+            RequestFault::BodyTooLarge { .. } => (413, Line7::BodyTooLarge),
+            RequestFault::NoMemory => (503, Line7::NoMemory),
+        };
+        Some(Reply::line(status, line))
+    }
 }
 
 impl fmt::Display for RequestFault {

@@ -1,5 +1,6 @@
 ghost use Rattle.std.specs.Prelude.{◌≡◌, option_map, codes};
 ghost use Rattle.http_face.specs.Reply.{media_text, allow_text, line_reply, line_text, body_text, optional_header};
+ghost use Rattle.http_face.specs.Reply.{document_reply, not_allowed as refused_method};
 
 use atom_values::{Bytes, Copies, NoMemory};
 use std::alloc::Global;
@@ -86,6 +87,29 @@ impl Reply {
             location: None,
             allow: None,
             body: Body::Fixed(line),
+        }
+    }
+
+    /// The reply to a method that the target doesn't allow (RFC 9110 section 15.5.6).
+    pub fn not_allowed(allow: Allow) -> Reply
+        ensures { result ≡ refused_method allow }
+    {
+        Reply {
+            allow: Some(allow),
+            ..Reply::line(405, Line7::NotAllowed)
+        }
+    }
+
+    /// A reply with the status 200 whose body is a document.
+    pub fn document(media: Media, text: Vec<u8>) -> Reply
+        ensures { result ≡ document_reply media text.items }
+    {
+        Reply {
+            status: 200,
+            media,
+            location: None,
+            allow: None,
+            body: Body::Made(Bytes::from_vec(text)),
         }
     }
 }
