@@ -191,8 +191,8 @@ live_counts : (documents : List DocumentValue) (id : List ℕ) (member : Member)
 live_counts documents id member x is e =
     let found = live_kept member.kept member.gone x e in
     let n = subst (λ k. MatchOption k (HasNoEntry (occurrences documents) id) (IsNewestOf (occurrences documents) id))
-    found.1 is.kept in
-    let later = later_than_gone documents id found.0.entry.updated member.gone is.removed found.2 in
+    found.1 is.keeps.0 in
+    let later = later_than_gone documents id found.0.entry.updated member.gone is.keeps.1 found.2 in
     let same : found.0.entry.updated ≡ n.occurrence.entry.updated = ap (λ (y : ForeignEntry). y.updated) n.entry in (
       ap (λ (y : ForeignEntry). y.id) (sym found.3 ∙ n.entry) ∙ n.of,
       subst (IsFirstCounting documents id) found.3 (first_counting documents id found.0 n
@@ -221,13 +221,13 @@ counts_live documents id o (Some m) is h =
           n.occurrence.entry.updated o.document.updated n.occurrence.document.updated
           (newest_of (occurrences documents) id kept n o h.there h.of) in
           let stays : is_removed kept.entry.updated m.gone ≡ false =
-          not_removed documents id kept.entry.updated m.gone is.removed
+          not_removed documents id kept.entry.updated m.gone is.keeps.1
           (λ g has. let past : g.when <ℤ o.entry.updated = h.undeleted g has in omega (arith, ints, same)) in
           let live : live_entry m ≡ Some kept.entry =
           ap (option_and_then (λ (k : Kept). if is_removed k.entry.updated m.gone then None else Some k.entry)) e
           ∙ ap (λ t. cond t None (Some kept.entry)) stays in
           (m, kept.entry, refl, live, ap (λ (y : ForeignEntry). y.id) n.entry ∙ n.of)
-    ] in at m.kept refl is.kept
+    ] in at m.kept refl is.keeps.0
 
 -- an entry of a map, whose live entry has the key as its identifier and is the first that counts
 abbrev pub IsGood : List DocumentValue → Vec ℕ Global × Member → Type 0

@@ -1,5 +1,6 @@
 -- The members of a map after one is added or changed.
 use Rattle.std.proofs.Common.{◌≡◌, ◌≢◌, ℕ, List, [], ◌∷◌, ◌++◌, Option, Some, None, MatchOption, Bool, true, false, cond}
+use Rattle.std.proofs.Common.{unwrap_or}
 use Rattle.std.proofs.Common.{sym, ap, subst, ◌∙◌, refl, bytes_eq, BTreeMap, Vec, Global, true≢false}
 use Rattle.std.specs.BTreeMap.{UpdatesBy, get_by, is_at}
 use Rattle.std.specs.Cmp.{eq_by_cmp_equiv}
@@ -11,13 +12,14 @@ use Rattle.std.proofs.lemmas.Slice.Eq.{bytes_eq-Decides}
 use Rattle.feed_reader.specs.declared.values.ForeignEntry.{ForeignEntry}
 use Rattle.feed_reader.specs.declared.values.ForeignGone.{ForeignGone}
 use Rattle.foreign_entries.specs.Occurrence.{Occurrence}
-use Rattle.foreign_entries.specs.Tally.{TalliesIn, IsMemberOf, HasNoEntry, HasNoTombstone, member_of}
-use Rattle.foreign_entries.specs.Added.{PutsMember, IsOccurrenceOf, OffersEntry, OffersTombstone}
-use Rattle.foreign_entries.specs.Added.{AddsEntry, AddsTombstone}
+use Rattle.foreign_entries.specs.Tally.{TalliesIn, IsMemberOf, Keeps, HasNoEntry, HasNoTombstone}
+use Rattle.foreign_entries.specs.Tally.{member_of}
+use Rattle.foreign_entries.specs.Added.{OffersEntry, OffersTombstone}
+use Rattle.foreign_entries.specs.Added.{AddsEntry, AddsTombstone, no_member}
 use Rattle.foreign_entries.specs.declared.live.Kept.{Kept}
 use Rattle.foreign_entries.specs.declared.live.Member.{Member}
 use Rattle.foreign_entries.specs.declared.live.LiveEntries.{LiveEntries}
-use Rattle.foreign_entries.proofs.NewestLemmas.{new_entry, new_tombstone, entry_of_other, tombstone_of_other}
+use Rattle.foreign_entries.proofs.NewestLemmas.{entry_of_other, tombstone_of_other}
 
 -- a change at one identifier leaves what other tests of the keys find
 module _ {K X : Type 0} (eq : K → K → Bool) (test : K → Bool) where
@@ -48,6 +50,11 @@ puts_member key m n w h id =
           (λ x y. (eq_by_cmp_equiv nat_list_cmp_total).congr id x.items y.items)
           (λ k. apart key id k.items e)
     ] in at (bytes_eq key id) refl
+
+-- the map has this member at the identifier, and the others as they were
+abbrev pub PutsMember : List ℕ → Member → LiveEntries → LiveEntries → Type 0
+PutsMember key member before after =
+    (id : List ℕ) → member_of after id ≡ cond (bytes_eq key id) (Some member) (member_of before id)
 
 apart_ids : (key id : List ℕ) → bytes_eq key id ≡ false → key ≢ id
 apart_ids key id e same = true≢false (sym ((bytes_eq-Decides key id).1 same) ∙ e)
@@ -80,63 +87,48 @@ tally_tombstone entries gone g member before after puts is tallies id =
       | false ↦ λ e. tombstone_of_other entries gone id g (apart_ids g.id id e) (member_of before id) (tallies id)
     ] in subst P (sym (puts id)) (at (bytes_eq g.id id) refl)
 
--- what the map has at an identifier
-member_at : (entries : List Occurrence) (gone : List ForeignGone) (live : LiveEntries) (id : List ℕ)
-    (member : Option Member) → member ≡ member_of live id → TalliesIn entries gone live
+-- what the map keeps of an identifier, which may be new
+kept_at : (entries : List Occurrence) (gone : List ForeignGone) (id : List ℕ) (member : Option Member)
     → MatchOption member (HasNoEntry entries id × HasNoTombstone gone id) (IsMemberOf entries gone id)
-member_at entries gone live id member e tallies =
-    subst (λ m. MatchOption m (HasNoEntry entries id × HasNoTombstone gone id) (IsMemberOf entries gone id)) (sym e)
-    (tallies id)
+    → Keeps entries gone id (unwrap_or member no_member)
+kept_at entries gone id None has = has
+kept_at entries gone id (Some m) has = has.keeps
 
-same_id : (key : List ℕ) (kept : Kept) (o : Occurrence) → key ≡ kept.entry.id → IsOccurrenceOf kept o
-    → key ≡ o.entry.id
-same_id key kept o e is = e ∙ ap (λ (x : ForeignEntry). x.id) is.entry
+-- the map has this member at the identifier, where its members are these
+puts_in : (key : List ℕ) (member : Member) (before after : LiveEntries) (members : BTreeMap (Vec ℕ Global) Member)
+    → after.members ≡ members
+    → ((id : List ℕ) → get_by (λ k. slice_cmp nat_cmp id k.items) members
+    ≡ cond (bytes_eq key id) (Some member) (member_of before id))
+    → PutsMember key member before after
+puts_in key member before after members same puts id =
+    ap (λ ms. get_by (λ k. slice_cmp nat_cmp id k.items) ms) same ∙ puts id
 
--- an entry whose identifier the map has
-pub entry_known : (kept : Kept) (before after : LiveEntries) (key : List ℕ) (old new : Member) → key ≡ kept.entry.id
-    → Some old ≡ member_of before key → OffersEntry kept old new → PutsMember key new before after
+-- an entry that is offered to the member of its identifier
+pub entry_put : (kept : Kept) (before after : LiveEntries) (members : BTreeMap (Vec ℕ Global) Member) (key : List ℕ)
+    (old new : Member) → after.members ≡ members → key ≡ kept.entry.id
+    → old ≡ unwrap_or (member_of before key) no_member → OffersEntry kept old new
+    → ((id : List ℕ) → get_by (λ k. slice_cmp nat_cmp id k.items) members
+    ≡ cond (bytes_eq key id) (Some new) (member_of before id))
     → AddsEntry kept before after
-entry_known kept before after key old new e has offers puts entries gone o is tallies =
-    let same : key ≡ o.entry.id = same_id key kept o e is in
-    tally_entry entries gone o new before after (subst (λ id. PutsMember id new before after) same puts)
-    (offers entries gone o is (member_at entries gone before o.entry.id (Some old)
-    (subst (λ id. Some old ≡ member_of before id) same has) tallies)) tallies
+entry_put kept before after members key old new is_in e has offers puts entries gone o is tallies =
+    let same : key ≡ o.entry.id = e ∙ ap (λ (x : ForeignEntry). x.id) is.entry in
+    let id = o.entry.id in
+    tally_entry entries gone o new before after (subst (λ xs. PutsMember xs new before after) same
+    (puts_in key new before after members is_in puts))
+    (offers entries gone o is (subst (Keeps entries gone id)
+    (sym (subst (λ xs. old ≡ unwrap_or (member_of before xs) no_member) same has))
+    (kept_at entries gone id (member_of before id) (tallies id)))) tallies
 
--- a change of a map with the same members
-same_members : (key : List ℕ) (member : Member) (before middle after : LiveEntries) → middle.members ≡ before.members
-    → PutsMember key member middle after → PutsMember key member before after
-same_members key member before middle after e puts id = puts id
-    ∙ ap (λ ms. cond (bytes_eq key id) (Some member) (get_by (λ k. slice_cmp nat_cmp id k.items) ms)) e
-
--- an entry with a new identifier, which is added under a copy of it
-pub entry_new : (kept : Kept) (before middle after : LiveEntries) (key copy : List ℕ) → key ≡ kept.entry.id
-    → copy ≡ kept.entry.id → middle.members ≡ before.members → None ≡ member_of before key
-    → PutsMember copy (record { kept = Some kept; gone = None }) middle after → AddsEntry kept before after
-entry_new kept before middle after key copy e copied same has puts entries gone o is tallies =
-    let new : Member = record { kept = Some kept; gone = None } in
-    let none = member_at entries gone before o.entry.id None
-    (subst (λ id. None ≡ member_of before id) (same_id key kept o e is) has) tallies in
-    tally_entry entries gone o new before after
-    (subst (λ id. PutsMember id new before after) (same_id copy kept o copied is)
-    (same_members copy new before middle after same puts))
-    (new_entry entries gone o kept is none.0 none.1) tallies
-
--- a tombstone whose identifier the map has
-pub tombstone_known : (g : ForeignGone) (before after : LiveEntries) (key : List ℕ) (old new : Member) → key ≡ g.id
-    → Some old ≡ member_of before key → OffersTombstone g.when old new → PutsMember key new before after
+-- a tombstone that is offered to the member of its identifier
+pub tombstone_put : (g : ForeignGone) (before after : LiveEntries) (members : BTreeMap (Vec ℕ Global) Member)
+    (key : List ℕ) (old new : Member) → after.members ≡ members → key ≡ g.id
+    → old ≡ unwrap_or (member_of before key) no_member → OffersTombstone g.when old new
+    → ((id : List ℕ) → get_by (λ k. slice_cmp nat_cmp id k.items) members
+    ≡ cond (bytes_eq key id) (Some new) (member_of before id))
     → AddsTombstone g before after
-tombstone_known g before after key old new e has offers puts entries gone tallies =
-    tally_tombstone entries gone g new before after (subst (λ id. PutsMember id new before after) e puts)
-    (offers entries gone g refl (member_at entries gone before g.id (Some old)
-    (subst (λ id. Some old ≡ member_of before id) e has) tallies)) tallies
-
--- a tombstone with a new identifier, which is added under a copy of it
-pub tombstone_new : (g : ForeignGone) (before middle after : LiveEntries) (key copy : List ℕ) → key ≡ g.id
-    → copy ≡ g.id → middle.members ≡ before.members → None ≡ member_of before key
-    → PutsMember copy (record { kept = None; gone = Some g.when }) middle after → AddsTombstone g before after
-tombstone_new g before middle after key copy e copied same has puts entries gone tallies =
-    let new : Member = record { kept = None; gone = Some g.when } in
-    let none = member_at entries gone before g.id None (subst (λ id. None ≡ member_of before id) e has) tallies in
-    tally_tombstone entries gone g new before after
-    (subst (λ id. PutsMember id new before after) copied (same_members copy new before middle after same puts))
-    (new_tombstone entries gone g g.when refl none.0 none.1) tallies
+tombstone_put g before after members key old new is_in e has offers puts entries gone tallies =
+    tally_tombstone entries gone g new before after (subst (λ xs. PutsMember xs new before after) e
+    (puts_in key new before after members is_in puts))
+    (offers entries gone g refl (subst (Keeps entries gone g.id)
+    (sym (subst (λ xs. old ≡ unwrap_or (member_of before xs) no_member) e has))
+    (kept_at entries gone g.id (member_of before g.id) (tallies g.id)))) tallies

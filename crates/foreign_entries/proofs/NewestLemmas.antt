@@ -1,13 +1,14 @@
 -- The newest entry and the latest tombstone of an identifier, with one more entry or tombstone.
 use Rattle.std.proofs.Common.{◌≡◌, ◌≢◌, ℕ, List, [], ◌∷◌, ◌++◌, All, Option, Some, None, ℤ, ◌<ℤ◌, ◌≤ℤ◌}
-use Rattle.std.proofs.Common.{◌⊎◌, inl, inr, MatchOption, refl, sym, ap, subst, subst₂, ◌∙◌, arith, append_assoc}
+use Rattle.std.proofs.Common.{◌⊎◌, inl, inr, is_some, MatchOption, refl, sym, ap, subst, subst₂, ◌∙◌, arith, append_assoc}
 use Rattle.std.proofs.lemmas.Int.{ints}
 use Rattle.std.proofs.lemmas.List.Elements.{All-nil, All-push, All-append, All-cons, All-weaker, Contains-append_left}
 use Rattle.std.proofs.lemmas.List.Elements.{Contains-push}
 use Rattle.feed_reader.specs.declared.values.ForeignEntry.{ForeignEntry}
 use Rattle.feed_reader.specs.declared.values.ForeignGone.{ForeignGone}
 use Rattle.foreign_entries.specs.Occurrence.{Occurrence}
-use Rattle.foreign_entries.specs.Tally.{IsNewer, IsNewestOf, IsLatestOf, IsMemberOf, HasNoEntry, HasNoTombstone}
+use Rattle.foreign_entries.specs.Tally.{IsNewer, IsNewestOf, IsLatestOf, IsMemberOf, Keeps, HasNoEntry}
+use Rattle.foreign_entries.specs.Tally.{HasNoTombstone}
 use Rattle.foreign_entries.specs.Added.{IsOccurrenceOf, IsNewerKept}
 use Rattle.foreign_entries.specs.declared.live.Kept.{Kept}
 use Rattle.foreign_entries.specs.declared.live.Member.{Member}
@@ -154,27 +155,31 @@ latest_past all id g old n never = record {
 
 -- a member that takes an entry of its identifier
 pub offer_first : (entries : List Occurrence) (gone : List ForeignGone) (o : Occurrence) (kept : Kept) (m : Member)
-    → IsOccurrenceOf kept o → m.kept ≡ None → IsMemberOf entries gone o.entry.id m
+    → IsOccurrenceOf kept o → m.kept ≡ None → Keeps entries gone o.entry.id m
     → IsMemberOf (entries ++ o ∷ []) gone o.entry.id (record { kept = Some kept; gone = m.gone })
 offer_first entries gone o kept m is none has = record {
-  kept = newest_first entries o kept is
-      (subst (λ k. MatchOption k (HasNoEntry entries o.entry.id) (IsNewestOf entries o.entry.id)) none has.kept);
-  removed = has.removed;
+  keeps = (
+    newest_first entries o kept is
+        (subst (λ k. MatchOption k (HasNoEntry entries o.entry.id) (IsNewestOf entries o.entry.id)) none has.0),
+    has.1,
+  );
   some = inl refl;
 }
 
 pub offer_newer : (entries : List Occurrence) (gone : List ForeignGone) (o : Occurrence) (kept old : Kept) (m : Member)
-    → IsOccurrenceOf kept o → m.kept ≡ Some old → IsNewerKept kept old → IsMemberOf entries gone o.entry.id m
+    → IsOccurrenceOf kept o → m.kept ≡ Some old → IsNewerKept kept old → Keeps entries gone o.entry.id m
     → IsMemberOf (entries ++ o ∷ []) gone o.entry.id (record { kept = Some kept; gone = m.gone })
 offer_newer entries gone o kept old m is some newer_kept has = record {
-  kept = newest_put entries o kept old is
-      (subst (λ k. MatchOption k (HasNoEntry entries o.entry.id) (IsNewestOf entries o.entry.id)) some has.kept) newer_kept;
-  removed = has.removed;
+  keeps = (
+    newest_put entries o kept old is
+        (subst (λ k. MatchOption k (HasNoEntry entries o.entry.id) (IsNewestOf entries o.entry.id)) some has.0) newer_kept,
+    has.1,
+  );
   some = inl refl;
 }
 
 pub offer_older : (entries : List Occurrence) (gone : List ForeignGone) (o : Occurrence) (kept old : Kept) (m : Member)
-    → IsOccurrenceOf kept o → m.kept ≡ Some old → (IsNewerKept kept old → ⊥) → IsMemberOf entries gone o.entry.id m
+    → IsOccurrenceOf kept o → m.kept ≡ Some old → (IsNewerKept kept old → ⊥) → Keeps entries gone o.entry.id m
     → IsMemberOf (entries ++ o ∷ []) gone o.entry.id m
 offer_older entries gone o kept old m is some never has =
     let P : Option Kept → Type 0 = λ k. MatchOption k (HasNoEntry entries o.entry.id)
@@ -182,63 +187,52 @@ offer_older entries gone o kept old m is some never has =
     let Q : Option Kept → Type 0 = λ k. MatchOption k (HasNoEntry (entries ++ o ∷ []) o.entry.id)
     (IsNewestOf (entries ++ o ∷ []) o.entry.id) in
     record {
-      kept = subst Q (sym some) (newest_stays entries o kept old is (subst P some has.kept) never);
-      removed = has.removed;
-      some = has.some;
+      keeps = (
+        subst Q (sym some) (newest_stays entries o kept old is (subst P some has.0) never),
+        has.1,
+      );
+      some = inl (ap is_some some);
     }
 
 -- a member that takes a tombstone of its identifier
 pub remove_first : (entries : List Occurrence) (gone : List ForeignGone) (g : ForeignGone) (when : ℤ) (m : Member)
-    → g.when ≡ when → m.gone ≡ None → IsMemberOf entries gone g.id m
+    → g.when ≡ when → m.gone ≡ None → Keeps entries gone g.id m
     → IsMemberOf entries (gone ++ g ∷ []) g.id (record { kept = m.kept; gone = Some when })
 remove_first entries gone g when m is none has = record {
-  kept = has.kept;
-  removed = latest_first gone g when is
-      (subst (λ w. MatchOption w (HasNoTombstone gone g.id) (IsLatestOf gone g.id)) none has.removed);
+  keeps = (
+    has.0,
+    latest_first gone g when is
+        (subst (λ w. MatchOption w (HasNoTombstone gone g.id) (IsLatestOf gone g.id)) none has.1),
+  );
   some = inr refl;
 }
 
 pub remove_later : (entries : List Occurrence) (gone : List ForeignGone) (g : ForeignGone) (when old : ℤ) (m : Member)
-    → g.when ≡ when → m.gone ≡ Some old → old <ℤ when → IsMemberOf entries gone g.id m
+    → g.when ≡ when → m.gone ≡ Some old → old <ℤ when → Keeps entries gone g.id m
     → IsMemberOf entries (gone ++ g ∷ []) g.id (record { kept = m.kept; gone = Some when })
 remove_later entries gone g when old m is some over has = record {
-  kept = has.kept;
-  removed = latest_put gone g when old is
-      (subst (λ w. MatchOption w (HasNoTombstone gone g.id) (IsLatestOf gone g.id)) some has.removed) over;
+  keeps = (
+    has.0,
+    latest_put gone g when old is
+        (subst (λ w. MatchOption w (HasNoTombstone gone g.id) (IsLatestOf gone g.id)) some has.1) over,
+  );
   some = inr refl;
 }
 
 pub remove_earlier : (entries : List Occurrence) (gone : List ForeignGone) (g : ForeignGone) (when old : ℤ)
-    (m : Member) → g.when ≡ when → m.gone ≡ Some old → when ≤ℤ old → IsMemberOf entries gone g.id m
+    (m : Member) → g.when ≡ when → m.gone ≡ Some old → when ≤ℤ old → Keeps entries gone g.id m
     → IsMemberOf entries (gone ++ g ∷ []) g.id m
 remove_earlier entries gone g when old m is some under has =
     let P : Option ℤ → Type 0 = λ w. MatchOption w (HasNoTombstone gone g.id) (IsLatestOf gone g.id) in
     let Q : Option ℤ → Type 0 = λ w. MatchOption w (HasNoTombstone (gone ++ g ∷ []) g.id)
     (IsLatestOf (gone ++ g ∷ []) g.id) in
     record {
-      kept = has.kept;
-      removed = subst Q (sym some) (latest_past gone g.id g old (subst P some has.removed) (λ _. omega (arith, ints)));
-      some = has.some;
+      keeps = (
+        has.0,
+        subst Q (sym some) (latest_past gone g.id g old (subst P some has.1) (λ _. omega (arith, ints))),
+      );
+      some = inr (ap is_some some);
     }
-
--- a new member
-pub new_entry : (entries : List Occurrence) (gone : List ForeignGone) (o : Occurrence) (kept : Kept)
-    → IsOccurrenceOf kept o → HasNoEntry entries o.entry.id → HasNoTombstone gone o.entry.id
-    → IsMemberOf (entries ++ o ∷ []) gone o.entry.id (record { kept = Some kept; gone = None })
-new_entry entries gone o kept is none no_tombstone = record {
-  kept = newest_first entries o kept is none;
-  removed = no_tombstone;
-  some = inl refl;
-}
-
-pub new_tombstone : (entries : List Occurrence) (gone : List ForeignGone) (g : ForeignGone) (when : ℤ)
-    → g.when ≡ when → HasNoEntry entries g.id → HasNoTombstone gone g.id
-    → IsMemberOf entries (gone ++ g ∷ []) g.id (record { kept = None; gone = Some when })
-new_tombstone entries gone g when is no_entry none = record {
-  kept = no_entry;
-  removed = latest_first gone g when is none;
-  some = inr refl;
-}
 
 -- an entry of another identifier changes nothing
 pub entry_of_other : (entries : List Occurrence) (gone : List ForeignGone) (id : List ℕ) (o : Occurrence)
@@ -256,7 +250,7 @@ entry_of_other entries gone id o apart (Some m) has =
       | None ↦ λ none. All-push (λ (r : Occurrence). r.entry.id ≢ id) entries o none apart
       | Some kept ↦ λ n. newest_past entries id o kept n (λ same _. apart same)
     ] in
-    record { kept = at m.kept has.kept; removed = has.removed; some = has.some }
+    record { keeps = (at m.kept has.keeps.0, has.keeps.1); some = has.some }
 
 -- a tombstone of another identifier changes nothing
 pub tombstone_of_other : (entries : List Occurrence) (gone : List ForeignGone) (id : List ℕ) (g : ForeignGone)
@@ -274,4 +268,4 @@ tombstone_of_other entries gone id g apart (Some m) has =
       | None ↦ λ none. All-push (λ (r : ForeignGone). r.id ≢ id) gone g none apart
       | Some when ↦ λ n. latest_past gone id g when n (λ same. absurd (apart same))
     ] in
-    record { kept = has.kept; removed = at m.gone has.removed; some = has.some }
+    record { keeps = (has.keeps.0, at m.gone has.keeps.1); some = has.some }

@@ -1,11 +1,11 @@
 -- What one more entry or tombstone changes.
-use Rattle.std.specs.Prelude.{◌≡◌, ℕ, List, Option, Some, None, ◌∷◌, [], ◌++◌, map, ℤ, ◌<ℤ◌, int_le, ◌⊎◌, if◌then◌else◌}
-use Rattle.std.specs.Prelude.{option_and_then, bytes_eq, cond, Bool, false}
+use Rattle.std.specs.Prelude.{◌≡◌, List, Option, Some, None, ◌∷◌, [], ◌++◌, map, ℤ, ◌<ℤ◌, int_le, ◌⊎◌, if◌then◌else◌}
+use Rattle.std.specs.Prelude.{option_and_then, Bool, false}
 use Rattle.feed_reader.specs.Feed.{DocumentValue}
 use Rattle.feed_reader.specs.declared.values.ForeignEntry.{ForeignEntry}
 use Rattle.feed_reader.specs.declared.values.ForeignGone.{ForeignGone}
 use Rattle.foreign_entries.specs.Occurrence.{Occurrence}
-use Rattle.foreign_entries.specs.Tally.{IsMemberOf, TalliesIn, member_of}
+use Rattle.foreign_entries.specs.Tally.{IsMemberOf, Keeps, TalliesIn}
 use Rattle.foreign_entries.specs.declared.live.LiveEntries.{LiveEntries}
 use Rattle.foreign_entries.specs.declared.live.Member.{Member}
 use Rattle.foreign_entries.specs.declared.live.Kept.{Kept}
@@ -21,22 +21,21 @@ IsNewerKept one other =
     (other.entry.updated <ℤ one.entry.updated)
     ⊎ ((other.entry.updated ≡ one.entry.updated) × (other.document_updated <ℤ one.document_updated))
 
+-- a member before its first entry or tombstone
+abbrev pub no_member : Member
+no_member = record { kept = None; gone = None }
+
 -- a member after one more entry of its identifier
 abbrev pub OffersEntry : Kept → Member → Member → Type 0
 OffersEntry kept before after =
     (entries : List Occurrence) (gone : List ForeignGone) (o : Occurrence) → IsOccurrenceOf kept o
-    → IsMemberOf entries gone o.entry.id before → IsMemberOf (entries ++ o ∷ []) gone o.entry.id after
+    → Keeps entries gone o.entry.id before → IsMemberOf (entries ++ o ∷ []) gone o.entry.id after
 
 -- a member after one more tombstone of its identifier
 abbrev pub OffersTombstone : ℤ → Member → Member → Type 0
 OffersTombstone when before after =
     (entries : List Occurrence) (gone : List ForeignGone) (g : ForeignGone) → g.when ≡ when
-    → IsMemberOf entries gone g.id before → IsMemberOf entries (gone ++ g ∷ []) g.id after
-
--- the map has this member at the identifier, and the others as they were
-abbrev pub PutsMember : List ℕ → Member → LiveEntries → LiveEntries → Type 0
-PutsMember key member before after =
-    (id : List ℕ) → member_of after id ≡ cond (bytes_eq key id) (Some member) (member_of before id)
+    → Keeps entries gone g.id before → IsMemberOf entries (gone ++ g ∷ []) g.id after
 
 -- the map after one more entry
 abbrev pub AddsEntry : Kept → LiveEntries → LiveEntries → Type 0

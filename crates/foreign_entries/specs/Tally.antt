@@ -49,10 +49,15 @@ HasNoEntry all id = All (λ (o : Occurrence). o.entry.id ≢ id) all
 abbrev pub HasNoTombstone : List ForeignGone → List ℕ → Type 0
 HasNoTombstone all id = All (λ (g : ForeignGone). g.id ≢ id) all
 
+-- the newest entry and the latest tombstone of an identifier, where there are any
+abbrev pub Keeps : List Occurrence → List ForeignGone → List ℕ → Member → Type 0
+Keeps entries gone id m =
+    MatchOption m.kept (HasNoEntry entries id) (IsNewestOf entries id)
+    × MatchOption m.gone (HasNoTombstone gone id) (IsLatestOf gone id)
+
 -- the newest entry and the latest tombstone of an identifier, of which at least one is present
 pub record IsMemberOf (entries : List Occurrence) (gone : List ForeignGone) (id : List ℕ) (m : Member) : Type 0 where
-  pub kept : MatchOption m.kept (HasNoEntry entries id) (IsNewestOf entries id)
-  pub removed : MatchOption m.gone (HasNoTombstone gone id) (IsLatestOf gone id)
+  pub keeps : Keeps entries gone id m
   pub some : IsSome m.kept ⊎ IsSome m.gone
 
 -- the member of an identifier, whose key has the same bytes

@@ -1,7 +1,7 @@
 ghost use Rattle.std.specs.Prelude.{◌≡◌, List, [], ◌∷◌, ◌++◌, IfOk, OnOk, Decides, option_to_list};
 ghost use Rattle.feed_reader.specs.Feed.{DocumentValue};
 ghost use Rattle.foreign_entries.specs.Live.{IsForeignLive};
-ghost use Rattle.foreign_entries.specs.Added.{live_entry, AddsEntry, AddsEntries, AddsTombstone, AddsTombstones, OffersEntry, OffersTombstone, PutsMember, IsNewerKept};
+ghost use Rattle.foreign_entries.specs.Added.{live_entry, AddsEntry, AddsEntries, AddsTombstone, AddsTombstones, OffersEntry, OffersTombstone, IsNewerKept, no_member};
 ghost use Rattle.foreign_entries.specs.Tally.{Tallies};
 
 use atom_values::{Many, NoMemory, Stamp};
@@ -22,7 +22,8 @@ pub struct LiveEntries {
     alloc: Global,
 }
 
-/// The newest entry and the latest tombstone of an identifier. At least one of the two is present.
+/// The newest entry and the latest tombstone of an identifier. At least one of the two is present, except
+/// while the first is added.
 #[derive(Drop)]
 struct Member {
     /// The entry that is live unless a tombstone removes it.
@@ -52,6 +53,16 @@ impl Kept {
 }
 
 impl Member {
+    /// A member before its first entry or tombstone.
+    fn new() -> Member
+        ensures { result ≡ no_member }
+    {
+        Member {
+            kept: None,
+            gone: None,
+        }
+    }
+
     /// Keeps the entry if it is newer than the kept one. Of equal entries the first one stays.
     fn offer(&mut self, kept: Kept)
         ensures { OffersEntry kept self.old self.new }
@@ -136,26 +147,14 @@ impl LiveEntries {
         Ok(())
     }
 
-    /// Adds an entry to the member of its identifier.
+    /// Adds an entry to the member of its identifier. One look-up serves old and new identifiers.
     fn add_entry(&mut self, kept: Kept) -> Result<(), NoMemory>
         ensures { OnOk result (AddsEntry kept self.old self.new) }
     {
-        match self.members.get_mut(kept.entry.id.bytes()) {
-            Some(member) => {
-                member.offer(kept);
-                Ok(())
-            }
-            None => {
-                let key = Vec::from_slice(self.alloc, kept.entry.id.bytes())?;
-                self.insert(
-                    key,
-                    Member {
-                        kept: Some(kept),
-                        gone: None,
-                    },
-                )
-            }
-        }
+        let key = Vec::from_slice(self.alloc, kept.entry.id.bytes())?;
+        let member = self.members.entry(key)?.or_insert(Member::new());
+        member.offer(kept);
+        Ok(())
     }
 
     /// Adds the tombstones of a document.
@@ -172,29 +171,9 @@ impl LiveEntries {
     fn add_tombstone(&mut self, gone: &ForeignGone) -> Result<(), NoMemory>
         ensures { OnOk result (AddsTombstone gone.now self.old self.new) }
     {
-        match self.members.get_mut(gone.id.bytes()) {
-            Some(member) => {
-                member.remove(gone.when);
-                Ok(())
-            }
-            None => {
-                let key = Vec::from_slice(self.alloc, gone.id.bytes())?;
-                self.insert(
-                    key,
-                    Member {
-                        kept: None,
-                        gone: Some(gone.when),
-                    },
-                )
-            }
-        }
-    }
-
-    /// Adds the first member of an identifier.
-    fn insert(&mut self, key: Vec<u8>, member: Member) -> Result<(), NoMemory>
-        ensures { OnOk result (PutsMember key.items member self.old self.new) }
-    {
-        self.members.insert(key, member)?;
+        let key = Vec::from_slice(self.alloc, gone.id.bytes())?;
+        let member = self.members.entry(key)?.or_insert(Member::new());
+        member.remove(gone.when);
         Ok(())
     }
 

@@ -26,7 +26,7 @@ use Rattle.std.proofs.lemmas.List.{length-drop}
 use Rattle.xml_tokens.specs.declared.elements.Elements.{Elements}
 use Rattle.xml_tokens.specs.declared.elements.Stage.TheVariants.{Start}
 use Rattle.xml_tokens.specs.Stages.Stage.{start}
-use Rattle.xml_tokens.specs.Scopes.{AreLevelsOf}
+use Rattle.xml_tokens.specs.Scopes.{AreScopesOf}
 use Rattle.xml_tokens.specs.Progress.{IsAt, IsBehindXml, IsNameOfOpen, IsStageOf, first_point}
 use Rattle.xml_tokens.proofs.BeginLemmas.{begins_from, begins_split}
 use Rattle.xml_tokens.proofs.EventLemmas.{same_name}
@@ -199,7 +199,7 @@ behind_whole bytes front back more some e xml =
 -- the reader at the beginning of a document
 pub first_at : (most : ℕ) (input : List ℕ) (n : ℕ) (e : Elements) → n ≤ length input → IsXmlText (take n input) →
     IsBehindXml (drop n input) → e.most ≡ most → (1 ≤ most) × (most < 2 ^ 64) → e.stage ≡ Start → e.empty ≡ false → e.names.items ≡ [] →
-    e.scopes.levels.items ≡ [] → e.end ≡ n → e.length ≡ length input →
+    AreScopesOf [] e.scopes → e.end ≡ n → e.length ≡ length input →
     e.cursor.rest.now ≡ drop (length (mark_of (take n input))) (take n input) → IsAt e (first_point most input)
 first_at most input n e within xml behind same_most range stage empty items levels end total rest =
     let t = take n input in
@@ -220,7 +220,7 @@ first_at most input n e within xml behind same_most range stage empty items leve
       stage = subst (λ b. IsStageOf e.stage b [] start) (sym empty)
           (subst (λ s. IsStageOf s false [] start) (sym stage) refl);
       names = subst (λ k. AllZip IsNameOfOpen [] (reverse k)) (sym items) tt;
-      scopes = subst (λ k. AreLevelsOf [] (reverse k)) (sym levels) tt;
+      scopes = levels;
       depth = omega arith;
       text = spelled ∙ ap (λ r. r ++ tail) (sym rest);
       xml = subst IsXmlText (sym rest) m.1;

@@ -70,6 +70,8 @@ pub mod InstructionCutLemmas
 pub mod InstructedLemmas
 -- Scopes, add_declaration: the levels in which scopes are kept
 pub mod ScopeLemmas
+-- first_suspect: the first suspect byte after blocks that have none
+pub mod SuspectLemmas
 -- xml_length, allowed_length: the first character that isn't allowed, byte by byte
 pub mod AllowedLemmas
 -- Elements: from point to point of a document

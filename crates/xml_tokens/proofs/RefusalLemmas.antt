@@ -9,7 +9,8 @@ use Rattle.std.specs.List.{AllZip}
 use Rattle.std.specs.Borrow.{Bor}
 use Rattle.xml_tokens.specs.Stages.{Lexeme, Scope, declared, inner_scope, namespace_of, outer_scope}
 use Rattle.xml_tokens.specs.Reading.{AreRead, Continues, IsTagRead, own_tag}
-use Rattle.xml_tokens.specs.Scopes.{AreLevelsOf, AreScopesOf, Level, OpensScope, scope_of}
+use Rattle.xml_tokens.specs.Scopes.{AreLevelsOf, AreScopesOf, OpensScope, scope_of}
+use Rattle.xml_tokens.specs.declared.scopes.Declaring.{Declaring}
 use Rattle.xml_tokens.specs.declared.scopes.Scopes.{Scopes}
 use Rattle.xml_tokens.specs.Reading.{IsCutAtSlash, IsTagOf, kind_of}
 use Rattle.xml_tokens.specs.Progress.{emptiness}
@@ -345,13 +346,15 @@ some_behind (b ∷ own) t p some = elim (bytes_eq b.prefix p) as (λ c.
     [ true ↦ refl | false ↦ some_behind own t p some ]
 
 -- a namespace that is set outside the root is set in each element
-outer_some : (opened : List Open) (levels : List Level) (p : List ℕ) → AreLevelsOf opened levels →
+outer_some : (opened : List Open) (levels : List Declaring) (p : List ℕ) → AreLevelsOf opened levels →
     is_some (namespace_of outer_scope p) ≡ true → is_some (namespace_of (scope_of opened) p) ≡ true
 outer_some [] levels p are some = some
-outer_some (e ∷ opened) [] p are some = absurd are
-outer_some (e ∷ opened) (level ∷ levels) p are some =
-    ap (λ s. is_some (namespace_of s p)) are.0.1
-    ∙ some_behind are.0.0 (scope_of opened) p (outer_some opened levels p are.1 some)
+outer_some (e ∷ opened) levels p (own, scope, inl (none, more)) some =
+    ap (λ s. is_some (namespace_of s p)) scope
+    ∙ some_behind own (scope_of opened) p (outer_some opened levels p more some)
+outer_some (e ∷ opened) levels p (own, scope, inr (level, rest, split, at, is, more)) some =
+    ap (λ s. is_some (namespace_of s p)) scope
+    ∙ some_behind own (scope_of opened) p (outer_some opened rest p more some)
 
 -- a tag with this end whose text goes on
 deep_tag : (from : Point) (old : Elements) (before : List ℕ) (x : IsAtText old before from) (end : TagEnd)
@@ -403,7 +406,7 @@ cut_goes from old before x told inside shallow tail c =
     let k = kept_open old.stage x.opened from.stage kept in
     let set : is_some (namespace_of (filter_map declared tag.attributes ++ scope_of x.opened) tag.name.prefix) ≡ true =
     some_append (filter_map declared tag.attributes) outer_scope (scope_of x.opened) tag.name.prefix
-    (outer_some x.opened (reverse old.scopes.levels.items) tag.name.prefix x.scopes) found.spelled.1 in
+    (outer_some x.opened (reverse old.scopes.levels.items) tag.name.prefix x.scopes.1) found.spelled.1 in
     let same : from.text ≡ before = x.text ∙ ap (λ t. before ++ t) tail ∙ append-nil before in (
       c.0,
       record {

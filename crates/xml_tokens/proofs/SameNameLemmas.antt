@@ -1,6 +1,6 @@
 -- Names that are the same, and the set of those that were seen.
 use Rattle.std.proofs.Common.{◌≡◌, ℕ, Bool, true, false, cond, ◌||◌, List, [], ◌∷◌, ◌++◌, refl, sym, ap, ◌∙◌, ⊎_elim}
-use Rattle.std.proofs.Common.{Ordering}
+use Rattle.std.proofs.Common.{Ordering, suc, length, ◌<◌, arith}
 use Rattle.std.specs.Prelude.{bytes_eq}
 use Rattle.std.specs.List.{IsDistinct, AllByRecursion, list_any}
 use Rattle.std.specs.Borrow.{Bor}
@@ -21,6 +21,16 @@ differs_last : (x y : List ℕ) (xs : List (List ℕ)) → AllByRecursion (λ z.
     bytes_eq x y ≡ false → AllByRecursion (λ z. bytes_eq x z ≡ false) (xs ++ y ∷ [])
 differs_last x y [] all last = (last, tt)
 differs_last x y (z ∷ xs) all last = (all.0, differs_last x y xs all.1 last)
+
+few_more : (n : ℕ) → suc (suc n) < 2 → ⊥
+few_more n few = omega (arith, few)
+
+-- fewer than two names
+pub distinct_few : (xs : List (List ℕ)) → length xs < 2 → IsDistinct bytes_eq xs
+unfolding IsDistinct
+distinct_few [] few = tt
+distinct_few (x ∷ []) few = (tt, tt)
+distinct_few (x ∷ y ∷ xs) few = absurd (few_more (length xs) few)
 
 -- one more name, which isn't among the others
 pub distinct_more : (xs : List (List ℕ)) (y : List ℕ) → IsDistinct bytes_eq xs → list_any (bytes_eq y) xs ≡ false →

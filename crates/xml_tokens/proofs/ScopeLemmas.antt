@@ -1,7 +1,13 @@
 -- The scopes of prefixes, and the levels in which a reader keeps them.
 use Rattle.std.proofs.Common.{◌≡◌, ℕ, List, [], ◌∷◌, ◌++◌, reverse, Bool, true, false, cond, Option, Some, None}
 use Rattle.std.proofs.Common.{option_map}
-use Rattle.std.proofs.Common.{refl, sym, ap, subst, ◌∙◌, bytes_eq}
+use Rattle.std.proofs.Common.{refl, sym, ap, subst, ◌∙◌, bytes_eq, ◌+◌, ◌<◌, ◌==◌, ◌-◌, length, inl, inr, arith}
+use Rattle.std.proofs.lemmas.Bool.{eqb-false, eqb-true}
+use Rattle.std.specs.Prelude.{option_to_list}
+use Rattle.std.specs.BTreeMap.{is_at}
+use Rattle.std.specs.Cmp.Lexicographic.{slice_cmp}
+use Rattle.std.specs.Map.{lookup}
+use Rattle.std.specs.Ordering.{nat_cmp}
 use Rattle.std.specs.Prelude.{filter_map, is_some}
 use Rattle.std.specs.List.{AllZip, cons_option}
 use Rattle.std.specs.Option.{option_or}
@@ -11,10 +17,15 @@ use Rattle.std.proofs.lemmas.Slice.Eq.{bytes_eq-Decides}
 use Rattle.xml_tokens.specs.declared.scopes.Namespace.{Namespace}
 use Rattle.xml_tokens.specs.declared.tag.Attribute.{Attribute as Raw}
 use Rattle.xml_tokens.specs.Tokens.{Attribute}
-use Rattle.xml_tokens.specs.Stages.{Binding, Open, Scope, declared, namespace_of}
+use Rattle.xml_tokens.specs.Stages.{Binding, Open, Scope, declared, namespace_of, outer_scope}
 use Rattle.xml_tokens.specs.Reading.{kind_of}
 use Rattle.xml_tokens.specs.Scopes.{Level, IsLawfulOf, IsLevelOf, AreLevelsOf, AreDeclarations, AddsDeclaration}
-use Rattle.xml_tokens.specs.Scopes.{scope_of}
+use Rattle.xml_tokens.specs.Scopes.{AreScopesOf, OpensScope, is_first, scope_of}
+use Rattle.xml_tokens.specs.declared.scopes.Declaring.{Declaring}
+use Rattle.xml_tokens.specs.declared.scopes.Scopes.{Scopes}
+
+few_less : (m n : ℕ) → m < n → m ≡ n → ⊥
+few_less m n below same = omega (arith, below, same)
 
 -- a prefix that is declared has its own namespace
 namespace_found : (own s : Scope) (p v : List ℕ) → namespace_of own p ≡ Some v → namespace_of (own ++ s) p ≡ Some v
@@ -154,29 +165,154 @@ adds_known own a prefix old is has there p =
     ] in
     same (bytes_eq prefix p) refl ∙ sym whole
 
-front_step : (opened : List Open) (levels : List Level) (level : Level) (p : List ℕ) (found here : Option Namespace) →
+-- an element that declares nothing
+none_adds : (own s : Scope) (p : List ℕ) → None ≡ option_map kind_of (namespace_of own p) →
+    option_map kind_of (namespace_of (own ++ s) p) ≡ option_map kind_of (namespace_of s p)
+none_adds own s p none =
+    sym (scope_append own s p) ∙ ap (λ x. option_or x (option_map kind_of (namespace_of s p))) (sym none)
+
+-- the scope where no element declares a prefix
+pub no_levels : (opened : List Open) (p : List ℕ) → AreLevelsOf opened [] →
+    option_map kind_of (namespace_of outer_scope p) ≡ option_map kind_of (namespace_of (scope_of opened) p)
+no_levels [] p are = refl
+no_levels (element ∷ opened) p (own, scope, inl (none, outer)) =
+    no_levels opened p outer ∙ sym (none_adds own (scope_of opened) p (none p))
+    ∙ ap (λ s. option_map kind_of (namespace_of s p)) (sym scope)
+no_levels (element ∷ opened) p (own, scope, inr (level, rest, split, at, is, outer)) = absurd cc
+
+front_step : (opened : List Open) (levels : List Declaring) (level : Declaring) (p : List ℕ)
+    (found here : Option Namespace) →
     ((opened : List Open) → AreLevelsOf opened levels → found ≡ option_map kind_of (namespace_of (scope_of opened) p)) →
-    ((own : Scope) → IsLevelOf own level → here ≡ option_map kind_of (namespace_of own p)) →
+    ((own : Scope) → IsLevelOf own level.declared → here ≡ option_map kind_of (namespace_of own p)) →
     AreLevelsOf opened (level ∷ levels) →
     option_or here found ≡ option_map kind_of (namespace_of (scope_of opened) p)
-front_step [] levels level p found here outer own are = absurd are
-front_step (element ∷ opened) levels level p found here outer own are =
-    ap (λ x. option_or x found) (own are.0.0 are.0.2)
-    ∙ ap (option_or (option_map kind_of (namespace_of are.0.0 p))) (outer opened are.1)
-    ∙ scope_append are.0.0 (scope_of opened) p
-    ∙ ap (λ s. option_map kind_of (namespace_of s p)) (sym are.0.1)
+front_step [] levels level p found here outer own are = absurd cc
+front_step (element ∷ opened) levels level p found here outer own (mine, scope, inl (none, more)) =
+    front_step opened levels level p found here outer own more ∙ sym (none_adds mine (scope_of opened) p (none p))
+    ∙ ap (λ s. option_map kind_of (namespace_of s p)) (sym scope)
+front_step (element ∷ opened) levels level p found here outer own (mine, scope, inr (first, rest, split, at, is, more)) =
+    let one : level ≡ first = cc in
+    let others : levels ≡ rest = cc in
+    ap (λ x. option_or x found) (own mine (subst (λ l. IsLevelOf mine l.declared) (sym one) is))
+    ∙ ap (option_or (option_map kind_of (namespace_of mine p)))
+    (outer opened (subst (AreLevelsOf opened) (sym others) more))
+    ∙ scope_append mine (scope_of opened) p
+    ∙ ap (λ s. option_map kind_of (namespace_of s p)) (sym scope)
 
 -- one more level, and the prefixes that it declares
-pub level_step : (opened : List Open) (levels : List Level) (level : Level) (p : List ℕ)
+pub level_step : (opened : List Open) (levels : List Declaring) (level : Declaring) (p : List ℕ)
     (found here : Option Namespace) →
     ((opened : List Open) → AreLevelsOf opened (reverse levels) →
     found ≡ option_map kind_of (namespace_of (scope_of opened) p)) →
-    ((own : Scope) → IsLevelOf own level → here ≡ option_map kind_of (namespace_of own p)) →
+    ((own : Scope) → IsLevelOf own level.declared → here ≡ option_map kind_of (namespace_of own p)) →
     AreLevelsOf opened (reverse (levels ++ level ∷ [])) →
     option_or here found ≡ option_map kind_of (namespace_of (scope_of opened) p)
 level_step opened levels level p found here outer own are =
     front_step opened (reverse levels) level p found here outer own
     (subst (AreLevelsOf opened) (reverse-append levels (level ∷ [])) are)
+
+-- the elements that declare prefixes are inside fewer elements than are open
+outer_below : (opened : List Open) (level : Declaring) (levels : List Declaring) → AreLevelsOf opened (level ∷ levels) →
+    level.outer < length opened
+outer_below [] level levels are = absurd cc
+outer_below (element ∷ opened) level levels (own, scope, inl (none, more)) =
+    let below = outer_below opened level levels more in omega arith
+outer_below (element ∷ opened) level levels (own, scope, inr (first, rest, split, at, is, more)) =
+    let one : level.outer ≡ first.outer = cc in omega (arith, one, at)
+
+-- the innermost element is closed, and its declarations are dropped
+pub left_declaring : (element : Open) (opened : List Open) (level : Declaring) (levels : List Declaring) →
+    AreLevelsOf (element ∷ opened) (level ∷ levels) → level.outer ≡ length opened → AreLevelsOf opened levels
+left_declaring element opened level levels (own, scope, inl (none, more)) at =
+    let below = outer_below opened level levels more in absurd (few_less level.outer (length opened) below at)
+left_declaring element opened level levels (own, scope, inr (first, rest, split, at', is, more)) at =
+    let others : levels ≡ rest = cc in subst (AreLevelsOf opened) (sym others) more
+
+-- it declares nothing
+pub left_silent : (element : Open) (opened : List Open) (levels : List Declaring) →
+    AreLevelsOf (element ∷ opened) levels → is_first (length opened) levels ≡ false → AreLevelsOf opened levels
+left_silent element opened levels (own, scope, inl (none, more)) other = more
+left_silent element opened levels (own, scope, inr (first, rest, split, at, is, more)) other =
+    let first_is : is_first (length opened) levels ≡ (first.outer == length opened) = ap (is_first (length opened)) split in
+    absurd (eqb-false first.outer (length opened) (sym first_is ∙ other) at)
+
+-- an element with declarations is opened
+pub opens_declaring : (raws : List Raw) (before : Scopes) (level : Level) (after : Scopes) → AreDeclarations raws level →
+    after.depth ≡ before.depth + 1 →
+    after.levels.items ≡ before.levels.items ++ record { outer = before.depth; declared = level } ∷ [] →
+    OpensScope raws before after
+opens_declaring raws before level after are depth items opened name read all (at, levels) = (
+  omega (arith, depth, at),
+  (
+    filter_map declared read,
+    refl,
+    inr (
+      record { outer = before.depth; declared = level },
+      reverse before.levels.items,
+      ap reverse items ∙ reverse-append before.levels.items (record { outer = before.depth; declared = level } ∷ []),
+      at,
+      are read all,
+      levels,
+    ),
+  ),
+)
+
+-- one without declarations
+pub opens_silent : (raws : List Raw) (before : Scopes) (level : Level) (after : Scopes) → AreDeclarations raws level →
+    level.entries ≡ [] → after.depth ≡ before.depth + 1 → after.levels.items ≡ before.levels.items →
+    OpensScope raws before after
+opens_silent raws before level after are empty depth items opened name read all (at, levels) = (
+  omega (arith, depth, at),
+  (
+    filter_map declared read,
+    refl,
+    inl (
+      (λ p. sym (ap (lookup (is_at (λ k. slice_cmp nat_cmp p k.now))) empty) ∙ are read all p),
+      subst (λ xs. AreLevelsOf opened (reverse xs)) (sym items) levels,
+    ),
+  ),
+)
+
+first_some : (depth : ℕ) (levels : List Declaring) → is_first depth (reverse levels) ≡ true → 0 < length levels
+first_some depth [] is = absurd cc
+first_some depth (level ∷ levels) is = omega arith
+
+-- the innermost element is closed, and its level is taken away
+pub leaves_declaring : (element : Open) (opened : List Open) (before after : Scopes) (popped : Option Declaring) →
+    AreScopesOf (element ∷ opened) before → after.depth ≡ before.depth - 1 →
+    is_first after.depth (reverse before.levels.items) ≡ true →
+    before.levels.items ≡ after.levels.items ++ option_to_list popped →
+    (0 < length before.levels.items → is_some popped ≡ true) → AreScopesOf opened after
+leaves_declaring element opened before after None (at, levels) depth is items some =
+    let none : false ≡ true = some (first_some after.depth before.levels.items is) in absurd cc
+leaves_declaring element opened before after (Some level) (at, levels) depth is items some =
+    let inside : after.depth ≡ length opened = omega (arith, depth, at) in
+    let split : reverse before.levels.items ≡ level ∷ reverse after.levels.items =
+    ap reverse items ∙ reverse-append after.levels.items (level ∷ []) in
+    let first : level.outer ≡ after.depth =
+    eqb-true level.outer after.depth (sym (ap (is_first after.depth) split) ∙ is) in (
+      inside,
+      left_declaring element opened level (reverse after.levels.items) (subst (AreLevelsOf (element ∷ opened)) split levels)
+          (first ∙ inside),
+    )
+
+-- the innermost element is closed, which declares nothing
+pub leaves_silent : (element : Open) (opened : List Open) (before after : Scopes) → AreScopesOf (element ∷ opened) before →
+    after.depth ≡ before.depth - 1 → is_first after.depth (reverse before.levels.items) ≡ false →
+    after.levels.items ≡ before.levels.items → AreScopesOf opened after
+leaves_silent element opened before after (at, levels) depth is items =
+    let inside : after.depth ≡ length opened = omega (arith, depth, at) in (
+      inside,
+      subst (λ xs. AreLevelsOf opened (reverse xs)) (sym items)
+          (left_silent element opened (reverse before.levels.items) levels
+          (subst (λ n. is_first n (reverse before.levels.items) ≡ false) inside is)),
+    )
+
+-- the last level is the first one of the reversed levels
+pub first_of_last : (levels : List Declaring) (last : Declaring) (rest : List Declaring) (depth : ℕ) →
+    levels ≡ rest ++ last ∷ [] → (last.outer == depth) ≡ is_first depth (reverse levels)
+first_of_last levels last rest depth split =
+    sym (ap (λ xs. is_first depth (reverse xs)) split ∙ ap (is_first depth) (reverse-append rest (last ∷ [])))
 
 -- the last of some attributes as they are written
 last_read : (read : List Attribute) (raws : List Raw) (raw : Raw) → AllZip IsLawfulOf read (raws ++ raw ∷ []) →

@@ -3,7 +3,7 @@
 use Rattle.std.specs.Prelude.{◌≡◌, ◌≢◌, ◌⊎◌, ℕ, ◌+◌, List, [], ◌∷◌, ◌++◌, length, Bool, true, false, ◌&&◌, ◌||◌, ◌==◌, not}
 use Rattle.std.specs.Prelude.{IsTrue, codes, chars}
 use Rattle.std.specs.Prelude.{if◌then◌else◌, nat_lt, nat_eq}
-use Rattle.std.specs.List.{list_all, starts_with}
+use Rattle.std.specs.List.{list_all, list_any, starts_with}
 use Rattle.std.specs.Char.{is_ascii_digit, is_ascii_alphabetic}
 use Rattle.std.specs.Str.Parse.{IsNumeral, digits_value}
 use Rattle.atom_values.specs.Ascii.{tab, lf, cr, quote, ampersand, minus, point, colon, less_than, greater_than}
@@ -26,6 +26,10 @@ is_control b = nat_lt b 0x20 && not ((b == tab) || (b == lf) || (b == cr))
 -- a byte with which a character may begin that isn't an XML character
 abbrev pub is_suspect : ℕ → Bool
 is_suspect b = is_control b || (b == 0xEF)
+
+-- no byte of the text before its suffix `rest` is suspect
+abbrev pub IsCleanBefore : List ℕ → List ℕ → Type 0
+IsCleanBefore text rest = (front : List ℕ) × (text ≡ front ++ rest) × (list_any is_suspect front ≡ false)
 
 -- a UTF-8 text that begins with a character that isn't an XML character: a control character, U+FFFE or U+FFFF
 abbrev pub is_refused : List ℕ → Bool

@@ -1,11 +1,13 @@
 -- The scopes of prefixes as a reader keeps them.
-use Rattle.std.specs.Prelude.{◌≡◌, ℕ, List, [], ◌∷◌, ◌++◌, reverse, filter_map, option_map, Option}
+use Rattle.std.specs.Prelude.{◌≡◌, ◌⊎◌, ℕ, List, [], ◌∷◌, ◌++◌, length, reverse, filter_map, option_map, Option, None}
+use Rattle.std.specs.Prelude.{Bool, false, ◌==◌}
 use Rattle.std.specs.List.{AllZip}
 use Rattle.std.specs.Borrow.{Bor}
 use Rattle.std.specs.BTreeMap.{BTreeMap, get_by}
 use Rattle.std.specs.Cmp.Lexicographic.{slice_cmp}
 use Rattle.std.specs.Ordering.{nat_cmp}
 use Rattle.xml_tokens.specs.declared.scopes.Namespace.{Namespace}
+use Rattle.xml_tokens.specs.declared.scopes.Declaring.{Declaring}
 use Rattle.xml_tokens.specs.declared.scopes.Scopes.{Scopes}
 use Rattle.xml_tokens.specs.declared.tag.Attribute.{Attribute as Raw}
 use Rattle.xml_tokens.specs.Characters.{QName, IsQName, name_text}
@@ -32,16 +34,26 @@ abbrev pub scope_of : List Open → Scope
 scope_of [] = outer_scope
 scope_of (element ∷ opened) = element.scope
 
--- the levels are those of these elements, the innermost first
-abbrev pub AreLevelsOf : List Open → List Level → Type 0
-AreLevelsOf [] [] = Unit {0}
-AreLevelsOf [] (level ∷ levels) = ⊥
-AreLevelsOf (element ∷ opened) [] = ⊥
-AreLevelsOf (element ∷ opened) (level ∷ levels) =
-    ((own : Scope) × (element.scope ≡ own ++ scope_of opened) × IsLevelOf own level) × AreLevelsOf opened levels
+-- the element whose declarations these are: no prefix is declared
+abbrev pub DeclaresNone : Scope → Type 0
+DeclaresNone own = (prefix : List ℕ) → None ≡ option_map kind_of (namespace_of own prefix)
+
+-- the levels are those of the elements that declare prefixes, the innermost first
+abbrev pub AreLevelsOf : List Open → List Declaring → Type 0
+AreLevelsOf [] levels = levels ≡ []
+AreLevelsOf (element ∷ opened) levels =
+    (own : Scope) × (element.scope ≡ own ++ scope_of opened)
+    × ((DeclaresNone own × AreLevelsOf opened levels)
+    ⊎ ((level : Declaring) × (outer : List Declaring) × (levels ≡ level ∷ outer) × (level.outer ≡ length opened)
+    × IsLevelOf own level.declared × AreLevelsOf opened outer))
 
 abbrev pub AreScopesOf : List Open → Scopes → Type 0
-AreScopesOf opened scopes = AreLevelsOf opened (reverse scopes.levels.items)
+AreScopesOf opened scopes = (scopes.depth ≡ length opened) × AreLevelsOf opened (reverse scopes.levels.items)
+
+-- the innermost element that declares prefixes is the one inside this many; the levels are the innermost first
+abbrev pub is_first : ℕ → List Declaring → Bool
+is_first depth [] = false
+is_first depth (level ∷ levels) = level.outer == depth
 
 -- the prefix that an attribute of this name declares, if it does
 abbrev pub IsDeclaredPrefix : List ℕ → Option (List ℕ) → Type 0

@@ -1,15 +1,20 @@
-ghost use Rattle.std.specs.Prelude.{◌≡◌, position, MatchResult};
-ghost use Rattle.xml_tokens.specs.Characters.{is_control, is_refused, is_suspect, allowed_length};
+ghost use Rattle.std.specs.Prelude.{◌≡◌, ◌≤◌, length, position, MatchResult};
+ghost use Rattle.std.specs.List.{list_any};
+ghost use Rattle.xml_tokens.specs.Characters.{IsCleanBefore, is_control, is_refused, is_suspect, allowed_length};
 ghost use Rattle.xml_tokens.specs.Progress.{IsNotUtf8Fault, IsXmlLength};
 
 use crate::fault::{TokenFault, TokenWhy};
+use simdutf8::compat::from_utf8;
+
+/// How many bytes are tested together for suspect ones.
+const BLOCK: usize = 64;
 
 /// The length of the longest prefix that has XML characters only (XML 1.0, production 2). `NotUtf8` if the bytes
 /// aren't UTF-8.
 pub(crate) fn xml_length(bytes: &[u8]) -> Result<usize, TokenFault>
     ensures { MatchResult result (IsXmlLength bytes.now) (IsNotUtf8Fault bytes.now) }
 {
-    match str::from_utf8(bytes) {
+    match from_utf8(bytes) {
         Ok(_) => Ok(allowed_length(bytes)),
         Err(error) => Err(TokenFault::NotRead {
             at: error.valid_up_to(),
@@ -37,21 +42,60 @@ fn allowed_length(text: &[u8]) -> usize
 fn first_suspect(text: &[u8]) -> Option<usize>
     ensures { result ≡ position is_suspect text.now }
 {
+    let rest = without_clean_blocks(text);
+    match suspect_in(rest) {
+        Some(at) => Some(text.len() - rest.len() + at),
+        None => None,
+    }
+}
+
+/// The index of the first suspect byte, byte by byte.
+fn suspect_in(text: &[u8]) -> Option<usize>
+    ensures { result ≡ position is_suspect text.now }
+{
     text.iter().position(|byte| is_suspect(*byte))
+}
+
+/// The text without the blocks at its front that have no suspect byte.
+fn without_clean_blocks(text: &[u8]) -> &[u8]
+    ensures clean { IsCleanBefore text.now result.now }
+    ensures shorter { length result.now ≤ length text.now }
+{
+    let mut rest = text;
+    while let Some((block, tail)) = rest.split_at_checked(BLOCK) {
+        if has_suspect(block) {
+            return rest;
+        }
+        rest = tail;
+    }
+    rest
+}
+
+/// Whether a byte of the block is suspect.
+fn has_suspect(block: &[u8]) -> bool
+    ensures { result ≡ list_any is_suspect block.now }
+{
+    let mut found = false;
+    // A loop that always goes to the end looks at several bytes in each step of the processor.
+    for byte in block {
+        found |= is_suspect(*byte);
+    }
+    found
 }
 
 /// Whether a character that isn't an XML character may begin with the byte.
 fn is_suspect(byte: u8) -> bool
     ensures { result ≡ is_suspect byte }
 {
-    is_control(byte) || byte == 0xEF
+    is_control(byte) | (byte == 0xEF)
 }
 
 /// Whether the byte is a control character that isn't an XML character.
 fn is_control(byte: u8) -> bool
     ensures { result ≡ is_control byte }
 {
-    byte < 0x20 && !matches!(byte, b'\t' | b'\n' | b'\r')
+    // Without branches, for `has_suspect`.
+    (byte < 0x20) & (byte != b'\t') & (byte != b'\n') & (byte != b'\r')
 }
 
 /// Whether the text begins with a character that isn't an XML character.

@@ -21,7 +21,7 @@
 //!
 //! `specs/Order.antt` defines the first element that a reader refuses, by the rules of any reader.
 //!
-//! Stands on `atom_values`, and on `memchr` for searches of bytes.
+//! Stands on `atom_values`, on `memchr` for searches of bytes, and on `simdutf8` for UTF-8.
 #![tactic(auto)]
 
 mod characters;

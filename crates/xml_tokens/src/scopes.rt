@@ -1,8 +1,8 @@
-ghost use Rattle.std.specs.Prelude.{◌≡◌, List, [], ◌∷◌, option_map, OnOk, IfOk};
+ghost use Rattle.std.specs.Prelude.{◌≡◌, List, [], ◌∷◌, option_map, reverse, OnOk, IfOk};
 ghost use Rattle.xml_tokens.specs.Characters.{QName, IsQName, name_text};
 ghost use Rattle.xml_tokens.specs.Stages.{Open, namespace_of, outer_scope};
 ghost use Rattle.xml_tokens.specs.Reading.{kind_of};
-ghost use Rattle.xml_tokens.specs.Scopes.{AddsDeclaration, AreDeclarations, AreScopesOf, IsDeclaredPrefix, OpensScope, scope_of};
+ghost use Rattle.xml_tokens.specs.Scopes.{AddsDeclaration, AreDeclarations, AreScopesOf, IsDeclaredPrefix, OpensScope, is_first, scope_of};
 
 use crate::cursor::first;
 use crate::tag::Attribute;
@@ -40,12 +40,22 @@ pub enum Namespace {
     Other,
 }
 
-/// The namespaces in scope (Namespaces in XML 1.0, section 6): the declarations of each open element, the
-/// innermost last. A map holds those of one element, so that a look-up stays short if an element has thousands of
-/// declarations. The empty prefix stands for the default namespace.
+/// The namespaces in scope (Namespaces in XML 1.0, section 6). The empty prefix stands for the default namespace.
 #[derive(Drop)]
 pub(crate) struct Scopes<'a> {
-    levels: Vec<BTreeMap<&'a [u8], Namespace>>,
+    /// The open elements that declare prefixes, the innermost last.
+    levels: Vec<Declaring<'a>>,
+    /// The number of open elements.
+    depth: usize,
+}
+
+/// An open element that declares prefixes.
+#[derive(Drop)]
+struct Declaring<'a> {
+    /// The number of elements around it.
+    outer: usize,
+    /// Its declarations by their prefixes, so that a look-up stays short if there are thousands.
+    declared: BTreeMap<&'a [u8], Namespace>,
 }
 
 /// The prefix of a qualified name, which may be empty, and its local part.
@@ -136,10 +146,11 @@ fn declarations<'a>(
 impl<'a> Scopes<'a> {
     /// The scopes outside the root.
     pub(crate) fn new(alloc: Global) -> Scopes<'a>
-        ensures { result.levels.items ≡ [] }
+        ensures { AreScopesOf [] result }
     {
         Scopes {
             levels: Vec::new(alloc),
+            depth: 0,
         }
     }
 
@@ -151,8 +162,20 @@ impl<'a> Scopes<'a> {
     ) -> Result<(), NoMemory>
         ensures { OnOk result (OpensScope attributes.now self.old self.new) }
     {
-        let level = declarations(alloc, attributes)?;
-        self.levels.push(level)?;
+        let declared = declarations(alloc, attributes)?;
+        // No memory holds so many open elements.
+        let Some(depth) = self.depth.checked_add(1) else {
+            return Err(NoMemory);
+        };
+        if declared.is_empty() {
+            self.depth = depth;
+            return Ok(());
+        }
+        self.levels.push(Declaring {
+            outer: self.depth,
+            declared,
+        })?;
+        self.depth = depth;
         Ok(())
     }
 
@@ -161,8 +184,21 @@ impl<'a> Scopes<'a> {
         ensures { (element : Open) (opened : List Open) → AreScopesOf (element ∷ opened) self.old
             → AreScopesOf opened self.new }
     {
-        // Nobody reads the declarations of a closed element.
-        let _ = self.levels.pop();
+        self.depth = self.depth.saturating_sub(1);
+        if self.declares() {
+            // Nobody reads the declarations of a closed element.
+            let _ = self.levels.pop();
+        }
+    }
+
+    /// Whether the last element that declares prefixes is the one inside `depth` elements.
+    fn declares(&self) -> bool
+        ensures { result ≡ is_first self.now.depth (reverse self.now.levels.items) }
+    {
+        match self.levels.as_slice().split_last() {
+            Some((last, _)) => last.outer == self.depth,
+            None => false,
+        }
     }
 
     /// The namespace of a prefix. `None` if the prefix isn't set.
@@ -172,11 +208,7 @@ impl<'a> Scopes<'a> {
     {
         let mut found = outer_namespace(prefix);
         for level in &self.levels {
-            // Most elements declare nothing, and a look-up in an empty map costs more than this test.
-            if level.is_empty() {
-                continue;
-            }
-            found = level.get(&prefix).copied().or(found);
+            found = level.declared.get(&prefix).copied().or(found);
         }
         found
     }

@@ -54,6 +54,10 @@ fn has_same_names(alloc: Global, attributes: &[Attribute<'_>]) -> Result<bool, N
         (same ≡ true → ¬ IsDistinct bytes_eq (names attributes.now))
         × (same ≡ false → IsDistinct bytes_eq (names attributes.now))) }
 {
+    // Most tags have one attribute at most, and a set of one name takes memory.
+    if attributes.len() < 2 {
+        return Ok(false);
+    }
     let mut seen = BTreeSet::new(alloc);
     for attribute in attributes {
         if !seen.insert(attribute.name)? {

@@ -1,15 +1,15 @@
 use Rattle.std.proofs.Common.{◌≡◌, ℕ, suc, true, List, [], ◌∷◌, ◌++◌, ◌+◌, take, drop, sym, ap, subst, ◌∙◌, add-one}
-use Rattle.std.proofs.Common.{refl}
+use Rattle.std.proofs.Common.{arith, false, refl}
 use Rattle.std.proofs.Common.{get_or, append_assoc}
 use Rattle.std.specs.Prelude.{bytes_eq}
 use Rattle.std.specs.List.{IsDistinct, list_any}
 use Rattle.std.specs.BTreeMap.{is_at}
 use Rattle.std.proofs.Math.Seq.{take-suc}
 use Rattle.std.proofs.lemmas.Bool.{both_ways, not-true, not-false}
-use Rattle.std.proofs.lemmas.List.{map-append, take-append-drop}
+use Rattle.std.proofs.lemmas.List.{length-map, map-append, take-append-drop}
 use Rattle.xml_tokens.specs.declared.tag.Attribute.{Attribute as Raw}
 use Rattle.xml_tokens.specs.Reading.{names}
-use Rattle.xml_tokens.proofs.SameNameLemmas.{HasNames, distinct_more, not_distinct, no_names, names_more, in_order}
+use Rattle.xml_tokens.proofs.SameNameLemmas.{HasNames, distinct_few, distinct_more, not_distinct, no_names, names_more, in_order}
 use Rattle.xml_tokens.proofs.tag.has_same_names.Goals as goal
 
 pub loop-attribute-init : goal.loop-attribute-init
@@ -65,4 +65,12 @@ returns-then-not-branch c =
           not_distinct (names (take i raws)) a.name.now (names (drop (suc i) raws)) (sym (v.seen a.name) ∙ present)
           (subst D same distinct)),
       (λ never. absurd (both_ways true never refl)),
+    )
+
+pub returns-then-attributes-lt2 : goal.returns-then-attributes-lt2
+returns-then-attributes-lt2 c =
+    let raws = c.args.attributes.now in (
+      (λ never. absurd (both_ways false refl never)),
+      (λ _. distinct_few (names raws)
+          (omega (arith, length-map raws (λ (x : Raw). x.name.now)))),
     )

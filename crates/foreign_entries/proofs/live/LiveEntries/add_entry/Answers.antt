@@ -1,23 +1,22 @@
-use Rattle.std.proofs.Common.{◌∙◌, Some, rules}
-use Rattle.std.proofs.lemmas.Result.{on_ok_weaker}
-use Rattle.foreign_entries.proofs.MembersLemmas.{puts_member, entry_known, entry_new}
+use Rattle.std.proofs.Common.{◌≡◌, Some, ap, ◌∙◌, unwrap_or, rules}
+use Rattle.std.specs.BTreeMap.Entry.{entry_value, map_with_value}
+use Rattle.foreign_entries.specs.Added.{no_member}
+use Rattle.foreign_entries.specs.declared.live.LiveEntries.{LiveEntries}
+use Rattle.foreign_entries.proofs.MembersLemmas.{puts_member, entry_put}
 use Rattle.foreign_entries.proofs.live.LiveEntries.add_entry.Goals as goal
 
-pub returns-in-Some : goal.returns-in-Some
-returns-in-Some c =
-    let key = c.bytes.result.now in
-    let members = c.args.self.now.members in
+pub returns : goal.returns
+returns c =
+    let before = c.args.self.now in
+    let key = c.in_ok-key.key.items in
+    let entry = c.in_ok-self.field-0 in
+    let old = c.or_insert-member.result.now in
     let new = c.offer.new.self in
-    entry_known c.args.kept c.args.self.now (record { members = c.get_mut.follows.lender new; alloc = c.args.self.now.alloc })
-    key c.in-Some.member.now new c.bytes.ensures.bytes c.in-Some.ensures.value c.offer.ensures
-    (puts_member key members (c.get_mut.follows.lender new) (Some new) ((c.get_mut.follows.holds new).3 (search rules)))
-
-pub returns-in_ok-key-in-None : goal.returns-in_ok-key-in-None
-returns-in_ok-key-in-None c =
-    let new = c.get_mut.follows.lender-at-none in
-    on_ok_weaker c.insert.result
-    (entry_new c.args.kept c.args.self.now (record { members = new; alloc = c.args.self.now.alloc }) c.insert.new.self
-    c.bytes.result.now c.in_ok-key-in-None.key.items c.bytes.ensures.bytes
-    (c.in_ok-key-in-None.ensures.items ∙ c.bytes-in-None.ensures.bytes) c.get_mut.follows.holds-at-none
-    c.in-None.ensures.value)
-    c.insert.ensures
+    let members = map_with_value entry new in
+    -- the map that `or_insert` leaves has no name in the source
+    let after : LiveEntries = record { members = c.self-3-1.given.0; alloc = before.alloc } in
+    let written : after.members ≡ members = search rules in
+    entry_put c.args.kept before after members key old new written (c.in_ok-key.ensures.items ∙ c.bytes.ensures.bytes)
+    (c.or_insert-member.ensures.value ∙ ap (unwrap_or (entry_value entry)) c.new.ensures
+    ∙ ap (λ v. unwrap_or v no_member) c.in_ok-self.ensures.value)
+    c.offer.ensures (puts_member key before.members members (Some new) (c.in_ok-self.ensures.update.0 new))
