@@ -26,6 +26,8 @@ pub mod OptionLemmas
 pub mod ParseLemmas
 -- serves `read_words`, for `apply`, `show`, `drill` and `discover`: the parse of positional words by `clap`
 pub mod PlaceLemmas
+-- serves `read_words`, for `relay`
+pub mod RelayLemmas
 -- serves `read_words`, for `serve`
 pub mod ServeLemmas
 -- serves `read_words`, for the options of a command: a word with a name and its value

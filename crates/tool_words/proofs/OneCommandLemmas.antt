@@ -1,5 +1,5 @@
 -- Words spell one command at most.
-use Rattle.std.proofs.Common.{◌≡◌, ◌⊎◌, inl, inr, ℕ, List, [], ◌∷◌, Bool, Option, None, Some, Result, Ok, Err}
+use Rattle.std.proofs.Common.{◌≡◌, ◌⊎◌, inl, inr, ℕ, List, [], ◌∷◌, Bool, true, false, Option, None, Some, Result, Ok, Err}
 use Rattle.std.proofs.Common.{refl, sym, ap, subst, ◌∙◌, arith, codes, bytes_eq}
 use Rattle.std.specs.Prelude.{if◌then◌else◌}
 use Rattle.uuid.specs.Text.{parsed}
@@ -7,24 +7,24 @@ use Rattle.atom_writer.specs.declared.doc.FeedName.{FeedName}
 use Rattle.tool_words.specs.Numbers.{IsNumber, number_value}
 use Rattle.tool_words.specs.Options.{value_of}
 use Rattle.tool_words.specs.Words.{IsApply, IsBaseText, IsDiscover, IsDrill, IsFeedIdText, IsForeign, IsHttpText}
-use Rattle.tool_words.specs.Words.{IsInit, IsListen}
-use Rattle.tool_words.specs.Words.{IsMirror, IsNamed, foreign_options}
-use Rattle.tool_words.specs.Words.{IsNameText, IsNumberOr, IsRequests, IsServe, IsShow, init_options, mirror_flags}
+use Rattle.tool_words.specs.Words.{IsInit, IsListen, IsMirror, IsNamed, IsNameText, IsNumberOr, IsRelay, IsRequests}
+use Rattle.tool_words.specs.Words.{IsRestOf, IsScrub, IsServe, IsShow, foreign_options, init_options, mirror_flags}
+use Rattle.tool_words.specs.Words.{relay_options, word_of}
 use Rattle.tool_words.specs.Words.{mirror_options, serve_flags, serve_options, capacity_floor, capacity_limit, count_limit}
 use Rattle.tool_words.specs.Words.{default_capacity, default_window, request_limit, seed_limit, window_limit}
 use Rattle.tool_words.specs.Laws.{WordsSpellOneCommand}
 use Rattle.tool_words.specs.declared.command.Command.{Command}
 use Rattle.tool_words.specs.declared.command.Command.TheVariants.{Init, Apply, Show, Serve, Mirror, Audit, Drill, Foreign}
-use Rattle.tool_words.specs.declared.command.Command.TheVariants.{Discover}
+use Rattle.tool_words.specs.declared.command.Command.TheVariants.{Discover, Relay, Scrub}
 use Rattle.tool_words.specs.declared.command.Show.{Show as Shown}
 use Rattle.tool_words.specs.declared.command.Show.TheVariants.{Document, Feed, Archive, Member, Pile}
 use Rattle.tool_words.specs.declared.fault.WordsFault.{WordsFault}
 use Rattle.tool_words.specs.declared.fault.WordsFault.TheVariants.{NoMemory}
-use Rattle.tool_words.proofs.CommandLemmas.{apply_only, audit_only, discover_only, drill_only, foreign_only, init_only}
-use Rattle.tool_words.proofs.CommandLemmas.{mirror_only, serve_only, show_only}
+use Rattle.tool_words.proofs.CommandLemmas.{Only, words_only}
 use Rattle.tool_words.proofs.ForeignLemmas as foreign
 use Rattle.tool_words.proofs.InitLemmas as init
 use Rattle.tool_words.proofs.MirrorLemmas as mirror
+use Rattle.tool_words.proofs.RelayLemmas as relay
 use Rattle.tool_words.proofs.ServeLemmas as serve
 use Rattle.tool_words.proofs.ParseLemmas.{one_flag, one_value}
 
@@ -161,36 +161,46 @@ one_discover words a b x y =
     let both : a ∷ [] ≡ b ∷ [] = sym x.words_are ∙ y.words_are in
     let same : a ≡ b = cc in ap Discover same
 
+one_relay : (words : List (List ℕ)) (a b l k : List ℕ) (m n c d : ℕ) → IsRelay words a l m c → IsRelay words b k n d →
+    Relay a l m c ≡ Relay b k n d
+one_relay words a b l k m n c d x y =
+    let given = relay.give_same (λ key. value_of key x.options) (λ key. value_of key y.options) a l m c
+    (one_value relay_options [] words refl x.options y.options x.are_options y.are_options)
+    (record { base_is = x.is_base; listen_is = x.is_listen; requests_is = x.is_requests; capacity_is = x.is_capacity })
+    in
+    let base = one_base (value_of (codes "base") y.options) a b given.base_is y.is_base in
+    let listen = one_listen (value_of (codes "listen") y.options) l k given.listen_is y.is_listen in
+    let requests = one_requests (value_of (codes "requests") y.options) m n given.requests_is y.is_requests in
+    let capacity = one_number_or default_capacity capacity_floor capacity_limit
+    (value_of (codes "capacity") y.options) c d given.capacity_is y.is_capacity in
+    λ i. Relay (base i) (listen i) (requests i) (capacity i)
+
+one_scrub : (words : List (List ℕ)) (a b : Bool) → IsScrub words a → IsScrub words b → Scrub a ≡ Scrub b
+one_scrub words false false x y = refl
+one_scrub words false true x y = let bad : [] ≡ codes "--repair" ∷ [] = sym x ∙ y in absurd cc
+one_scrub words true false x y = let bad : [] ≡ codes "--repair" ∷ [] = sym y ∙ x in absurd cc
+one_scrub words true true x y = refl
+
 -- of two results one of which is a command
 same_command : (one other : Command) → (◌≡◌ {A = Result Command WordsFault} (Ok one) (Ok other))
     ⊎ (◌≡◌ {A = Result Command WordsFault} (Ok one) (Err NoMemory)) → one ≡ other
 same_command one other (inl e) = cc
 same_command one other (inr e) = absurd cc
 
+only_of : (one : Command) (rest : List (List ℕ)) → IsRestOf rest one → Only rest (Ok one) (word_of one)
+only_of (Init a m c) rest x = λ b n d y. inl (ap Ok (one_init rest a b m n c d x y))
+only_of (Apply a) rest x = λ b y. inl (ap Ok (one_apply rest a b x y))
+only_of (Show a) rest x =
+    λ b y. inl (ap (λ (k : Shown). Ok (Show k)) (sym (show_asked rest a x) ∙ show_asked rest b y))
+only_of (Serve a m s) rest x = λ b n t y. inl (ap Ok (one_serve rest a b m n s t x y))
+only_of (Mirror a f r c) rest x = λ b g s d y. inl (ap Ok (one_mirror rest a b f g r s c d x y))
+only_of Audit rest x = λ none. inl refl
+only_of (Drill m c) rest x = λ n d y. inl (ap Ok (one_drill rest m n c d x y))
+only_of (Foreign a) rest x = λ b y. inl (ap Ok (one_foreign rest a b x y))
+only_of (Discover a) rest x = λ b y. inl (ap Ok (one_discover rest a b x y))
+only_of (Relay a l m c) rest x = λ b k n d y. inl (ap Ok (one_relay rest a b l k m n c d x y))
+only_of (Scrub a) rest x = λ b y. inl (ap Ok (one_scrub rest a b x y))
+
 pub one_command : WordsSpellOneCommand
-one_command words (Init a m c) other (rest, e, x) y =
-    same_command (Init a m c) other (init_only words rest (Ok (Init a m c)) e
-    (λ b n d z. inl (ap Ok (one_init rest a b m n c d x z))) other y)
-one_command words (Apply a) other (rest, e, x) y =
-    same_command (Apply a) other (apply_only words rest (Ok (Apply a)) e
-    (λ b z. inl (ap Ok (one_apply rest a b x z))) other y)
-one_command words (Show shown) other (rest, e, x) y =
-    same_command (Show shown) other (show_only words rest (Ok (Show shown)) e
-    (λ s z. inl (ap (λ (k : Shown). Ok (Show k)) (sym (show_asked rest shown x) ∙ show_asked rest s z))) other y)
-one_command words (Serve a m s) other (rest, e, x) y =
-    same_command (Serve a m s) other (serve_only words rest (Ok (Serve a m s)) e
-    (λ b n t z. inl (ap Ok (one_serve rest a b m n s t x z))) other y)
-one_command words (Mirror a f r c) other (rest, e, x) y =
-    same_command (Mirror a f r c) other (mirror_only words rest (Ok (Mirror a f r c)) e
-    (λ b g s d z. inl (ap Ok (one_mirror rest a b f g r s c d x z))) other y)
-one_command words Audit other e y =
-    same_command Audit other (audit_only words [] (Ok Audit) e (λ none. refl) other y)
-one_command words (Drill m c) other (rest, e, x) y =
-    same_command (Drill m c) other (drill_only words rest (Ok (Drill m c)) e
-    (λ n d z. inl (ap Ok (one_drill rest m n c d x z))) other y)
-one_command words (Foreign a) other (rest, e, x) y =
-    same_command (Foreign a) other (foreign_only words rest (Ok (Foreign a)) e
-    (λ b z. inl (ap Ok (one_foreign rest a b x z))) other y)
-one_command words (Discover a) other (rest, e, x) y =
-    same_command (Discover a) other (discover_only words rest (Ok (Discover a)) e
-    (λ b z. inl (ap Ok (one_discover rest a b x z))) other y)
+one_command words one other (rest, e, x) y =
+    same_command one other (words_only rest (Ok one) words (word_of one) e (only_of one rest x) other y)

@@ -1,5 +1,6 @@
 -- The words of each command.
-use Rattle.std.specs.Prelude.{◌≡◌, ◌≢◌, ℕ, ◌-◌, ◌≤◌, ◌^◌, List, [], ◌∷◌, Option, Some, None, Bool, IsTrue, codes, length}
+use Rattle.std.specs.Prelude.{◌≡◌, ◌≢◌, ℕ, ◌-◌, ◌≤◌, ◌^◌, List, [], ◌∷◌, Option, Some, None, Bool, true, false, IsTrue, codes}
+use Rattle.std.specs.Prelude.{length}
 use Rattle.std.specs.Prelude.{bytes_eq, take}
 use Rattle.uuid.specs.Text.{parsed}
 use Rattle.atom_values.specs.XmlText.{IsAtomText}
@@ -11,7 +12,7 @@ use Rattle.tool_words.specs.Numbers.{IsNumber}
 use Rattle.tool_words.specs.Options.{Given, AreOptions, is_given, value_of}
 use Rattle.tool_words.specs.declared.command.Command.{Command}
 use Rattle.tool_words.specs.declared.command.Command.TheVariants.{Init, Apply, Show, Serve, Mirror, Audit, Drill, Foreign}
-use Rattle.tool_words.specs.declared.command.Command.TheVariants.{Discover}
+use Rattle.tool_words.specs.declared.command.Command.TheVariants.{Discover, Relay, Scrub}
 use Rattle.tool_words.specs.declared.command.Show.{Show as Shown}
 use Rattle.tool_words.specs.declared.command.Show.TheVariants.{Document, Feed, Archive, Member, Pile}
 
@@ -69,6 +70,9 @@ mirror_flags = codes "fetch" ∷ codes "report" ∷ []
 
 abbrev pub foreign_options : List (List ℕ)
 foreign_options = codes "from" ∷ []
+
+abbrev pub relay_options : List (List ℕ)
+relay_options = codes "base" ∷ codes "listen" ∷ codes "requests" ∷ codes "capacity" ∷ []
 
 -- the value is this number in the range, or is left out and the number is the default
 abbrev pub IsNumberOr : ℕ → ℕ → ℕ → Option (List ℕ) → ℕ → Type 0
@@ -183,21 +187,50 @@ pub record IsDiscover (words : List (List ℕ)) (address : List ℕ) : Type 0 wh
   pub words_are : words ≡ address ∷ []
   pub is_address : IsHttpText (Some address) address
 
+-- the words after `relay`
+pub record IsRelay (words : List (List ℕ)) (base listen : List ℕ) (requests capacity : ℕ) : Type 0 where
+  pub options : List Given
+  pub are_options : AreOptions relay_options [] words options
+  pub is_base : IsBaseText (value_of (codes "base") options) base
+  pub is_listen : IsListen (value_of (codes "listen") options) listen
+  pub is_requests : IsRequests (value_of (codes "requests") options) requests
+  pub is_capacity :
+      IsNumberOr default_capacity capacity_floor capacity_limit (value_of (codes "capacity") options) capacity
+
+-- the words after `scrub`
+abbrev pub IsScrub : List (List ℕ) → Bool → Type 0
+IsScrub words false = words ≡ []
+IsScrub words true = words ≡ codes "--repair" ∷ []
+
+-- the first word of a command's words
+abbrev pub word_of : Command → List ℕ
+word_of (Init name window capacity) = codes "init"
+word_of (Apply window) = codes "apply"
+word_of (Show shown) = codes "show"
+word_of (Serve listen requests service) = codes "serve"
+word_of (Mirror base fetch report capacity) = codes "mirror"
+word_of Audit = codes "audit"
+word_of (Drill seed count) = codes "drill"
+word_of (Foreign from) = codes "foreign"
+word_of (Discover address) = codes "discover"
+word_of (Relay base listen requests capacity) = codes "relay"
+word_of (Scrub repair) = codes "scrub"
+
+-- the words after a command's first word
+abbrev pub IsRestOf : List (List ℕ) → Command → Type 0
+IsRestOf rest (Init name window capacity) = IsInit rest name window capacity
+IsRestOf rest (Apply window) = IsApply rest window
+IsRestOf rest (Show shown) = IsShow rest shown
+IsRestOf rest (Serve listen requests service) = IsServe rest listen requests service
+IsRestOf rest (Mirror base fetch report capacity) = IsMirror rest base fetch report capacity
+IsRestOf rest Audit = rest ≡ []
+IsRestOf rest (Drill seed count) = IsDrill rest seed count
+IsRestOf rest (Foreign from) = IsForeign rest from
+IsRestOf rest (Discover address) = IsDiscover rest address
+IsRestOf rest (Relay base listen requests capacity) = IsRelay rest base listen requests capacity
+IsRestOf rest (Scrub repair) = IsScrub rest repair
+
+-- the words of a command
 abbrev pub IsCommandOf : List (List ℕ) → Command → Type 0
-IsCommandOf words (Init name window capacity) =
-    (rest : List (List ℕ)) × (words ≡ codes "init" ∷ rest) × IsInit rest name window capacity
-IsCommandOf words (Apply window) =
-    (rest : List (List ℕ)) × (words ≡ codes "apply" ∷ rest) × IsApply rest window
-IsCommandOf words (Show shown) =
-    (rest : List (List ℕ)) × (words ≡ codes "show" ∷ rest) × IsShow rest shown
-IsCommandOf words (Serve listen requests service) =
-    (rest : List (List ℕ)) × (words ≡ codes "serve" ∷ rest) × IsServe rest listen requests service
-IsCommandOf words (Mirror base fetch report capacity) =
-    (rest : List (List ℕ)) × (words ≡ codes "mirror" ∷ rest) × IsMirror rest base fetch report capacity
-IsCommandOf words Audit = words ≡ codes "audit" ∷ []
-IsCommandOf words (Drill seed count) =
-    (rest : List (List ℕ)) × (words ≡ codes "drill" ∷ rest) × IsDrill rest seed count
-IsCommandOf words (Foreign from) =
-    (rest : List (List ℕ)) × (words ≡ codes "foreign" ∷ rest) × IsForeign rest from
-IsCommandOf words (Discover address) =
-    (rest : List (List ℕ)) × (words ≡ codes "discover" ∷ rest) × IsDiscover rest address
+IsCommandOf words command =
+    (rest : List (List ℕ)) × (words ≡ word_of command ∷ rest) × IsRestOf rest command

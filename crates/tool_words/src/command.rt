@@ -57,6 +57,19 @@ pub enum Command {
     Discover {
         address: Bytes,
     },
+    /// `relay`: serves the documents of a mirror over HTTP. `base` is the base address of the mirror, whose area has at
+    /// most `capacity` bytes, which are from 4,096 to 68,719,476,736. `listen` is the address to listen at, which has
+    /// from 1 to 255 bytes. The command ends after `requests` requests, which are from 1 to 1,000,000.
+    Relay {
+        base: Base,
+        listen: Bytes,
+        requests: u32,
+        capacity: u64,
+    },
+    /// `scrub`: checks all bytes of the store. If `repair`, it makes the store's archives again where they differ.
+    Scrub {
+        repair: bool,
+    },
 }
 
 /// The document or listing that `show` prints.

@@ -13,6 +13,8 @@
 //!     Ok(Command::Drill { seed, count }) => ..,
 //!     Ok(Command::Foreign { from }) => ..,
 //!     Ok(Command::Discover { address }) => ..,
+//!     Ok(Command::Relay { base, listen, requests, capacity }) => ..,
+//!     Ok(Command::Scrub { repair }) => ..,
 //!     Err(WordsFault::Usage) => println!(rt; "usage: ..")?,
 //!     Err(WordsFault::NoMemory) => ..,
 //! }
@@ -42,10 +44,13 @@ mod http_text;
 mod init;
 mod laws;
 mod line;
+mod listen;
 mod mirror;
 mod number;
 mod options;
 mod parse;
+mod relay;
+mod scrub;
 mod serve;
 mod words;
 

@@ -14,6 +14,8 @@ use crate::init::init;
 use crate::mirror::mirror;
 use crate::number::number;
 use crate::parse::placed;
+use crate::relay::relay;
+use crate::scrub::scrub;
 use crate::serve::serve;
 use std::alloc::Global;
 
@@ -49,6 +51,8 @@ pub fn read_words(alloc: Global, words: &[String]) -> Result<Command, WordsFault
         "drill" => drill(alloc, rest),
         "foreign" => foreign(alloc, rest),
         "discover" => discover(alloc, rest),
+        "relay" => relay(alloc, rest),
+        "scrub" => scrub(rest),
         _ => Err(WordsFault::Usage),
     }
 }
