@@ -8,7 +8,7 @@ use Rattle.feed_disk.specs.Disk.{DiskState}
 use Rattle.feed_disk.specs.declared.area.Area.{Area}
 use Rattle.feed_disk.specs.declared.area.Area.TheVariants.{Journal, Sealed}
 use Rattle.feed_disk.proofs.MomentLemmas.{alone_begins, alone_joins}
-use Rattle.feed_journal.specs.Log.{IsListed, IsLog, LogValue, MakesSome, payload_lengths}
+use Rattle.feed_journal.specs.Log.{IsLog, LogValue, MakesSome, payload_lengths, payloads_at}
 use Rattle.feed_journal.specs.Reading.{HasRead, IsReading, ReadingValue}
 use Rattle.feed_journal.specs.Records.{records}
 use Rattle.feed_journal.specs.declared.extent.Extent.{Extent}
@@ -137,12 +137,10 @@ readable_later observable s t a before after readable reads is = record {
   area = ap (λ (l : LogValue). l.area) is ∙ readable.area;
   unspent = ap (λ (l : LogValue). l.spent) is ∙ readable.unspent;
   rules = subst IsLog (sym is) readable.rules;
-  listed = λ tells.
-      let was = readable.listed tells in
-      let here : IsListed before (t.content a) =
-      subst (IsListed before) (sym (reads.areas a).content) was in
-      subst (λ (l : LogValue). IsListed l (t.content a)) (sym is)
-      (record { list = here.list; long = here.long });
+  list = λ tells.
+      subst (λ (l : LogValue). payloads_at l.extents (t.content a) ≡ records (t.content a)) (sym is)
+      (subst (λ (l : List ℕ). payloads_at before.extents l ≡ records l) (sym (reads.areas a).content)
+      (readable.list tells));
 }
 
 -- the other log too, which was lent to no call
@@ -152,14 +150,14 @@ readable_alone observable s t a log readable reads = record {
   area = readable.area;
   unspent = readable.unspent;
   rules = readable.rules;
-  listed = λ tells. subst (IsListed log) (sym (reads.areas a).content) (readable.listed tells);
+  list = λ tells. subst (λ (l : List ℕ). payloads_at log.extents l ≡ records l) (sym (reads.areas a).content)
+      (readable.list tells);
 }
 
 -- a fault of a step is that of all steps until then
 pub fails_later : (observable : Type 0) (s t u : DiskState) (fault : LoadFault) → OnlyReads s t → t.faults ≡ s.faults
     → FailsBy observable t u fault → FailsBy observable s u fault
 fails_later observable s t u fault reads same fails = record {
-  area = fails.area;
   cause = λ tells.
       subst (λ (l : List ℕ). IsLoadFault (records l) (records (s.content Sealed)) fault)
       (reads.areas Journal).content
@@ -174,14 +172,13 @@ pub head_fails : (observable : Type 0) (s t : DiskState) (codec : CodecFault) (p
     → ((at : ℕ) → codec ≡ BadField at → IsNoText heads payload × IsPlaceOfRefusal heads payload at)
     → FailsBy observable s t (fault_of 0 codec)
 head_fails observable s t (BadField at) payload same there refused = record {
-  area = refl;
   cause = λ tells.
       let why = refused at refl in
       (refl, inl (refl, record { payload = payload; there = there tells; none = why.0; place = why.1 }));
   faults = same;
 }
 head_fails observable s t CodecNoMemory payload same there refused =
-    record { area = tt; cause = λ tells. tt; faults = same }
+    record { cause = λ tells. tt; faults = same }
 
 -- or of an operation that may follow these
 pub operation_fails : (observable : Type 0) (s t : DiskState) (index : ℕ) (head : HeadValue) (history : List Op)
@@ -192,7 +189,6 @@ pub operation_fails : (observable : Type 0) (s t : DiskState) (index : ℕ) (hea
 operation_fails observable s t index head history payload NotInit from_one before same there refused = absurd refused
 operation_fails observable s t index head history payload (BadRecord area named at) from_one before same there
     (is_area, is, bad) = record {
-      area = is_area;
       cause = λ tells. (
         is_area,
         inr (
@@ -215,12 +211,12 @@ operation_fails observable s t index head history payload (BadSeal number) from_
     absurd refused
 operation_fails observable s t index head history payload DiskFault from_one before same there refused = absurd refused
 operation_fails observable s t index head history payload NoMemory from_one before same there refused =
-    record { area = tt; cause = λ tells. tt; faults = same }
+    record { cause = λ tells. tt; faults = same }
 
 -- the log has as many extents as the content has payloads
-pub listed-count : (log : LogValue) (content : List ℕ) → IsListed log content
+pub listed-count : (log : LogValue) (content : List ℕ) → payloads_at log.extents content ≡ records content
     → length (records content) ≡ length log.extents
-listed-count log content listed = sym (ap length listed.list) ∙ length-payloads log.extents content
+listed-count log content list = sym (ap length list) ∙ length-payloads log.extents content
 
 -- a number of seals that can't be, or a wrong seal
 pub seals-fail : (observable : Type 0) (s t : DiskState) (seals : LogValue) (head : HeadValue) (history : List Op)
@@ -233,25 +229,23 @@ seals-fail observable s t seals head history wrong (BadRecord area index at) rea
     absurd fails
 seals-fail observable s t seals head history wrong (SealCount count found) readable is_journal compared same fails =
     record {
-      area = tt;
       cause = λ tells. record {
         head = head;
         history = history;
         is_journal = is_journal tells;
         number = fails.0;
-        sealed_number = fails.1 ∙ sym (listed-count seals (s.content Sealed) (readable.listed tells));
+        sealed_number = fails.1 ∙ sym (listed-count seals (s.content Sealed) (readable.list tells));
         bad = fails.2;
       };
       faults = same;
     }
 seals-fail observable s t seals head history wrong (BadSeal index) readable is_journal compared same fails = record {
-  area = tt;
   cause = λ tells. record {
     head = head;
     history = history;
     is_journal = is_journal tells;
     count = subst (IsSealCount head history)
-        (sym (listed-count seals (s.content Sealed) (readable.listed tells))) fails.1;
+        (sym (listed-count seals (s.content Sealed) (readable.list tells))) fails.1;
     wrong = (subst (AreCompared head history (records (s.content Sealed))) fails.0 (compared tells)).1;
   };
   faults = same;

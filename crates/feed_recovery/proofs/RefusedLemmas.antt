@@ -12,7 +12,8 @@ use Rattle.feed_journal.specs.declared.fault.LogFault.TheVariants.{DiskFault as 
 use Rattle.feed_journal.specs.declared.fault.LogFault.TheVariants.{Changed}
 use Rattle.feed_recovery.specs.Faults.{IsBadOperation}
 use Rattle.feed_recovery.specs.Loading.{IsNoCause, IsSealFault, IsSealOf, fault_of}
-use Rattle.feed_recovery.specs.Refused.{IsBadAfter, IsNoHead, IsRefusal, Refuses, RefusesNext, RefusesRecord}
+use Rattle.feed_recovery.specs.Refused.{IsBadAfter, IsJournalRefusal, IsNoHead, IsRefusal, Refuses, RefusesJournal}
+use Rattle.feed_recovery.specs.Refused.{RefusesNext, RefusesRecord}
 use Rattle.feed_recovery.specs.declared.fault.LoadFault.{LoadFault}
 use Rattle.feed_recovery.specs.declared.fault.LoadFault.TheVariants.{NotInit, BadRecord, SealCount, BadSeal}
 use Rattle.feed_recovery.specs.declared.fault.LoadFault.TheVariants.{DiskFault, NoMemory}
@@ -40,26 +41,38 @@ within-longer log said =
     omega (arith, length-append log.extents (record { offset = log.size + 4; length = said } ∷ []))
 
 abbrev no_payloads : LogValue
-no_payloads = record { area = Journal; extents = []; size = 1; calls = 0; spent = false; spare = 0 }
+no_payloads = record { area = Journal; extents = []; size = 1; calls = 0; spent = false; whole = false; spare = 0 }
 
 no_payloads_rules : IsLog no_payloads
 no_payloads_rules = record { follow = refl; few = omega arith }
 
--- a refusal that no seal has a part in
-refuses : (journal : LogValue) (fault : LoadFault) → IsLog journal → Refuses journal.extents [] fault → IsRefusal fault
-refuses journal fault rules why = record {
-  journal = journal;
-  seals = no_payloads;
-  journal_rules = rules;
-  seals_rules = no_payloads_rules;
-  refuses = why;
-}
+refuses : (journal : LogValue) (fault : LoadFault) → IsLog journal → RefusesJournal journal.extents fault
+    → IsJournalRefusal fault
+refuses journal fault rules why = record { journal = journal; rules = rules; refuses = why }
 
-spends : (fault : LoadFault) → Refuses [] [] fault → IsRefusal fault
+spends : (fault : LoadFault) → RefusesJournal [] fault → IsJournalRefusal fault
 spends fault why = refuses no_payloads fault no_payloads_rules why
 
+refuses-both : (journal : List Extent) (fault : LoadFault) → RefusesJournal journal fault → Refuses journal [] fault
+refuses-both journal NotInit refused = refused
+refuses-both journal (BadRecord area index at) refused = refused
+refuses-both journal (SealCount records found) refused = absurd refused
+refuses-both journal (BadSeal number) refused = absurd refused
+refuses-both journal DiskFault refused = tt
+refuses-both journal NoMemory refused = tt
+
+-- a load refuses what a replay refuses
+pub refusal-journal : (fault : LoadFault) → IsJournalRefusal fault → IsRefusal fault
+refusal-journal fault refused = record {
+  journal = refused.journal;
+  seals = no_payloads;
+  journal_rules = refused.rules;
+  seals_rules = no_payloads_rules;
+  refuses = refuses-both refused.journal.extents fault refused.refuses;
+}
+
 -- a failed call or out of memory
-pub refusal-without : (fault : LoadFault) → IsNoCause fault → IsRefusal fault
+pub refusal-without : (fault : LoadFault) → IsNoCause fault → IsJournalRefusal fault
 refusal-without NotInit refused = absurd refused
 refusal-without (BadRecord area index at) refused = absurd refused
 refusal-without (SealCount records seals) refused = absurd refused
@@ -68,7 +81,7 @@ refusal-without DiskFault refused = spends DiskFault tt
 refusal-without NoMemory refused = spends NoMemory tt
 
 -- the frame of the head isn't read
-pub refusal-first : (log : LogValue) (fault : LoadFault) → log.extents ≡ [] → RefusesNext log fault → IsRefusal fault
+pub refusal-first : (log : LogValue) (fault : LoadFault) → log.extents ≡ [] → RefusesNext log fault → IsJournalRefusal fault
 refusal-first log NotInit none refused = absurd refused
 refusal-first log (BadRecord area index at) none (is_area, short, lacks) =
     refuses (longer log lacks.length_said) (BadRecord area index at) lacks.rules (
@@ -87,7 +100,7 @@ refusal-first log NoMemory none refused = spends NoMemory tt
 -- the head isn't taken
 pub refusal-head : (log : LogValue) (payload : List ℕ) (fault : LoadFault) → IsLog log → length log.extents ≡ 1
     → slice_get (payload_lengths log.extents) 0 ≡ Some (length payload) → RefusesRecord (IsNoHead payload) 0 fault
-    → IsRefusal fault
+    → IsJournalRefusal fault
 refusal-head log payload NotInit rules one whole refused = absurd refused
 refusal-head log payload (BadRecord area index at) rules one whole (is_area, is, bad) =
     refuses log (BadRecord area index at) rules (
@@ -107,13 +120,13 @@ refusal-head log payload NoMemory rules one whole refused = spends NoMemory tt
 module _ (head : HeadValue) (history : List Op) (is_head : IsHead head) (lawful : IsLawful head history)
     (log : LogValue) where
   later : (journal : LogValue) (area : Area) (index at : ℕ) → IsLog journal → area ≡ Journal
-      → IsBadAfter head journal.extents index at → IsRefusal (BadRecord area index at)
+      → IsBadAfter head journal.extents index at → IsJournalRefusal (BadRecord area index at)
   later journal area index at rules is_area after = refuses journal (BadRecord area index at) rules
       (is_area, inr (record { head = head; is_head = is_head; after = after }))
 
   -- the next frame isn't read
   pub refusal-next : (fault : LoadFault) → length log.extents ≡ length history + 1 → RefusesNext log fault
-      → IsRefusal fault
+      → IsJournalRefusal fault
   refusal-next NotInit count refused = absurd refused
   refusal-next (BadRecord area index at) count (is_area, short, lacks) =
       later (longer log lacks.length_said) area index at lacks.rules is_area (record {
@@ -132,7 +145,7 @@ module _ (head : HeadValue) (history : List Op) (is_head : IsHead head) (lawful 
   pub refusal-operation : (payload : List ℕ) (fault : LoadFault) → IsLog log
       → length history + 1 < length log.extents
       → slice_get (payload_lengths log.extents) (length history + 1) ≡ Some (length payload)
-      → RefusesRecord (IsBadOperation head history payload) (length history + 1) fault → IsRefusal fault
+      → RefusesRecord (IsBadOperation head history payload) (length history + 1) fault → IsJournalRefusal fault
   refusal-operation payload NotInit rules within whole refused = absurd refused
   refusal-operation payload (BadRecord area index at) rules within whole (is_area, is, bad) =
       later log area index at rules is_area (record {
@@ -189,6 +202,6 @@ refusal-seals journal seals head history wrong fault rules rules' is_head lawful
 -- a log isn't loaded only if a call fails or memory runs out
 pub refusal-log : (log : LogFault) (fault : LoadFault) → ((index : ℕ) → log ≡ Changed index → ⊥)
     → (log ≡ LogDiskFault → fault ≡ DiskFault) × (log ≡ LogNoMemory → fault ≡ NoMemory) → IsRefusal fault
-refusal-log LogDiskFault fault never gives = subst IsRefusal (sym (gives.0 refl)) (spends DiskFault tt)
+refusal-log LogDiskFault fault never gives = subst IsRefusal (sym (gives.0 refl)) (refusal-journal DiskFault (spends DiskFault tt))
 refusal-log (Changed index) fault never gives = absurd (never index refl)
-refusal-log LogNoMemory fault never gives = subst IsRefusal (sym (gives.1 refl)) (spends NoMemory tt)
+refusal-log LogNoMemory fault never gives = subst IsRefusal (sym (gives.1 refl)) (refusal-journal NoMemory (spends NoMemory tt))

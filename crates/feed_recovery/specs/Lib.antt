@@ -4,6 +4,7 @@ pub mod Init
 pub mod Faults
 pub mod Loading
 pub mod Refused
+pub mod Replayed
 pub mod Store
 pub mod Prepare
 pub mod Commit

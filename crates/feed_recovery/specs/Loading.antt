@@ -9,9 +9,9 @@ use Rattle.feed_disk.specs.Moments.{LeavesAlone}
 use Rattle.feed_disk.specs.declared.area.Area.{Area}
 use Rattle.feed_disk.specs.declared.area.Area.TheVariants.{Journal, Sealed}
 use Rattle.atom_writer.specs.Pieced.{text_of}
-use Rattle.feed_journal.specs.Log.{IsListed, IsLog, LogValue, MakesSome}
-use Rattle.feed_journal.specs.Reading.{IsReading, ReadingValue}
-use Rattle.feed_journal.specs.Records.{records, Begins, IsClosed}
+use Rattle.feed_journal.specs.Log.{IsListed, IsLog, LogValue, MakesSome, payloads_at}
+use Rattle.feed_journal.specs.Reading.{IsAtEnd, IsReading, ReadingValue}
+use Rattle.feed_journal.specs.Records.{records, size_of}
 use Rattle.feed_journal.specs.declared.extent.Extent.{Extent}
 use Rattle.feed_recovery.specs.Faults.{IsFirstWrong, IsLoadFault}
 use Rattle.feed_recovery.specs.Opening.{AreSeals, IsSealCount, seal_of}
@@ -46,7 +46,7 @@ pub record IsReadable (observable : Type 0) (disk : DiskState) (a : Area) (log :
   pub area : log.area ≡ a
   pub unspent : log.spent ≡ false
   pub rules : IsLog log
-  pub listed : observable → IsListed log (disk.content a)
+  pub list : observable → payloads_at log.extents (disk.content a) ≡ records (disk.content a)
 
 -- each area is left alone
 pub record OnlyReads (s t : DiskState) : Type 0 where
@@ -67,24 +67,16 @@ pub record ReadsOn (s t : DiskState) (before after : ReadingValue) : Type 0 wher
   pub limit : after.limit ≡ before.limit
   pub within : after.log.size ≤ after.limit
 
--- the log's list is the payloads of the content, which begins with their frames if a closed gate is after them
+-- the log's list is the payloads of the content, and it tells whether the content is whole
 pub record ListsAll (log : LogValue) (content : List ℕ) : Type 0 where
   pub listed : IsListed log content
-  pub begins : IsClosed content → Begins (records content) content
+  pub size : log.size ≡ size_of (records content)
+  pub end : IsAtEnd log content
 
--- no frame is left, and the log is as it was but for the number of calls
+-- no frame is left, and the log is as it was but for the number of calls, and whether the area is whole
 pub record HasReadAll (observable : Type 0) (content : List ℕ) (before after : LogValue) : Type 0 where
-  pub log : after ≡ record before { calls = after.calls }
+  pub log : after ≡ record before { calls = after.calls; whole = after.whole }
   pub lists : observable → ListsAll after content
-
--- a bad record is one of the journal
-abbrev pub NamesJournal : LoadFault → Type 0
-NamesJournal (BadRecord area index at) = area ≡ Journal
-NamesJournal NotInit = Unit {0}
-NamesJournal (SealCount records seals) = Unit {0}
-NamesJournal (BadSeal index) = Unit {0}
-NamesJournal DiskFault = Unit {0}
-NamesJournal NoMemory = Unit {0}
 
 -- a device call that failed raised the count of faults, and all other faults left it
 abbrev pub HasRaised : ℕ → ℕ → LoadFault → Type 0
@@ -97,7 +89,6 @@ HasRaised before after NoMemory = after ≡ before
 
 -- a step fails by this fault, which has its cause in the payloads of the two areas or in its device calls
 pub record FailsBy (observable : Type 0) (s t : DiskState) (fault : LoadFault) : Type 0 where
-  pub area : NamesJournal fault
   pub cause : observable → IsLoadFault (records (s.content Journal)) (records (s.content Sealed)) fault
   pub faults : HasRaised s.faults t.faults fault
 

@@ -85,19 +85,35 @@ pub record IsOtherCount (journal seals : List Extent) (records found : ℕ) : Ty
   pub found_is : found ≡ length seals
   pub bad : ¬ IsSealCount head history found
 
--- Why a load refuses these two lists of payloads. `NotInit` is only where the journal's list is empty. A payload that is
--- read short is `BadRecord` of its own index at 0, or `BadSeal` of its number from 1.
-abbrev pub Refuses : List Extent → List Extent → LoadFault → Type 0
-Refuses journal seals NotInit = length journal ≡ 0
-Refuses journal seals (BadRecord area index at) =
+-- Why a replay refuses a journal with this list of payloads, whatever the seals are. `NotInit` is only where the list is
+-- empty. A payload that is read short is `BadRecord` of its own index at 0.
+abbrev pub RefusesJournal : List Extent → LoadFault → Type 0
+RefusesJournal journal NotInit = length journal ≡ 0
+RefusesJournal journal (BadRecord area index at) =
     (area ≡ Journal) × (IsBadFirst journal index at ⊎ IsBadLater journal index at)
+RefusesJournal journal (SealCount records found) = ⊥
+RefusesJournal journal (BadSeal number) = ⊥
+RefusesJournal journal DiskFault = Unit {0}
+RefusesJournal journal NoMemory = Unit {0}
+
+-- Why a load refuses these two lists of payloads: it refuses the journal, or a seal. One that is read short is `BadSeal`
+-- of its number from 1.
+abbrev pub Refuses : List Extent → List Extent → LoadFault → Type 0
+Refuses journal seals NotInit = RefusesJournal journal NotInit
+Refuses journal seals (BadRecord area index at) = RefusesJournal journal (BadRecord area index at)
 Refuses journal seals (SealCount records found) = IsOtherCount journal seals records found
 Refuses journal seals (BadSeal number) = (1 ≤ number) × (number ≤ length seals)
 Refuses journal seals DiskFault = Unit {0}
 Refuses journal seals NoMemory = Unit {0}
 
--- The fault is one of a load of two logs. Over a disk that contracts don't see, no public clause names what the two logs
--- list, so that the two logs here are only some two.
+-- The fault is one of a replay of a journal. Over a disk that contracts don't see, no public clause names what the journal
+-- lists, so that the journal here is only some one. The same holds of the two logs below.
+pub record IsJournalRefusal (fault : LoadFault) : Type 0 where
+  pub journal : LogValue
+  pub rules : IsLog journal
+  pub refuses : RefusesJournal journal.extents fault
+
+-- the fault is one of a load of two logs
 pub record IsRefusal (fault : LoadFault) : Type 0 where
   pub journal : LogValue
   pub seals : LogValue

@@ -28,9 +28,12 @@ mod laws;
 mod load;
 mod places;
 mod prepare;
+mod replay;
+mod replayed;
 mod store;
 
 pub use fault::{ArchiveFault, InitFault, LoadFault, MemberFault, PrepareFault};
 pub use laws::stores_open_in_one_way;
 pub use prepare::Ready;
+pub use replayed::Replayed;
 pub use store::Store;

@@ -7,8 +7,8 @@ use Rattle.feed_recovery.specs.Faults.{IsBadOperation}
 use Rattle.feed_recovery.specs.Places.{ArePlaces, PlacesValue}
 use Rattle.feed_recovery.specs.Refused.{RefusesRecord}
 use Rattle.feed_recovery.proofs.HistoryLemmas.{lawful_more, table_spare}
-use Rattle.feed_recovery.proofs.load.Replayed.take.Goals as goal
-use Rattle.feed_recovery.proofs.load.Replayed.take.Goals.{In_ok-operation}
+use Rattle.feed_recovery.proofs.replay.Progress.take.Goals as goal
+use Rattle.feed_recovery.proofs.replay.Progress.take.Goals.{In_ok-operation}
 use Rattle.member_rules.specs.History.{IsLawful}
 use Rattle.member_rules.specs.Table.{IsTableOf}
 use Rattle.member_rules.specs.declared.operation.Op.{Op}

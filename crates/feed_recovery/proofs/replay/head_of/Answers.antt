@@ -7,10 +7,10 @@ use Rattle.feed_journal.specs.Log.{payload_lengths}
 use Rattle.feed_journal.specs.Records.{records}
 use Rattle.feed_journal.specs.declared.extent.Extent.{Extent}
 use Rattle.feed_recovery.specs.Loading.{FailsBy, fault_of}
-use Rattle.feed_recovery.specs.Refused.{IsNoHead, IsRefusal}
+use Rattle.feed_recovery.specs.Refused.{IsNoHead, IsJournalRefusal}
 use Rattle.feed_recovery.proofs.ReadingLemmas.{head_fails, read_count, read_length}
 use Rattle.feed_recovery.proofs.RefusedLemmas.{refusal-first, refusal-head, refused-codec}
-use Rattle.feed_recovery.proofs.load.head_of.Goals as goal
+use Rattle.feed_recovery.proofs.replay.head_of.Goals as goal
 use Rattle.member_rules.specs.Coding.{heads}
 use Rattle.member_rules.specs.declared.codec.CodecFault.{CodecFault}
 
@@ -41,7 +41,7 @@ returns-clause-refused g c =
     let payload = frame.payload.items in
     let read = rw c.in-Some.is at c.in_ok-frame.ensures.frame in
     let none = ap (λ (l : List Extent). length l) c.requires.none in
-    subst IsRefusal (sym c.bad_record.ensures)
+    subst IsJournalRefusal (sym c.bad_record.ensures)
     (refusal-head after payload (fault_of 0 c.in-Err.fault) c.in_ok-frame.ensures.worked.rules
     (read_count frame.extent payload before after read ∙ ap (λ (n : ℕ). n + 1) none)
     (subst (λ (n : ℕ). slice_get (payload_lengths after.extents) n ≡ Some (length payload)) none

@@ -7,10 +7,10 @@ use Rattle.feed_journal.specs.Records.{records}
 use Rattle.feed_recovery.specs.Loading.{AreCompared, IsSameSeal}
 use Rattle.feed_recovery.proofs.ComparedLemmas.{compared-other, compared-same, compared-still}
 use Rattle.feed_recovery.proofs.ReadingLemmas.{listed-count}
-use Rattle.feed_recovery.proofs.load.Replayed.compare_seal.Goals as goal
-use Rattle.feed_recovery.proofs.load.Replayed.compare_seal.Goals.{then-is_some-via-then-is_some}
-use Rattle.feed_recovery.proofs.load.Replayed.compare_seal.Goals.{then-is_some-via-else-is_some+then-not-is_full}
-use Rattle.feed_recovery.proofs.load.Replayed.compare_seal.Goals.{then-is_some-via-else-is_some+else-not-is_full+then-sealed-len}
+use Rattle.feed_recovery.proofs.replay.Progress.compare_seal.Goals as goal
+use Rattle.feed_recovery.proofs.replay.Progress.compare_seal.Goals.{then-is_some-via-then-is_some}
+use Rattle.feed_recovery.proofs.replay.Progress.compare_seal.Goals.{then-is_some-via-else-is_some+then-not-is_full}
+use Rattle.feed_recovery.proofs.replay.Progress.compare_seal.Goals.{then-is_some-via-else-is_some+else-not-is_full+then-sealed-len}
 use Rattle.member_rules.specs.Windows.{windows_of}
 
 some-given : (wrong : Option ℕ) → is_some wrong ≡ true → wrong ≢ None
@@ -39,7 +39,7 @@ returns-then-is_some-clause-compared g c = λ tells before operation is compared
         w.if-sealed-len.true,
         w.len.ensures,
         c.sealed-sealed.ensures head of_feed,
-        listed-count c.args.seals.now ((g.D.Disk.state c.args.disk.now).content Sealed) (c.requires.seals.listed tells),
+        listed-count c.args.seals.now ((g.D.Disk.state c.args.disk.now).content Sealed) (c.requires.seals.list tells),
       )))
     ] in
     compared-still head before after operation is payloads c.requires.replayed.is_head wrong why compared

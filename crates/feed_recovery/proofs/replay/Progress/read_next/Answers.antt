@@ -14,9 +14,9 @@ use Rattle.feed_recovery.specs.Places.{ArePlaces}
 use Rattle.feed_recovery.proofs.HistoryLemmas.{journal_more, take_next}
 use Rattle.feed_recovery.proofs.ReadingLemmas.{operation_fails, read_count, read_length}
 use Rattle.feed_recovery.proofs.RefusedLemmas.{refusal-next, refusal-operation}
-use Rattle.feed_recovery.proofs.load.Replayed.read_next.Given.{Over}
-use Rattle.feed_recovery.proofs.load.Replayed.read_next.Goals as goal
-use Rattle.feed_recovery.proofs.load.Replayed.read_next.Goals.{In-Some, In_default}
+use Rattle.feed_recovery.proofs.replay.Progress.read_next.Given.{Over}
+use Rattle.feed_recovery.proofs.replay.Progress.read_next.Goals as goal
+use Rattle.feed_recovery.proofs.replay.Progress.read_next.Goals.{In-Some, In_default}
 use Rattle.member_rules.specs.Coding.{operations}
 use Rattle.member_rules.specs.declared.operation.Op.{Op}
 use Rattle.member_rules.proofs.PayloadLemmas.{operation-long}

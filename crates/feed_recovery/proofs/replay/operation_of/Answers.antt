@@ -1,7 +1,7 @@
 use Rattle.std.proofs.Common.{◌≡◌, ◌⊎◌, inl, inr, Bool, true, false, refl}
-use Rattle.feed_recovery.proofs.load.operation_of.Goals as goal
-use Rattle.feed_recovery.proofs.load.operation_of.Goals.{else-may_follow-via-then-may_follow+else-is_small}
-use Rattle.feed_recovery.proofs.load.operation_of.Goals.{else-may_follow-via-else-may_follow}
+use Rattle.feed_recovery.proofs.replay.operation_of.Goals as goal
+use Rattle.feed_recovery.proofs.replay.operation_of.Goals.{else-may_follow-via-then-may_follow+else-is_small}
+use Rattle.feed_recovery.proofs.replay.operation_of.Goals.{else-may_follow-via-else-may_follow}
 use Rattle.member_rules.specs.History.{IsSmall, MayFollow}
 
 pub returns-else-may_follow-clause-refused : goal.returns-else-may_follow-clause-refused

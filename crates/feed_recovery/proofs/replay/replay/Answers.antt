@@ -7,7 +7,7 @@ use Rattle.feed_journal.specs.Records.{records}
 use Rattle.feed_recovery.specs.Loading.{AreCompared, HasReplayed, IsSealOf, ListsAll, LogsHistory}
 use Rattle.feed_recovery.specs.Opening.{journal_of}
 use Rattle.feed_recovery.specs.Places.{ArePlaces}
-use Rattle.feed_recovery.specs.declared.load.Replayed.{Replayed}
+use Rattle.feed_recovery.specs.declared.replay.Progress.{Progress}
 use Rattle.feed_journal.specs.declared.extent.Extent.{Extent}
 use Rattle.feed_recovery.proofs.ComparedLemmas.{compared-begin}
 use Rattle.feed_recovery.proofs.HistoryLemmas.{follow-below, take_next}
@@ -16,7 +16,7 @@ use Rattle.feed_recovery.proofs.PlacesLemmas.{places-none}
 use Rattle.feed_recovery.proofs.ReadingLemmas.{fails_later, listed-count, readable_alone, readable_later, reader_alone, reads_begin}
 use Rattle.feed_recovery.proofs.ReadingLemmas.{reads_join, worked-begin, worked-reader, worked-seals}
 use Rattle.feed_recovery.proofs.RefusedLemmas.{refusal-without}
-use Rattle.feed_recovery.proofs.load.replay.Goals as goal
+use Rattle.feed_recovery.proofs.replay.replay.Goals as goal
 use Rattle.member_rules.specs.Head.{HeadValue}
 use Rattle.member_rules.specs.History.{IsLawful}
 use Rattle.member_rules.specs.Table.{IsTableOf}
@@ -77,7 +77,7 @@ pub compare_seal-requires-clause-wrong : goal.compare_seal-requires-clause-wrong
 compare_seal-requires-clause-wrong g c =
     let before = c.frames.invariant in
     subst (λ (w : Option ℕ). IfSome w (IsSealOf c.frames.seals.extents)) (sym c.read_next.ensures.wrong)
-    (subst (λ (l : LogValue). IfSome c.frames.replayed.wrong (IsSealOf l.extents)) (sym before.worked.seals_log)
+    (subst (λ (l : LogValue). IfSome c.frames.progress.wrong (IsSealOf l.extents)) (sym before.worked.seals_log)
     before.wrong)
 
 pub returns-in-Ok-false-clause-payloads : goal.returns-in-Ok-false-clause-payloads
@@ -89,7 +89,7 @@ returns-in-Ok-false-clause-payloads g c = λ tells.
     let none = c.in-Ok-false.field-0-test in
     let listed = ((c.read_next.ensures.last (cc)).lists tells).listed in
     ap records (sym (c.frames.invariant.reads.areas Journal).content)
-    ∙ sym (take_all (length log.extents) payloads (omega (arith, listed-count log (m.content Journal) listed)))
+    ∙ sym (take_all (length log.extents) payloads (omega (arith, listed-count log (m.content Journal) listed.list)))
     ∙ c.in-Ok-false.ensures.payloads tells
 
 pub returns-in-Ok-false-clause-lists : goal.returns-in-Ok-false-clause-lists
@@ -104,7 +104,7 @@ returns-in-Ok-false-clause-compared g c = λ tells.
     let is = c.in-Ok-false.is in
     let none = c.in-Ok-false.field-0-test in
     let seals = records ((g.D.Disk.state c.args.disk.now).content Sealed) in
-    subst (λ (r : Replayed). AreCompared c.args.head.now r.window.history seals r.wrong)
+    subst (λ (r : Progress). AreCompared c.args.head.now r.window.history seals r.wrong)
     (sym (c.read_next.ensures.same (cc))) (c.frames.invariant.compared tells)
 
 pub returns-in-Ok-false-clause-worked : goal.returns-in-Ok-false-clause-worked
@@ -160,7 +160,7 @@ frames-preserved g c =
     let u = g.D.Disk.state c.compare_seal.new.disk in
     let before = c.frames.invariant in
     let head = c.args.head.now in
-    let history = c.frames.replayed.window.history in
+    let history = c.frames.progress.window.history in
     let reader = c.read_next.new.reader in
     let read = c.in-Ok-true.ensures in
     let is = c.in-Ok-true.is in
@@ -177,12 +177,12 @@ frames-preserved g c =
           read.worked) c.in_default.ensures.worked;
       reads = reads_join s t u (reads_join s m t before.reads c.read_next.ensures.reads) c.compare_seal.ensures.reads;
       reader = reader_alone g.D.Disk.observable t u reader read.reader c.compare_seal.ensures.reads;
-      replayed = subst (λ (r : Replayed). HasReplayed head r.members r.window) (sym same) read.replayed;
-      logs = subst (λ (r : Replayed). LogsHistory reader.log r.window.history r.places.extents) (sym same) read.logs;
+      replayed = subst (λ (r : Progress). HasReplayed head r.members r.window) (sym same) read.replayed;
+      logs = subst (λ (r : Progress). LogsHistory reader.log r.window.history r.places.extents) (sym same) read.logs;
       payloads = λ tells.
           ap (λ (l : List ℕ). take (length reader.log.extents) (records l)) (sym (before.reads.areas Journal).content)
           ∙ read.payloads tells
-          ∙ ap (λ (r : Replayed). journal_of head r.window.history) (sym same);
+          ∙ ap (λ (r : Progress). journal_of head r.window.history) (sym same);
       compared = λ tells.
           subst (λ (l : List (List ℕ)). AreCompared head after.window.history l after.wrong) still
           (c.in_default.ensures.compared tells history grown.operation grown.history

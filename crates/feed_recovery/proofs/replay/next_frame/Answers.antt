@@ -1,7 +1,7 @@
 use Rattle.std.proofs.Common.{Err, Result, Option, ap, refl, ◌∙◌}
 use Rattle.feed_journal.specs.declared.fault.LogFault.{LogFault}
 use Rattle.feed_journal.specs.declared.reader.Frame.{Frame}
-use Rattle.feed_recovery.proofs.load.next_frame.Goals as goal
+use Rattle.feed_recovery.proofs.replay.next_frame.Goals as goal
 
 pub returns-in-Err-Changed-clause-refused : goal.returns-in-Err-Changed-clause-refused
 returns-in-Err-Changed-clause-refused g c =

@@ -6,7 +6,7 @@ use Rattle.atom_writer.specs.Pieces.{text}
 use Rattle.feed_disk.specs.declared.area.Area.{Area}
 use Rattle.feed_journal.specs.Records.{records}
 use Rattle.feed_recovery.specs.Opening.{seal_of}
-use Rattle.feed_recovery.proofs.load.is_sealed.Goals as goal
+use Rattle.feed_recovery.proofs.replay.is_sealed.Goals as goal
 use Rattle.member_rules.specs.Documents.{archive}
 use Rattle.member_rules.specs.Windows.{windows_of}
 
