@@ -10,7 +10,7 @@ use Rattle.command_ends.specs.declared.status.Status.TheVariants as status
 use Rattle.command_ends.specs.declared.fault.Fault.{Fault}
 use Rattle.command_ends.specs.declared.fault.Fault.TheVariants.{NoMemory, Input, Disk, BadStore as StoreIsBad, Full, Refused}
 use Rattle.command_ends.specs.declared.fault.BadStore.{BadStore}
-use Rattle.command_ends.specs.declared.fault.BadStore.TheVariants.{NotInit, AlreadyInit, BadRecord, SealCount, BadSeal, Changed}
+use Rattle.command_ends.specs.declared.fault.BadStore.TheVariants.{NotInit, AlreadyInit, BadRecord, SealCount, BadSeal, Changed, OpenGate}
 use Rattle.command_ends.specs.declared.fault.Refusal.{Refusal}
 use Rattle.command_ends.specs.declared.fault.Refusal.TheVariants.{TooLong, BadDocument, BadPile, BadCertificate, TooManyOffers}
 use Rattle.command_ends.specs.declared.fault.Refusal.TheVariants.{BadLine, NotFound, Deleted, Clock, TooLarge, NotSealed, NoMember}
@@ -51,6 +51,7 @@ bad_store_line (BadRecord area index at) =
 bad_store_line (SealCount records seals) = codes "seal count" ++ spaced records ++ spaced seals ++ codes "\n"
 bad_store_line (BadSeal index) = codes "bad seal" ++ spaced index ++ codes "\n"
 bad_store_line (Changed area index) = codes "changed " ++ area_word area ++ spaced index ++ codes "\n"
+bad_store_line (OpenGate area at) = codes "open gate " ++ area_word area ++ spaced at ++ codes "\n"
 
 abbrev pub full_line : Area → ℕ → ℕ → ℕ → List ℕ
 full_line area size needed capacity =

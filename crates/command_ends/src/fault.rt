@@ -52,6 +52,8 @@ pub enum BadStore {
     BadSeal { index: u32 },
     /// The payload of this index, counted from 0, isn't as it was.
     Changed { area: Area, index: u32 },
+    /// The gate after the last frame of the area, at offset `at`, is open.
+    OpenGate { area: Area, at: u64 },
 }
 
 /// Why an input, a document of the source or a request for a document is refused. Lines are numbered from 1.
@@ -189,6 +191,12 @@ impl BadStore {
             BadStore::Changed { area, index } => {
                 let mut line = naming_area("changed ", area);
                 append_number(&mut line, u64::from(index));
+                append(&mut line, "\n");
+                line
+            }
+            BadStore::OpenGate { area, at } => {
+                let mut line = naming_area("open gate ", area);
+                append_number(&mut line, at);
                 append(&mut line, "\n");
                 line
             }
