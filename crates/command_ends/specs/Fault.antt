@@ -29,6 +29,14 @@ member_line line why member = numbered (codes "line ") line why ++ decimal membe
 abbrev pub spaced : ℕ → List ℕ
 spaced number = codes " " ++ decimal number
 
+-- the line of a connection that was served: the status of its reply, and the version of the feed
+abbrev pub connection_line : ℕ → ℕ → List ℕ
+connection_line status version = decimal status ++ spaced version ++ codes "\n"
+
+-- the line of a mirror whose documents have this base, which isn't that of the words
+abbrev pub other_base_line : List ℕ → List ℕ
+other_base_line base = codes "other base " ++ base ++ codes "\n"
+
 abbrev pub area_word : Area → List ℕ
 area_word Journal = codes "journal"
 area_word Sealed = codes "sealed"
