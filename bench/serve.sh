@@ -2,8 +2,8 @@
 # Measures `feed_tool serve` over the loopback, with one connection for each request:
 # - POST of an entry of 300 bytes by 1 and by 8 clients on a disk, and by one on a folder in memory, beside the loop of
 #   bench/store.sh that makes only the writes and the syncs of each change;
-# - GET of a sealed archive of about 100 KB and of the feed by 1 and by 8 clients, beside nginx with one worker and the
-#   same bytes in files, where nginx is installed;
+# - GET of a sealed archive of about 100 KB and of the feed by 1 and by 8 clients, beside `feed_tool relay` on a mirror of the
+#   same documents, and beside nginx with one worker and the same bytes in files, where nginx is installed;
 # - GET of the feed while one more client is connected and silent;
 # - GET of the feed after OPERATIONS operations and after 1,000.
 # usage: bench/serve.sh [OPERATIONS [DIR [PROGRAM]]]. OPERATIONS is a multiple of 100 over 1,000, or else 20,000: both feeds have
@@ -243,9 +243,18 @@ seq 150 | sed "s/.*/add $title/" | (cd "$memory/store" && "$tool" apply) >/dev/n
 mkdir -p "$memory/files/archive"
 (cd "$memory/store" && "$tool" show archive 1) >"$memory/files/archive/1" || exit 1
 (cd "$memory/store" && "$tool" show feed) >"$memory/files/feed" || exit 1
+mkdir "$memory/relay"
+(cd "$memory/store" && "$tool" show pile) >"$memory/pile" || exit 1
+(cd "$memory/relay" && "$tool" mirror --base http://feed.example/) <"$memory/pile" >/dev/null || exit 1
 
 serve "$memory/store"
 tool_port=$port tool_server=$server
+port=$((port + 1))
+(cd "$memory/relay" && exec "$tool" relay --base http://feed.example/ --listen "127.0.0.1:$port" --requests 1000000) \
+    </dev/null >"$memory/relay/printed" 2>&1 &
+server=$! started="$started $!"
+await feed
+relay_port=$port relay_server=$server
 nginx=$(command -v nginx || PATH=$PATH:/usr/sbin command -v nginx)
 if [ -n "$nginx" ]; then
     nginx_port=$((port + 1))
@@ -289,6 +298,8 @@ for _ in $(seq "$rounds"); do
         for path in archive/1 feed; do
             port=$tool_port server=$tool_server
             measure "feed_tool, GET of $path" "$number" "$seconds" "/$path"
+            port=$relay_port server=$relay_server
+            measure "relay, GET of $path" "$number" "$seconds" "/$path"
             if [ -n "$nginx" ]; then
                 port=$nginx_port server=$nginx_server
                 measure "nginx, GET of $path" "$number" "$seconds" "/$path"
@@ -304,6 +315,8 @@ if [ -n "$nginx" ]; then
     server=$nginx_server
     finish
 fi
+server=$relay_server
+finish
 server=$tool_server
 finish
 
@@ -338,6 +351,7 @@ finish
 for number in $clients; do
     ratio 'POST, on the disk' 'writes and syncs alone, on the disk' "$number" 1
     for path in archive/1 feed; do
+        ratio "relay, GET of $path" "feed_tool, GET of $path" "$number"
         ratio "feed_tool, GET of $path" "nginx, GET of $path" "$number"
     done
     ratio "$operations operations, GET of the feed" '1000 operations, GET of the feed' "$number"

@@ -97,14 +97,14 @@ fi
 # The units, with the program where it was unpacked
 if with systemd-analyze; then
     mkdir "$work/units"
-    for unit in feed@.service feed-mirror@.service feed-mirror@.timer; do
+    for unit in feed@.service feed-mirror@.service feed-mirror@.timer feed-relay@.service; do
         sed "s|/usr/bin/feed_tool|$program|" "$root/usr/lib/systemd/system/$unit" >"$work/units/$unit"
     done
-    for unit in feed@.service feed-mirror@.service feed-mirror@.timer; do
+    for unit in feed@.service feed-mirror@.service feed-mirror@.timer feed-relay@.service; do
         right "$unit is right" silent systemd-analyze verify --man=no "$work/units/$unit"
     done
     # 0 is confined most and 100 not at all.
-    for unit in feed@.service feed-mirror@.service; do
+    for unit in feed@.service feed-mirror@.service feed-relay@.service; do
         right "$unit is confined" systemd-analyze security --offline=true --threshold=30 --no-pager "$work/units/$unit"
     done
 fi

@@ -11,7 +11,7 @@ pub record Answer : Type 0 where
 
 -- the line for words that name no command
 abbrev pub usage_line : List ℕ
-usage_line = codes "usage: feed_tool init, apply, show, serve, mirror, audit, drill, foreign, discover\n"
+usage_line = codes "usage: feed_tool init, apply, show, serve, mirror, audit, drill, foreign, discover, relay, scrub\n"
 
 -- the output took the text, or a prefix of it where one of the output's calls failed
 pub record Prints (before after : SinkState) (text : List ℕ) : Type 0 where

@@ -10,7 +10,7 @@ use Rattle.command_ends.specs.declared.status.Status.TheVariants as status
 use Rattle.command_ends.specs.declared.fault.Fault.{Fault}
 use Rattle.command_ends.specs.declared.fault.Fault.TheVariants.{NoMemory, Input, Disk, BadStore as StoreIsBad, Full, Refused}
 use Rattle.command_ends.specs.declared.fault.BadStore.{BadStore}
-use Rattle.command_ends.specs.declared.fault.BadStore.TheVariants.{NotInit, AlreadyInit, BadRecord, SealCount, BadSeal, Changed}
+use Rattle.command_ends.specs.declared.fault.BadStore.TheVariants.{NotInit, AlreadyInit, BadRecord, SealCount, BadSeal, Changed, OpenGate}
 use Rattle.command_ends.specs.declared.fault.Refusal.{Refusal}
 use Rattle.command_ends.specs.declared.fault.Refusal.TheVariants.{TooLong, BadDocument, BadPile, BadCertificate, TooManyOffers}
 use Rattle.command_ends.specs.declared.fault.Refusal.TheVariants.{BadLine, NotFound, Deleted, Clock, TooLarge, NotSealed, NoMember}
@@ -29,6 +29,14 @@ member_line line why member = numbered (codes "line ") line why ++ decimal membe
 abbrev pub spaced : ℕ → List ℕ
 spaced number = codes " " ++ decimal number
 
+-- the line of a connection that was served: the status of its reply, and the version of the feed
+abbrev pub connection_line : ℕ → ℕ → List ℕ
+connection_line status version = decimal status ++ spaced version ++ codes "\n"
+
+-- the line of a mirror whose documents have this base, which isn't that of the words
+abbrev pub other_base_line : List ℕ → List ℕ
+other_base_line base = codes "other base " ++ base ++ codes "\n"
+
 abbrev pub area_word : Area → List ℕ
 area_word Journal = codes "journal"
 area_word Sealed = codes "sealed"
@@ -43,6 +51,7 @@ bad_store_line (BadRecord area index at) =
 bad_store_line (SealCount records seals) = codes "seal count" ++ spaced records ++ spaced seals ++ codes "\n"
 bad_store_line (BadSeal index) = codes "bad seal" ++ spaced index ++ codes "\n"
 bad_store_line (Changed area index) = codes "changed " ++ area_word area ++ spaced index ++ codes "\n"
+bad_store_line (OpenGate area at) = codes "open gate " ++ area_word area ++ spaced at ++ codes "\n"
 
 abbrev pub full_line : Area → ℕ → ℕ → ℕ → List ℕ
 full_line area size needed capacity =

@@ -1,7 +1,7 @@
 ghost use Rattle.std.specs.Prelude.{◌≡◌, ◌≤◌, ◌+◌, ◌++◌, codes, decimal, length};
 ghost use Rattle.arrayvec.specs.ArrayString.{array_string_len};
 ghost use Rattle.command_ends.specs.Fault.{bad_store_line, fault_answer, full_line, member_line, numbered};
-ghost use Rattle.command_ends.specs.Fault.{area_word, refusal_answer, rule_fault, spaced};
+ghost use Rattle.command_ends.specs.Fault.{area_word, connection_line, refusal_answer, rule_fault, spaced};
 ghost use Rattle.command_ends.specs.StoreFaults.{prepare_fault};
 
 use crate::status::Status;
@@ -52,6 +52,8 @@ pub enum BadStore {
     BadSeal { index: u32 },
     /// The payload of this index, counted from 0, isn't as it was.
     Changed { area: Area, index: u32 },
+    /// The gate after the last frame of the area, at offset `at`, is open.
+    OpenGate { area: Area, at: u64 },
 }
 
 /// Why an input, a document of the source or a request for a document is refused. Lines are numbered from 1.
@@ -192,6 +194,12 @@ impl BadStore {
                 append(&mut line, "\n");
                 line
             }
+            BadStore::OpenGate { area, at } => {
+                let mut line = naming_area("open gate ", area);
+                append_number(&mut line, at);
+                append(&mut line, "\n");
+                line
+            }
         }
     }
 }
@@ -316,12 +324,12 @@ fn line_of_full(area: Area, size: u64, needed: u64, capacity: u64) -> FaultLine
     line
 }
 
-/// A line of two numbers.
-pub fn line_of_numbers(first: u64, second: u64) -> FaultLine
-    ensures { result.bytes ≡ decimal first ++ spaced second ++ codes "\n" }
+/// The line of a connection that was served: the status of its reply, and the version of the feed.
+pub fn connection_line(status: u16, version: u32) -> FaultLine
+    ensures { result.bytes ≡ connection_line status version }
 {
-    let mut line = numbered("", first, "");
-    append_number(&mut line, second);
+    let mut line = numbered("", u64::from(status), "");
+    append_number(&mut line, u64::from(version));
     append(&mut line, "\n");
     line
 }

@@ -17,13 +17,15 @@
 //! become faults.
 #![tactic(auto)]
 
+mod base_line;
 mod fault;
 mod print;
 mod printed;
 mod status;
 mod summary_lines;
 
-pub use fault::{BadStore, Fault, FaultLine, MAX_LINE, Refusal, line_of, line_of_numbers};
+pub use base_line::{BaseLine, other_base_line};
+pub use fault::{BadStore, Fault, FaultLine, MAX_LINE, Refusal, connection_line, line_of};
 pub use print::print_fault;
 pub use printed::{Printed, end_printed, push_address};
 pub use status::Status;

@@ -6,6 +6,7 @@ use Rattle.chain_links.specs.declared.address.Address.TheVariants as address
 use Rattle.entry_reader.specs.declared.fault.Why.{Why}
 use Rattle.entry_reader.specs.declared.fault.Why.TheVariants as why
 use Rattle.feed_recovery.specs.Store.{StoreValue}
+use Rattle.http_face.specs.Reply.{disk_changed}
 use Rattle.http_face.specs.Request.{RequestValue}
 use Rattle.http_face.specs.declared.reply.Body.TheVariants.{Made, Fixed}
 use Rattle.http_face.specs.declared.reply.Line7.TheVariants as line
@@ -16,7 +17,7 @@ use Rattle.http_face.specs.declared.request.Verb.TheVariants as verb
 use Rattle.document_server.specs.Answer.{IsAnswer}
 use Rattle.document_server.specs.Reply.{IsAccepted, IsAsked, IsAtAddressAs, IsMemberShownOver, IsOfArchiveOver}
 use Rattle.document_server.specs.Reply.{IsOfFeed, IsOfMemberOver, IsOfState, IsOutcomeOver, IsRead, IsSent, IsShownFrom}
-use Rattle.document_server.specs.Reply.{Outcome, disk_changed, done_reply, entry_refusal, rule_reply, shown_over}
+use Rattle.document_server.specs.Reply.{Outcome, done_reply, entry_refusal, rule_reply, shown_over}
 use Rattle.document_server.specs.Reply.{unchanged}
 use Rattle.member_rules.specs.Fold.{state_of}
 use Rattle.member_rules.specs.declared.ask.Ask.{Ask}

@@ -9,9 +9,9 @@ use Rattle.chain_links.specs.Address.{printed}
 use Rattle.document_server.specs.Laws.{AreShownServed}
 use Rattle.document_server.specs.Served.{Answering}
 use Rattle.document_server.specs.Session.{Exchange, IsAnswered}
-use Rattle.document_server.specs.Session.{IsServedDocument, IsTurn, SendsServed, Turn, fault_reply}
+use Rattle.document_server.specs.Session.{IsServedDocument, IsTurn, SendsServed, Turn}
 use Rattle.feed_recovery.specs.Store.{StoreValue}
-use Rattle.http_face.specs.Reply.{body_text}
+use Rattle.http_face.specs.Reply.{body_text, fault_reply}
 use Rattle.http_face.specs.declared.fault.RequestFault.{RequestFault}
 use Rattle.http_face.specs.declared.fault.RequestFault.TheVariants as fault
 use Rattle.http_face.specs.declared.reply.Media.TheVariants as media

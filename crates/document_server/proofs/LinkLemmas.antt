@@ -6,10 +6,10 @@ use Rattle.std.proofs.lemmas.Bool.{cases_eq}
 use Rattle.std.proofs.lemmas.List.{append-nil}
 use Rattle.atom_values.specs.Counts.{HasCause, HasRisen}
 use Rattle.document_server.specs.Answer.{Grows, IsAnswer, IsDone, LeavesAnswered, MayAdd, Steps, added}
-use Rattle.document_server.specs.Reply.{Outcome, disk_fault}
+use Rattle.document_server.specs.Reply.{Outcome}
 use Rattle.document_server.specs.Served.{Answering}
 use Rattle.document_server.specs.Serving.{IsReplyOn, RepliesOne, ServesOne, exchange_of}
-use Rattle.document_server.specs.Session.{IsReported, IsSent, IsTurn, fault_reply, read_limit, unheard}
+use Rattle.document_server.specs.Session.{IsReported, IsSent, IsTurn, read_limit, unheard}
 use Rattle.document_server.specs.declared.line.Line.{Line}
 use Rattle.document_server.proofs.StepLemmas.{gains-none}
 use Rattle.feed_disk.specs.Disk.{DiskState}
@@ -18,7 +18,7 @@ use Rattle.feed_recovery.specs.Store.{StoreValue, call_count, is_spent}
 use Rattle.feed_recovery.specs.Stored.{IsSized}
 use Rattle.http_face.specs.Conn.{ConnState, LastReadAfter, Reads, Writes}
 use Rattle.http_face.specs.Heard.{IsHeard, IsMisheard}
-use Rattle.http_face.specs.Reply.{HasPhrase, IsCutOff, reply_bytes}
+use Rattle.http_face.specs.Reply.{HasPhrase, IsCutOff, reply_bytes, disk_fault, fault_reply}
 use Rattle.http_face.specs.Request.{IsRequest, RequestValue}
 use Rattle.http_face.specs.Settled.{IsUnsettled}
 use Rattle.http_face.specs.declared.fault.CutOff.{CutOff}

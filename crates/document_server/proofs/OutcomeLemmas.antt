@@ -10,13 +10,14 @@ use Rattle.feed_disk.specs.declared.area.Area.{Area}
 use Rattle.feed_recovery.specs.Prepare.{Fits, IsFull, IsFullArea, next_seal}
 use Rattle.feed_recovery.specs.Store.{StoreValue}
 use Rattle.feed_journal.specs.Log.{LogValue}
+use Rattle.http_face.specs.Reply.{document_reply}
 use Rattle.http_face.specs.Request.{RequestValue}
 use Rattle.http_face.specs.declared.request.Verb.{Verb}
 use Rattle.http_face.specs.declared.request.Verb.TheVariants as verb
 use Rattle.document_server.specs.Laws.{NamesOneAddress}
 use Rattle.document_server.specs.Reply.{HasRoomFor, IsAccepted, IsAsked, IsAtAddress, IsMemberShown, IsOfArchive}
 use Rattle.document_server.specs.Reply.{IsOfFeed, IsOfMember, IsOfState, IsOutcome, IsRead, IsSent, Outcome}
-use Rattle.document_server.specs.Reply.{document_reply, entry_refusal, full_reply, rule_reply, unchanged}
+use Rattle.document_server.specs.Reply.{entry_refusal, full_reply, rule_reply, unchanged}
 use Rattle.atom_writer.specs.Members.{member_text}
 use Rattle.http_face.specs.declared.reply.Media.TheVariants as media
 use Rattle.member_rules.specs.Fold.{state_of}

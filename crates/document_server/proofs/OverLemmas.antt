@@ -3,6 +3,7 @@ use Rattle.std.proofs.Common.{◌≡◌, inl, inr, ap, subst, ◌∙◌, ℕ, Li
 use Rattle.chain_links.specs.declared.address.Address.{Address as FeedAddress}
 use Rattle.chain_links.specs.declared.address.Address.TheVariants as address
 use Rattle.feed_recovery.specs.Store.{StoreValue}
+use Rattle.http_face.specs.Reply.{disk_changed, document_reply}
 use Rattle.http_face.specs.Request.{RequestValue}
 use Rattle.http_face.specs.declared.reply.Media.TheVariants as media
 use Rattle.http_face.specs.declared.reply.Reply.{Reply}
@@ -11,7 +12,7 @@ use Rattle.http_face.specs.declared.request.Verb.TheVariants as verb
 use Rattle.document_server.specs.Answer.{ComesTo, IsAnswer}
 use Rattle.document_server.specs.Reply.{IsArchiveShown, IsArchiveShownOver, IsAtAddress, IsAtAddressAs, IsMemberShown}
 use Rattle.document_server.specs.Reply.{IsMemberShownOver, IsOfArchive, IsOfArchiveOver, IsOfMember, IsOfMemberOver}
-use Rattle.document_server.specs.Reply.{IsOfState, IsOutcome, IsOutcomeOver, Outcome, disk_changed, document_reply}
+use Rattle.document_server.specs.Reply.{IsOfState, IsOutcome, IsOutcomeOver, Outcome}
 use Rattle.document_server.specs.Reply.{shown_over, unchanged}
 use Rattle.document_server.specs.declared.failure.Failure.{Failure}
 use Rattle.document_server.specs.declared.failure.Failure.TheVariants.{Changed}

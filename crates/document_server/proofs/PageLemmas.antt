@@ -3,13 +3,14 @@ use Rattle.std.proofs.Common.{◌≡◌, ◌≢◌, ◌⊎◌, inl, inr, refl, s
 use Rattle.std.specs.Prelude.{Option, Some, None, option_map}
 use Rattle.document_server.specs.Answer.{IsAnswer, LeavesAnswered}
 use Rattle.document_server.specs.Laws.{AreShownServed, IsServedReply, NamesOneAddress}
-use Rattle.document_server.specs.Reply.{IsOutcome, Outcome, disk_fault, unchanged}
+use Rattle.document_server.specs.Reply.{IsOutcome, Outcome, unchanged}
 use Rattle.document_server.specs.Served.{IsPageOr, answers_of, paged}
 use Rattle.document_server.proofs.OutcomeLemmas.{one-outcome}
 use Rattle.document_server.proofs.ServedLemmas.{shown-served}
 use Rattle.document_server.proofs.StepLemmas.{replied-none}
 use Rattle.feed_disk.specs.Disk.{DiskState}
 use Rattle.feed_recovery.specs.Store.{StoreValue}
+use Rattle.http_face.specs.Reply.{disk_fault}
 use Rattle.http_face.specs.Request.{RequestValue}
 use Rattle.http_face.specs.declared.reply.Media.TheVariants as media
 use Rattle.http_face.specs.declared.reply.Reply.{Reply}

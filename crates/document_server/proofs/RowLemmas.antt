@@ -7,7 +7,7 @@ use Rattle.chain_links.specs.Address.{IsAddress, IsTarget}
 use Rattle.chain_links.specs.declared.address.Address.{Address as FeedAddress}
 use Rattle.chain_links.specs.declared.address.Address.TheVariants.{Feed, Archive, Member}
 use Rattle.feed_disk.specs.Disk.{DiskState}
-use Rattle.http_face.specs.Reply.{HasPhrase}
+use Rattle.http_face.specs.Reply.{HasPhrase, not_allowed, not_found}
 use Rattle.http_face.specs.Request.{RequestValue}
 use Rattle.http_face.specs.declared.reply.Allow.TheVariants.{OfFeed, OfArchive, OfMember}
 use Rattle.http_face.specs.declared.reply.Body.TheVariants.{Fixed}
@@ -17,7 +17,7 @@ use Rattle.http_face.specs.declared.request.Verb.{Verb}
 use Rattle.http_face.specs.declared.request.Verb.TheVariants.{Get, Head, Post, Put, Delete, Options, Patch, Other}
 use Rattle.document_server.specs.Answer.{ComesTo, IsOwn, IsReadAs, IsRefusal, ReadsOrCommits, absent_reply}
 use Rattle.document_server.specs.Reply.{IsAsked, IsAtAddressAs, IsOfArchiveAs, IsOfFeed, IsOfMemberAs, IsOfState}
-use Rattle.document_server.specs.Reply.{IsOutcomeAs, IsSent, Outcome, Shown, gone, not_allowed, not_found, unchanged}
+use Rattle.document_server.specs.Reply.{IsOutcomeAs, IsSent, Outcome, Shown, gone, unchanged}
 use Rattle.document_server.specs.declared.failure.Failure.{Failure}
 use Rattle.document_server.specs.declared.failure.Failure.TheVariants.{Disk, Changed, NoMemory}
 use Rattle.member_rules.specs.declared.ask.Ask.{Ask}

@@ -8,7 +8,6 @@ use Rattle.atom_values.specs.Counts.{HasRisen, counter_limit}
 use Rattle.document_server.specs.Answer.{Steps}
 use Rattle.document_server.specs.Door.{DoorState, SameLinks}
 use Rattle.document_server.specs.Laws.{AreShownServed}
-use Rattle.document_server.specs.Reply.{disk_fault}
 use Rattle.document_server.specs.Served.{Answering}
 use Rattle.document_server.specs.Serving.{CountsFrom, HasHistory, LeavesServing, OpensAt}
 use Rattle.document_server.specs.Serving.{ServesFrom, ServesOne, exchange_of, version_after}
@@ -33,6 +32,7 @@ use Rattle.feed_recovery.specs.Settled.{IsAtRest, NowBoth, OpensPast, Settled}
 use Rattle.feed_recovery.specs.Store.{StandsFor, StoreValue, call_count, is_spent, seal_count}
 use Rattle.feed_recovery.specs.Stored.{OpensTo, stored_of}
 use Rattle.http_face.specs.Conn.{ConnState}
+use Rattle.http_face.specs.Reply.{disk_fault}
 use Rattle.member_rules.specs.Head.{HeadValue}
 use Rattle.member_rules.specs.History.{IsLawful}
 use Rattle.member_rules.specs.Laws.{PrefixesAreLawful, ServedStays}

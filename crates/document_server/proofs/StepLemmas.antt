@@ -12,7 +12,7 @@ use Rattle.feed_recovery.specs.Store.{StandsFor, StoreValue, call_count, is_spen
 use Rattle.feed_recovery.proofs.LoadedLemmas.{begins_still}
 use Rattle.atom_values.specs.Counts.{CountsFault, HasRisen}
 use Rattle.document_server.specs.Answer.{Gains, IsReplied, OnlyReads, Steps}
-use Rattle.document_server.specs.Reply as replies
+use Rattle.http_face.specs.Reply as replies
 use Rattle.document_server.specs.Reply.{Outcome, unchanged}
 use Rattle.http_face.specs.declared.reply.Body.TheVariants.{Fixed}
 use Rattle.http_face.specs.declared.reply.Line7.TheVariants as line

@@ -14,12 +14,11 @@ use Rattle.feed_journal.specs.Log.{MakesCalls, MakesSome}
 use Rattle.feed_recovery.specs.Prepare.{IsDueSeal, IsMissing, commit_calls}
 use Rattle.feed_recovery.specs.Settled.{AlwaysLeavesBoth, IsAtRest, OpensPast}
 use Rattle.feed_recovery.specs.Store.{StandsFor, StoreValue, call_count, is_spent, seal_count}
-use Rattle.http_face.specs.Reply.{HasPhrase}
+use Rattle.http_face.specs.Reply.{HasPhrase, disk_changed, disk_fault, line_reply, no_memory, not_found}
 use Rattle.http_face.specs.Request.{RequestValue}
 use Rattle.http_face.specs.declared.reply.Line7.TheVariants as line
 use Rattle.http_face.specs.declared.reply.Reply.{Reply}
-use Rattle.document_server.specs.Reply.{Outcome, disk_changed, disk_fault, entry_refusal, gone, is_entry_media}
-use Rattle.document_server.specs.Reply.{line_reply, no_memory, not_found}
+use Rattle.document_server.specs.Reply.{Outcome, entry_refusal, gone, is_entry_media}
 use Rattle.document_server.specs.declared.failure.Failure.{Failure}
 use Rattle.document_server.specs.declared.failure.Failure.TheVariants.{Disk, Changed, NoMemory}
 use Rattle.member_rules.specs.declared.operation.Op.{Op}

@@ -25,13 +25,12 @@ use Rattle.feed_recovery.specs.Prepare.{Fits, IsDueSeal, IsFullArea, SealFits, d
 use Rattle.feed_recovery.specs.Store.{StoreValue}
 use Rattle.feed_recovery.specs.declared.fault.PrepareFault.{PrepareFault}
 use Rattle.feed_recovery.specs.declared.fault.PrepareFault.TheVariants as prepare
+use Rattle.http_face.specs.Reply.{disk_changed, document_reply, line_reply, no_memory, not_allowed, not_found, not_implemented}
 use Rattle.http_face.specs.Request.{RequestValue}
 use Rattle.http_face.specs.declared.request.Verb.{Verb}
 use Rattle.http_face.specs.declared.request.Verb.TheVariants.{Get, Post, Put, Delete, Other}
-use Rattle.http_face.specs.declared.reply.Allow.{Allow}
 use Rattle.http_face.specs.declared.reply.Allow.TheVariants.{OfFeed, OfArchive, OfMember}
-use Rattle.http_face.specs.declared.reply.Body.TheVariants.{Made, Fixed}
-use Rattle.http_face.specs.declared.reply.Line7.{Line7}
+use Rattle.http_face.specs.declared.reply.Body.TheVariants.{Made}
 use Rattle.http_face.specs.declared.reply.Line7.TheVariants as line
 use Rattle.http_face.specs.declared.reply.Media.{Media}
 use Rattle.http_face.specs.declared.reply.Media.TheVariants as media
@@ -50,37 +49,12 @@ use Rattle.member_rules.specs.declared.state.State.TheVariants as member
 
 -- Replies
 
-abbrev pub line_reply : ℕ → Line7 → Reply
-line_reply status line =
-    record { status = status; media = media.Plain; location = None; allow = None; body = Fixed line }
-
 abbrev pub made_reply : ℕ → List ℕ → Reply
 made_reply status line =
     record { status = status; media = media.Plain; location = None; allow = None; body = Made line }
 
-abbrev pub document_reply : Media → List ℕ → Reply
-document_reply kind document =
-    record { status = 200; media = kind; location = None; allow = None; body = Made document }
-
-abbrev pub not_allowed : Allow → Reply
-not_allowed allow =
-    record { status = 405; media = media.Plain; location = None; allow = Some allow; body = Fixed line.NotAllowed }
-
-abbrev pub not_found : Reply
-not_found = line_reply 404 line.NotFound
-
 abbrev pub gone : Reply
 gone = line_reply 410 line.Gone
-
--- the replies that have another cause than the request and the store
-abbrev pub no_memory : Reply
-no_memory = line_reply 503 line.NoMemory
-
-abbrev pub disk_fault : Reply
-disk_fault = line_reply 500 line.Disk
-
-abbrev pub disk_changed : Reply
-disk_changed = line_reply 500 line.Changed
 
 -- an ask that the rules of the feed refuse
 abbrev pub rule_reply : RuleFault → Reply
@@ -283,7 +257,7 @@ IsOfTargetAs shown store request now given =
 
 abbrev pub IsOutcomeAs : Shown → StoreValue → RequestValue → ℕ → Outcome → Type 0
 IsOutcomeAs shown store request now given =
-    ((request.verb ≡ Other) × (given ≡ unchanged (line_reply 501 line.NotImplemented)))
+    ((request.verb ≡ Other) × (given ≡ unchanged (not_implemented)))
     ⊎ ((request.verb ≢ Other) × IsOfTargetAs shown store request now given)
 
 -- the outcome of a request on a store at a moment of the clock, if neither memory nor disk fails

@@ -5,7 +5,6 @@ use Rattle.std.specs.Prelude.{true, false, Result, Ok, Err}
 use Rattle.atom_values.specs.Counts.{counter_limit}
 use Rattle.document_server.specs.Answer.{Gains, Grows, MayAdd}
 use Rattle.document_server.specs.Door.{DoorState}
-use Rattle.document_server.specs.Reply.{disk_fault}
 use Rattle.document_server.specs.Served.{Answering}
 use Rattle.document_server.specs.Session.{Ends, Exchange, IsBrokenOff, IsMarked, IsOneFailed, IsReported, IsSent}
 use Rattle.document_server.specs.Session.{IsServed, IsSession, IsTurn, IsUnfailed, SendsServed, Turn}
@@ -25,6 +24,7 @@ use Rattle.feed_recovery.specs.declared.fault.LoadFault.{LoadFault}
 use Rattle.feed_recovery.specs.declared.fault.LoadFault.TheVariants as load
 use Rattle.http_face.specs.Conn.{ConnState}
 use Rattle.http_face.specs.Heard.{IsHeard}
+use Rattle.http_face.specs.Reply.{disk_fault}
 use Rattle.http_face.specs.Request.{IsRequest, RequestValue}
 use Rattle.http_face.specs.declared.reply.Reply.{Reply}
 use Rattle.member_rules.specs.Head.{HeadValue}

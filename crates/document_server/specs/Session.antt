@@ -5,7 +5,7 @@ use Rattle.atom_values.specs.Counts.{HasRisen}
 use Rattle.chain_links.specs.Address.{IsTarget, printed}
 use Rattle.chain_links.specs.declared.address.Address.{Address}
 use Rattle.document_server.specs.Answer.{Gains, MayAdd}
-use Rattle.document_server.specs.Reply.{Outcome, disk_fault, line_reply, no_memory}
+use Rattle.document_server.specs.Reply.{Outcome}
 use Rattle.document_server.specs.Served.{Answering}
 use Rattle.document_server.specs.declared.line.Line.{Line}
 use Rattle.feed_disk.specs.Raised.{RisesAtMost}
@@ -14,12 +14,10 @@ use Rattle.feed_recovery.specs.Store.{StoreValue}
 use Rattle.feed_recovery.specs.Stored.{IsSized, OpensTo, stored_of}
 use Rattle.http_face.specs.Conn.{ConnState, LastReadAfter}
 use Rattle.http_face.specs.Heard.{IsHeard, IsMisheard}
-use Rattle.http_face.specs.Reply.{body_text, reply_bytes}
+use Rattle.http_face.specs.Reply.{body_text, disk_fault, fault_reply, no_memory, reply_bytes}
 use Rattle.http_face.specs.Request.{IsRequest, RequestValue}
 use Rattle.http_face.specs.Settled.{IsUnsettled}
 use Rattle.http_face.specs.declared.fault.RequestFault.{RequestFault}
-use Rattle.http_face.specs.declared.fault.RequestFault.TheVariants as fault
-use Rattle.http_face.specs.declared.reply.Line7.TheVariants as line
 use Rattle.http_face.specs.declared.reply.Media.TheVariants as media
 use Rattle.http_face.specs.declared.reply.Reply.{Reply}
 use Rattle.member_rules.specs.Head.{HeadValue}
@@ -33,17 +31,6 @@ connection_limit = 1_000_000
 -- the most bytes that are read of a connection: those of the longest head and of the longest body
 abbrev pub read_limit : ℕ
 read_limit = 81_920
-
--- The reply to bytes that are no request (RFC 9110 section 15.5, RFC 6585 section 5). A failed connection gets none.
-abbrev pub fault_reply : RequestFault → Option Reply
-fault_reply fault.ConnFault = None
-fault_reply fault.BadHead = Some (line_reply 400 line.BadHead)
-fault_reply fault.HeadTooLarge = Some (line_reply 431 line.HeadTooLarge)
-fault_reply (fault.EndedEarly read) = Some (line_reply 400 line.EndedEarly)
-fault_reply fault.NoLength = Some (line_reply 411 line.NoLength)
-fault_reply fault.TwoLengths = Some (line_reply 400 line.TwoLengths)
-fault_reply (fault.BodyTooLarge length) = Some (line_reply 413 line.BodyTooLarge)
-fault_reply fault.NoMemory = Some no_memory
 
 -- a connection that was served: as the door gave it and as it was given back, with the disk's count of faults at both
 -- times, the reply that was begun on it, if one was, and its line

@@ -9,7 +9,7 @@ ghost use Rattle.member_rules.specs.declared.ask.Ask.TheVariants.{Create, Replac
 
 use crate::failure::Failure;
 use crate::media::is_entry_media;
-use crate::replies::{line, made_change, refused, refused_entry};
+use crate::replies::{made_change, refused, refused_entry};
 use atom_values::{Draft, NoMemory};
 use entry_reader::{EntryFault, read_entry};
 use feed_disk::Disk;
@@ -27,7 +27,7 @@ fn draft_of(alloc: Global, request: &Request) -> Result<Read<Draft>, NoMemory>
     ensures refusal { IfOk result (λ read. IfErr read IsRefusal) }
 {
     if !is_entry_media(&request.media) {
-        return Ok(Err(line(415, Line7::NotEntryType)));
+        return Ok(Err(Reply::line(415, Line7::NotEntryType)));
     }
     match read_entry(alloc, request.body.slice()) {
         Ok(draft) => Ok(Ok(draft)),
@@ -42,8 +42,8 @@ fn absent(state: State) -> Option<Reply>
     ensures refusal { IfSome result IsRefusal }
 {
     match state {
-        State::Never => Some(line(404, Line7::NotFound)),
-        State::Gone { .. } => Some(line(410, Line7::Gone)),
+        State::Never => Some(Reply::line(404, Line7::NotFound)),
+        State::Gone { .. } => Some(Reply::line(410, Line7::Gone)),
         State::Live { .. } => None,
     }
 }

@@ -3,16 +3,16 @@ ghost use Rattle.atom_values.specs.Counts.{HasRisen};
 ghost use Rattle.document_server.specs.Answer.{Acknowledges, ComesTo, Grows, IsAnswer, IsDone, IsOwn, LeavesAnswered};
 ghost use Rattle.document_server.specs.Answer.{OnlyReads, ReadsOrCommits, Steps};
 ghost use Rattle.document_server.specs.Reply.{IsOfArchiveOver, IsOfFeed, IsOfMember, IsOfMemberOver, IsOutcome};
-ghost use Rattle.document_server.specs.Reply.{IsOutcomeOver, disk_changed, disk_fault, no_memory};
+ghost use Rattle.document_server.specs.Reply.{IsOutcomeOver};
 ghost use Rattle.feed_recovery.specs.Settled.{IsAtRest, Settled};
 ghost use Rattle.feed_recovery.specs.Store.{StandsFor, is_spent};
-ghost use Rattle.http_face.specs.Reply.{HasPhrase};
+ghost use Rattle.http_face.specs.Reply.{HasPhrase, disk_changed, disk_fault, no_memory};
 ghost use Rattle.http_face.specs.declared.request.Verb.TheVariants.{Get};
 
 use crate::change::{create, delete, replace};
 use crate::document::{show_archive, show_feed, show_member};
 use crate::failure::Failure;
-use crate::replies::{line, refused_method};
+use crate::replies::refused_method;
 use chain_links::Address;
 use feed_disk::Disk;
 use feed_journal::begun_images_are_whole;
@@ -72,9 +72,9 @@ pub fn answer<D: Disk>(
     begun_images_are_whole();
     match reply_of(alloc, store, disk, request, now) {
         Ok(reply) => reply,
-        Err(Failure::Disk) => line(500, Line7::Disk),
-        Err(Failure::Changed) => line(500, Line7::Changed),
-        Err(Failure::NoMemory) => line(503, Line7::NoMemory),
+        Err(Failure::Disk) => Reply::line(500, Line7::Disk),
+        Err(Failure::Changed) => Reply::line(500, Line7::Changed),
+        Err(Failure::NoMemory) => Reply::line(503, Line7::NoMemory),
     }
 }
 
@@ -100,10 +100,10 @@ fn reply_of<D: Disk>(
         → store.new.history ≡ store.old.history }
 {
     if let Verb::Other = request.verb {
-        return Ok(line(501, Line7::NotImplemented));
+        return Ok(Reply::line(501, Line7::NotImplemented));
     }
     let Some(address) = store.head().name.base.read_target(request.target.slice()) else {
-        return Ok(line(404, Line7::NotFound));
+        return Ok(Reply::line(404, Line7::NotFound));
     };
     match address {
         Address::Feed => of_feed(alloc, store, disk, request, now),

@@ -6,7 +6,6 @@ ghost use Rattle.http_face.specs.declared.request.Verb.TheVariants.{Get};
 ghost use Rattle.member_rules.specs.Fold.{state_of};
 
 use crate::failure::Failure;
-use crate::replies::{document, line};
 use feed_disk::Disk;
 use feed_recovery::{ArchiveFault, MemberFault, Store};
 use http_face::{Line7, Media, Reply};
@@ -19,7 +18,7 @@ pub(crate) fn show_feed(store: &mut Store) -> Result<Reply, Failure>
     ensures refused { IfErr result (λ failure. failure ≡ Failure.NoMemory) }
     ensures same { store.new ≡ store.old }
 {
-    Ok(document(Media::Feed, store.subscription()?))
+    Ok(Reply::document(Media::Feed, store.subscription()?))
 }
 
 /// Replies with a sealed archive.
@@ -37,8 +36,8 @@ pub(crate) fn show_archive<D: Disk>(
     ensures reads { OnlyReads (D.state disk.old) (D.state disk.new) store.old store.new }
 {
     match store.archive(disk, number) {
-        Ok(text) => Ok(document(Media::Feed, text)),
-        Err(ArchiveFault::NotSealed { .. }) => Ok(line(404, Line7::NotFound)),
+        Ok(text) => Ok(Reply::document(Media::Feed, text)),
+        Err(ArchiveFault::NotSealed { .. }) => Ok(Reply::line(404, Line7::NotFound)),
         Err(ArchiveFault::DiskFault) => Err(Failure::Disk),
         Err(ArchiveFault::Changed { .. }) => Err(Failure::Changed),
         Err(ArchiveFault::NoMemory) => Err(Failure::NoMemory),
@@ -62,9 +61,9 @@ pub(crate) fn show_member<D: Disk>(
     ensures reads { OnlyReads (D.state disk.old) (D.state disk.new) store.old store.new }
 {
     match store.member(disk, number) {
-        Ok(text) => Ok(document(Media::Entry, text)),
-        Err(MemberFault::NotFound { .. }) => Ok(line(404, Line7::NotFound)),
-        Err(MemberFault::Deleted { .. }) => Ok(line(410, Line7::Gone)),
+        Ok(text) => Ok(Reply::document(Media::Entry, text)),
+        Err(MemberFault::NotFound { .. }) => Ok(Reply::line(404, Line7::NotFound)),
+        Err(MemberFault::Deleted { .. }) => Ok(Reply::line(410, Line7::Gone)),
         Err(MemberFault::DiskFault) => Err(Failure::Disk),
         Err(MemberFault::Changed { .. }) => Err(Failure::Changed),
         Err(MemberFault::NoMemory) => Err(Failure::NoMemory),

@@ -1,13 +1,11 @@
 ghost use Rattle.std.specs.Prelude.{◌≡◌, ◌⊎◌, false, true, IfOk, IfSome};
 ghost use Rattle.atom_values.specs.Counts.{HasRisen};
 ghost use Rattle.document_server.specs.Answer.{Grows, IsAnswer, LeavesAnswered, Steps};
-ghost use Rattle.document_server.specs.Reply.{disk_fault};
 ghost use Rattle.document_server.specs.Served.{answers_of, paged};
 ghost use Rattle.feed_recovery.specs.Store.{StandsFor, is_spent};
-ghost use Rattle.http_face.specs.Reply.{HasPhrase};
+ghost use Rattle.http_face.specs.Reply.{HasPhrase, disk_fault};
 
 use crate::dispatch::answer;
-use crate::replies::line;
 use atom_values::NoMemory;
 use feed_disk::Disk;
 use feed_journal::begun_images_are_whole;
@@ -44,7 +42,7 @@ pub(crate) fn answer_paged<D: Disk>(
     match page(alloc, service, store, request) {
         Ok(Some(reply)) => reply,
         Ok(None) => answer(alloc, store, disk, request, now),
-        Err(NoMemory) => line(503, Line7::NoMemory),
+        Err(NoMemory) => Reply::line(503, Line7::NoMemory),
     }
 }
 

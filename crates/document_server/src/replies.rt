@@ -2,8 +2,9 @@ ghost use Rattle.std.specs.Prelude.{◌≡◌, ◌≤◌, ◌++◌, IfOk, OnOk};
 ghost use Rattle.chain_links.specs.Address.{printed};
 ghost use Rattle.chain_links.specs.declared.address.Address.TheVariants.{Member};
 ghost use Rattle.document_server.specs.Answer.{IsDone, IsOwn, IsRefusal};
-ghost use Rattle.document_server.specs.Reply.{document_reply, done_reply, entry_refusal, full_reply, line_reply};
-ghost use Rattle.document_server.specs.Reply.{IsRefusedBy, made_reply, not_allowed, rule_reply, spaced, why_word};
+ghost use Rattle.document_server.specs.Reply.{done_reply, entry_refusal, full_reply};
+ghost use Rattle.document_server.specs.Reply.{IsRefusedBy, made_reply, rule_reply, spaced, why_word};
+ghost use Rattle.http_face.specs.Reply.{not_allowed};
 
 use atom_values::{Bytes, NoMemory};
 use atom_writer::{FeedName, write_member};
@@ -16,41 +17,12 @@ use itoa::Buffer;
 use member_rules::{Op, RuleFault};
 use std::alloc::Global;
 
-/// A reply that is one of the fixed lines.
-pub(crate) fn line(status: u16, line: Line7) -> Reply
-    ensures { result ≡ line_reply status line }
-{
-    Reply {
-        status,
-        media: Media::Plain,
-        location: None,
-        allow: None,
-        body: Body::Fixed(line),
-    }
-}
-
 /// The reply to a method that the target doesn't allow (RFC 9110 section 15.5.6).
 pub(crate) fn refused_method(allow: Allow) -> Reply
     ensures reply { result ≡ not_allowed allow }
     ensures refusal { IsRefusal result }
 {
-    Reply {
-        allow: Some(allow),
-        ..line(405, Line7::NotAllowed)
-    }
-}
-
-/// A reply that is a document.
-pub(crate) fn document(media: Media, text: Vec<u8>) -> Reply
-    ensures { result ≡ document_reply media text.items }
-{
-    Reply {
-        status: 200,
-        media,
-        location: None,
-        allow: None,
-        body: Body::Made(Bytes::from_vec(text)),
-    }
+    Reply::not_allowed(allow)
 }
 
 /// A reply that is a line which was made for it.
@@ -89,12 +61,12 @@ fn refused_by_rule(fault: &RuleFault) -> Reply
     ensures refusal { IsRefusal result }
 {
     match fault {
-        RuleFault::NotFound { .. } => line(404, Line7::NotFound),
-        RuleFault::Deleted { .. } => line(410, Line7::Gone),
-        RuleFault::OtherId { .. } => line(409, Line7::OtherId),
-        RuleFault::ClockSpent { .. } => line(500, Line7::Clock),
-        RuleFault::TooLarge { .. } => line(413, Line7::EntryTooLarge),
-        RuleFault::NoMemory => line(503, Line7::NoMemory),
+        RuleFault::NotFound { .. } => Reply::line(404, Line7::NotFound),
+        RuleFault::Deleted { .. } => Reply::line(410, Line7::Gone),
+        RuleFault::OtherId { .. } => Reply::line(409, Line7::OtherId),
+        RuleFault::ClockSpent { .. } => Reply::line(500, Line7::Clock),
+        RuleFault::TooLarge { .. } => Reply::line(413, Line7::EntryTooLarge),
+        RuleFault::NoMemory => Reply::line(503, Line7::NoMemory),
     }
 }
 
@@ -151,7 +123,7 @@ pub(crate) fn refused_entry(alloc: Global, at: usize, why: Why) -> Result<Reply,
     ensures refusal { IfOk result IsRefusal }
 {
     if why == Why::Draft {
-        return Ok(line(403, Line7::Draft));
+        return Ok(Reply::line(403, Line7::Draft));
     }
     let mut text = Vec::from_slice(alloc, b"entry")?;
     push_number(&mut text, at as u64)?;
@@ -181,11 +153,11 @@ pub(crate) fn made_change(alloc: Global, name: &FeedName, operation: &Op) -> Res
             Ok(Reply {
                 status: 201,
                 location: Some(Bytes::from_vec(address)),
-                ..document(Media::Entry, write_member(alloc, name, entry)?)
+                ..Reply::document(Media::Entry, write_member(alloc, name, entry)?)
             })
         }
-        Op::Change(entry) => Ok(document(Media::Entry, write_member(alloc, name, entry)?)),
-        Op::Remove(_) => Ok(line(200, Line7::Deleted)),
+        Op::Change(entry) => Ok(Reply::document(Media::Entry, write_member(alloc, name, entry)?)),
+        Op::Remove(_) => Ok(Reply::line(200, Line7::Deleted)),
         Op::Set { .. } => Ok(made_line(200, Vec::from_slice(alloc, b"set\n")?)),
     }
 }

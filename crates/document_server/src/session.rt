@@ -2,18 +2,17 @@ ghost use Rattle.std.specs.Prelude.{◌≡◌, ◌≢◌, ◌⊎◌, ◌≤◌, 
 ghost use Rattle.std.specs.Prelude.{Ok, Err, IfErr, IfSome, IsSome};
 ghost use Rattle.atom_values.specs.Counts.{CountsFault, HasRisen};
 ghost use Rattle.document_server.specs.Answer.{Grows, Steps};
-ghost use Rattle.document_server.specs.Reply.{disk_fault};
 ghost use Rattle.document_server.specs.Serving.{AreLogs, CountsFrom, EndsUnopened, EndsWithin, RepliesOne, Serves, ServesFrom};
 ghost use Rattle.document_server.specs.Served.{answers_of};
 ghost use Rattle.document_server.specs.Serving.{ServesOne, end_of};
-ghost use Rattle.document_server.specs.Session.{connection_limit, fault_reply, read_limit};
+ghost use Rattle.document_server.specs.Session.{connection_limit, read_limit};
 ghost use Rattle.feed_disk.specs.Moments.{LeavesAlone};
 ghost use Rattle.feed_disk.specs.Raised.{RisesAtMost};
 ghost use Rattle.feed_disk.specs.declared.area.Area.TheVariants.{Mirror};
 ghost use Rattle.feed_recovery.specs.Store.{StandsFor, call_count, is_spent};
 ghost use Rattle.feed_recovery.specs.declared.fault.LoadFault.{LoadFault as Fault};
 ghost use Rattle.http_face.specs.Conn.{LastReadAfter, Reads};
-ghost use Rattle.http_face.specs.Reply.{HasPhrase};
+ghost use Rattle.http_face.specs.Reply.{HasPhrase, disk_fault};
 ghost use Rattle.http_face.specs.Settled.{IsUnsettled};
 
 use crate::clock::Clock;
@@ -21,12 +20,11 @@ use crate::door::Door;
 use crate::laws::shown_are_served;
 use crate::line::Line;
 use crate::paged::answer_paged;
-use crate::replies::line;
 use atom_values::{Failed, Many, NoMemory};
 use feed_disk::Disk;
 use feed_journal::begun_images_are_whole;
 use feed_recovery::{LoadFault, Store, stores_open_in_one_way};
-use http_face::{Conn, Line7, Reply, RequestFault, read_request, write_reply};
+use http_face::{Conn, Reply, read_request, write_reply};
 use member_rules::{prefixes_are_lawful, served_stays_served};
 use std::alloc::Global;
 
@@ -269,7 +267,7 @@ fn reply_to<D: Disk, C: Clock, K: Conn>(
             let now = clock.now();
             Some(answer_paged(alloc, service, store, disk, &request, now))
         }
-        Err(fault) => fault_reply(fault),
+        Err(fault) => fault.reply(),
     }
 }
 
@@ -289,23 +287,6 @@ fn line_of(store: &Store, status: u16, whole: bool) -> Line
         calls: store.calls(),
         whole,
     }
-}
-
-/// The reply to bytes that are no request. `None` if the connection failed.
-fn fault_reply(fault: RequestFault) -> Option<Reply>
-    ensures { result ≡ fault_reply fault }
-{
-    let (status, refusal) = match fault {
-        RequestFault::ConnFault => return None,
-        RequestFault::BadHead => (400, Line7::BadHead),
-        RequestFault::HeadTooLarge => (431, Line7::HeadTooLarge),
-        RequestFault::EndedEarly { .. } => (400, Line7::EndedEarly),
-        RequestFault::NoLength => (411, Line7::NoLength),
-        RequestFault::TwoLengths => (400, Line7::TwoLengths),
-        RequestFault::BodyTooLarge { .. } => (413, Line7::BodyTooLarge),
-        RequestFault::NoMemory => (503, Line7::NoMemory),
-    };
-    Some(line(status, refusal))
 }
 
 impl From<LoadFault> for End {

@@ -1,14 +1,14 @@
 ghost use Rattle.std.specs.Prelude.{◌≡◌, ◌≢◌, true, false, length};
 ghost use Rattle.atom_values.specs.Counts.{HasRisen};
 ghost use Rattle.document_server.specs.Answer.{Grows, IsAnswer, IsDone, LeavesAnswered, Steps};
-ghost use Rattle.document_server.specs.Reply.{IsAsked, disk_fault, no_memory};
+ghost use Rattle.document_server.specs.Reply.{IsAsked};
 ghost use Rattle.feed_recovery.specs.Settled.{IsAtRest, Settled};
 ghost use Rattle.feed_recovery.specs.Store.{StandsFor, is_spent};
+ghost use Rattle.http_face.specs.Reply.{disk_fault, no_memory};
 ghost use Rattle.member_rules.specs.declared.ask.Ask.TheVariants.{Change};
 
 use crate::change::change;
 use crate::failure::Failure;
-use crate::replies::line;
 use feed_disk::Disk;
 use feed_journal::begun_images_are_whole;
 use feed_recovery::Store;
@@ -47,8 +47,8 @@ pub fn set<D: Disk>(
     begun_images_are_whole();
     match change(alloc, store, disk, Ask::Change(setting), now) {
         Ok(reply) => reply,
-        Err(Failure::Disk) => line(500, Line7::Disk),
-        Err(Failure::Changed) => line(500, Line7::Changed),
-        Err(Failure::NoMemory) => line(503, Line7::NoMemory),
+        Err(Failure::Disk) => Reply::line(500, Line7::Disk),
+        Err(Failure::Changed) => Reply::line(500, Line7::Changed),
+        Err(Failure::NoMemory) => Reply::line(503, Line7::NoMemory),
     }
 }

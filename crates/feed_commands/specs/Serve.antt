@@ -1,5 +1,5 @@
 -- `serve`: the lines that are printed after a session, and how the program ends.
-use Rattle.std.specs.Prelude.{◌≡◌, ◌⊎◌, ℕ, ◌≤◌, List, [], ◌++◌, length, flat_map, codes, decimal, Option, Some, None}
+use Rattle.std.specs.Prelude.{◌≡◌, ◌⊎◌, ℕ, ◌≤◌, List, [], ◌++◌, length, flat_map, codes, Option, Some, None}
 use Rattle.std.specs.Prelude.{Result, Ok, Err, Bool}
 use Rattle.atom_values.specs.Counts.{HasRisen}
 use Rattle.atom_values.specs.declared.memory.Failed.{Failed}
@@ -23,14 +23,14 @@ use Rattle.command_ends.specs.declared.fault.Fault.TheVariants.{NoMemory, Disk}
 use Rattle.command_ends.specs.declared.status.Status.{Status}
 use Rattle.command_ends.specs.declared.status.Status.TheVariants as ends
 use Rattle.command_ends.specs.Answer.{Answer, Prints}
-use Rattle.command_ends.specs.Fault.{fault_answer, spaced}
+use Rattle.command_ends.specs.Fault.{connection_line, fault_answer}
 use Rattle.doc_source.specs.Outside.{SinkState}
 use Rattle.command_ends.specs.Status.{code_of}
 use Rattle.command_ends.specs.StoreFaults.{load_fault}
 
 -- the line of a connection: the status of its reply, and the version of the feed
 abbrev pub session_line : Line → List ℕ
-session_line line = decimal line.status ++ spaced line.version ++ codes "\n"
+session_line line = connection_line line.status line.version
 
 -- the fault by which a session ended, if it was one
 abbrev pub end_fault : End → Option SessionFault

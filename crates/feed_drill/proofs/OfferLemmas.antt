@@ -13,7 +13,7 @@ use Rattle.chain_links.specs.Address.{printed}
 use Rattle.chain_links.specs.declared.address.Address.{Address}
 use Rattle.chain_links.specs.declared.address.Address.TheVariants.{Feed}
 use Rattle.document_server.specs.Answer.{added}
-use Rattle.document_server.specs.Reply.{IsOutcome, Outcome, document_reply, unchanged}
+use Rattle.document_server.specs.Reply.{IsOutcome, Outcome, unchanged}
 use Rattle.document_server.specs.declared.line.Line.{Line}
 use Rattle.feed_disk.specs.Memory.{MemoryValue}
 use Rattle.feed_drill.specs.Drilled.{sent_doc}
@@ -30,7 +30,7 @@ use Rattle.feed_life.specs.declared.event.Event.{Event}
 use Rattle.feed_life.specs.declared.event.Event.TheVariants.{Ask as AskEvent, Give}
 use Rattle.feed_life.specs.declared.event.Stop.{Stop}
 use Rattle.feed_life.specs.declared.sent.SentDoc.{SentDoc}
-use Rattle.http_face.specs.Reply.{body_text}
+use Rattle.http_face.specs.Reply.{body_text, document_reply}
 use Rattle.http_face.specs.Request.{RequestValue}
 use Rattle.http_face.specs.declared.reply.Media.TheVariants as media
 use Rattle.http_face.specs.declared.reply.Reply.{Reply}

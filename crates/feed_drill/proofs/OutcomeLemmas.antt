@@ -9,7 +9,7 @@ use Rattle.chain_links.specs.declared.address.Address.TheVariants.{Feed, Member}
 use Rattle.chain_links.proofs.TargetLemmas.{target_of_address}
 use Rattle.document_server.specs.Answer.{added}
 use Rattle.document_server.specs.Reply.{IsAsked, IsAtAddress, IsOfState, IsOutcome, IsSent}
-use Rattle.document_server.specs.Reply.{Outcome, document_reply, done, done_reply, unchanged}
+use Rattle.document_server.specs.Reply.{Outcome, done, done_reply, unchanged}
 use Rattle.entry_reader.specs.Spells.{Spells}
 use Rattle.feed_drill.specs.Effects.{IsWish, IsWishRead, ask_of}
 use Rattle.feed_drill.specs.Requests.{feed_request, request_of}
@@ -18,6 +18,7 @@ use Rattle.feed_drill.specs.declared.wish.Wish.{Wish}
 use Rattle.feed_drill.specs.declared.wish.Wish.TheVariants as wish
 use Rattle.feed_recovery.specs.Prepare.{decision_of}
 use Rattle.feed_recovery.specs.Store.{StoreValue}
+use Rattle.http_face.specs.Reply.{document_reply}
 use Rattle.http_face.specs.Request.{RequestValue}
 use Rattle.http_face.specs.declared.reply.Media.TheVariants as media
 use Rattle.http_face.specs.declared.reply.Reply.{Reply}

@@ -1,7 +1,6 @@
 -- A store is loaded from the disk of a life, and answers a request.
 use Rattle.std.proofs.Common.{◌≡◌, ◌≢◌, inl, inr, ℕ, List, ◌++◌, length, false, true, ap, sym, subst, ◌∙◌}
 use Rattle.document_server.specs.Answer.{IsAnswer, added}
-use Rattle.document_server.specs.Reply.{disk_fault, no_memory}
 use Rattle.feed_disk.specs.DiskLaw.{memory_is_disk}
 use Rattle.feed_disk.specs.Memory.{MemoryValue, state_of}
 use Rattle.feed_disk.specs.declared.area.Area.TheVariants.{Journal, Sealed}
@@ -10,6 +9,7 @@ use Rattle.feed_journal.specs.Records.{records}
 use Rattle.feed_life.specs.Life.{IsStoreOf}
 use Rattle.feed_life.specs.Asks.{IsAnswered, IsLeft, IsOpened, IsReplied, Outcomes}
 use Rattle.feed_life.specs.Crashes.{HasPayloadsOf}
+use Rattle.http_face.specs.Reply.{disk_fault, no_memory}
 use Rattle.http_face.specs.declared.reply.Reply.{Reply}
 use Rattle.document_server.specs.declared.line.Line.{Line}
 use Rattle.feed_recovery.specs.Documents.{sealed_count}

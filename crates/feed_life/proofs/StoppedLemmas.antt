@@ -6,7 +6,6 @@ use Rattle.std.proofs.Math.Seq.{take-append_seam}
 use Rattle.std.proofs.lemmas.Bool.{cases_eq}
 use Rattle.std.proofs.lemmas.List.{take_all}
 use Rattle.document_server.specs.Answer.{Grows, IsAnswer, LeavesAnswered, MayAdd, added}
-use Rattle.document_server.specs.Reply.{disk_fault}
 use Rattle.feed_disk.specs.Memory.{MemoryValue, state_of}
 use Rattle.feed_disk.specs.Moments.{LeavesOnlyBoth}
 use Rattle.feed_disk.specs.Raised.{raised}
@@ -22,6 +21,7 @@ use Rattle.feed_life.proofs.CrashLemmas.{crash-past, crash-settled}
 use Rattle.feed_recovery.specs.Prepare.{commit_calls}
 use Rattle.feed_recovery.specs.Settled.{IsAtRest, OpensPast, Settled}
 use Rattle.feed_recovery.specs.Store.{StandsFor, StoreValue, call_count, is_spent, seal_count}
+use Rattle.http_face.specs.Reply.{disk_fault}
 use Rattle.http_face.specs.declared.reply.Reply.{Reply}
 use Rattle.member_rules.specs.Head.{HeadValue}
 use Rattle.member_rules.specs.declared.operation.Op.{Op}

@@ -1,9 +1,10 @@
 -- A request or a setting, as a turn of a store.
 use Rattle.std.proofs.Common.{◌≡◌, ◌⊎◌, inl, inr}
 use Rattle.document_server.specs.Answer.{IsAnswer, IsDone}
-use Rattle.document_server.specs.Reply.{Outcome, disk_fault}
+use Rattle.document_server.specs.Reply.{Outcome}
 use Rattle.document_server.proofs.LinkLemmas.{stays-or-grows}
 use Rattle.feed_recovery.specs.Store.{StoreValue}
+use Rattle.http_face.specs.Reply.{disk_fault}
 use Rattle.http_face.specs.declared.reply.Reply.{Reply}
 use Rattle.http_face.specs.declared.request.Verb.TheVariants.{Post}
 

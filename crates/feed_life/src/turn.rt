@@ -1,10 +1,10 @@
 ghost use Rattle.std.specs.Prelude.{◌≡◌, ◌≢◌, ◌≤◌, ◌⊎◌, ℕ, false, true, length, IfOk, OnOk};
 ghost use Rattle.document_server.specs.Answer.{Grows, IsAnswer, LeavesAnswered, Steps};
-ghost use Rattle.document_server.specs.Reply.{disk_fault, no_memory};
 ghost use Rattle.feed_disk.specs.Memory.{state_of};
 ghost use Rattle.feed_life.specs.Asks.{Outcomes};
 ghost use Rattle.feed_recovery.specs.Settled.{IsAtRest, Settled};
 ghost use Rattle.feed_recovery.specs.Store.{StandsFor, is_spent};
+ghost use Rattle.http_face.specs.Reply.{disk_fault, no_memory};
 
 use atom_values::{Copies, NoMemory};
 use document_server::{answer, set};

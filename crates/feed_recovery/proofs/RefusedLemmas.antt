@@ -41,7 +41,7 @@ within-longer log said =
     omega (arith, length-append log.extents (record { offset = log.size + 4; length = said } ∷ []))
 
 abbrev no_payloads : LogValue
-no_payloads = record { area = Journal; extents = []; size = 1; calls = 0; spent = false; spare = 0 }
+no_payloads = record { area = Journal; extents = []; size = 1; calls = 0; spent = false; whole = false; spare = 0 }
 
 no_payloads_rules : IsLog no_payloads
 no_payloads_rules = record { follow = refl; few = omega arith }

@@ -9,10 +9,10 @@ use Rattle.feed_disk.specs.Moments.{AlwaysLeaves, LeavesAlone}
 use Rattle.feed_disk.specs.declared.area.Area.TheVariants.{Journal, Sealed}
 use Rattle.feed_disk.proofs.MomentLemmas.{alone_leaves, always_joins, always_weaker}
 use Rattle.feed_journal.specs.Laws.{BegunAreWhole}
-use Rattle.feed_journal.specs.Records.{records, Begins, IsStep, IsWhole}
+use Rattle.feed_journal.specs.Records.{HasFirst, records, Begins, IsStep, IsWhole}
 use Rattle.feed_recovery.specs.Commit.{HasCommitted, IsSealing}
 use Rattle.feed_recovery.specs.Opening.{Opens}
-use Rattle.feed_recovery.specs.Settled.{AlwaysLeavesBoth, IsAtRest, KeepsSeals, OpensPast, Settled}
+use Rattle.feed_recovery.specs.Settled.{AlwaysLeavesBoth, IsAtRest, OpensPast, Settled}
 use Rattle.feed_recovery.specs.Store.{StoreValue, StandsFor, seal_count}
 use Rattle.feed_recovery.proofs.BothLemmas.{both_always}
 use Rattle.feed_recovery.proofs.LoadedLemmas.{opens_as}
@@ -89,16 +89,16 @@ sealing_leaves law s t store operation disk stands rests alone run =
 -- the seals that were there stay while a seal is appended
 pub sealing_keeps : (s t : DiskState) (head : HeadValue) (history : List Op)
     → AlwaysLeaves s t Sealed (IsSealing head history (records (s.content Sealed)))
-    → AlwaysLeaves s t Sealed (KeepsSeals (records (s.content Sealed)))
+    → AlwaysLeaves s t Sealed (HasFirst (records (s.content Sealed)))
 sealing_keeps s t head history run =
     always_weaker s t Sealed (IsSealing head history (records (s.content Sealed)))
-    (KeepsSeals (records (s.content Sealed))) (λ i sealing. sealing.kept) run
+    (HasFirst (records (s.content Sealed))) (λ i sealing. sealing.kept) run
 
 -- and while an operation is appended after it
-pub adding_keeps : (s m t : DiskState) (seals : List (List ℕ)) → AlwaysLeaves s m Sealed (KeepsSeals seals)
-    → LeavesAlone m t Sealed → AlwaysLeaves s t Sealed (KeepsSeals seals)
+pub adding_keeps : (s m t : DiskState) (seals : List (List ℕ)) → AlwaysLeaves s m Sealed (HasFirst seals)
+    → LeavesAlone m t Sealed → AlwaysLeaves s t Sealed (HasFirst seals)
 adding_keeps s m t seals run alone =
-    always_joins s m t Sealed (KeepsSeals seals) run (alone_leaves m t Sealed (KeepsSeals seals) run.now alone)
+    always_joins s m t Sealed (HasFirst seals) run (alone_leaves m t Sealed (HasFirst seals) run.now alone)
 
 -- the operation was committed to the store as it was before the seal too
 pub committed_since : {T E : Type 0} (result : Result T E) (operation : Op) (before mid after : StoreValue)

@@ -4,10 +4,10 @@ use Rattle.feed_disk.specs.Disk.{DiskState}
 use Rattle.feed_disk.specs.Moments.{AlwaysLeaves}
 use Rattle.feed_disk.specs.declared.area.Area.TheVariants.{Sealed}
 use Rattle.feed_journal.specs.Log.{MakesCalls}
-use Rattle.feed_journal.specs.Records.{records, IsWhole}
+use Rattle.feed_journal.specs.Records.{HasFirst, records, IsWhole}
 use Rattle.feed_recovery.specs.Documents.{sealed_count}
 use Rattle.feed_recovery.specs.Opening.{AreSeals, IsSealCount}
-use Rattle.feed_recovery.specs.Settled.{AlwaysLeavesBoth, KeepsSeals, OpensPast}
+use Rattle.feed_recovery.specs.Settled.{AlwaysLeavesBoth, OpensPast}
 use Rattle.feed_recovery.specs.Store.{StoreValue, is_spent, seal_count}
 use Rattle.member_rules.specs.Head.{HeadValue}
 use Rattle.member_rules.specs.declared.operation.Op.{Op}
@@ -23,7 +23,7 @@ pub record HasCommitted (operation : Op) (before after : StoreValue) : Type 0 wh
 pub record LeavesCommit (operation : Op) (s t : DiskState) (before : StoreValue) : Type 0 where
   pub moments : AlwaysLeavesBoth s t
       (OpensPast before.head (before.history ++ operation ∷ []) (length before.history))
-  pub kept : AlwaysLeaves s t Sealed (KeepsSeals (records (s.content Sealed)))
+  pub kept : AlwaysLeaves s t Sealed (HasFirst (records (s.content Sealed)))
 
 -- An image of the sealed area while a seal is appended. It is whole, its payloads are seals of the history, as many as
 -- there may be, and the first are those that were there before.
@@ -31,7 +31,7 @@ pub record IsSealing (head : HeadValue) (history : List Op) (before : List (List
   pub whole : IsWhole image
   pub are_seals : AreSeals head history (records image)
   pub count : IsSealCount head history (length (records image))
-  pub kept : KeepsSeals before image
+  pub kept : HasFirst before image
 
 -- the device calls of the append of a seal, or of none, on the disk's clock and on the log's counter
 abbrev pub MakesSealCalls : Option (List ℕ) → DiskState → DiskState → ℕ → ℕ → Type 0

@@ -10,8 +10,8 @@ use Rattle.feed_disk.specs.declared.area.Area.{Area}
 use Rattle.feed_disk.specs.declared.area.Area.TheVariants.{Journal, Sealed}
 use Rattle.atom_writer.specs.Pieced.{text_of}
 use Rattle.feed_journal.specs.Log.{IsListed, IsLog, LogValue, MakesSome, payloads_at}
-use Rattle.feed_journal.specs.Reading.{IsReading, ReadingValue}
-use Rattle.feed_journal.specs.Records.{records, size_of, Begins, IsClosed}
+use Rattle.feed_journal.specs.Reading.{IsAtEnd, IsReading, ReadingValue}
+use Rattle.feed_journal.specs.Records.{records, size_of}
 use Rattle.feed_journal.specs.declared.extent.Extent.{Extent}
 use Rattle.feed_recovery.specs.Faults.{IsFirstWrong, IsLoadFault}
 use Rattle.feed_recovery.specs.Opening.{AreSeals, IsSealCount, seal_of}
@@ -67,15 +67,15 @@ pub record ReadsOn (s t : DiskState) (before after : ReadingValue) : Type 0 wher
   pub limit : after.limit ≡ before.limit
   pub within : after.log.size ≤ after.limit
 
--- the log's list is the payloads of the content, which begins with their frames if a closed gate is after them
+-- the log's list is the payloads of the content, and it tells whether the content is whole
 pub record ListsAll (log : LogValue) (content : List ℕ) : Type 0 where
   pub listed : IsListed log content
   pub size : log.size ≡ size_of (records content)
-  pub begins : IsClosed content → Begins (records content) content
+  pub end : IsAtEnd log content
 
--- no frame is left, and the log is as it was but for the number of calls
+-- no frame is left, and the log is as it was but for the number of calls, and whether the area is whole
 pub record HasReadAll (observable : Type 0) (content : List ℕ) (before after : LogValue) : Type 0 where
-  pub log : after ≡ record before { calls = after.calls }
+  pub log : after ≡ record before { calls = after.calls; whole = after.whole }
   pub lists : observable → ListsAll after content
 
 -- a device call that failed raised the count of faults, and all other faults left it

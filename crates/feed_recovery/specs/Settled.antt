@@ -61,10 +61,6 @@ pub record IsSettled (disk : DiskState) (store : StoreValue) : Type 0 where
   pub settled : Settled disk store.head store.history (length store.history)
   pub rests : IsAtRest disk
 
--- an image of the sealed area has these seals first
-abbrev pub KeepsSeals : List (List ℕ) → List ℕ → Type 0
-KeepsSeals seals image = take (length seals) (records image) ≡ seals
-
 -- a pair of images of a disk on which no store was made: it is whole and has no payloads
 pub record IsUnused (journal sealed : List ℕ) : Type 0 where
   pub journal_whole : IsWhole journal

@@ -1,5 +1,5 @@
 -- `mirror`: why it makes no report, and the answer of each fault.
-use Rattle.std.specs.Prelude.{◌≡◌, ℕ, List, ◌++◌, codes}
+use Rattle.std.specs.Prelude.{◌≡◌, ℕ, List}
 use Rattle.feed_disk.specs.declared.area.Area.{Area}
 use Rattle.feed_disk.specs.declared.area.Area.TheVariants.{Mirror}
 use Rattle.feed_journal.specs.Records.{records}
@@ -19,11 +19,7 @@ use Rattle.command_ends.specs.declared.fault.Fault.TheVariants.{NoMemory, Disk, 
 use Rattle.command_ends.specs.declared.status.Status.TheVariants as ends
 use Rattle.command_ends.specs.Answer.{Answer}
 use Rattle.command_ends.specs.Ends.{fetch_line}
-use Rattle.command_ends.specs.Fault.{IsRefusal, fault_answer}
-
--- the line of an area whose documents have another base
-abbrev pub other_base_line : List ℕ → List ℕ
-other_base_line base = codes "other base " ++ base ++ codes "\n"
+use Rattle.command_ends.specs.Fault.{IsRefusal, fault_answer, other_base_line}
 
 -- the status of a fault, and its line
 abbrev pub report_answer : ReportFault → Answer

@@ -1,12 +1,11 @@
-ghost use Rattle.std.specs.Prelude.{◌≡◌, ◌≤◌, ◌+◌, ◌++◌, codes, length};
-ghost use Rattle.arrayvec.specs.ArrayVec.{array_vec_len};
+ghost use Rattle.std.specs.Prelude.{◌≡◌, ◌≤◌, length};
 ghost use Rattle.command_ends.specs.Answer.{Prints};
-ghost use Rattle.mirror_commands.specs.MirrorFaults.{other_base_line, report_answer};
+ghost use Rattle.mirror_commands.specs.MirrorFaults.{report_answer};
 
 use arrayvec::ArrayVec;
 use atom_values::NoMemory;
 use chain_links::Base;
-use command_ends::{BadStore, Fault, Status};
+use command_ends::{BadStore, BaseLine, Fault, MAX_LINE, Status, other_base_line};
 use doc_source::{Sink, write_all};
 use feed_disk::Area;
 use mirror_walk::{MirrorFault, WalkFault};
@@ -22,12 +21,6 @@ pub enum ReportFault {
     Other(Fault),
 }
 
-/// How many bytes the longest line may have: `other base`, a base of 200 bytes, the space between and the LF.
-const MAX_REPORT_LINE: usize = 212;
-
-/// The line that is printed for a fault. It has a fixed size, so that no memory is needed.
-type ReportLine = ArrayVec<u8, MAX_REPORT_LINE>;
-
 impl ReportFault {
     /// The status with which `mirror` ends at this fault.
     pub fn status(&self) -> Status
@@ -41,17 +34,12 @@ impl ReportFault {
     }
 
     /// The line that is printed, with its LF.
-    pub fn line(&self) -> ReportLine
+    pub fn line(&self) -> BaseLine
         ensures { result.items ≡ (report_answer self.now).printed }
     {
         match self {
             ReportFault::Fetch => line_of(b"fetch fault\n"),
-            ReportFault::OtherBase { kept } => {
-                let mut line = line_of(b"other base ");
-                append(&mut line, kept.text());
-                append(&mut line, b"\n");
-                line
-            }
+            ReportFault::OtherBase { kept } => other_base_line(kept),
             ReportFault::Other(fault) => line_of(fault.line().as_str().as_bytes()),
         }
     }
@@ -70,23 +58,13 @@ pub(crate) fn print_report_fault<O: Sink>(output: &mut O, fault: &ReportFault) -
     fault.status()
 }
 
-/// Appends bytes for which the line has room.
-fn append(line: &mut ReportLine, bytes: &[u8])
-    requires { array_vec_len line.old + length bytes.now ≤ MAX_REPORT_LINE }
-    ensures items { line.new.items ≡ line.old.items ++ bytes.now }
-    ensures len { array_vec_len line.new ≡ array_vec_len line.old + length bytes.now }
-{
-    // The bytes fit, so they are never refused.
-    let _ = line.try_extend_from_slice(bytes);
-}
-
-fn line_of(bytes: &[u8]) -> ReportLine
-    requires { length bytes.now ≤ MAX_REPORT_LINE }
-    ensures items { result.items ≡ bytes.now }
-    ensures len { array_vec_len result ≡ length bytes.now }
+fn line_of(bytes: &[u8]) -> BaseLine
+    requires { length bytes.now ≤ MAX_LINE }
+    ensures { result.items ≡ bytes.now }
 {
     let mut line = ArrayVec::new();
-    append(&mut line, bytes);
+    // The bytes fit, so they are never refused.
+    let _ = line.try_extend_from_slice(bytes);
     line
 }
 

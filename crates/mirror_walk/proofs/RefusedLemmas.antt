@@ -1,6 +1,6 @@
 -- Why a mirror isn't loaded, over any disk.
 use Rattle.std.proofs.Common.{◌≡◌, ◌≢◌, inl, inr, ℕ, ◌<◌, List, [], Ok, Err, Result, Some, length, map, take, refl}
-use Rattle.std.proofs.Common.{arith, false, subst, sym}
+use Rattle.std.proofs.Common.{arith, false, true, subst, sym}
 use Rattle.std.specs.Prelude.{IfErr, slice_get}
 use Rattle.atom_grammar.specs.Refusal.{IsNoDocument, IsPlaceOfRefusal}
 use Rattle.feed_disk.specs.declared.area.Area.TheVariants.{Mirror as MirrorArea}

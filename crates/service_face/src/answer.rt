@@ -6,10 +6,9 @@ ghost use Rattle.service_face.specs.Reply.{asked_reply, service_reply, shown_pag
 use crate::document::titled_service;
 use crate::lines::listing;
 use crate::page::Page;
-use crate::replies;
 use atom_values::NoMemory;
 use feed_recovery::Store;
-use http_face::{Media, Reply, Request, Verb};
+use http_face::{Allow, Line7, Media, Reply, Request, Verb};
 use std::alloc::Global;
 
 /// Returns the reply to a request of the service document or of the listing. `None` if the target names neither.
@@ -39,8 +38,9 @@ fn reply_to(alloc: Global, store: &Store, page: Page, verb: Verb) -> Result<Repl
 {
     match verb {
         Verb::Get => show(alloc, store, page),
-        Verb::Other => Ok(replies::not_implemented()),
-        _ => Ok(replies::not_allowed()),
+        Verb::Other => Ok(Reply::line(501, Line7::NotImplemented)),
+        // Like an archive, a page allows GET alone.
+        _ => Ok(Reply::not_allowed(Allow::OfArchive)),
     }
 }
 
@@ -55,11 +55,11 @@ fn show(alloc: Global, store: &Store, page: Page) -> Result<Reply, NoMemory>
     match page {
         Page::Service => {
             let text = titled_service(alloc, base, store.title())?;
-            Ok(replies::page(Media::Service, text))
+            Ok(Reply::document(Media::Service, text))
         }
         Page::Members => {
             let text = listing(alloc, base, store.members())?;
-            Ok(replies::page(Media::Plain, text))
+            Ok(Reply::document(Media::Plain, text))
         }
     }
 }

@@ -20,7 +20,6 @@ mod document;
 mod laws;
 mod lines;
 mod page;
-mod replies;
 
 pub use answer::service_answer;
 pub use document::service_doc;

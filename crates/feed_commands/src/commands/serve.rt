@@ -12,7 +12,7 @@ ghost use Rattle.command_ends.specs.Status.{code_of};
 
 use crate::dispatch::Ended;
 use atom_values::Failed;
-use command_ends::{Fault, FaultLine, Status, line_of, line_of_numbers};
+use command_ends::{Fault, FaultLine, Status, connection_line, line_of};
 use doc_source::{Sink, write_all};
 use document_server::{Clock, Door, End, Line};
 use feed_disk::Disk;
@@ -140,5 +140,5 @@ fn print_session<O: Sink>(
 fn line_of_session(line: &Line) -> FaultLine
     ensures { result.bytes ≡ session_line line.now }
 {
-    line_of_numbers(u64::from(line.status), u64::from(line.version))
+    connection_line(line.status, line.version)
 }

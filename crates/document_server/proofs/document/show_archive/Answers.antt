@@ -4,8 +4,9 @@ use Rattle.feed_recovery.specs.declared.fault.ArchiveFault.{ArchiveFault}
 use Rattle.feed_recovery.specs.declared.fault.ArchiveFault.TheVariants.{NotSealed, Changed, DiskFault, NoMemory}
 use Rattle.document_server.specs.declared.failure.Failure.{Failure}
 use Rattle.document_server.specs.declared.failure.Failure.TheVariants as failure
+use Rattle.http_face.specs.Reply.{disk_changed}
 use Rattle.http_face.specs.declared.reply.Reply.{Reply}
-use Rattle.document_server.specs.Reply.{disk_changed, unchanged}
+use Rattle.document_server.specs.Reply.{unchanged}
 use Rattle.document_server.proofs.StepLemmas.{failed_by, gains-archive, replied-unchanged, steps-archive}
 use Rattle.document_server.proofs.StepLemmas.{steps-archive-failed, worked}
 use Rattle.document_server.proofs.document.show_archive.Goals as goal

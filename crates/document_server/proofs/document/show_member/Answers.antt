@@ -4,8 +4,9 @@ use Rattle.feed_recovery.specs.declared.fault.MemberFault.{MemberFault}
 use Rattle.feed_recovery.specs.declared.fault.MemberFault.TheVariants.{NotFound, Deleted, Changed, DiskFault, NoMemory}
 use Rattle.document_server.specs.declared.failure.Failure.{Failure}
 use Rattle.document_server.specs.declared.failure.Failure.TheVariants as failure
+use Rattle.http_face.specs.Reply.{disk_changed}
 use Rattle.http_face.specs.declared.reply.Reply.{Reply}
-use Rattle.document_server.specs.Reply.{disk_changed, unchanged}
+use Rattle.document_server.specs.Reply.{unchanged}
 use Rattle.document_server.proofs.RowLemmas.{never-is, gone-is, live-is}
 use Rattle.document_server.proofs.StepLemmas.{failed_by, gains-member, replied-unchanged, steps-member}
 use Rattle.document_server.proofs.StepLemmas.{steps-member-failed, worked}

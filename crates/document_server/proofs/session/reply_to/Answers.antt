@@ -32,7 +32,7 @@ pub returns-in-Err-clause-replies : goal.returns-in-Err-clause-replies
 returns-in-Err-clause-replies g c = λ observable.
     let disk = g.D.Disk.state c.args.disk.now in
     let store = c.args.store.now in
-    rw c.fault_reply.ensures (replies-refused disk (g.C.Clock.coming c.args.clock.now) (g.K.Conn.state c.args.link.now)
+    rw c.reply.ensures.reply (replies-refused disk (g.C.Clock.coming c.args.clock.now) (g.K.Conn.state c.args.link.now)
     (g.K.Conn.state c.read_request.new.conn) g.C.Clock.observable g.K.Conn.observable ⊥ store c.in-Err.fault
     (is_sized disk store (c.requires.stands observable) c.requires.logs) c.requires.unspent (λ e. e)
     (λ e. c.read_request.ensures.failed (c.in-Err.is ∙ ap Err e)) c.in-Err.ensures.refused

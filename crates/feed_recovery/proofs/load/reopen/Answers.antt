@@ -108,7 +108,7 @@ invariant_of-result g c =
     )
 
 pub returns-clause-begins : goal.returns-clause-begins
-returns-clause-begins g c = λ tells. (c.in_ok-replayed.ensures.lists tells).begins
+returns-clause-begins g c = λ tells. (c.in_ok-replayed.ensures.lists tells).end.begins
 
 pub returns-clause-worked : goal.returns-clause-worked
 returns-clause-worked g c = c.in_ok-replayed.ensures.worked.faults

@@ -1,10 +1,10 @@
 use Rattle.std.proofs.Common.{◌≡◌, subst}
 use Rattle.document_server.specs.Answer.{IsAnswer, LeavesAnswered}
-use Rattle.document_server.specs.Reply.{disk_fault}
 use Rattle.feed_disk.specs.Memory.{state_of}
 use Rattle.feed_life.specs.Asks.{of_setting}
 use Rattle.feed_life.proofs.TurnLemmas.{answer-says, set-either}
 use Rattle.feed_life.proofs.turn.SettingTurn.make.Goals as goal
+use Rattle.http_face.specs.Reply.{disk_fault}
 use Rattle.member_rules.specs.declared.setting.Setting.{Setting}
 
 pub returns-clause-answered : goal.returns-clause-answered

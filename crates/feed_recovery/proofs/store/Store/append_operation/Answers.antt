@@ -1,5 +1,5 @@
 use Rattle.std.proofs.Common.{◌≡◌, ◌≢◌, ◌+◌, ◌||◌, ℕ, min, List, [], ◌∷◌, ◌++◌, length, sym, ◌∙◌, ap, subst}
-use Rattle.std.proofs.Common.{length-append}
+use Rattle.std.proofs.Common.{length-append, true}
 use Rattle.atom_writer.specs.Pieced.{text_of}
 use Rattle.member_rules.specs.Coding.{operations}
 use Rattle.member_rules.specs.History.{IsLawful}
@@ -64,6 +64,7 @@ appended : (g : Over) (c : In-Ok g) → let log = c.append.new.self in
       } ∷ [];
       size = c.self.inside.journal.size + length c.ready.inside.payload + header_length;
       calls = log.calls;
+      whole = true;
       spare = log.spare;
     }
 appended g c = c.in-Ok.ensures.ok.log

@@ -1,7 +1,7 @@
 use Rattle.std.proofs.Common.{Err, List, ℕ, ap, sym, subst, ◌∙◌}
 use Rattle.std.proofs.lemmas.Result.{err_from_is_err_and}
 use Rattle.feed_disk.specs.declared.area.Area.TheVariants.{Mirror as MirrorArea}
-use Rattle.feed_disk.proofs.MomentLemmas.{alone_joins}
+use Rattle.feed_disk.proofs.MomentLemmas.{alone_joins, alone_leaves, always_joins}
 use Rattle.feed_journal.specs.Records.{Begins, records}
 use Rattle.feed_journal.specs.declared.fault.LogFault.{LogFault}
 use Rattle.mirror_walk.specs.Loaded.{IsMirrorFault}
@@ -36,6 +36,14 @@ pub returns-clause-others : goal.returns-clause-others
 returns-clause-others g c = λ a other. alone_joins (g.D.Disk.state c.args.disk.now)
     (g.D.Disk.state c.load.new.disk) (g.D.Disk.state c.reopen.new.disk) a (c.load.ensures.others a other)
     (c.reopen.ensures.reads.areas a)
+
+pub returns-clause-moments : goal.returns-clause-moments
+returns-clause-moments g c = λ tells.
+    let loading = c.load.ensures.moments tells in
+    always_joins (g.D.Disk.state c.args.disk.now) (g.D.Disk.state c.load.new.disk) (g.D.Disk.state c.reopen.new.disk)
+    MirrorArea _ loading
+    (alone_leaves (g.D.Disk.state c.load.new.disk) (g.D.Disk.state c.reopen.new.disk) MirrorArea _ loading.now
+    (c.reopen.ensures.reads.areas MirrorArea))
 
 pub returns-clause-rests : goal.returns-clause-rests
 returns-clause-rests g c = λ tells whole image now.

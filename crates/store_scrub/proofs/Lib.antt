@@ -1,0 +1,2 @@
+-- `scrub`: its verdict, and the causes of its faults
+pub mod ScrubLemmas

@@ -1,0 +1,3 @@
+pub mod Repair
+pub mod Scrub
+pub mod Verdict
