@@ -18,9 +18,9 @@
 mod fault;
 mod laws;
 mod lines;
-mod repair;
-mod scrub;
+mod repaired;
+mod sound;
 
 pub use laws::{repairs_have_one_end, sound_stores_have_one_answer};
-pub use repair::repair;
-pub use scrub::scrub;
+pub use repaired::repair;
+pub use sound::scrub;
