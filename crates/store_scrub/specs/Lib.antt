@@ -1,3 +1,2 @@
-pub mod Repair
 pub mod Scrub
 pub mod Verdict
