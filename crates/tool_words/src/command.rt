@@ -66,10 +66,8 @@ pub enum Command {
         requests: u32,
         capacity: u64,
     },
-    /// `scrub`: checks all bytes of the store. If `repair`, it makes the store's archives again where they differ.
-    Scrub {
-        repair: bool,
-    },
+    /// `scrub`: looks at the whole store, and says whether it is sound.
+    Scrub,
 }
 
 /// The document or listing that `show` prints.

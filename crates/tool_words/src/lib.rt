@@ -14,7 +14,7 @@
 //!     Ok(Command::Foreign { from }) => ..,
 //!     Ok(Command::Discover { address }) => ..,
 //!     Ok(Command::Relay { base, listen, requests, capacity }) => ..,
-//!     Ok(Command::Scrub { repair }) => ..,
+//!     Ok(Command::Scrub) => ..,
 //!     Err(WordsFault::Usage) => println!(rt; "usage: ..")?,
 //!     Err(WordsFault::NoMemory) => ..,
 //! }
@@ -50,7 +50,6 @@ mod number;
 mod options;
 mod parse;
 mod relay;
-mod scrub;
 mod serve;
 mod words;
 
