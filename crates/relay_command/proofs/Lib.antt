@@ -1,0 +1,4 @@
+pub mod ReplyLemmas
+pub mod SessionLemmas
+pub mod LoadLemmas
+pub mod EndLemmas
