@@ -1,1 +1,2 @@
-pub mod RepairEndLemmas
+-- serves `sound_stores_have_one_answer` and `scrub`: the content determines the answer
+pub mod OneAnswerLemmas

@@ -1,4 +1,4 @@
-//! The command `scrub`, which says whether the store of a disk is sound, and with `--repair` makes its archives anew.
+//! The command `scrub`, which says whether the store of a disk is sound.
 //!
 //! Begin with [`scrub`], which writes nothing:
 //!
@@ -7,20 +7,16 @@
 //! assert_eq!(rt; line.as_slice(), b"sound 13 3\n".as_slice());
 //! ```
 //!
-//! [`repair`] brings archives back from the journal. A crash at any moment of it loses no operation and no archive that
-//! it kept: `specs/Answer.antt` says so by the definitions of `store_scrub`. The laws in `laws.rt` state that the disk
-//! determines the answers.
+//! `specs/Answer.antt` says which answer a disk has. The law in `laws.rt` states that the disk determines the answer of a
+//! sound store.
 //!
-//! Stands on `store_scrub` for the look at the store and for the repair, and on `command_ends` for faults and their
-//! lines.
+//! Stands on `store_scrub` for the look at the store, and on `command_ends` for faults and their lines.
 #![tactic(auto)]
 
 mod fault;
 mod laws;
-mod lines;
-mod repaired;
+mod line;
 mod sound;
 
-pub use laws::{repairs_have_one_end, sound_stores_have_one_answer};
-pub use repaired::repair;
+pub use laws::sound_stores_have_one_answer;
 pub use sound::scrub;

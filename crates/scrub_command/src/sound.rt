@@ -7,7 +7,7 @@ ghost use Rattle.feed_disk.specs.declared.area.Area.{Area as AreaValue};
 ghost use Rattle.scrub_command.specs.Answer.{IsScrubbed, MayEndScrub};
 
 use crate::fault::of_unsound;
-use crate::lines::line_of;
+use crate::line::line_of;
 use command_ends::Fault;
 use feed_disk::Disk;
 use std::alloc::Global;
@@ -29,7 +29,7 @@ pub fn scrub<D: Disk>(alloc: Global, disk: &mut D) -> Result<Vec<u8>, Fault>
     ensures only_errors { IfErr result MayEndScrub }
 {
     match store_scrub::scrub(alloc, disk) {
-        Ok(sound) => Ok(line_of(alloc, b"sound ", sound.records, sound.seals)?),
+        Ok(sound) => Ok(line_of(alloc, &sound)?),
         Err(fault) => Err(of_unsound(fault)),
     }
 }
