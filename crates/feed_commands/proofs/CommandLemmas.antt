@@ -1,7 +1,7 @@
 -- The answer of a command, from the contract of its own function.
-use Rattle.std.proofs.Common.{ℕ, true, false}
+use Rattle.std.proofs.Common.{ℕ}
 use Rattle.atom_writer.specs.declared.doc.FeedName.{FeedName}
-use Rattle.scrub_command.specs.Answer.{IsRepairedBy, IsScrubbed}
+use Rattle.scrub_command.specs.Answer.{IsScrubbed}
 use Rattle.tool_words.specs.declared.command.Command.TheVariants.{Init, Scrub, Show}
 use Rattle.tool_words.specs.declared.command.Show.TheVariants.{Document}
 use Rattle.command_ends.specs.Answer.{Answer}
@@ -20,8 +20,5 @@ module _ (outside : Outside) (given : Answer) where
   pub document-given : IsShown outside.input given → IsGiven (Show Document) outside given
   document-given a = record { is = a; due = λ other o. shown_once outside.input other given o a }
 
-  pub scrub-given : IsScrubbed outside.content given → IsGiven (Scrub false) outside given
+  pub scrub-given : IsScrubbed outside.content given → IsGiven Scrub outside given
   scrub-given a = record { is = a.is; due = a.due }
-
-  pub repair-given : IsRepairedBy outside.content given → IsGiven (Scrub true) outside given
-  repair-given a = record { is = a.is; due = a.due }

@@ -1,6 +1,5 @@
 use Rattle.std.proofs.Common.{rules, ◌≡◌, ◌⊎◌, inl, inr, ⊎_elim, ℕ, None, Err, true, false, refl, sym, subst, ap, ◌∙◌, arith}
 use Rattle.std.proofs.lemmas.Result.{on_ok_weaker}
-use Rattle.scrub_command.proofs.RepairEndLemmas.{ends-bad, ends-full, repair-weaker}
 use Rattle.tool_words.specs.declared.command.Command.TheVariants.{Audit, Discover, Drill, Foreign, Mirror, Serve, Show}
 use Rattle.tool_words.specs.declared.command.Show.TheVariants.{Pile}
 use Rattle.feed_disk.specs.declared.area.Area.TheVariants.{Journal, Sealed}
@@ -191,8 +190,10 @@ returns-in-Relay-clause-bare g c = bare-none c.with_status-in-Relay.ensures.alon
 
 pub returns-in-Relay-clause-ends : goal.returns-in-Relay-clause-ends
 returns-in-Relay-clause-ends g c = read_all _ c.in-Ok.is c.read_words.ensures.only
-    (rw c.in-Relay.is (rw c.with_status-in-Relay.ensures.status c.relay-status.ensures.ends,
-    rw c.slice-at.ensures at c.relay-status.ensures.address))
+    (rw c.in-Relay.is (
+      rw c.with_status-in-Relay.ensures.status c.relay-status.ensures.ends,
+      rw c.slice-at.ensures at c.relay-status.ensures.address,
+    ))
 
 -- `show pile`
 
@@ -718,11 +719,7 @@ returns-in-Ok-write_all-clause-ends g c = read_all _ c.in-Ok.is c.read_words.ens
           (λ e. absurd (omega (arith, e, c.with_status-in-Ok-write_all.ensures.status))) (λ e. tt) applied.safe;
       opens = λ clock source answered. applied.opens clock source tt;
     })
-    c.answer.ensures.scrubbed
-    (λ is observable. repair-weaker (λ _. tt)
-    (λ e. absurd (omega (arith, e, c.with_status-in-Ok-write_all.ensures.status)))
-    (λ e. absurd (omega (arith, e, c.with_status-in-Ok-write_all.ensures.status)))
-    (c.in-Ok-answer.ensures.repaired is observable)))
+    c.answer.ensures.scrubbed)
 
 -- the output failed
 
@@ -784,11 +781,7 @@ returns-in-Ok-answer-clause-ends g c = read_all _ c.in-Ok.is c.read_words.ensure
           (λ e. absurd (omega (arith, e, c.with_status-in-Err-write_all.ensures.status))) (λ e. tt) applied.safe;
       opens = λ clock source answered. applied.opens clock source tt;
     })
-    c.answer.ensures.scrubbed
-    (λ is observable. repair-weaker (λ _. tt)
-    (λ e. absurd (omega (arith, e, c.with_status-in-Err-write_all.ensures.status)))
-    (λ e. absurd (omega (arith, e, c.with_status-in-Err-write_all.ensures.status)))
-    (c.in-Ok-answer.ensures.repaired is observable)))
+    c.answer.ensures.scrubbed)
 
 -- the command has a fault
 
@@ -879,9 +872,4 @@ returns-clause-ends g c = read_all _ c.in-Ok.is c.read_words.ensures.only
       opens = λ clock source answered.
           applied.opens clock source (answered-refusal c.in-Err.fault (subst IsAnswered is answered));
     })
-    c.answer.ensures.scrubbed
-    (λ same observable.
-    let is = c.with_status-in-Err.ensures.status ∙ ap code_of c.print_fault-in-Err.ensures.status in
-    repair-weaker (⊎_elim (λ e. absurd (no_end c.in-Err.fault (sym is ∙ e)))
-    (λ e. absurd (no_output c.in-Err.fault (sym is ∙ e))))
-    (ends-full refl is) (ends-bad refl is) (c.in-Err.ensures.repaired same observable)))
+    c.answer.ensures.scrubbed)
