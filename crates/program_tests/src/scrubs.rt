@@ -1,15 +1,13 @@
-//! `scrub` and `scrub --repair` of a store of thirteen operations on a disk in memory, which is changed in one place.
+//! `scrub` of a store of thirteen operations on a disk in memory, which is changed in one place.
 
 use crate::pile::filled;
-use crate::runs::{APPLY, Run, empty_disk, ended, expect_ran, ran};
+use crate::runs::{APPLY, Run, empty_disk, ended, ran};
 use atom_values::{Bytes, Many};
-use feed_disk::{Area, Choice, Disk, MemoryDisk};
+use feed_disk::{Area, Disk, MemoryDisk};
 use std::alloc::Global;
 use std::process::Abort;
 
 const SCRUB: &[&str] = &["scrub"];
-
-const REPAIR: &[&str] = &["scrub", "--repair"];
 
 /// What is changed in the store. Its journal has 670 bytes, of which the frame of the head takes 84. Its seals have 1,644,
 /// 1,712 and 1,712 bytes, and their frames begin at 0, 1,649 and 3,366.
@@ -22,62 +20,38 @@ enum Change {
     Title,
     /// The sealed area has no bytes.
     Unsealed,
-    /// The same, and the capacity in the head is 4,096.
-    UnsealedAndSmall,
     /// No area has bytes.
     Empty,
 }
 
-/// A change, and how `scrub`, `scrub --repair` and `scrub` then end, one after the other.
-type Row = (Change, [(u8, &'static str); 3]);
+/// A change, and how `scrub` then ends.
+type Row = (Change, u8, &'static str);
 
-const SOUND: (u8, &str) = (0, "sound 13 3\n");
-
-static ROWS: [Row; 11] = [
-    (Change::Nothing, [SOUND, (0, "repaired 3 0\n"), SOUND]),
-    (
-        Change::Title,
-        [(6, "bad seal 2\n"), (0, "repaired 1 2\n"), SOUND],
-    ),
-    (
-        Change::Unsealed,
-        [(6, "seal count 13 0\n"), (0, "repaired 0 3\n"), SOUND],
-    ),
+static ROWS: [Row; 10] = [
+    (Change::Nothing, 0, "sound 13 3\n"),
+    (Change::Title, 6, "bad seal 2\n"),
+    (Change::Unsealed, 6, "seal count 13 0\n"),
     (
         Change::Byte(Area::Journal, 669, 1),
-        [(6, "open gate journal 669\n"), (0, "repaired 3 0\n"), SOUND],
+        6,
+        "open gate journal 669\n",
     ),
     (
         Change::Byte(Area::Sealed, 5_083, 1),
-        [(6, "open gate sealed 5083\n"), (0, "repaired 3 0\n"), SOUND],
+        6,
+        "open gate sealed 5083\n",
     ),
-    (
-        Change::Byte(Area::Sealed, 5, 0),
-        [(6, "bad seal 1\n"), (0, "repaired 0 3\n"), SOUND],
-    ),
-    (
-        Change::Byte(Area::Sealed, 3_366, 0),
-        [(6, "seal count 13 2\n"), (0, "repaired 2 1\n"), SOUND],
-    ),
+    (Change::Byte(Area::Sealed, 5, 0), 6, "bad seal 1\n"),
+    (Change::Byte(Area::Sealed, 3_366, 0), 6, "seal count 13 2\n"),
     // The kind of the first operation.
     (
         Change::Byte(Area::Journal, 89, 9),
-        [(6, "bad store journal 1 0\n"); 3],
+        6,
+        "bad store journal 1 0\n",
     ),
     // The last operation is lost with the byte before its gate.
-    (
-        Change::Byte(Area::Journal, 624, 0),
-        [(0, "sound 12 3\n"), (0, "repaired 3 0\n"), (0, "sound 12 3\n")],
-    ),
-    (
-        Change::UnsealedAndSmall,
-        [
-            (6, "seal count 13 0\n"),
-            (11, "full sealed 3367 1717 4096\n"),
-            (6, "seal count 13 2\n"),
-        ],
-    ),
-    (Change::Empty, [(6, "not init\n"); 3]),
+    (Change::Byte(Area::Journal, 624, 0), 0, "sound 12 3\n"),
+    (Change::Empty, 6, "not init\n"),
 ];
 
 /// Returns the bytes of an area.
@@ -123,11 +97,10 @@ fn changed(rt: &impl Abort, alloc: Global, change: Change) -> MemoryDisk {
         Change::Byte(area, at, 1) => (area, at, &[1]),
         Change::Byte(area, at, _) => (area, at, &[9]),
         Change::Title => (Area::Sealed, title_at(rt, alloc, &mut disk), b"f"),
-        Change::UnsealedAndSmall => (Area::Journal, 68, &[0, 0, 0, 0, 0, 0, 16, 0]),
     };
     disk.write(area, at, bytes).expect(rt, "no call fails");
     match change {
-        Change::Unsealed | Change::UnsealedAndSmall => {
+        Change::Unsealed => {
             let without = unsealed(rt, alloc, &mut disk);
             drop(disk);
             without
@@ -137,71 +110,29 @@ fn changed(rt: &impl Abort, alloc: Global, change: Change) -> MemoryDisk {
 }
 
 #[test]
-fn names_what_differs_and_brings_it_back(rt: HostRuntime) {
+fn names_what_differs_and_writes_nothing(rt: HostRuntime) {
     let alloc = rt.alloc();
-    for &(change, ends) in &ROWS {
+    for &(change, status, line) in &ROWS {
         let mut disk = changed(&rt, alloc, change);
-        for (words, (status, line)) in [SCRUB, REPAIR, SCRUB].iter().zip(&ends) {
-            let end = ran(&rt, alloc, &mut disk, words, b"");
-            assert!(rt; end.is(*status, line.as_bytes()), "{change:?} {words:?}");
+        // The second one finds what the first one found.
+        for _ in 0..2 {
+            let end = ran(&rt, alloc, &mut disk, SCRUB, b"");
+            assert!(rt; end.is(status, line.as_bytes()), "{change:?}");
         }
         drop(disk);
     }
 }
 
-#[test]
-fn a_repair_makes_the_same_archive(rt: HostRuntime) {
-    let alloc = rt.alloc();
-    let words: &[&str] = &["show", "archive", "2"];
-    let mut first = filled(&rt, alloc, 0);
-    let archive = ran(&rt, alloc, &mut first, words, b"").printed;
-    drop(first);
-    let mut disk = changed(&rt, alloc, Change::Title);
-    expect_ran(&rt, alloc, &mut disk, (REPAIR, b""), (0, b"repaired 1 2\n"));
-    expect_ran(&rt, alloc, &mut disk, (words, b""), (0, archive.as_slice()));
-    drop((disk, archive));
-}
-
-/// Crashes within a device call of a repair, repairs again, and compares the store.
-fn expect_again(rt: &impl Abort, alloc: Global, disk: &MemoryDisk, call: u64, choice: &Choice) {
-    let mut image = disk.image(call, choice).expect(rt, "memory");
-    let again = ran(rt, alloc, &mut image, REPAIR, b"");
-    let sound = ran(rt, alloc, &mut image, SCRUB, b"");
-    assert!(rt;
-        again.status == 0 && sound.is(0, b"sound 13 3\n"),
-        "{call} {choice:?}"
-    );
-    drop((image, again, sound));
-}
-
-#[test]
-fn a_repair_goes_on_after_a_crash(rt: HostRuntime) {
-    let alloc = rt.alloc();
-    let mut disk = changed(&rt, alloc, Change::Title);
-    disk.sync(Area::Sealed).expect(&rt, "no call fails");
-    let began = disk.calls();
-    ran(&rt, alloc, &mut disk, REPAIR, b"");
-    let ended = disk.calls();
-    // Two syncs, and a write and a sync for the gate and for each half of two appends.
-    assert!(rt; ended > began + 12, "{began} {ended}");
-    for call in began + 1..=ended {
-        expect_again(&rt, alloc, &disk, call, &Choice::Old);
-        expect_again(&rt, alloc, &disk, call, &Choice::New);
-        expect_again(&rt, alloc, &disk, call, &Choice::Fill(165));
-    }
-    drop(disk);
-}
-
-/// The words, which device call after `filled` and which call of the output fail, and how the command ends.
-type Fault = (&'static [&'static str], bool, u64, u8, &'static str);
+/// The words, which device call after those of the store and which call of the output fail, and how the command ends.
+type Fault = (&'static [&'static str], u64, u64, u8, &'static str);
 
 static FAULTS: [Fault; 6] = [
-    (SCRUB, true, 0, 4, "disk fault\n"),
-    (REPAIR, true, 0, 4, "disk fault\n"),
-    (SCRUB, true, 1, 4, ""),
-    (SCRUB, false, 1, 8, ""),
-    (REPAIR, false, 1, 8, ""),
-    (&["scrub", "--repair", "--repair"], false, 1, 2, ""),
+    (SCRUB, 1, 0, 4, "disk fault\n"),
+    (SCRUB, 2, 0, 4, "disk fault\n"),
+    (SCRUB, 1, 1, 4, ""),
+    (SCRUB, 0, 1, 8, ""),
+    (&["scrub", "scrub"], 0, 1, 2, ""),
+    (&["scrub", "--repair"], 0, 1, 2, ""),
 ];
 
 #[test]
@@ -210,8 +141,8 @@ fn a_failed_call_ends_the_command(rt: HostRuntime) {
     let mut whole = filled(&rt, alloc, 0);
     let calls = whole.calls();
     drop(whole);
-    for &(words, fails, failing_write, status, printed) in &FAULTS {
-        let failing = if fails { calls + 1 } else { 0 };
+    for &(words, call, failing_write, status, printed) in &FAULTS {
+        let failing = if call == 0 { 0 } else { calls + call };
         let mut disk = filled(&rt, alloc, failing);
         let given = Run {
             words,
@@ -219,7 +150,7 @@ fn a_failed_call_ends_the_command(rt: HostRuntime) {
             ..APPLY
         };
         let end = ended(&rt, alloc, &mut disk, &given);
-        assert!(rt; end.is(status, printed.as_bytes()), "{words:?}");
+        assert!(rt; end.is(status, printed.as_bytes()), "{words:?} {call}");
         drop((disk, end));
     }
 }

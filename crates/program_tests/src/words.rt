@@ -492,14 +492,11 @@ static RELAY: [(&str, &str); 24] = [
 ];
 
 /// Words of `scrub` and words like them, in the same form.
-static SCRUB: [(&str, &str); 11] = [
+static SCRUB: [(&str, &str); 8] = [
     ("scrub", "scrub"),
-    ("scrub --repair", "scrub repair"),
-    ("scrub --repair --repair", "usage"),
-    ("scrub --repair=yes", "usage"),
-    ("scrub --repair yes", "usage"),
-    ("scrub repair", "usage"),
-    ("scrub --rep", "usage"),
+    ("scrub --repair", "usage"),
+    ("scrub scrub", "usage"),
+    ("scrub 1", "usage"),
     ("scrub --", "usage"),
     ("scrub ", "usage"),
     ("scrub *base", "usage"),
@@ -679,8 +676,7 @@ fn printed(rt: &impl Abort, alloc: Global, command: &Command) -> String {
             requests,
             capacity,
         } => relayed(rt, alloc, base, listen.slice(), (*requests, *capacity)),
-        Command::Scrub { repair: false } => text(rt, alloc, "scrub"),
-        Command::Scrub { repair: true } => text(rt, alloc, "scrub repair"),
+        Command::Scrub => text(rt, alloc, "scrub"),
         Command::Init {
             name,
             window,
