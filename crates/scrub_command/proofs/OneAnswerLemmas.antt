@@ -1,11 +1,16 @@
--- A sound store has one answer of `scrub`.
-use Rattle.std.proofs.Common.{◌≡◌, ℕ, List, ◌∙◌, sym}
+-- A sound store has one answer of `scrub`, and one that isn't sound has its first fault's.
+use Rattle.std.proofs.Common.{◌≡◌, ◌⊎◌, inl, inr, ⊎_elim, ℕ, List, refl, sym, subst, ap, ◌∙◌}
 use Rattle.command_ends.specs.Answer.{Answer}
+use Rattle.command_ends.specs.Fault.{fault_answer, IsRefusal}
+use Rattle.command_ends.specs.declared.status.Status.TheVariants.{Done}
 use Rattle.feed_disk.specs.declared.area.Area.{Area}
-use Rattle.scrub_command.specs.Answer.{IsSoundAnswer, sound_answer}
-use Rattle.store_scrub.specs.Scrub.{IsSoundInOneWay}
+use Rattle.feed_disk.specs.declared.area.Area.TheVariants.{Journal, Sealed}
+use Rattle.scrub_command.specs.Answer.{IsScrubbed, IsSoundAnswer, sound_answer, unsound_fault}
+use Rattle.store_scrub.specs.Scrub.{IsSound, IsSoundInOneWay, IsUnsound}
+use Rattle.store_scrub.specs.declared.fault.Unsound.{Unsound}
+use Rattle.store_scrub.specs.declared.fault.Unsound.TheVariants.{DiskFault, NoMemory}
 
-pub numbers_same : {operations seals number count : ℕ} → operations ≡ number → seals ≡ count
+numbers_same : {operations seals number count : ℕ} → operations ≡ number → seals ≡ count
     → sound_answer operations seals ≡ sound_answer number count
 numbers_same operations seals = λ i. sound_answer (operations i) (seals i)
 
@@ -14,4 +19,28 @@ pub one_sound : IsSoundInOneWay → (content : Area → List ℕ) (one other : A
     → IsSoundAnswer content other → one ≡ other
 one_sound unique content one other is_one is_other =
     let same = unique _ _ _ _ _ _ is_one.sound is_other.sound in
-    is_one.is ∙ numbers_same same.1 same.2 ∙ sym is_other.is
+    is_one.is ∙ numbers_same same.0 same.1 ∙ sym is_other.is
+
+module _ (content : Area → List ℕ) where
+  pub sound-given : IsSoundInOneWay → (operations seals : ℕ)
+      → IsSound (content Journal) (content Sealed) operations seals → (written : List ℕ)
+      → written ≡ (sound_answer operations seals).printed
+      → IsScrubbed content record { status = Done; printed = written }
+  sound-given unique operations seals sound written same =
+      let is : IsSoundAnswer content record { status = Done; printed = written } = record {
+        operations = operations;
+        seals = seals;
+        sound = sound;
+        is = ap (λ (printed : List ℕ). record { status = Done; printed = printed }) same;
+      } in
+      record { is = inl is; due = λ other due. one_sound unique content other _ due is }
+
+  pub unsound-given : (fault : Unsound) → IsUnsound (content Journal) (content Sealed) fault
+      → IsRefusal (unsound_fault fault)
+      → ((operations seals : ℕ) → IsSound (content Journal) (content Sealed) operations seals
+      → (fault ≡ DiskFault) ⊎ (fault ≡ NoMemory)) → IsScrubbed content (fault_answer (unsound_fault fault))
+  unsound-given fault cause refuses only = record {
+    is = inr record { fault = fault; cause = cause; refuses = refuses; is = refl };
+    due = λ other due. absurd (⊎_elim (λ e. subst (λ (f : Unsound). IsRefusal (unsound_fault f)) e refuses)
+        (λ e. subst (λ (f : Unsound). IsRefusal (unsound_fault f)) e refuses) (only _ _ due.sound));
+  }

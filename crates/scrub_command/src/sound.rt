@@ -11,6 +11,7 @@ use crate::line::line_of;
 use command_ends::Fault;
 use feed_disk::Disk;
 use std::alloc::Global;
+use store_scrub::stores_are_sound_in_one_way;
 
 /// Returns the line `sound RECORDS SEALS` of a store that is sound, with the numbers of its operations and its seals. It
 /// writes nothing and syncs nothing.
@@ -28,6 +29,8 @@ pub fn scrub<D: Disk>(alloc: Global, disk: &mut D) -> Result<Vec<u8>, Fault>
         (result ≡ Err Fault.Disk) }
     ensures only_errors { IfErr result MayEndScrub }
 {
+    // Its contract is a law that the proof uses.
+    stores_are_sound_in_one_way();
     match store_scrub::scrub(alloc, disk) {
         Ok(sound) => Ok(line_of(alloc, &sound)?),
         Err(fault) => Err(of_unsound(fault)),
