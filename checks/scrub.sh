@@ -1,19 +1,15 @@
 #!/bin/sh
-# Damages the files of a store that the built program made, and compares what `scrub`, `show pile` and `scrub --repair` do
-# with a model of the files that follows docs/FORMATS.md.
+# Damages the files of a store that the built program made, and compares what `scrub` and `show pile` do with a model of the
+# files that follows docs/FORMATS.md.
 # - One byte of `sealed` or `journal` is changed, for each byte in turn or for some, or the file is cut, at each length in
 #   turn or at some. Some bytes are added behind the end. `scrub` has to name what is wrong first, and to change no file. Only
 #   what a byte within an operation does isn't in the model: there `scrub` may find the operation bad, or an archive that
 #   doesn't fit, or nothing if the operation is in no archive.
-# - `scrub --repair` has to refuse a bad journal and to leave both files, or to leave the operations of the journal and
-#   their archives, which `scrub` and `show pile` then show. The archives that were right stay, and the others have the bytes
-#   that they had, if the journal wasn't changed.
-# - A repair of a store with many archives is killed by SIGKILL at a random moment. The journal is the same, the archives at
-#   the beginning of `sealed` that were right are there, and a second repair brings all of the file back.
-# Usage: checks/scrub.sh [TRIES [PROGRAM]]. TRIES is how many bytes and lengths of each file are tried, and how many repairs
-# are killed; without it, or with `all`, each byte and length is tried and 200 repairs are killed. PROGRAM is run in place of
-# the one of this repository. SEED in the environment makes a run repeatable, but for the moments of the kills. It prints a
-# line of counts and ends with 0 if all agrees. It ends at the first difference with 1, and leaves the files. It needs python3.
+# - `show pile` has to open the store, or to say the same as `scrub`.
+# Usage: checks/scrub.sh [TRIES [PROGRAM]]. TRIES is how many bytes and lengths of each file are tried; without it, or with
+# `all`, each byte and length is tried. PROGRAM is run in place of the one of this repository. SEED in the environment makes a
+# run repeatable. It prints a line of counts and ends with 0 if all agrees. It ends at the first difference with 1, and leaves
+# the files. It needs python3.
 tries=${1:-all}
 top=$(CDPATH='' cd -- "$(dirname -- "$0")/.." && pwd) || exit 1
 tool=${2:-$top/out/feed_tool}
@@ -32,10 +28,8 @@ import multiprocessing
 import os
 import random
 import shutil
-import signal
 import subprocess
 import sys
-import time
 
 tries, tool, work, seed = sys.argv[1], sys.argv[2], sys.argv[3], int(sys.argv[4])
 random.seed(seed)
@@ -45,8 +39,6 @@ WINDOW = 4
 # 13 operations, so that three windows are sealed and one operation is in the open one
 LINES = [b"add One", b"add Two &", b"change 1 Uno", b"remove 2", b"title Other", b"add Three", b"add Four <x>",
          b"change 3 Tre", b"add Five", b"remove 1", b"add Six", b"change 5 Cinque", b"add Seven"]  # fmt: skip
-# how many operations and archives the store has of which repairs are killed
-MANY = 401
 
 
 class Differs(Exception):
@@ -164,24 +156,6 @@ class Store:
             raise Differs(f"the store is {run(folder, 'scrub')}, and not {sound}")
 
 
-def compare_whole(folder, store, payloads, is_same):
-    """Compares a store after its repair: its payloads, and whether it shows them. `is_same` tells that the journal wasn't
-    changed but for its end."""
-    files = held(folder)
-    if Log(files["journal"]).payloads != payloads:
-        raise Differs("the journal has other payloads after the repair")
-    records, seals = len(payloads) - 1, Log(files["sealed"]).payloads
-    answer = run(folder, "scrub")
-    if answer != (0, b"sound %d %d\n" % (records, len(seals))):
-        raise Differs(f"after the repair: {answer}")
-    if is_same and seals != store.archives[: len(seals)]:
-        raise Differs("an archive has other bytes after the repair")
-    status, printed = run(folder, "show", "pile")
-    documents = read_pile(printed) if status == 0 else {}
-    if [documents.get(f"archive/{number}") for number in range(1, len(documents))] != seals:
-        raise Differs(f"the pile has other archives: status {status}")
-
-
 class Damage:
     """A file with one change: a byte has another value, or the file is cut, or bytes are added."""
 
@@ -222,26 +196,7 @@ def try_damage(folder, store, damage):
             raise Differs(f"{answer}, and not {expected}")
     elif within is not None:
         compare_changed(answer, within, expected)
-    is_bad = line.startswith((b"bad store", b"not init"))
     compare_load(folder, files, answer)
-    lay(folder, files)
-    repaired = run(folder, "scrub", "--repair")
-    if is_bad:
-        if repaired != answer or held(folder) != files:
-            raise Differs(f"a repair that has to refuse: {repaired}")
-        return line.split(b" ")[0].decode()
-    records = len(journal.payloads) - 1
-    is_same = within is None
-    if is_same:
-        kept = right_count(sealed.payloads, store.archives, records)
-        made = max(sealed_count(records) - kept, 0)
-        if repaired != (0, b"repaired %d %d\n" % (kept, made)):
-            raise Differs(f"the repair: {repaired}, and not {kept} {made}")
-    elif repaired[0] != 0:
-        raise Differs(f"the repair: {repaired}")
-    compare_whole(folder, store, journal.payloads, is_same)
-    if damage.name == "sealed" and damage.kind != "more" and held(folder) != store.files:
-        raise Differs("the file has other bytes after the repair")
     return line.split(b" ")[0].decode()
 
 
@@ -310,39 +265,6 @@ def tried(task):
     return said, None
 
 
-# Repairs that are killed
-
-def kill_repair(folder, store, seconds):
-    """Damages the archives of a large store, kills its repair at a random moment, and repairs it again. Returns whether it was
-    killed."""
-    text = store.files["sealed"]
-    damage = random.choice((
-        Damage("sealed", "cut", random.randrange(len(text))),
-        Damage("sealed", "byte", at := random.randrange(len(text)), other_byte(random, text[at])),
-        Damage("sealed", "cut", random.randrange(7)),
-    ))  # fmt: skip
-    files = damage.apply(store.files)
-    kept = right_count(Log(files["sealed"]).payloads, store.archives, MANY)
-    lay(folder, files)
-    repair = subprocess.Popen([tool, "scrub", "--repair"], cwd=folder, stdin=subprocess.DEVNULL, stdout=subprocess.PIPE)
-    time.sleep(random.uniform(0, 1.1 * seconds))
-    repair.kill()
-    repair.communicate()
-    if repair.returncode not in (0, -signal.SIGKILL):
-        raise Differs(f"{damage}: the repair ended with {repair.returncode}; the files are in {folder}")
-    left = held(folder)
-    seals = Log(left["sealed"]).payloads
-    if left["journal"] != store.files["journal"] or seals[:kept] != store.archives[:kept]:
-        raise Differs(f"{damage}: a killed repair lost something; the files are in {folder}")
-    status, printed = run(folder, "scrub", "--repair")
-    if status or held(folder) != store.files:
-        raise Differs(f"{damage}: after a killed repair: {status} {printed}; the files are in {folder}")
-    sound = b"sound %d %d\n" % (MANY, len(store.archives))
-    if run(folder, "scrub") != (0, sound):
-        raise Differs(f"{damage}: after a killed repair: {run(folder, 'scrub')}; the files are in {folder}")
-    return repair.returncode != 0
-
-
 def main():
     global STORE
     STORE = Store(f"{work}/small", LINES)
@@ -357,17 +279,8 @@ def main():
             said[word] = said.get(word, 0) + 1
     finally:
         pool.shutdown(cancel_futures=True)
-    large = Store(f"{work}/large", [b"add Entry %d" % number for number in range(MANY)])
-    lay(f"{work}/killed", large.files | {"sealed": b""})
-    began = time.monotonic()
-    made = run(f"{work}/killed", "scrub", "--repair")
-    seconds = time.monotonic() - began
-    if made != (0, b"repaired 0 %d\n" % len(large.archives)) or held(f"{work}/killed") != large.files:
-        raise Differs(f"the archives from nothing: {made}")
-    count = 200 if tries == "all" else int(tries)
-    killed = sum(kill_repair(f"{work}/killed", large, seconds) for _ in range(count))
     words = ", ".join(f"{said[word]} {word}" for word in sorted(said))
-    print(f"{len(tasks)} changes ({words}), {count} repairs, {killed} killed, 0 differ")
+    print(f"{len(tasks)} changes ({words}), 0 differ")
 
 
 STORE = None
