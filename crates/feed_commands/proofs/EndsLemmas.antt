@@ -27,6 +27,7 @@ use Rattle.feed_commands.specs.Run.{IsAtOnce, IsTextual}
 use Rattle.feed_commands.proofs.DiskLemmas.{applies-none, makes-none}
 use Rattle.feed_commands.proofs.LoadedFaultLemmas.{unloaded_five}
 use Rattle.feed_commands.proofs.PileEndLemmas.{cut-at-once}
+use Rattle.feed_commands.proofs.RelayEndLemmas.{relay-none}
 
 -- a command that prints a text alone is `init`, `apply`, `scrub`, or one of which nothing more is said
 pub text-ends : (r : Ran) (command : Command) → IsAtOnce command → IsTextual command
@@ -122,5 +123,6 @@ module _ (disk : DiskState) (moments : ℕ → ℕ) (door : DoorState) (stays_at
         asks = record { once = λ read. absurd (read is); most = inl refl };
         own = λ name is_name url there answered. absurd (answered-refusal NoMemory (subst IsAnswered is answered));
       }
-  unread-ends is_disk stays prints none is (Relay base listen requests capacity) = (search rules, stays listen)
+  unread-ends is_disk stays prints none is (Relay base listen requests capacity) =
+      (relay-none base requests disk door _ _ _ output taken ended prints is, stays listen)
   unread-ends is_disk stays prints none is Scrub = alone_begins disk
