@@ -24,4 +24,6 @@ mod logs;
 #[cfg(test)]
 mod reader;
 #[cfg(test)]
+mod scrubs;
+#[cfg(test)]
 mod stores;
