@@ -1,12 +1,10 @@
 -- What is said of a run beside its answer: where its command wasn't read, and where it prints a text alone.
-use Rattle.std.proofs.Common.{◌≡◌, ◌≢◌, ◌⊎◌, inl, inr, ⊎_elim, ℕ, List, [], Bool, true, false, Option, Some, None}
-use Rattle.std.proofs.Common.{refl, subst, sym, ◌∙◌, arith, rules, append-nil}
+use Rattle.std.proofs.Common.{◌≡◌, inl, ⊎_elim, ℕ, List, [], true, false, Option, Some, None}
+use Rattle.std.proofs.Common.{refl, subst, sym, arith, rules, append-nil}
 use Rattle.command_ends.specs.Answer.{Prints}
 use Rattle.command_ends.specs.Ends.{IsAnswered}
 use Rattle.command_ends.specs.Fault.{fault_answer}
-use Rattle.command_ends.specs.Status.{code_of}
 use Rattle.command_ends.specs.declared.fault.Fault.TheVariants.{NoMemory}
-use Rattle.command_ends.specs.declared.status.Status.TheVariants as status
 use Rattle.command_ends.proofs.EndLemmas.{answered-refusal}
 use Rattle.doc_source.specs.Fetch.{FetchState}
 use Rattle.doc_source.specs.Outside.{SinkState, SourceState}
@@ -21,12 +19,13 @@ use Rattle.tool_words.specs.declared.command.Command.TheVariants.{Init, Apply, S
 use Rattle.tool_words.specs.declared.command.Command.TheVariants.{Discover, Relay, Scrub}
 use Rattle.tool_words.specs.declared.command.Show.TheVariants.{Document, Feed, Archive, Member, Pile}
 use Rattle.atom_writer.specs.declared.doc.FeedName.{FeedName}
-use Rattle.feed_commands.specs.Crash.{EndsApplying, IsStatusAfterLoad, MakesStoreAt}
+use Rattle.feed_commands.specs.Crash.{IsStatusAfterLoad}
 use Rattle.feed_commands.specs.Ran.{EndsOf, Ran}
 use Rattle.feed_commands.specs.Run.{IsAtOnce, IsTextual}
 use Rattle.feed_commands.proofs.DiskLemmas.{applies-none, makes-none}
 use Rattle.feed_commands.proofs.LoadedFaultLemmas.{unloaded_five}
 use Rattle.feed_commands.proofs.PileEndLemmas.{cut-at-once}
+use Rattle.feed_commands.proofs.RelayEndLemmas.{relay-none}
 
 -- a command that prints a text alone is `init`, `apply`, `scrub`, or one of which nothing more is said
 pub text-ends : (r : Ran) (command : Command) → IsAtOnce command → IsTextual command
@@ -122,5 +121,6 @@ module _ (disk : DiskState) (moments : ℕ → ℕ) (door : DoorState) (stays_at
         asks = record { once = λ read. absurd (read is); most = inl refl };
         own = λ name is_name url there answered. absurd (answered-refusal NoMemory (subst IsAnswered is answered));
       }
-  unread-ends is_disk stays prints none is (Relay base listen requests capacity) = (search rules, stays listen)
+  unread-ends is_disk stays prints none is (Relay base listen requests capacity) =
+      (relay-none base requests disk door _ _ _ output taken ended prints is, stays listen)
   unread-ends is_disk stays prints none is Scrub = alone_begins disk

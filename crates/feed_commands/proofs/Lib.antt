@@ -46,3 +46,5 @@ pub mod StoreLemmas
 pub mod DrillEndLemmas
 -- serves `run`, `ends`: a run whose command wasn't read, or prints a text alone
 pub mod EndsLemmas
+-- serves `run`, `ends`: a `relay` whose command wasn't read
+pub mod RelayEndLemmas

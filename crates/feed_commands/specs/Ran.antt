@@ -1,5 +1,5 @@
 -- What each command's run says, by the objects before it and after it.
-use Rattle.std.specs.Prelude.{◌≡◌, ◌≢◌, ◌⊎◌, ℕ, List, Bool, true, false, Option, Some, None}
+use Rattle.std.specs.Prelude.{◌≡◌, ◌≢◌, ◌⊎◌, ℕ, List, true, false, Option, None}
 use Rattle.command_ends.specs.Ends.{IsAnswered}
 use Rattle.command_ends.specs.Status.{code_of}
 use Rattle.command_ends.specs.declared.status.Status.TheVariants as status

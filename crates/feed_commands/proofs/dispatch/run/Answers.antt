@@ -1,6 +1,6 @@
-use Rattle.std.proofs.Common.{rules, ◌≡◌, ◌⊎◌, inl, inr, ⊎_elim, ℕ, None, Err, true, false, refl, sym, subst, ap, ◌∙◌, arith}
+use Rattle.std.proofs.Common.{◌≡◌, ◌⊎◌, inl, inr, ⊎_elim, ℕ, Err, true, false, refl, sym, subst, ap, ◌∙◌, arith}
 use Rattle.std.proofs.lemmas.Result.{on_ok_weaker}
-use Rattle.tool_words.specs.declared.command.Command.TheVariants.{Audit, Discover, Drill, Foreign, Mirror, Serve, Show}
+use Rattle.tool_words.specs.declared.command.Command.TheVariants.{Audit, Discover, Drill, Foreign, Mirror, Relay, Serve, Show}
 use Rattle.tool_words.specs.declared.command.Show.TheVariants.{Pile}
 use Rattle.feed_disk.specs.declared.area.Area.TheVariants.{Journal, Sealed}
 use Rattle.feed_recovery.proofs.LoadedLemmas.{alone-payloads}
@@ -45,6 +45,11 @@ returns-in-Err-Usage-clause-faults g c =
     faults-none (λ e. omega (arith, e, is)) (λ e. omega (arith, e, is)) (λ e. omega (arith, e, is))
     (output-later (λ e. omega (arith, e, is)) (⊎_elim (λ e. omega (arith, e, is)) (λ e. omega (arith, e, is)))
     c.write_all.ensures.counts.later)
+
+pub returns-in-Err-Usage-clause-complete : goal.returns-in-Err-Usage-clause-complete
+returns-in-Err-Usage-clause-complete g c = λ command of_words.
+    absurd (no_command (usage c.in-Err-Usage.is c.in-Err-Usage.field-0-is)
+    c.read_words.ensures.only command of_words)
 
 pub returns-in-Err-Usage-clause-safe : goal.returns-in-Err-Usage-clause-safe
 returns-in-Err-Usage-clause-safe g c = λ others observable. keeps-none (g.D.Disk.state c.args.disk.now)
@@ -121,7 +126,8 @@ returns-in-Serve-clause-faults g c = record {
   output_faults = c.serve.ensures.output_faults;
   door_faults = shared-counts c.serve.ensures.door_faults;
   fetch_faults = shared-other (λ others.
-      others _ (read_as _ c.in-Ok.is c.in-Serve.is c.read_words.ensures.found) tt);
+      others (Serve c.in-Serve.listen c.in-Serve.requests c.in-Serve.service)
+      (read_as _ c.in-Ok.is c.in-Serve.is c.read_words.ensures.found) tt);
 }
 
 pub returns-in-Serve-clause-safe : goal.returns-in-Serve-clause-safe
@@ -153,12 +159,14 @@ returns-in-Relay-clause-statuses g c =
 
 pub returns-in-Relay-clause-words : goal.returns-in-Relay-clause-words
 returns-in-Relay-clause-words g c =
-    words-of _ (read_as _ c.in-Ok.is c.in-Relay.is c.read_words.ensures.found)
+    words-of (Relay c.in-Relay.base c.in-Relay.listen c.in-Relay.requests c.in-Relay.capacity)
+    (read_as _ c.in-Ok.is c.in-Relay.is c.read_words.ensures.found)
     (rw c.with_status-in-Relay.ensures.status (relay-other _ c.relay-status.ensures.statuses).0)
 
 pub returns-in-Relay-clause-alone : goal.returns-in-Relay-clause-alone
 returns-in-Relay-clause-alone g c = λ sink once.
-    absurd (once _ (read_as _ c.in-Ok.is c.in-Relay.is c.read_words.ensures.found))
+    absurd (once (Relay c.in-Relay.base c.in-Relay.listen c.in-Relay.requests c.in-Relay.capacity)
+    (read_as _ c.in-Ok.is c.in-Relay.is c.read_words.ensures.found))
 
 pub returns-in-Relay-clause-faults : goal.returns-in-Relay-clause-faults
 returns-in-Relay-clause-faults g c =
@@ -169,7 +177,8 @@ returns-in-Relay-clause-faults g c =
       output_faults = c.relay-status.ensures.output_faults;
       door_faults = shared-counts c.relay-status.ensures.door_faults;
       fetch_faults = shared-other (λ others.
-          others _ (read_as _ c.in-Ok.is c.in-Relay.is c.read_words.ensures.found) tt);
+          others (Relay c.in-Relay.base c.in-Relay.listen c.in-Relay.requests c.in-Relay.capacity)
+          (read_as _ c.in-Ok.is c.in-Relay.is c.read_words.ensures.found) tt);
     })
 
 pub returns-in-Relay-clause-safe : goal.returns-in-Relay-clause-safe
@@ -178,11 +187,13 @@ returns-in-Relay-clause-safe g c = λ others observable.
 
 pub returns-in-Relay-clause-mirror : goal.returns-in-Relay-clause-mirror
 returns-in-Relay-clause-mirror g c = λ others.
-    absurd (others _ (read_as _ c.in-Ok.is c.in-Relay.is c.read_words.ensures.found) tt)
+    absurd (others (Relay c.in-Relay.base c.in-Relay.listen c.in-Relay.requests c.in-Relay.capacity)
+    (read_as _ c.in-Ok.is c.in-Relay.is c.read_words.ensures.found) tt)
 
 pub returns-in-Relay-clause-unused : goal.returns-in-Relay-clause-unused
 returns-in-Relay-clause-unused g c =
-    unused-by _ (read_as _ c.in-Ok.is c.in-Relay.is c.read_words.ensures.found) (λ unused. absurd (unused tt))
+    unused-by (Relay c.in-Relay.base c.in-Relay.listen c.in-Relay.requests c.in-Relay.capacity)
+    (read_as _ c.in-Ok.is c.in-Relay.is c.read_words.ensures.found) (λ unused. absurd (unused tt))
     (λ _. refl) (λ _. refl) (λ unused. absurd (unused tt)) (λ _. refl)
 
 pub returns-in-Relay-clause-bare : goal.returns-in-Relay-clause-bare
@@ -214,6 +225,11 @@ returns-in-Show-Pile-clause-answered g c =
     (rw is (λ seen. rw c.with_status-in-Show-Pile.ensures.status (λ answered.
     c.show_pile.ensures.answered (seen.disk tt) answered (g.C.Clock.coming c.args.clock.now)
     (g.I.Source.state c.args.input.now) (g.F.Fetch.state c.args.fetch.now))))
+
+pub returns-in-Show-Pile-clause-alone : goal.returns-in-Show-Pile-clause-alone
+returns-in-Show-Pile-clause-alone g c = λ sink once.
+    let is = show-pile c.in-Show-Pile.is (rw c.in-Show-Pile.is at c.in-Show-Pile.field-0-is) in
+    absurd (once (Show Pile) (read_as _ c.in-Ok.is is c.read_words.ensures.found))
 
 pub returns-in-Show-Pile-clause-faults : goal.returns-in-Show-Pile-clause-faults
 returns-in-Show-Pile-clause-faults g c =
@@ -316,7 +332,8 @@ pub returns-in-Mirror-default-true-default-default-clause-mirror :
 returns-in-Mirror-default-true-default-default-clause-mirror g c = λ others.
     let arm = c.in-Mirror-default-true-default-default in
     let is = mirror-is arm.is arm.fetch-test in
-    absurd (others _ (read_as _ c.in-Ok.is is c.read_words.ensures.found) tt)
+    absurd (others (Mirror arm.base true arm.report arm.capacity)
+    (read_as _ c.in-Ok.is is c.read_words.ensures.found) tt)
 
 pub returns-in-Mirror-default-true-default-default-clause-unused :
     goal.returns-in-Mirror-default-true-default-default-clause-unused
@@ -412,7 +429,8 @@ pub returns-in-Mirror-default-false-default-default-clause-mirror :
 returns-in-Mirror-default-false-default-default-clause-mirror g c = λ others.
     let arm = c.in-Mirror-default-false-default-default in
     let is = mirror-is arm.is arm.fetch-test in
-    absurd (others _ (read_as _ c.in-Ok.is is c.read_words.ensures.found) tt)
+    absurd (others (Mirror arm.base false arm.report arm.capacity)
+    (read_as _ c.in-Ok.is is c.read_words.ensures.found) tt)
 
 pub returns-in-Mirror-default-false-default-default-clause-unused :
     goal.returns-in-Mirror-default-false-default-default-clause-unused
@@ -819,6 +837,13 @@ returns-clause-faults g c =
       door_faults = shared-counts (counts-none (λ e. no_door c.in-Err.fault (sym is ∙ e)));
       fetch_faults = shared-counts (counts-none (λ e. no_door c.in-Err.fault (sym is ∙ e)));
     }
+
+pub returns-clause-first_fault : goal.returns-clause-first_fault
+returns-clause-first_fault g c = read_all _ c.in-Ok.is c.read_words.ensures.only
+    (λ seen e.
+    let is = c.with_status-in-Err.ensures.status ∙ ap code_of c.print_fault-in-Err.ensures.status in
+    let same : c.in-Err.fault ≡ Input = input_end c.in-Err.fault (sym is ∙ e) in
+    c.answer.ensures.unrefused (c.in-Err.is ∙ ap Err same) (seen-unfetched c.in-Ok.command _ _ _ _ seen))
 
 pub returns-clause-complete : goal.returns-clause-complete
 returns-clause-complete g c = read_all _ c.in-Ok.is c.read_words.ensures.only

@@ -1,7 +1,6 @@
 use Rattle.std.proofs.Common.{◌≡◌, ℕ, ◌-◌, ◌<◌, ◌≤◌, List, [], ◌++◌, length, take, drop, Err, ap, sym, subst, ◌∙◌, refl, arith, append-nil}
 use Rattle.std.proofs.Common.{length-append}
 use Rattle.std.proofs.lemmas.List.{length-take-le}
-use Rattle.std.proofs.lemmas.Result.{err_from_is_err_and}
 use Rattle.atom_grammar.specs.Progress.{HasRead}
 use Rattle.feed_commands.specs.Show.{document_limit}
 use Rattle.feed_commands.proofs.CountLemmas.{counts-failed, counts-worked}
