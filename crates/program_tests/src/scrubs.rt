@@ -80,7 +80,7 @@ fn title_at<D: Disk>(rt: &impl Abort, alloc: Global, disk: &mut D) -> u64 {
     let found = archive
         .as_slice()
         .windows(4)
-        .position(|bytes| bytes == b"Feed");
+        .position(|bytes| bytes == b"Feed".as_slice());
     drop(archive);
     found.expect(rt, "a title") as u64 + 1_654
 }
