@@ -164,6 +164,13 @@ fn sealed_of(rt: &impl Abort, alloc: Global, seals: &[Text]) -> Vec<u8> {
     area
 }
 
+/// The journal and the sealed area of a store of five operations, the first four of which are sealed.
+pub fn five_operations(rt: &impl Abort, alloc: Global) -> (Vec<u8>, Vec<u8>) {
+    let case = &CASES[1];
+    let journal = journal_of(rt, alloc, case.format, case.operations);
+    (journal, sealed_of(rt, alloc, case.seals))
+}
+
 /// The version of a store, and how many archives are sealed.
 fn counts<D: Disk>(rt: &impl Abort, alloc: Global, disk: &mut D) -> (u32, u32) {
     let store = Store::load(alloc, disk).expect(rt, "a store");
@@ -247,7 +254,8 @@ fn a_title_makes_the_journal_22_bytes_longer(rt: HostRuntime) {
     }
 }
 
-fn refusal<D: Disk>(alloc: Global, disk: &mut D) -> Option<LoadFault> {
+/// Returns why a load refuses the disk.
+pub fn refusal<D: Disk>(alloc: Global, disk: &mut D) -> Option<LoadFault> {
     match Store::load(alloc, disk) {
         Ok(store) => {
             drop(store);

@@ -26,4 +26,6 @@ mod logs;
 #[cfg(test)]
 mod reader;
 #[cfg(test)]
+mod scrubs;
+#[cfg(test)]
 mod stores;
