@@ -82,13 +82,13 @@ class Log:
         while len(text) >= 6 and self.gate < len(text) and text[self.gate] == 1:
             begin = self.gate + 5
             end = begin + int.from_bytes(text[self.gate + 1 : begin], "big")
-            # The gate after a frame may be missing.
-            if begin > len(text) or end > len(text):
+            # The gate after a frame has to be there.
+            if end >= len(text):
                 break
             self.payloads.append(text[begin:end])
             self.places.append(begin)
             self.gate = end
-        self.is_whole = len(text) < 6 or self.gate >= len(text) or text[self.gate] != 1
+        self.is_whole = len(text) < 6 or text[self.gate] != 1
 
 
 def sealed_count(records):
