@@ -90,7 +90,9 @@ fn relays_what_the_mirror_holds(rt: HostRuntime) {
         ..APPLY
     };
     let (ended, text) = whole_end(&rt, alloc, &mut disk, &mut door, &mut fetch, &given);
-    assert!(rt; ended.status == 0 && text.as_slice() == b"200 5\n200 5\n404 5\n404 5\n405 5\n");
+    assert!(rt;
+        ended.status == 0 && text.as_slice() == b"200 5\n200 5\n404 5\n404 5\n405 5\n".as_slice()
+    );
     assert!(rt; ended.lines.as_slice().is_empty());
     let endings = [
         feed.as_slice(),
