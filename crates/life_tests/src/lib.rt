@@ -1,4 +1,4 @@
-//! Tests of the public calls of `feed_life` and `feed_drill`.
+//! Tests of the public calls of `feed_life` and `feed_drill`, and of a feed's life with relays.
 //!
 //! They are in a crate of their own, so that these crates are proved once, without their tests.
 //!
@@ -22,3 +22,5 @@ mod fold;
 mod generated;
 #[cfg(test)]
 mod orders;
+#[cfg(test)]
+mod relays;
