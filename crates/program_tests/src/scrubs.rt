@@ -85,6 +85,13 @@ fn title_at<D: Disk>(rt: &impl Abort, alloc: Global, disk: &mut D) -> u64 {
     found.expect(rt, "a title") as u64 + 1_654
 }
 
+/// Writes bytes over those of an area.
+fn put<D: Disk>(rt: &impl Abort, disk: &mut D, area: Area, at: u64, bytes: &[u8]) {
+    let size = disk.size(area).expect(rt, "no call fails");
+    assert!(rt; at <= size, "{area:?} {at}");
+    disk.write(area, at, bytes).expect(rt, "no call fails");
+}
+
 /// Returns the store after a change.
 fn changed(rt: &impl Abort, alloc: Global, change: Change) -> MemoryDisk {
     let mut disk = match change {
@@ -98,7 +105,7 @@ fn changed(rt: &impl Abort, alloc: Global, change: Change) -> MemoryDisk {
         Change::Byte(area, at, _) => (area, at, &[9]),
         Change::Title => (Area::Sealed, title_at(rt, alloc, &mut disk), b"f"),
     };
-    disk.write(area, at, bytes).expect(rt, "no call fails");
+    put(rt, &mut disk, area, at, bytes);
     match change {
         Change::Unsealed => {
             let without = unsealed(rt, alloc, &mut disk);
@@ -142,7 +149,11 @@ fn a_failed_call_ends_the_command(rt: HostRuntime) {
     let calls = whole.calls();
     drop(whole);
     for &(words, call, failing_write, status, printed) in &FAULTS {
-        let failing = if call == 0 { 0 } else { calls + call };
+        let failing = if call == 0 {
+            0
+        } else {
+            calls.saturating_add(call)
+        };
         let mut disk = filled(&rt, alloc, failing);
         let given = Run {
             words,
