@@ -15,7 +15,7 @@ use Rattle.command_ends.specs.Answer.{Answer}
 use Rattle.command_ends.specs.Fault.{refusal_answer}
 use Rattle.discover_command.specs.Answer.{DiscoverHasOneAnswer}
 use Rattle.foreign_command.specs.Answer.{ForeignHasOneAnswer}
-use Rattle.scrub_command.specs.Answer.{SoundStoresHaveOneAnswer}
+use Rattle.scrub_command.specs.Answer.{RepairsHaveOneEnd, SoundStoresHaveOneAnswer}
 use Rattle.feed_commands.specs.Show.{IsShown, IsPast, IsSummary, IsBadDocument}
 use Rattle.command_ends.specs.Summary.{summary}
 use Rattle.feed_commands.specs.Outside.{Outside}
@@ -68,27 +68,29 @@ of_store_once : OpensInOneWay → (command : Command) (outside : Outside) (one o
 of_store_once law command outside one other p q = p.is
     ∙ ap (stored_answer command outside) (stored_once law outside.content p.stored q.stored p.opens q.opens) ∙ sym q.is
 
--- a command has one answer, since the areas of a store open in one way and a walk goes one way
-pub answer_once : OpensInOneWay → ForeignHasOneAnswer → DiscoverHasOneAnswer → SoundStoresHaveOneAnswer → OneAnswer
-answer_once law foreign discover sound (Init name window capacity) outside one other p q = init_once outside.content one other p q
-answer_once law foreign discover sound (Apply None) outside one other p q = of_store_once law (Apply None) outside one other p q
-answer_once law foreign discover sound (Apply (Some window)) outside one other p q = sym p ∙ q
-answer_once law foreign discover sound (Serve listen requests service) outside one other p q = absurd p
-answer_once law foreign discover sound (Mirror base false report capacity) outside one other p q =
-    pile-same report capacity base outside.content outside.input one other q.kept p q.loaded q.is
-answer_once law foreign discover sound (Mirror base true report capacity) outside one other p q =
-    walk-same report capacity base outside.content outside.answers one other q.kept p q.loaded q.is
-answer_once law foreign discover sound Audit outside one other p q = one-audited outside.input one other p q
-answer_once law foreign discover sound (Drill seed count) outside one other p q = p ∙ sym q
-answer_once law foreign discover sound (Foreign from) outside one other p q = foreign outside.answers from one other p q
-answer_once law foreign discover sound (Discover address) outside one other p q =
-    discover outside.answers address one other p q
-answer_once law foreign discover sound (Relay base listen requests capacity) outside one other p q = absurd p
-answer_once law foreign discover sound Scrub outside one other p q = sound outside.content one other p q
-answer_once law foreign discover sound (Show Document) outside one other p q = shown_once outside.input one other p q
-answer_once law foreign discover sound (Show Feed) outside one other p q = of_store_once law (Show Feed) outside one other p q
-answer_once law foreign discover sound (Show (Archive number)) outside one other p q =
-    of_store_once law (Show (Archive number)) outside one other p q
-answer_once law foreign discover sound (Show (Member number)) outside one other p q =
-    of_store_once law (Show (Member number)) outside one other p q
-answer_once law foreign discover sound (Show Pile) outside one other p q = of_store_once law (Show Pile) outside one other p q
+module _ (law : OpensInOneWay) (foreign : ForeignHasOneAnswer) (discover : DiscoverHasOneAnswer)
+    (sound : SoundStoresHaveOneAnswer) (repairs : RepairsHaveOneEnd) where
+  -- a command has one answer, since the areas of a store open in one way and a walk goes one way
+  pub answer_once : OneAnswer
+  answer_once (Init name window capacity) outside one other p q = init_once outside.content one other p q
+  answer_once (Apply None) outside one other p q = of_store_once law (Apply None) outside one other p q
+  answer_once (Apply (Some window)) outside one other p q = sym p ∙ q
+  answer_once (Serve listen requests service) outside one other p q = absurd p
+  answer_once (Mirror base false report capacity) outside one other p q =
+      pile-same report capacity base outside.content outside.input one other q.kept p q.loaded q.is
+  answer_once (Mirror base true report capacity) outside one other p q =
+      walk-same report capacity base outside.content outside.answers one other q.kept p q.loaded q.is
+  answer_once Audit outside one other p q = one-audited outside.input one other p q
+  answer_once (Drill seed count) outside one other p q = p ∙ sym q
+  answer_once (Foreign from) outside one other p q = foreign outside.answers from one other p q
+  answer_once (Discover address) outside one other p q = discover outside.answers address one other p q
+  answer_once (Relay base listen requests capacity) outside one other p q = absurd p
+  answer_once (Scrub false) outside one other p q = sound outside.content one other p q
+  answer_once (Scrub true) outside one other p q = repairs outside.content one other p q
+  answer_once (Show Document) outside one other p q = shown_once outside.input one other p q
+  answer_once (Show Feed) outside one other p q = of_store_once law (Show Feed) outside one other p q
+  answer_once (Show (Archive number)) outside one other p q =
+      of_store_once law (Show (Archive number)) outside one other p q
+  answer_once (Show (Member number)) outside one other p q =
+      of_store_once law (Show (Member number)) outside one other p q
+  answer_once (Show Pile) outside one other p q = of_store_once law (Show Pile) outside one other p q

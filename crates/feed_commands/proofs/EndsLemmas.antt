@@ -14,6 +14,7 @@ use Rattle.feed_disk.specs.Disk.{DiskState, IsDisk}
 use Rattle.feed_disk.proofs.MomentLemmas.{alone_begins}
 use Rattle.feed_life.specs.Life.{LifeValue}
 use Rattle.foreign_mirror.specs.Walk.Ending.{cut_short}
+use Rattle.scrub_command.proofs.RepairEndLemmas.{repair-none}
 use Rattle.tool_words.specs.declared.command.Command.{Command}
 use Rattle.tool_words.specs.declared.command.Command.TheVariants.{Init, Apply, Serve, Show, Mirror, Audit, Drill, Foreign}
 use Rattle.tool_words.specs.declared.command.Command.TheVariants.{Discover, Relay, Scrub}
@@ -31,24 +32,26 @@ use Rattle.feed_commands.proofs.RelayEndLemmas.{relay-none}
 pub text-ends : (r : Ran) (command : Command) → IsAtOnce command → IsTextual command
     → ((name : FeedName) (window capacity : ℕ) → command ≡ Init name window capacity
     → EndsOf (Init name window capacity) r) → (command ≡ Apply None → EndsOf (Apply None) r)
-    → (command ≡ Scrub → EndsOf Scrub r) → EndsOf command r
-text-ends r (Init name window capacity) once textual made applied scrubbed = made name window capacity refl
-text-ends r (Apply None) once textual made applied scrubbed = applied refl
-text-ends r (Apply (Some window)) once textual made applied scrubbed = tt
-text-ends r (Show Document) once textual made applied scrubbed = tt
-text-ends r (Show Feed) once textual made applied scrubbed = tt
-text-ends r (Show (Archive number)) once textual made applied scrubbed = tt
-text-ends r (Show (Member number)) once textual made applied scrubbed = tt
-text-ends r (Show Pile) once textual made applied scrubbed = absurd once
-text-ends r (Serve listen requests service) once textual made applied scrubbed = absurd once
-text-ends r (Mirror base true report capacity) once textual made applied scrubbed = absurd textual
-text-ends r (Mirror base false report capacity) once textual made applied scrubbed = absurd textual
-text-ends r Audit once textual made applied scrubbed = absurd textual
-text-ends r (Drill seed count) once textual made applied scrubbed = absurd textual
-text-ends r (Foreign from) once textual made applied scrubbed = absurd textual
-text-ends r (Discover address) once textual made applied scrubbed = absurd textual
-text-ends r (Relay base listen requests capacity) once textual made applied scrubbed = absurd once
-text-ends r Scrub once textual made applied scrubbed = scrubbed refl
+    → (command ≡ Scrub false → EndsOf (Scrub false) r) → (command ≡ Scrub true → EndsOf (Scrub true) r)
+    → EndsOf command r
+text-ends r (Init name window capacity) once textual made applied scrubbed repaired = made name window capacity refl
+text-ends r (Apply None) once textual made applied scrubbed repaired = applied refl
+text-ends r (Apply (Some window)) once textual made applied scrubbed repaired = tt
+text-ends r (Show Document) once textual made applied scrubbed repaired = tt
+text-ends r (Show Feed) once textual made applied scrubbed repaired = tt
+text-ends r (Show (Archive number)) once textual made applied scrubbed repaired = tt
+text-ends r (Show (Member number)) once textual made applied scrubbed repaired = tt
+text-ends r (Show Pile) once textual made applied scrubbed repaired = absurd once
+text-ends r (Serve listen requests service) once textual made applied scrubbed repaired = absurd once
+text-ends r (Mirror base true report capacity) once textual made applied scrubbed repaired = absurd textual
+text-ends r (Mirror base false report capacity) once textual made applied scrubbed repaired = absurd textual
+text-ends r Audit once textual made applied scrubbed repaired = absurd textual
+text-ends r (Drill seed count) once textual made applied scrubbed repaired = absurd textual
+text-ends r (Foreign from) once textual made applied scrubbed repaired = absurd textual
+text-ends r (Discover address) once textual made applied scrubbed repaired = absurd textual
+text-ends r (Relay base listen requests capacity) once textual made applied scrubbed repaired = absurd once
+text-ends r (Scrub false) once textual made applied scrubbed repaired = scrubbed refl
+text-ends r (Scrub true) once textual made applied scrubbed repaired = repaired refl
 
 -- a run whose command wasn't read for want of memory: each object but the output is as it was
 module _ (disk : DiskState) (moments : ℕ → ℕ) (door : DoorState) (stays_at : List ℕ → Type 0)
@@ -123,4 +126,7 @@ module _ (disk : DiskState) (moments : ℕ → ℕ) (door : DoorState) (stays_at
       }
   unread-ends is_disk stays prints none is (Relay base listen requests capacity) =
       (relay-none base requests disk door _ _ _ output taken ended prints is, stays listen)
-  unread-ends is_disk stays prints none is Scrub = alone_begins disk
+  unread-ends is_disk stays prints none is (Scrub false) = alone_begins disk
+  unread-ends is_disk stays prints none is (Scrub true) = λ seen.
+      repair-none disk (⊎_elim (λ e. omega (arith, e, is)) (λ e. omega (arith, e, is))) (λ e. omega (arith, e, is))
+      (λ e. omega (arith, e, is))

@@ -1,6 +1,6 @@
 -- The images that a crash within a command, or after it, may leave of a store.
 use Rattle.std.specs.Prelude.{◌≡◌, ◌⊎◌, ℕ, ◌+◌, ◌-◌, ◌*◌, ◌<◌, ◌≤◌, min, List, [], ◌∷◌, ◌++◌, length, pos, None}
-use Rattle.std.specs.Prelude.{Result, Ok, Err}
+use Rattle.std.specs.Prelude.{Result, Ok, Err, true}
 use Rattle.atom_values.specs.Counts.{counter_limit}
 use Rattle.atom_writer.specs.declared.doc.FeedName.{FeedName}
 use Rattle.doc_source.specs.Outside.{SourceState}
@@ -19,13 +19,15 @@ use Rattle.member_rules.specs.Head.{HeadValue, newest_format}
 use Rattle.member_rules.specs.declared.operation.Op.{Op}
 use Rattle.tool_words.specs.Words.{IsCommandOf}
 use Rattle.tool_words.specs.declared.command.Command.{Command}
-use Rattle.tool_words.specs.declared.command.Command.TheVariants.{Apply, Init, Serve}
+use Rattle.tool_words.specs.declared.command.Command.TheVariants.{Apply, Init, Scrub, Serve}
 
--- whether the command writes nothing to a store, and makes none: all but `init`, `serve`, and `apply` without a window
+-- whether the command writes nothing to a store, and makes none: all but `init`, `serve`, `scrub --repair`, and `apply`
+-- without a window
 abbrev pub AddsNothing : Command → Type 0
 AddsNothing (Init name window capacity) = ⊥
 AddsNothing (Apply None) = ⊥
 AddsNothing (Serve listen requests service) = ⊥
+AddsNothing (Scrub true) = ⊥
 AddsNothing _ = Unit {0}
 
 -- the words are those of a command that adds nothing to a store and makes none, or of no command

@@ -16,6 +16,7 @@ use Rattle.foreign_command.specs.Ends.{EndsForeign}
 use Rattle.mirror_commands.specs.Audit.{EndsAuditing}
 use Rattle.mirror_commands.specs.Mirroring.{EndsFetching, EndsMirroring}
 use Rattle.relay_command.specs.Relay.{EndsRelaying}
+use Rattle.scrub_command.specs.Answer.{EndsRepairing}
 use Rattle.tool_words.specs.declared.command.Command.{Command}
 use Rattle.tool_words.specs.declared.command.Command.TheVariants.{Init, Apply, Serve, Show, Mirror, Audit, Drill, Foreign}
 use Rattle.tool_words.specs.declared.command.Command.TheVariants.{Discover, Relay, Scrub}
@@ -62,7 +63,7 @@ pub record Ran : Type 1 where
 -- - `foreign`: the addresses asked, and the output over documents of one of this project's own feeds.
 -- - `discover`: the address asked, and the output over the service document of one of this project's own feeds.
 -- - `relay`: the session over the connections that the door gave, and what a crash leaves of the mirror's area.
--- - `scrub`: no area changes.
+-- - `scrub`: no area changes. `scrub --repair`: what a crash leaves, and the store afterwards.
 abbrev pub EndsOf : Command → Ran → Type 0
 EndsOf (Init name window capacity) r =
     r.sees_disk → MakesStoreAt r.disk r.left name window capacity r.sees_clock (r.moments 0)
@@ -91,5 +92,8 @@ EndsOf (Discover address) r =
 EndsOf (Relay base listen requests capacity) r =
     EndsRelaying base requests r.disk r.left r.door r.shut r.sees_disk r.sees_door r.sees_output r.output r.taken r.ended
     × r.stays_at listen
-EndsOf Scrub r = (a : Area) → LeavesAlone r.disk r.left a
+EndsOf (Scrub false) r = (a : Area) → LeavesAlone r.disk r.left a
+EndsOf (Scrub true) r =
+    r.sees_disk → EndsRepairing r.disk r.left ((r.ended ≡ code_of status.Done) ⊎ (r.ended ≡ code_of status.OutputFault))
+    (r.ended ≡ code_of status.Full) (r.ended ≡ code_of status.BadStore)
 EndsOf _ r = Unit {0}

@@ -21,7 +21,7 @@ use Rattle.feed_commands.specs.Drill.{drill_answer}
 use Rattle.feed_life.specs.Life.{LifeValue}
 use Rattle.discover_command.specs.Answer.{IsDiscoverAnswer}
 use Rattle.foreign_command.specs.Answer.{IsForeignAnswer}
-use Rattle.scrub_command.specs.Answer.{IsScrubAnswer, IsSoundAnswer}
+use Rattle.scrub_command.specs.Answer.{IsRepairAnswer, IsRepairEnd, IsScrubAnswer, IsSoundAnswer}
 use Rattle.foreign_mirror.specs.Walk.{IsStart}
 use Rattle.mirror_commands.specs.FetchEnds.{IsWalkAnswer, IsWalkEnd}
 use Rattle.mirror_commands.specs.MirrorEnds.{IsMirrorUnrefused, IsPileAnswer, IsPileEnd}
@@ -258,11 +258,12 @@ IsAnswer (Foreign from) outside given = IsForeignAnswer outside.answers from giv
 IsAnswer (Discover address) outside given = IsDiscoverAnswer outside.answers address given
 IsAnswer (Serve listen requests service) outside given = ⊥
 IsAnswer (Relay base listen requests capacity) outside given = ⊥
-IsAnswer Scrub outside given = IsScrubAnswer outside.content given
+IsAnswer (Scrub false) outside given = IsScrubAnswer outside.content given
+IsAnswer (Scrub true) outside given = IsRepairAnswer outside.content given
 IsAnswer command outside given = IsOfStore command outside given ⊎ IsBadStore outside.content given
 
--- The answer of a command on a disk whose content opens to a store, is sound or loads to a mirror, and the answer of the
--- other commands. There is one at most.
+-- The answer of a command on a disk whose content opens to a store, is sound, can be repaired or loads to a mirror, and
+-- the answer of the other commands. There is one at most.
 abbrev pub IsDueAnswer : Command → Outside → Answer → Type 0
 IsDueAnswer (Init name window capacity) outside given = IsInitAnswer outside.content given
 IsDueAnswer (Apply (Some window)) outside given = answer (test_head window) outside.moments outside.input ≡ given
@@ -277,7 +278,8 @@ IsDueAnswer (Foreign from) outside given = IsForeignAnswer outside.answers from 
 IsDueAnswer (Discover address) outside given = IsDiscoverAnswer outside.answers address given
 IsDueAnswer (Serve listen requests service) outside given = ⊥
 IsDueAnswer (Relay base listen requests capacity) outside given = ⊥
-IsDueAnswer Scrub outside given = IsSoundAnswer outside.content given
+IsDueAnswer (Scrub false) outside given = IsSoundAnswer outside.content given
+IsDueAnswer (Scrub true) outside given = IsRepairEnd outside.content given
 IsDueAnswer command outside given = IsOfStore command outside given
 
 -- the command's answer, which is the due one if there is one

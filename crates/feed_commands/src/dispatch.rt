@@ -23,6 +23,7 @@ ghost use Rattle.feed_commands.specs.Ran.{EndsOf};
 ghost use Rattle.command_ends.specs.Status.{code_of};
 ghost use Rattle.tool_words.specs.Words.{IsCommandOf};
 ghost use Rattle.tool_words.specs.declared.command.Command.{Command as CommandValue};
+ghost use Rattle.scrub_command.specs.Answer.{EndsRepairing, EndsWithStatus};
 ghost use Rattle.tool_words.specs.declared.command.Command.TheVariants.{Init, Apply, Scrub};
 
 use crate::commands::apply::apply;
@@ -42,7 +43,7 @@ use feed_life::Life;
 use foreign_command::foreign;
 use mirror_commands::{audit, mirror, mirror_fetched};
 use relay_command::relay;
-use scrub_command::scrub;
+use scrub_command::{repair, scrub};
 use std::alloc::Global;
 use tool_words::{Command, Show, WordsFault, read_words};
 
@@ -94,7 +95,8 @@ impl Ended {
 /// - `discover` reads the service document of any server and prints its collections, each with whether it takes entries.
 /// - `relay` serves the documents that the mirror's area holds at an address, one connection after the other, and then
 ///   prints a line for each.
-/// - `scrub` says whether the store is sound, or names the first record or archive that isn't.
+/// - `scrub` says whether the store is sound, or names the first record or archive that isn't. `scrub --repair` makes
+///   the archives again from the journal.
 ///
 /// At any other end the line of that end is printed. A failure to print that line changes no status.
 pub fn run<D: Disk, C: Clock, L: Door, F: Fetch, I: Source, O: Sink>(
@@ -153,7 +155,7 @@ pub fn run<D: Disk, C: Clock, L: Door, F: Fetch, I: Source, O: Sink>(
     // that were printed before a fault. `serve`: the session. `mirror`: what a crash leaves of its area, and its output
     // over documents that one feed served. `audit`: the meaning of its status. `drill`: its life. `foreign` and
     // `discover`: the addresses asked, and the output over one of this project's own feeds. `relay`: the session, and
-    // what a crash leaves of the mirror's area. `scrub`: no area changes.
+    // what a crash leaves of the mirror's area. `scrub`: no area changes. `scrub --repair`: what a crash leaves.
     ensures ends { (command : CommandValue) → IsCommandOf (map string_bytes words.now) command → EndsOf command record {
       disk = D.state disk.old;
       left = D.state disk.new;
@@ -299,7 +301,10 @@ fn answer<D: Disk, C: Clock, I: Source>(
         → EndsApplying (D.state disk.old) (D.state disk.new) (C.coming clock.old)
         (I.state input.old) (I.state input.new) C.observable I.observable
         (result ≡ Err Fault.Disk) (result ≡ Err Fault.Input) (EndsAfterLoad result) (HasAnswer result) }
-    ensures scrubbed { command ≡ Scrub → (a : AreaValue) → LeavesAlone (D.state disk.old) (D.state disk.new) a }
+    ensures scrubbed { command ≡ Scrub false → (a : AreaValue) → LeavesAlone (D.state disk.old) (D.state disk.new) a }
+    ensures repaired { command ≡ Scrub true → D.observable
+        → EndsRepairing (D.state disk.old) (D.state disk.new) (IsOk result)
+        (EndsWithStatus result status.Full) (EndsWithStatus result status.BadStore) }
     ensures mirror { LeavesAlone (D.state disk.old) (D.state disk.new) Mirror }
     ensures no_disk { ¬ UsesDisk command → disk.new ≡ disk.old }
     ensures no_clock { ¬ UsesClock command → clock.new ≡ clock.old }
@@ -323,7 +328,8 @@ fn answer<D: Disk, C: Clock, I: Source>(
             // `run` calls `show_pile` itself.
             Show::Pile => unreachable!(),
         },
-        Command::Scrub => scrub(alloc, disk),
+        Command::Scrub { repair: false } => scrub(alloc, disk),
+        Command::Scrub { repair: true } => repair(alloc, disk),
         // `run` calls the functions of these commands itself.
         Command::Serve { .. }
         | Command::Mirror { .. }

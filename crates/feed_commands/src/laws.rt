@@ -3,7 +3,7 @@ ghost use Rattle.feed_commands.specs.Run.{OneAnswer};
 use discover_command::discover_has_one_answer;
 use feed_recovery::stores_open_in_one_way;
 use foreign_command::foreign_has_one_answer;
-use scrub_command::sound_stores_have_one_answer;
+use scrub_command::{repairs_have_one_end, sound_stores_have_one_answer};
 
 /// A command has one answer to an input at the moments that the clock gives.
 pub fn commands_have_one_answer()
@@ -14,4 +14,5 @@ pub fn commands_have_one_answer()
     foreign_has_one_answer();
     discover_has_one_answer();
     sound_stores_have_one_answer();
+    repairs_have_one_end();
 }

@@ -492,9 +492,15 @@ static RELAY: [(&str, &str); 24] = [
 ];
 
 /// Words of `scrub` and words like them, in the same form.
-static SCRUB: [(&str, &str); 8] = [
+static SCRUB: [(&str, &str); 14] = [
     ("scrub", "scrub"),
-    ("scrub --repair", "usage"),
+    ("scrub --repair", "scrub repair"),
+    ("scrub --repair --repair", "usage"),
+    ("scrub --repair=yes", "usage"),
+    ("scrub --repair=", "usage"),
+    ("scrub --repair yes", "usage"),
+    ("scrub repair", "usage"),
+    ("scrub --rep", "usage"),
     ("scrub scrub", "usage"),
     ("scrub 1", "usage"),
     ("scrub --", "usage"),
@@ -676,7 +682,8 @@ fn printed(rt: &impl Abort, alloc: Global, command: &Command) -> String {
             requests,
             capacity,
         } => relayed(rt, alloc, base, listen.slice(), (*requests, *capacity)),
-        Command::Scrub => text(rt, alloc, "scrub"),
+        Command::Scrub { repair: false } => text(rt, alloc, "scrub"),
+        Command::Scrub { repair: true } => text(rt, alloc, "scrub repair"),
         Command::Init {
             name,
             window,

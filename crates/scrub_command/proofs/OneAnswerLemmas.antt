@@ -1,18 +1,18 @@
 -- A sound store has one answer of `scrub`, and one that isn't sound has its first fault's.
-use Rattle.std.proofs.Common.{◌≡◌, ◌⊎◌, inl, inr, ⊎_elim, ℕ, List, refl, sym, subst, ap, ◌∙◌}
+use Rattle.std.proofs.Common.{◌≡◌, ◌⊎◌, inl, inr, ⊎_elim, ℕ, List, codes, refl, sym, subst, ap, ◌∙◌}
 use Rattle.command_ends.specs.Answer.{Answer}
 use Rattle.command_ends.specs.Fault.{fault_answer, IsRefusal}
 use Rattle.command_ends.specs.declared.status.Status.TheVariants.{Done}
 use Rattle.feed_disk.specs.declared.area.Area.{Area}
 use Rattle.feed_disk.specs.declared.area.Area.TheVariants.{Journal, Sealed}
-use Rattle.scrub_command.specs.Answer.{IsScrubbed, IsSoundAnswer, sound_answer, unsound_fault}
+use Rattle.scrub_command.specs.Answer.{IsScrubbed, IsSoundAnswer, done_answer, unsound_fault}
 use Rattle.store_scrub.specs.Scrub.{IsSound, IsSoundInOneWay, IsUnsound}
 use Rattle.store_scrub.specs.declared.fault.Unsound.{Unsound}
 use Rattle.store_scrub.specs.declared.fault.Unsound.TheVariants.{DiskFault, NoMemory}
 
 numbers_same : {operations seals number count : ℕ} → operations ≡ number → seals ≡ count
-    → sound_answer operations seals ≡ sound_answer number count
-numbers_same operations seals = λ i. sound_answer (operations i) (seals i)
+    → done_answer (codes "sound ") operations seals ≡ done_answer (codes "sound ") number count
+numbers_same operations seals = λ i. done_answer (codes "sound ") (operations i) (seals i)
 
 -- by the law of `store_scrub`
 pub one_sound : IsSoundInOneWay → (content : Area → List ℕ) (one other : Answer) → IsSoundAnswer content one
@@ -24,7 +24,7 @@ one_sound unique content one other is_one is_other =
 module _ (content : Area → List ℕ) where
   pub sound-given : IsSoundInOneWay → (operations seals : ℕ)
       → IsSound (content Journal) (content Sealed) operations seals → (written : List ℕ)
-      → written ≡ (sound_answer operations seals).printed
+      → written ≡ (done_answer (codes "sound ") operations seals).printed
       → IsScrubbed content record { status = Done; printed = written }
   sound-given unique operations seals sound written same =
       let is : IsSoundAnswer content record { status = Done; printed = written } = record {

@@ -1,2 +1,4 @@
+pub mod Making
+pub mod Repair
 pub mod Scrub
 pub mod Verdict

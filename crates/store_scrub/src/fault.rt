@@ -24,6 +24,31 @@ pub enum Unsound {
     NoMemory,
 }
 
+/// Why [`crate::repair`] didn't bring the archives back.
+#[derive(Clone, Copy, Debug, PartialEq, Eq)]
+pub enum RepairFault {
+    /// The journal has no payload. Nothing was written.
+    NotInit,
+    /// The journal's payload `index`, counted from 0, can't be there. `at` is the offset that a load of the store names.
+    /// Nothing was written.
+    BadRecord {
+        area: Area,
+        index: u32,
+        at: usize,
+    },
+    /// The sealed area of `size` bytes has no room for `needed` more within `capacity`. The seals that were appended
+    /// before stay.
+    Full {
+        size: u64,
+        needed: u64,
+        capacity: u64,
+    },
+    /// A device call failed.
+    DiskFault,
+    /// Out of memory.
+    NoMemory,
+}
+
 impl fmt::Display for Unsound {
     fn fmt<W: fmt::Write>(&self, f: &mut fmt::Formatter<W>) -> fmt::Result {
         match self {

@@ -1,4 +1,4 @@
-//! Looks for faults in a whole store.
+//! Looks for faults in a whole store, and makes its archives again from the journal.
 //!
 //! Begin with [`scrub`]. It writes nothing:
 //!
@@ -9,13 +9,19 @@
 //! }
 //! ```
 //!
-//! Stands on `feed_recovery` for the replay of the journal.
+//! If the journal is a history's, [`repair`] brings the sealed archives back. A crash within it leaves the journal and the
+//! first seals that were right, so a repair after the crash ends with the same history.
+//!
+//! Stands on `feed_recovery` for the replay of the journal, and on `archive_sealer` for the archives.
 #![tactic(auto)]
 
 mod fault;
 mod laws;
+mod making;
+mod repaired;
 mod sound;
 
-pub use fault::Unsound;
-pub use laws::stores_are_sound_in_one_way;
+pub use fault::{RepairFault, Unsound};
+pub use laws::{repairs_end_in_one_way, stores_are_sound_in_one_way};
+pub use repaired::{Repaired, repair};
 pub use sound::{Sound, scrub};

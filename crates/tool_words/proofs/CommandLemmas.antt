@@ -3,7 +3,7 @@ use Rattle.std.proofs.Common.{◌≡◌, ◌⊎◌, ℕ, List, [], ◌∷◌, Op
 use Rattle.std.proofs.Common.{codes, bytes_eq, Bool, true, false, sym, ◌∙◌, subst}
 use Rattle.atom_writer.specs.declared.doc.FeedName.{FeedName}
 use Rattle.tool_words.specs.Words.{IsApply, IsCommandOf, IsDiscover, IsDrill, IsForeign, IsInit, IsMirror, IsRelay}
-use Rattle.tool_words.specs.Words.{IsRestOf, IsServe, IsShow, word_of}
+use Rattle.tool_words.specs.Words.{IsRestOf, IsScrub, IsServe, IsShow, word_of}
 use Rattle.tool_words.specs.declared.command.Command.{Command}
 use Rattle.tool_words.specs.declared.command.Command.TheVariants.{Init, Apply, Show, Serve, Mirror, Audit, Drill, Foreign}
 use Rattle.tool_words.specs.declared.command.Command.TheVariants.{Discover, Relay, Scrub}
@@ -37,7 +37,7 @@ module _ (rest : List (List ℕ)) (r : Result Command WordsFault) where
       (By (bytes_eq word (codes "discover")) ((address : List ℕ) → IsDiscover rest address → IsRead (Discover address))
       (By (bytes_eq word (codes "relay")) ((base listen : List ℕ) (requests capacity : ℕ) →
       IsRelay rest base listen requests capacity → IsRead (Relay base listen requests capacity))
-      (rest ≡ [] → IsRead Scrub))))))))))
+      ((repair : Bool) → IsScrub rest repair → IsRead (Scrub repair)))))))))))
 
   by_word : (command : Command) → Only (word_of command) → IsRestOf rest command → IsRead command
   by_word (Init name window capacity) only = only name window capacity
@@ -50,7 +50,7 @@ module _ (rest : List (List ℕ)) (r : Result Command WordsFault) where
   by_word (Foreign from) only = only from
   by_word (Discover address) only = only address
   by_word (Relay base listen requests capacity) only = only base listen requests capacity
-  by_word Scrub only = only
+  by_word (Scrub repair) only = only repair
 
   -- the words are read as any command that they spell
   pub words_only : (words : List (List ℕ)) (word : List ℕ) → words ≡ word ∷ rest → Only word → (command : Command) →
@@ -129,6 +129,7 @@ module _ (words rest : List (List ℕ)) where
   relay_found (Err fault) spelt h = tt
 
   pub scrub_found : (r : Result Command WordsFault) → words ≡ codes "scrub" ∷ rest →
-      IfOk r (λ command. (command ≡ Scrub) × (rest ≡ [])) → IfOk r (IsCommandOf words)
-  scrub_found (Ok command) spelt (e, i) = found Scrub spelt i command e
+      IfOk r (λ command. (repair : Bool) × (command ≡ Scrub repair) × IsScrub rest repair) →
+      IfOk r (IsCommandOf words)
+  scrub_found (Ok command) spelt (repair, e, i) = found (Scrub repair) spelt i command e
   scrub_found (Err fault) spelt h = tt

@@ -8,7 +8,7 @@ use Rattle.tool_words.specs.Numbers.{IsNumber, number_value}
 use Rattle.tool_words.specs.Options.{value_of}
 use Rattle.tool_words.specs.Words.{IsApply, IsBaseText, IsDiscover, IsDrill, IsFeedIdText, IsForeign, IsHttpText}
 use Rattle.tool_words.specs.Words.{IsInit, IsListen, IsMirror, IsNamed, IsNameText, IsNumberOr, IsRelay, IsRequests}
-use Rattle.tool_words.specs.Words.{IsRestOf, IsServe, IsShow, foreign_options, init_options, mirror_flags}
+use Rattle.tool_words.specs.Words.{IsRestOf, IsScrub, IsServe, IsShow, foreign_options, init_options, mirror_flags}
 use Rattle.tool_words.specs.Words.{relay_options, word_of}
 use Rattle.tool_words.specs.Words.{mirror_options, serve_flags, serve_options, capacity_floor, capacity_limit, count_limit}
 use Rattle.tool_words.specs.Words.{default_capacity, default_window, request_limit, seed_limit, window_limit}
@@ -175,6 +175,12 @@ one_relay words a b l k m n c d x y =
     (value_of (codes "capacity") y.options) c d given.capacity_is y.is_capacity in
     λ i. Relay (base i) (listen i) (requests i) (capacity i)
 
+one_scrub : (words : List (List ℕ)) (a b : Bool) → IsScrub words a → IsScrub words b → Scrub a ≡ Scrub b
+one_scrub words false false x y = refl
+one_scrub words false true x y = let bad : [] ≡ codes "--repair" ∷ [] = sym x ∙ y in absurd cc
+one_scrub words true false x y = let bad : [] ≡ codes "--repair" ∷ [] = sym y ∙ x in absurd cc
+one_scrub words true true x y = refl
+
 -- of two results one of which is a command
 same_command : (one other : Command) → (◌≡◌ {A = Result Command WordsFault} (Ok one) (Ok other))
     ⊎ (◌≡◌ {A = Result Command WordsFault} (Ok one) (Err NoMemory)) → one ≡ other
@@ -193,7 +199,7 @@ only_of (Drill m c) rest x = λ n d y. inl (ap Ok (one_drill rest m n c d x y))
 only_of (Foreign a) rest x = λ b y. inl (ap Ok (one_foreign rest a b x y))
 only_of (Discover a) rest x = λ b y. inl (ap Ok (one_discover rest a b x y))
 only_of (Relay a l m c) rest x = λ b k n d y. inl (ap Ok (one_relay rest a b l k m n c d x y))
-only_of Scrub rest x = λ none. inl refl
+only_of (Scrub a) rest x = λ b y. inl (ap Ok (one_scrub rest a b x y))
 
 pub one_command : WordsSpellOneCommand
 one_command words one other (rest, e, x) y =

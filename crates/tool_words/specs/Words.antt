@@ -197,6 +197,11 @@ pub record IsRelay (words : List (List ℕ)) (base listen : List ℕ) (requests 
   pub is_capacity :
       IsNumberOr default_capacity capacity_floor capacity_limit (value_of (codes "capacity") options) capacity
 
+-- the words after `scrub`
+abbrev pub IsScrub : List (List ℕ) → Bool → Type 0
+IsScrub words false = words ≡ []
+IsScrub words true = words ≡ codes "--repair" ∷ []
+
 -- the first word of a command's words
 abbrev pub word_of : Command → List ℕ
 word_of (Init name window capacity) = codes "init"
@@ -209,7 +214,7 @@ word_of (Drill seed count) = codes "drill"
 word_of (Foreign from) = codes "foreign"
 word_of (Discover address) = codes "discover"
 word_of (Relay base listen requests capacity) = codes "relay"
-word_of Scrub = codes "scrub"
+word_of (Scrub repair) = codes "scrub"
 
 -- the words after a command's first word
 abbrev pub IsRestOf : List (List ℕ) → Command → Type 0
@@ -223,7 +228,7 @@ IsRestOf rest (Drill seed count) = IsDrill rest seed count
 IsRestOf rest (Foreign from) = IsForeign rest from
 IsRestOf rest (Discover address) = IsDiscover rest address
 IsRestOf rest (Relay base listen requests capacity) = IsRelay rest base listen requests capacity
-IsRestOf rest Scrub = rest ≡ []
+IsRestOf rest (Scrub repair) = IsScrub rest repair
 
 -- the words of a command
 abbrev pub IsCommandOf : List (List ℕ) → Command → Type 0

@@ -66,8 +66,11 @@ pub enum Command {
         requests: u32,
         capacity: u64,
     },
-    /// `scrub`: looks at the whole store, and says whether it is sound.
-    Scrub,
+    /// `scrub`: looks at the whole store, and says whether it is sound. If `repair`, it makes the archives again from
+    /// the journal.
+    Scrub {
+        repair: bool,
+    },
 }
 
 /// The document or listing that `show` prints.

@@ -14,7 +14,7 @@
 //!     Ok(Command::Foreign { from }) => ..,
 //!     Ok(Command::Discover { address }) => ..,
 //!     Ok(Command::Relay { base, listen, requests, capacity }) => ..,
-//!     Ok(Command::Scrub) => ..,
+//!     Ok(Command::Scrub { repair }) => ..,
 //!     Err(WordsFault::Usage) => println!(rt; "usage: ..")?,
 //!     Err(WordsFault::NoMemory) => ..,
 //! }
@@ -50,6 +50,7 @@ mod number;
 mod options;
 mod parse;
 mod relay;
+mod scrub;
 mod serve;
 mod words;
 

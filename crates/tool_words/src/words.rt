@@ -15,6 +15,7 @@ use crate::mirror::mirror;
 use crate::number::number;
 use crate::parse::placed;
 use crate::relay::relay;
+use crate::scrub::scrub;
 use crate::serve::serve;
 use std::alloc::Global;
 
@@ -88,17 +89,6 @@ fn audit(words: &[String]) -> Result<Command, WordsFault>
 {
     match words {
         [] => Ok(Command::Audit),
-        _ => Err(WordsFault::Usage),
-    }
-}
-
-/// Reads the words after `scrub`, which has none.
-fn scrub(words: &[String]) -> Result<Command, WordsFault>
-    ensures found { IfOk result (λ command. (command ≡ Command.Scrub) × (map string_bytes words.now ≡ [])) }
-    ensures only { map string_bytes words.now ≡ [] → result ≡ Ok Command.Scrub }
-{
-    match words {
-        [] => Ok(Command::Scrub),
         _ => Err(WordsFault::Usage),
     }
 }

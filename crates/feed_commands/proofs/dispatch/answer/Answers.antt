@@ -1,7 +1,7 @@
 use Rattle.std.proofs.lemmas.Result.{IfErr-weaker, IfOk-weaker}
 use Rattle.feed_disk.specs.declared.area.Area.TheVariants.{Journal, Mirror, Sealed}
 use Rattle.feed_recovery.proofs.LoadedLemmas.{alone-payloads}
-use Rattle.feed_commands.proofs.CommandLemmas.{init-given, document-given, scrub-given}
+use Rattle.feed_commands.proofs.CommandLemmas.{document-given, init-given, repair-given, scrub-given, scrub-is}
 use Rattle.feed_commands.proofs.dispatch.answer.Goals as goal
 
 pub returns-in-Init-clause-answer : goal.returns-in-Init-clause-answer
@@ -22,17 +22,29 @@ pub returns-in-Document-clause-refused : goal.returns-in-Document-clause-refused
 returns-in-Document-clause-refused g c = λ source. rw (c.in-Show.is, c.in-Document.is) (IfErr-weaker c.show.result _ _
     (λ fault given refusal seen. document-given _ _ (given refusal (seen.input tt))) c.show.ensures.refused)
 
-pub returns-in-Scrub-clause-answer : goal.returns-in-Scrub-clause-answer
-returns-in-Scrub-clause-answer g c = λ source. rw c.in-Scrub.is (IfOk-weaker c.scrub.result _ _
+pub returns-in-Scrub-false-clause-answer : goal.returns-in-Scrub-false-clause-answer
+returns-in-Scrub-false-clause-answer g c = λ source.
+    rw scrub-is c.in-Scrub-false.is c.in-Scrub-false.repair-test (IfOk-weaker c.scrub.result _ _
     (λ written given seen. scrub-given _ _ (given (seen.disk tt))) c.scrub.ensures.answer)
 
-pub returns-in-Scrub-clause-refused : goal.returns-in-Scrub-clause-refused
-returns-in-Scrub-clause-refused g c = λ source. rw c.in-Scrub.is (IfErr-weaker c.scrub.result _ _
+pub returns-in-Scrub-false-clause-refused : goal.returns-in-Scrub-false-clause-refused
+returns-in-Scrub-false-clause-refused g c = λ source.
+    rw scrub-is c.in-Scrub-false.is c.in-Scrub-false.repair-test (IfErr-weaker c.scrub.result _ _
     (λ fault given refusal seen. scrub-given _ _ (given refusal (seen.disk tt))) c.scrub.ensures.refused)
 
-pub returns-in-Scrub-clause-safe : goal.returns-in-Scrub-clause-safe
-returns-in-Scrub-clause-safe g c = λ adds observable.
+pub returns-in-Scrub-false-clause-safe : goal.returns-in-Scrub-false-clause-safe
+returns-in-Scrub-false-clause-safe g c = λ adds observable.
     alone-payloads _ _ (c.scrub.ensures.areas Journal) (c.scrub.ensures.areas Sealed)
 
-pub returns-in-Scrub-clause-mirror : goal.returns-in-Scrub-clause-mirror
-returns-in-Scrub-clause-mirror g c = c.scrub.ensures.areas Mirror
+pub returns-in-Scrub-false-clause-mirror : goal.returns-in-Scrub-false-clause-mirror
+returns-in-Scrub-false-clause-mirror g c = c.scrub.ensures.areas Mirror
+
+pub returns-in-Scrub-true-clause-answer : goal.returns-in-Scrub-true-clause-answer
+returns-in-Scrub-true-clause-answer g c = λ source.
+    rw scrub-is c.in-Scrub-true.is c.in-Scrub-true.repair-test (IfOk-weaker c.repair.result _ _
+    (λ written given seen. repair-given _ _ (given (seen.disk tt))) c.repair.ensures.answer)
+
+pub returns-in-Scrub-true-clause-refused : goal.returns-in-Scrub-true-clause-refused
+returns-in-Scrub-true-clause-refused g c = λ source.
+    rw scrub-is c.in-Scrub-true.is c.in-Scrub-true.repair-test (IfErr-weaker c.repair.result _ _
+    (λ fault given refusal seen. repair-given _ _ (given refusal (seen.disk tt))) c.repair.ensures.refused)

@@ -1,5 +1,6 @@
 use Rattle.std.proofs.Common.{◌≡◌, ◌⊎◌, inl, inr, ⊎_elim, ℕ, Err, true, false, refl, sym, subst, ap, ◌∙◌, arith}
 use Rattle.std.proofs.lemmas.Result.{on_ok_weaker}
+use Rattle.scrub_command.proofs.RepairEndLemmas.{ends-bad, ends-full, repair-weaker}
 use Rattle.tool_words.specs.declared.command.Command.TheVariants.{Audit, Discover, Drill, Foreign, Mirror, Relay, Serve, Show}
 use Rattle.tool_words.specs.declared.command.Show.TheVariants.{Pile}
 use Rattle.feed_disk.specs.declared.area.Area.TheVariants.{Journal, Sealed}
@@ -737,7 +738,11 @@ returns-in-Ok-write_all-clause-ends g c = read_all _ c.in-Ok.is c.read_words.ens
           (λ e. absurd (omega (arith, e, c.with_status-in-Ok-write_all.ensures.status))) (λ e. tt) applied.safe;
       opens = λ clock source answered. applied.opens clock source tt;
     })
-    c.answer.ensures.scrubbed)
+    c.answer.ensures.scrubbed
+    (λ is observable. repair-weaker (λ _. tt)
+    (λ e. absurd (omega (arith, e, c.with_status-in-Ok-write_all.ensures.status)))
+    (λ e. absurd (omega (arith, e, c.with_status-in-Ok-write_all.ensures.status)))
+    (c.in-Ok-answer.ensures.repaired is observable)))
 
 -- the output failed
 
@@ -799,7 +804,11 @@ returns-in-Ok-answer-clause-ends g c = read_all _ c.in-Ok.is c.read_words.ensure
           (λ e. absurd (omega (arith, e, c.with_status-in-Err-write_all.ensures.status))) (λ e. tt) applied.safe;
       opens = λ clock source answered. applied.opens clock source tt;
     })
-    c.answer.ensures.scrubbed)
+    c.answer.ensures.scrubbed
+    (λ is observable. repair-weaker (λ _. tt)
+    (λ e. absurd (omega (arith, e, c.with_status-in-Err-write_all.ensures.status)))
+    (λ e. absurd (omega (arith, e, c.with_status-in-Err-write_all.ensures.status)))
+    (c.in-Ok-answer.ensures.repaired is observable)))
 
 -- the command has a fault
 
@@ -897,4 +906,9 @@ returns-clause-ends g c = read_all _ c.in-Ok.is c.read_words.ensures.only
       opens = λ clock source answered.
           applied.opens clock source (answered-refusal c.in-Err.fault (subst IsAnswered is answered));
     })
-    c.answer.ensures.scrubbed)
+    c.answer.ensures.scrubbed
+    (λ same observable.
+    let is = c.with_status-in-Err.ensures.status ∙ ap code_of c.print_fault-in-Err.ensures.status in
+    repair-weaker (⊎_elim (λ e. absurd (no_end c.in-Err.fault (sym is ∙ e)))
+    (λ e. absurd (no_output c.in-Err.fault (sym is ∙ e))))
+    (ends-full refl is) (ends-bad refl is) (c.in-Err.ensures.repaired same observable)))

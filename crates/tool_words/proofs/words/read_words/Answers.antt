@@ -178,4 +178,4 @@ returns-in-scrub-clause-only c =
     let rest = map (string_bytes {Z = Global}) c.in-Some.rest.now in
     let spelt = ap (map (string_bytes {Z = Global})) c.in-Some.ensures.cases.0
     ∙ ap (λ word. word ∷ rest) (sym c.as_str.ensures.value ∙ c.in-scrub.is) in
-    words_only rest c.scrub.result words (codes "scrub") spelt (λ none. inl (c.scrub.ensures.only none))
+    words_only rest c.scrub.result words (codes "scrub") spelt (λ repair i. inl (c.scrub.ensures.only repair i))
