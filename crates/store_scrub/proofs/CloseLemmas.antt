@@ -6,10 +6,10 @@ use Rattle.std.proofs.lemmas.List.{append_assoc, take_all}
 use Rattle.feed_disk.specs.Disk.{DiskState}
 use Rattle.feed_disk.specs.Moments.{AlwaysLeaves, LeavesAlone, NowOnly}
 use Rattle.feed_disk.specs.declared.area.Area.{Area}
-use Rattle.feed_disk.proofs.MomentLemmas.{alone_leaves, always_begins, always_joins}
-use Rattle.feed_journal.specs.Laws.{BegunAreWhole}
+use Rattle.feed_disk.proofs.MomentLemmas.{alone_leaves, always_joins}
 use Rattle.feed_journal.specs.Limits.{least_size, payload_count_limit}
-use Rattle.feed_journal.specs.Log.{IsListed, IsSynced, LogValue, RestsAt, payloads_at}
+use Rattle.feed_journal.specs.Log.{IsListed, IsSynced, KeepsAll, KeepsFirst, LogValue, RestsAt}
+use Rattle.feed_journal.specs.Log.{payloads_at}
 use Rattle.feed_journal.specs.Records.{records, frame, frames, Begins, HasFirst, IsWhole, StartsWith}
 use Rattle.feed_journal.proofs.CutLemmas.{size_within}
 use Rattle.feed_journal.proofs.LoadLemmas.{starts_closed}
@@ -58,26 +58,18 @@ has-first k bytes few =
     let count : k ≡ length (take k (records bytes)) = omega (arith, length-take k (records bytes), few) in
     ap (λ (n : ℕ). take n (records bytes)) (sym count)
 
--- a synced area that is whole
-module _ (s : DiskState) (a : Area) (whole : IsWhole (s.content a)) where
-  pub closes-whole : ClosesArea s s a
-  closes-whole synced i may =
-      let is = synced i may in
-      (subst IsWhole (sym is) whole, ap records is)
-
-pub keeps-whole : (s : DiskState) (a : Area) → KeepsArea s s a
-keeps-whole s a = λ synced. always_begins s a (λ i. records i ≡ records (s.content a)) (λ i may. ap records (synced i may))
-
--- an area of which the gate was closed
-pub closes-begun : BegunAreWhole → (s t : DiskState) (a : Area) → StartsWith (records (s.content a)) (s.content a)
-    → RestsAt s t a (records (s.content a)) → ClosesArea s t a
-closes-begun law s t a starts rests synced i may = law (s.content a) i (rests starts i may)
-
-pub not-whole : (log : LogValue) (content : List ℕ) → KnowsFrames log content → log.whole ≡ false → ¬ IsWhole content
+-- an area that isn't whole
+not-whole : (log : LogValue) (content : List ℕ) → KnowsFrames log content → log.whole ≡ false → ¬ IsWhole content
 not-whole log content knows open_ whole = never (sym (knows.whole.1 whole) ∙ open_)
   where
     never : true ≡ false → ⊥
     never is = cc
+
+-- its gate is closed
+pub keeps-open : (s t : DiskState) (log : LogValue) (a b : Area) → a ≡ b → KnowsFrames log (s.content b)
+    → log.whole ≡ false → KeepsAll s t a → KeepsArea s t b
+keeps-open s t log a b same knows open_ keeps synced =
+    subst (KeepsAll s t) same keeps synced (not-whole log (s.content b) knows open_)
 
 pub keeps-alone : (s m t : DiskState) (a : Area) → KeepsArea s m a → LeavesAlone m t a → KeepsArea s t a
 keeps-alone s m t a keeps alone synced =
@@ -126,6 +118,23 @@ module _ (observable : Type 0) (s : DiskState) (a : Area) (log : LogValue) (kept
             is.readable.rules.follow (is.readable.list tells),
       );
     })
+
+-- the gate after the first payloads is closed
+module _ (s t : DiskState) (kept : ℕ) (a b : Area) (same : a ≡ b) where
+  pub cuts-area : StartsWith (records (s.content b)) (s.content b)
+      → records (t.content a) ≡ take kept (records (s.content a))
+      → RestsAt s t a (take kept (records (s.content a))) → CutsArea s t b kept
+  cuts-area starts list rests = record {
+    payloads = subst (λ (x : Area). records (t.content x) ≡ take kept (records (s.content x))) same list;
+    rests = λ _. subst (λ (x : Area). RestsAt s t x (take kept (records (s.content x)))) same rests
+        (starts-first kept (records (s.content b)) (s.content b) starts);
+  }
+
+  pub first-area : kept ≤ length (records (s.content b)) → KeepsFirst s t a (take kept (records (s.content a)))
+      → KeepsFirstOf s t b kept
+  first-area few keeps synced =
+      (subst (λ (x : Area). KeepsFirst s t x (take kept (records (s.content x)))) same keeps).first (λ i may.
+      subst (HasFirst (take kept (records (s.content b)))) (sym (synced i may)) (has-first kept (s.content b) few))
 
 -- the seals are cut after the area was left alone
 module _ (s m t : DiskState) (a : Area) (kept : ℕ) (alone : LeavesAlone s m a) where

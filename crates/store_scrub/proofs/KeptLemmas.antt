@@ -29,15 +29,16 @@ module _ (head : HeadValue) (history : List Op) where
   pub length-seals : (number : ℕ) → length (seals_of head history number) ≡ number
   length-seals zero = refl
   length-seals (suc number) =
+      let next : number + 1 ≡ suc number = omega arith in
       length-append (seals_of head history number) (seal_of head history (suc number) ∷ [])
-      ∙ ap (λ (n : ℕ). n + 1) (length-seals number)
+      ∙ ap (λ (n : ℕ). n + 1) (length-seals number) ∙ next
 
   pub seals-are : (number : ℕ) → AreSeals head history (seals_of head history number)
   seals-are zero n from_one within = absurd (omega (arith, from_one, within))
-  seals-are (suc number) =
+  seals-are (suc number) n from_one within =
       let next : suc number ≡ length (seals_of head history number) + 1 = omega (arith, length-seals number) in
       seals-push head history (seals_of head history number) (seal_of head history (suc number)) (seals-are number)
-      (ap (seal_of head history) next)
+      (ap (seal_of head history) next) n from_one within
 
   -- the payloads are the first seals
   pub seals-taken : (payloads : List (List ℕ)) → AreSeals head history payloads → (number : ℕ)

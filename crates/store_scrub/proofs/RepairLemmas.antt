@@ -1,6 +1,7 @@
 -- A repair, from its sync of both areas to the last seal that it makes.
-use Rattle.std.proofs.Common.{◌≡◌, ◌≢◌, ◌≤◌, inl, inr, ℕ, ◌+◌, ◌-◌, max, List, length, take, refl, sym, ◌∙◌, ap, subst}
+use Rattle.std.proofs.Common.{◌≡◌, ◌≢◌, ◌≤◌, inl, inr, ℕ, ◌+◌, ◌-◌, max, List, length, Result, Ok, Err, take, refl, sym, ◌∙◌, ap, subst}
 use Rattle.std.proofs.Common.{arith}
+use Rattle.std.specs.Prelude.{IfOk, OnOk}
 use Rattle.std.proofs.Math.Seq.{take-length}
 use Rattle.std.proofs.lemmas.Bool.{cases_lt}
 use Rattle.feed_disk.specs.Disk.{DiskState, IsDisk}
@@ -148,6 +149,7 @@ module _ (s m t : DiskState) (journal : AlwaysLeaves s m Journal (s.image_now Jo
         pub rebuild-full : (size needed capacity : ℕ) → fault ≡ Full size needed capacity
             → StopsFull (records (s.content Journal)) (records (s.content Sealed)) (records (u.content Sealed)) size
             needed capacity
+        unfolding too-long
         rebuild-full size needed capacity is =
             let room : HasNoRoom u head history kept size needed capacity =
             subst (IsRebuildFault u head history kept) is why in
@@ -185,7 +187,7 @@ module _ (s m t : DiskState) (journal : AlwaysLeaves s m Journal (s.image_now Jo
 
       -- and at the end all of them
       module _ (law : BegunAreWhole) (rebuilds : Rebuilds t u kept) where
-        most : ℕ
+        abbrev most : ℕ
         most = max kept (windows_of head history).sealed
 
         is-count : IsSealCount head history most
@@ -231,8 +233,24 @@ module _ (s m t : DiskState) (journal : AlwaysLeaves s m Journal (s.image_now Jo
 -- a fault of the first pass
 pub survey-refused : (journal sealed : List (List ℕ)) (fault : RepairFault) → IsSurveyFault journal fault
     → IsRepairFault journal sealed fault
-survey-refused journal sealed NotInit why = why
-survey-refused journal sealed (BadRecord area index at) why = why
-survey-refused journal sealed (Full size needed capacity) why = absurd why
-survey-refused journal sealed DiskFault why = tt
-survey-refused journal sealed NoMemory why = tt
+survey-refused journal sealed NotInit cause = cause
+survey-refused journal sealed (BadRecord area index at) cause = cause
+survey-refused journal sealed (Full size needed capacity) cause = absurd cause
+survey-refused journal sealed DiskFault cause = tt
+survey-refused journal sealed NoMemory cause = tt
+
+pub both-ok : {T E : Type 0} (result : Result T E) (P : T → Type 0) (Q : Type 0) (R : T → Type 0)
+    → ((x : T) → P x → Q → R x) → IfOk result P → OnOk result Q → IfOk result R
+both-ok (Ok x) P Q R to first second = to x first second
+both-ok (Err e) P Q R to first second = tt
+
+pub err-only : {T : Type 0} (fault : RepairFault)
+    → (fault ≢ NotInit) × ((area : Area) (index at : ℕ) → fault ≢ BadRecord area index at)
+    → (◌≡◌ {A = Result T RepairFault} (Err fault) (Err NotInit) → ⊥)
+    × ((area : Area) (index at : ℕ)
+    → ◌≡◌ {A = Result T RepairFault} (Err fault) (Err (BadRecord area index at)) → ⊥)
+err-only fault only =
+    (λ is. only.0 (one-fault fault NotInit is), λ area index at is. only.1 area index at (one-fault fault _ is))
+  where
+    one-fault : (a b : RepairFault) → ◌≡◌ {A = Result T RepairFault} (Err a) (Err b) → a ≡ b
+    one-fault a b is = cc

@@ -79,7 +79,7 @@ pub fn repair<D: Disk>(alloc: Global, disk: &mut D) -> Result<Repaired, RepairFa
 }
 
 /// What the first pass of a repair found.
-#[derive(Debug, Drop)]
+#[derive(Drop)]
 struct Survey {
     /// How many of the first seals are right.
     kept: u32,
