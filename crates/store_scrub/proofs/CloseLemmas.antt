@@ -1,7 +1,6 @@
 -- The two areas after their gates were closed.
-use Rattle.std.proofs.Common.{◌≡◌, ◌↔◌, ◌⊎◌, inl, inr, ⊎_elim, true, false, ℕ, zero, suc, ◌+◌, ◌-◌, ◌<◌, ◌≤◌, min, List, []}
+use Rattle.std.proofs.Common.{◌≡◌, ⊎_elim, true, false, ℕ, zero, suc, ◌≤◌, min, List, []}
 use Rattle.std.proofs.Common.{◌∷◌, ◌++◌, length, take, drop, refl, sym, ◌∙◌, ap, subst, arith, length-take}
-use Rattle.std.specs.Prelude.{IsTrue}
 use Rattle.std.proofs.lemmas.List.{append_assoc, take_all}
 use Rattle.feed_disk.specs.Disk.{DiskState}
 use Rattle.feed_disk.specs.Moments.{AlwaysLeaves, LeavesAlone, NowOnly}
@@ -13,7 +12,6 @@ use Rattle.feed_journal.specs.Log.{payloads_at}
 use Rattle.feed_journal.specs.Records.{records, frame, frames, Begins, HasFirst, IsWhole, StartsWith}
 use Rattle.feed_journal.proofs.CutLemmas.{size_within}
 use Rattle.feed_journal.proofs.LoadLemmas.{starts_closed}
-use Rattle.feed_recovery.specs.Loading.{IsReadable}
 use Rattle.feed_recovery.proofs.ReadingLemmas.{listed-count}
 use Rattle.store_scrub.specs.Rebuild.{ClosesArea, CutsArea, KeepsArea, KeepsFirstOf}
 use Rattle.store_scrub.specs.Survey.{IsSurveyed, KnowsFrames}

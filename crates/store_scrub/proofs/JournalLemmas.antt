@@ -1,11 +1,11 @@
 -- The journal of a history has no bad record.
-use Rattle.std.proofs.Common.{◌≡◌, ◌≢◌, inl, inr, ⊎_elim, ℕ, zero, suc, ◌≤◌, List, [], ◌∷◌, map, take, Option, Some}
+use Rattle.std.proofs.Common.{◌≡◌, ◌≢◌, inl, inr, ⊎_elim, ℕ, zero, suc, ◌≤◌, List, [], take, Option, Some}
 use Rattle.std.proofs.Common.{None, All, refl, sym, ◌∙◌, ap, subst, arith}
 use Rattle.std.specs.Prelude.{slice_get, option_map}
 use Rattle.std.proofs.lemmas.Option.{slice_get_within, slice_get-map, get_or_from_slice_get}
 use Rattle.atom_writer.specs.Pieced.{text_of}
 use Rattle.atom_writer.proofs.PiecedLemmas.{one_reading}
-use Rattle.feed_recovery.specs.Faults.{IsBadHead, IsBadOperation, IsBadRecord, IsFirstBad}
+use Rattle.feed_recovery.specs.Faults.{IsBadOperation, IsBadRecord, IsFirstBad}
 use Rattle.feed_recovery.specs.Opening.{IsJournal, journal_of}
 use Rattle.feed_recovery.proofs.FaultLemmas.{journal_one, journal_take, some_same}
 use Rattle.member_rules.specs.Coding.{heads, operations}

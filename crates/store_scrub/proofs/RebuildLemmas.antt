@@ -1,12 +1,12 @@
 -- A rebuild of the sealed area, after the first pass of a repair.
-use Rattle.std.proofs.Common.{◌≡◌, ◌≢◌, ◌≤◌, ℕ, List, Result, Err, length, take, refl, sym, ◌∙◌, ap, subst, arith}
+use Rattle.std.proofs.Common.{◌≡◌, ℕ, List, Result, Err, take, refl, ◌∙◌, subst}
 use Rattle.feed_disk.specs.Disk.{DiskState, IsDisk}
 use Rattle.feed_disk.specs.Moments.{AlwaysLeaves, LeavesAlone, NowOnly}
 use Rattle.feed_disk.specs.declared.area.Area.{Area}
 use Rattle.feed_disk.specs.declared.area.Area.TheVariants.{Journal, Sealed}
 use Rattle.feed_disk.proofs.MomentLemmas.{alone_leaves, always_joins, always_weaker}
 use Rattle.feed_journal.specs.Records.{records, Begins, HasFirst, IsWhole}
-use Rattle.feed_recovery.specs.Opening.{IsJournal, journal_of}
+use Rattle.feed_recovery.specs.Opening.{journal_of}
 use Rattle.feed_recovery.specs.Stored.{seals_of}
 use Rattle.member_rules.specs.Head.{HeadValue}
 use Rattle.member_rules.specs.declared.operation.Op.{Op}

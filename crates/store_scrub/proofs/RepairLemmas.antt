@@ -1,11 +1,11 @@
 -- A repair, from its sync of both areas to the last seal that it makes.
-use Rattle.std.proofs.Common.{◌≡◌, ◌≢◌, ◌≤◌, inl, inr, ℕ, ◌+◌, ◌-◌, max, List, length, Result, Ok, Err, take, refl, sym, ◌∙◌, ap, subst}
+use Rattle.std.proofs.Common.{◌≡◌, ◌≢◌, inl, inr, ℕ, ◌-◌, max, List, length, Result, Ok, Err, sym, ◌∙◌, ap, subst}
 use Rattle.std.proofs.Common.{arith}
 use Rattle.std.specs.Prelude.{IfOk, OnOk}
 use Rattle.std.proofs.Math.Seq.{take-length}
 use Rattle.std.proofs.lemmas.Bool.{cases_lt}
 use Rattle.feed_disk.specs.Disk.{DiskState, IsDisk}
-use Rattle.feed_disk.specs.Moments.{AlwaysLeaves, LeavesAlone}
+use Rattle.feed_disk.specs.Moments.{AlwaysLeaves}
 use Rattle.feed_disk.specs.declared.area.Area.{Area}
 use Rattle.feed_disk.specs.declared.area.Area.TheVariants.{Journal, Sealed}
 use Rattle.feed_disk.proofs.MomentLemmas.{always_joins, always_weaker}
@@ -16,12 +16,12 @@ use Rattle.feed_recovery.specs.Opening.{AreSeals, IsJournal, IsSealCount, Opens,
 use Rattle.feed_recovery.specs.Settled.{Settled}
 use Rattle.feed_recovery.specs.Stored.{seals_of}
 use Rattle.feed_recovery.proofs.FaultLemmas.{journal_one}
-use Rattle.member_rules.specs.Head.{HeadValue, IsHead}
+use Rattle.member_rules.specs.Head.{HeadValue}
 use Rattle.member_rules.specs.Windows.{windows_of}
 use Rattle.member_rules.specs.declared.operation.Op.{Op}
 use Rattle.member_rules.proofs.CutLemmas.{windows-sealed}
 use Rattle.store_scrub.specs.Making.{HasNoRoom, all_seals}
-use Rattle.store_scrub.specs.Rebuild.{IsReady, IsRebuildFault, IsRebuilt, Rebuilds, RebuildsSafely, StopsBy}
+use Rattle.store_scrub.specs.Rebuild.{IsReady, IsRebuildFault, Rebuilds, RebuildsSafely, StopsBy}
 use Rattle.store_scrub.specs.Repair.{HasLeft, IsKeptCount, IsRepaired, IsRepairFault, IsTooLong, LeavesFirst}
 use Rattle.store_scrub.specs.Repair.{LeavesUnwritten, RepairsSafely, SettlesStore, StopsFull}
 use Rattle.store_scrub.specs.Survey.{HasSurvey, HasSynced, IsSurveyFault}
@@ -249,7 +249,7 @@ pub err-only : {T : Type 0} (fault : RepairFault)
     → (◌≡◌ {A = Result T RepairFault} (Err fault) (Err NotInit) → ⊥)
     × ((area : Area) (index at : ℕ)
     → ◌≡◌ {A = Result T RepairFault} (Err fault) (Err (BadRecord area index at)) → ⊥)
-err-only fault only =
+err-only {T} fault only =
     (λ is. only.0 (one-fault fault NotInit is), λ area index at is. only.1 area index at (one-fault fault _ is))
   where
     one-fault : (a b : RepairFault) → ◌≡◌ {A = Result T RepairFault} (Err a) (Err b) → a ≡ b

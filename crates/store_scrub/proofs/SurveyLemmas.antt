@@ -1,5 +1,5 @@
 -- The first pass of a repair.
-use Rattle.std.proofs.Common.{◌≡◌, ◌≢◌, ◌≤◌, ℕ, false, List, length, Option, Some, None, Result, Err, refl, sym, ◌∙◌, ap}
+use Rattle.std.proofs.Common.{◌≡◌, ◌≤◌, ℕ, false, List, length, Option, Some, None, Result, Err, refl, sym}
 use Rattle.std.proofs.Common.{subst}
 use Rattle.std.specs.Prelude.{IfSome}
 use Rattle.atom_values.specs.Counts.{CountsFault}
@@ -22,9 +22,7 @@ use Rattle.feed_recovery.specs.declared.fault.LoadFault.TheVariants.{NotInit as 
 use Rattle.feed_recovery.specs.declared.fault.LoadFault.TheVariants.{SealCount as LoadSealCount, BadSeal as LoadBadSeal}
 use Rattle.feed_recovery.specs.declared.fault.LoadFault.TheVariants.{DiskFault as LoadDiskFault, NoMemory as LoadNoMemory}
 use Rattle.feed_recovery.proofs.ReadingLemmas.{readable_later}
-use Rattle.member_rules.specs.Head.{HeadValue}
 use Rattle.member_rules.specs.Windows.{windows_of}
-use Rattle.member_rules.specs.declared.operation.Op.{Op}
 use Rattle.store_scrub.specs.Repair.{IsKeptCount}
 use Rattle.store_scrub.specs.Survey.{CountsKept, HasSurvey, IsFoundSeal, IsSurveyed, IsSurveyFault, KnowsFrames}
 use Rattle.store_scrub.specs.Survey.{repair_fault_of}

@@ -1,5 +1,5 @@
 -- The two areas after their syncs.
-use Rattle.std.proofs.Common.{◌≡◌, ◌≤◌, ℕ, List, Result, ◌∙◌, sym, arith}
+use Rattle.std.proofs.Common.{◌≡◌, Result, ◌∙◌}
 use Rattle.feed_disk.specs.Disk.{CountsCall, DiskState, Passes, PassesBy}
 use Rattle.feed_disk.specs.Moments.{AlwaysLeaves, LeavesAlone}
 use Rattle.feed_disk.specs.declared.area.Area.{Area}

@@ -20,8 +20,8 @@ pub returns-clause-found : goal.returns-clause-found
 returns-clause-found g c = λ tells.
     let s = g.D.Disk.state c.args.disk.now in
     let ok = c.in-Ok.ensures in
-    has-survey s (g.D.Disk.state c.read.new.disk) c.in-Ok.replayed c.kept_count-kept.result c.sealed.result c.len.result
+    has-survey s (g.D.Disk.state c.read.new.disk) c.in-Ok.replayed c.kept_count-kept.result c.sealed-sealed.result c.len.result
     c.read.ensures.reads (ok.journal tells) (ok.compared tells)
     (listed-count c.args.seals (s.content Sealed) (c.requires.seals.readable.list tells)
     ∙ sym (c.len.ensures ∙ ap (λ (l : LogValue). length l.extents) ok.worked.seals_log))
-    c.kept_count-kept.ensures.kept c.sealed.ensures
+    c.kept_count-kept.ensures.kept c.sealed-sealed.ensures
