@@ -1,4 +1,6 @@
 pub mod Making
+pub mod Rebuild
 pub mod Repair
 pub mod Scrub
+pub mod Survey
 pub mod Verdict

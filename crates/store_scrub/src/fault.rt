@@ -1,5 +1,6 @@
+use atom_values::{Failed, NoMemory};
 use feed_disk::Area;
-use feed_journal::LogFault;
+use feed_journal::{DiskFault, LogFault};
 use feed_recovery::LoadFault;
 use std::error::Error;
 use std::fmt;
@@ -71,6 +72,40 @@ impl fmt::Display for Unsound {
 
 impl Error for Unsound {}
 
+impl fmt::Display for RepairFault {
+    fn fmt<W: fmt::Write>(&self, f: &mut fmt::Formatter<W>) -> fmt::Result {
+        match self {
+            RepairFault::NotInit => write!(f, "the disk has no store"),
+            RepairFault::BadRecord { index, at, .. } => {
+                write!(f, "record {index} of the journal is bad at byte {at}")
+            }
+            RepairFault::Full {
+                size,
+                needed,
+                capacity,
+            } => write!(
+                f,
+                "the sealed area has {size} bytes, and no room for {needed} more within {capacity}"
+            ),
+            RepairFault::DiskFault => write!(f, "disk fault"),
+            RepairFault::NoMemory => write!(f, "out of memory"),
+        }
+    }
+}
+
+impl Error for RepairFault {}
+
+impl From<NoMemory> for RepairFault {
+    ghost use Rattle.std.specs.Prelude.{◌≡◌};
+    ghost use Rattle.store_scrub.specs.declared.fault.RepairFault.TheVariants.{NoMemory};
+
+    ghost from_gives = { λ _ fault. fault ≡ NoMemory };
+
+    fn from(_error: NoMemory) -> RepairFault {
+        RepairFault::NoMemory
+    }
+}
+
 impl From<LogFault> for Unsound {
     ghost use Rattle.std.specs.Prelude.{◌≡◌};
     ghost use Rattle.feed_journal.specs.declared.fault.LogFault.TheVariants.{DiskFault as LogDiskFault};
@@ -103,6 +138,65 @@ impl From<LoadFault> for Unsound {
             LoadFault::BadSeal { index } => Unsound::BadSeal { index },
             LoadFault::DiskFault => Unsound::DiskFault,
             LoadFault::NoMemory => Unsound::NoMemory,
+        }
+    }
+}
+
+impl From<DiskFault> for RepairFault {
+    ghost use Rattle.std.specs.Prelude.{◌≡◌};
+    ghost use Rattle.store_scrub.specs.declared.fault.RepairFault.TheVariants.{DiskFault};
+
+    ghost from_gives = { λ _ fault. fault ≡ DiskFault };
+
+    fn from(_fault: DiskFault) -> RepairFault {
+        RepairFault::DiskFault
+    }
+}
+
+impl From<LogFault> for RepairFault {
+    ghost use Rattle.std.specs.Prelude.{◌≡◌};
+    ghost use Rattle.feed_journal.specs.declared.fault.LogFault.TheVariants.{DiskFault as LogDiskFault};
+    ghost use Rattle.feed_journal.specs.declared.fault.LogFault.TheVariants.{NoMemory as LogNoMemory};
+    ghost use Rattle.store_scrub.specs.declared.fault.RepairFault.TheVariants.{DiskFault, NoMemory};
+
+    ghost from_gives = { λ log fault.
+        (log ≡ LogDiskFault → fault ≡ DiskFault) × (log ≡ LogNoMemory → fault ≡ NoMemory) };
+
+    fn from(fault: LogFault) -> RepairFault {
+        match fault {
+            LogFault::DiskFault => RepairFault::DiskFault,
+            // A look at a log never returns `Changed`.
+            LogFault::Changed { .. } | LogFault::NoMemory => RepairFault::NoMemory,
+        }
+    }
+}
+
+impl From<Failed> for RepairFault {
+    ghost use Rattle.std.specs.Prelude.{◌≡◌};
+    ghost use Rattle.store_scrub.specs.declared.fault.RepairFault.TheVariants.{DiskFault};
+
+    ghost from_gives = { λ _ fault. fault ≡ DiskFault };
+
+    fn from(_failed: Failed) -> RepairFault {
+        RepairFault::DiskFault
+    }
+}
+
+impl From<LoadFault> for RepairFault {
+    ghost use Rattle.std.specs.Prelude.{◌≡◌};
+    ghost use Rattle.store_scrub.specs.Survey.{repair_fault_of};
+
+    ghost from_gives = { λ load fault. fault ≡ repair_fault_of load };
+
+    fn from(fault: LoadFault) -> RepairFault {
+        match fault {
+            LoadFault::NotInit => RepairFault::NotInit,
+            LoadFault::BadRecord { area, index, at } => RepairFault::BadRecord { area, index, at },
+            LoadFault::DiskFault => RepairFault::DiskFault,
+            // A replay of the journal refuses neither the number of the seals nor a wrong one.
+            LoadFault::SealCount { .. } | LoadFault::BadSeal { .. } | LoadFault::NoMemory => {
+                RepairFault::NoMemory
+            }
         }
     }
 }
