@@ -1,5 +1,6 @@
+use atom_values::NoMemory;
 use feed_disk::Area;
-use feed_journal::LogFault;
+use feed_journal::{DiskFault, LogFault};
 use feed_recovery::LoadFault;
 use std::error::Error;
 use std::fmt;
@@ -71,6 +72,17 @@ impl fmt::Display for Unsound {
 
 impl Error for Unsound {}
 
+impl From<NoMemory> for RepairFault {
+    ghost use Rattle.std.specs.Prelude.{◌≡◌};
+    ghost use Rattle.store_scrub.specs.declared.fault.RepairFault.TheVariants.{NoMemory};
+
+    ghost from_gives = { λ _ fault. fault ≡ NoMemory };
+
+    fn from(_error: NoMemory) -> RepairFault {
+        RepairFault::NoMemory
+    }
+}
+
 impl From<LogFault> for Unsound {
     ghost use Rattle.std.specs.Prelude.{◌≡◌};
     ghost use Rattle.feed_journal.specs.declared.fault.LogFault.TheVariants.{DiskFault as LogDiskFault};
@@ -103,6 +115,35 @@ impl From<LoadFault> for Unsound {
             LoadFault::BadSeal { index } => Unsound::BadSeal { index },
             LoadFault::DiskFault => Unsound::DiskFault,
             LoadFault::NoMemory => Unsound::NoMemory,
+        }
+    }
+}
+
+impl From<DiskFault> for RepairFault {
+    ghost use Rattle.std.specs.Prelude.{◌≡◌};
+    ghost use Rattle.store_scrub.specs.declared.fault.RepairFault.TheVariants.{DiskFault};
+
+    ghost from_gives = { λ _ fault. fault ≡ DiskFault };
+
+    fn from(_fault: DiskFault) -> RepairFault {
+        RepairFault::DiskFault
+    }
+}
+
+impl From<LogFault> for RepairFault {
+    ghost use Rattle.std.specs.Prelude.{◌≡◌};
+    ghost use Rattle.feed_journal.specs.declared.fault.LogFault.TheVariants.{DiskFault as LogDiskFault};
+    ghost use Rattle.feed_journal.specs.declared.fault.LogFault.TheVariants.{NoMemory as LogNoMemory};
+    ghost use Rattle.store_scrub.specs.declared.fault.RepairFault.TheVariants.{DiskFault, NoMemory};
+
+    ghost from_gives = { λ log fault.
+        (log ≡ LogDiskFault → fault ≡ DiskFault) × (log ≡ LogNoMemory → fault ≡ NoMemory) };
+
+    fn from(fault: LogFault) -> RepairFault {
+        match fault {
+            LogFault::DiskFault => RepairFault::DiskFault,
+            // A look at a log never returns `Changed`.
+            LogFault::Changed { .. } | LogFault::NoMemory => RepairFault::NoMemory,
         }
     }
 }
