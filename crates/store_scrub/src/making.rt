@@ -20,7 +20,7 @@ ghost use Rattle.store_scrub.specs.Steps.{IsSealFault, IsStepFault, IsTakeFault,
 
 use crate::fault::RepairFault;
 use archive_sealer::Window;
-use atom_values::Copies;
+use atom_values::{Copies, NoMemory};
 use atom_writer::write_doc;
 use feed_disk::{Area, Disk};
 use feed_journal::{Frame, FrameReader, Framed, Log, LogFault};
@@ -78,14 +78,7 @@ fn make_read<D: Disk>(
         (result ≡ Err RepairFault.DiskFault) }
 {
     let head = head_of(alloc, disk, reader)?;
-    let title = match head.name.title.copy(alloc) {
-        Ok(title) => title,
-        Err(fault) => {
-            drop(head);
-            return Err(RepairFault::from(fault));
-        }
-    };
-    let mut window = match Window::new(alloc, head.window, title) {
+    let mut window = match window_of(alloc, &head) {
         Ok(window) => window,
         Err(fault) => {
             drop(head);
@@ -96,6 +89,15 @@ fn make_read<D: Disk>(
     drop(window);
     drop(head);
     outcome
+}
+
+/// Returns the window of a feed before its first operation.
+fn window_of(alloc: Global, head: &Head) -> Result<Window, NoMemory>
+    ensures feed { IfOk result (λ window. IsOfFeed window head.now) }
+    ensures none { IfOk result (λ window. window.history ≡ []) }
+{
+    let title = head.name.title.copy(alloc)?;
+    Window::new(alloc, head.window, title)
 }
 
 /// Reads the operations, the payloads after the head, and appends the missing seal of each window before the operation
@@ -119,8 +121,10 @@ fn make_each<D: Disk>(
         (result ≡ Err RepairFault.DiskFault) }
 {
     'frames: loop {
-        if !make_next(alloc, disk, reader, seals, head, window)? {
-            return Ok(());
+        match make_next(alloc, disk, reader, seals, head, window) {
+            Ok(true) => {}
+            Ok(false) => return Ok(()),
+            Err(fault) => return Err(fault),
         }
     }
 }
@@ -152,8 +156,13 @@ fn make_next<D: Disk>(
     let Some(frame) = next_frame(disk, reader)? else {
         return Ok(false);
     };
-    append_seal(alloc, disk, seals, head, window)?;
-    take(alloc, window, &frame)?;
+    if let Err(fault) = append_seal(alloc, disk, seals, head, window) {
+        drop(frame);
+        return Err(fault);
+    }
+    let taken = take(alloc, window, &frame);
+    drop(frame);
+    taken?;
     Ok(true)
 }
 
