@@ -1,8 +1,8 @@
 -- The second reading of a journal: what was read of it, and the seals that were appended.
 use Rattle.std.proofs.Common.{◌≡◌, ◌≢◌, inl, inr, ℕ, zero, suc, ◌+◌, ◌<◌, ◌≤◌, min, max, List, [], ◌∷◌, ◌++◌, length}
 use Rattle.std.proofs.Common.{map, take, Option, Some, None, All, refl, sym, ◌∙◌, ap, subst, arith, length-append}
-use Rattle.std.proofs.Common.{length-take}
-use Rattle.std.specs.Prelude.{slice_get, option_map}
+use Rattle.std.proofs.Common.{Result, Ok, Err, length-take}
+use Rattle.std.specs.Prelude.{OnOk, slice_get, option_map}
 use Rattle.std.proofs.Math.Seq.{take-append_seam, take-length}
 use Rattle.std.proofs.lemmas.Bool.{cases_lt}
 use Rattle.std.proofs.lemmas.List.{length-map, take-take, take_all}
@@ -27,7 +27,7 @@ use Rattle.feed_recovery.specs.Stored.{seals_of}
 use Rattle.feed_recovery.proofs.FaultLemmas.{some_same}
 use Rattle.feed_recovery.proofs.HistoryLemmas.{take_next}
 use Rattle.feed_recovery.proofs.LoadedLemmas.{begins_still}
-use Rattle.feed_recovery.proofs.ReadingLemmas.{readable_alone}
+use Rattle.feed_recovery.proofs.ReadingLemmas.{readable_alone, reads_begin}
 use Rattle.member_rules.specs.Coding.{heads, operations}
 use Rattle.member_rules.specs.Documents.{archive}
 use Rattle.member_rules.specs.Head.{HeadValue, IsHead}
@@ -54,6 +54,10 @@ pub counts-then : (a b c : ℕ) (first second : Type 0) → CountsFault a b firs
 counts-then a b c first second one none two =
     let same = one.unfailed none in
     subst (λ (n : ℕ). CountsFault n c second) same two
+
+pub on-ok : {T E : Type 0} (result : Result T E) (P Q : Type 0) → (P → Q) → OnOk result P → OnOk result Q
+on-ok (Ok value) P Q then holds = then holds
+on-ok (Err fault) P Q then holds = tt
 
 -- What was read of the journal.
 
@@ -505,6 +509,9 @@ pub keeps-reads : (s t : DiskState) → OnlyReads s t → KeepsRecords s t
 keeps-reads s t reads begins =
     alone_leaves s t Sealed (HasFirst (records (s.content Sealed))) (λ i may. begun-first (s.content Sealed) i
     (begins i may)) (reads.areas Sealed)
+
+pub keeps-still : (s : DiskState) → KeepsRecords s s
+keeps-still s = keeps-reads s s (reads_begin s)
 
 pub keeps-after : (s m t : DiskState) → OnlyReads s m → KeepsRecords m t → KeepsRecords s t
 keeps-after s m t reads run begins =

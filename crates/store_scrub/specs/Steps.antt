@@ -34,14 +34,14 @@ pub record IsAppendable (observable : Type 0) (disk : DiskState) (log : LogValue
   pub listed : observable → IsListed log (disk.content Sealed)
 
 -- the head and the operations of the window were read, and seals can be appended
-pub record IsMaking (observable : Type 0) (disk : DiskState) (reader : ReadingValue) (seals : LogValue)
+pub record IsMaking (observable : Type 0) (disk : DiskState) (reading : ReadingValue) (log : LogValue)
     (head : HeadValue) (window : WindowValue) : Type 0 where
   pub is_head : IsHead head
   pub of_feed : IsOfFeed window head
-  pub reader : IsReader observable disk reader
-  pub rules : IsLog reader.log
-  pub count : length reader.log.extents ≡ length window.history + 1
-  pub seals : IsAppendable observable disk seals
+  pub reader : IsReader observable disk reading
+  pub rules : IsLog reading.log
+  pub count : length reading.log.extents ≡ length window.history + 1
+  pub seals : IsAppendable observable disk log
   pub begun : observable → IsBegun (records (disk.content Journal)) head window.history
 
 -- the seal of the last window is the next one
@@ -73,11 +73,11 @@ KeepsRecords before after =
 
 -- one more operation was read, and the seal before it was appended
 pub record HasMadeOne (observable : Type 0) (before after : DiskState) (reader reader' : ReadingValue)
-    (head : HeadValue) (history history' : List Op) : Type 0 where
+    (head : HeadValue) (begun begun' : List Op) : Type 0 where
   pub operation : Op
-  pub history : history' ≡ history ++ operation ∷ []
+  pub history : begun' ≡ begun ++ operation ∷ []
   pub longer : reader.log.size < reader'.log.size
-  pub sealed : observable → HasSealed before after head history
+  pub sealed : observable → HasSealed before after head begun
 
 -- no operation was left
 pub record HasMadeLast (observable : Type 0) (before after : DiskState) (history : List Op) : Type 0 where
