@@ -18,10 +18,11 @@ use Rattle.feed_disk.specs.declared.area.Area.TheVariants.{Journal, Sealed}
 use Rattle.feed_disk.proofs.MomentLemmas.{alone_joins, alone_leaves, always_begins, always_joins, always_weaker}
 use Rattle.feed_journal.specs.Limits.{payload_count_limit}
 use Rattle.feed_journal.specs.Log.{IsListed, KeepsAtRest, LeavesOneList, LogValue}
+use Rattle.feed_journal.specs.Reading.{IsReading, ReadingValue}
 use Rattle.feed_journal.specs.Records.{records, size_of, Begins, HasFirst, IsStep}
 use Rattle.feed_journal.proofs.AppendLemmas.{begins_reads}
 use Rattle.feed_journal.proofs.RecordLemmas.{small_read, few_read}
-use Rattle.feed_recovery.specs.Loading.{IsTaken, OnlyReads}
+use Rattle.feed_recovery.specs.Loading.{IsReader, IsTaken, OnlyReads}
 use Rattle.feed_recovery.specs.Opening.{IsJournal, journal_of, seal_of}
 use Rattle.feed_recovery.specs.Stored.{seals_of}
 use Rattle.feed_recovery.proofs.FaultLemmas.{some_same}
@@ -525,6 +526,14 @@ pub appendable-after : (observable : Type 0) (s m : DiskState) (log : LogValue) 
 appendable-after observable s m log reads is = record {
   readable = readable_alone observable s m Sealed log is.readable reads;
   listed = λ tells. subst (IsListed log) (sym (reads.areas Sealed).content) (is.listed tells);
+}
+
+pub reader-after : (observable : Type 0) (s t : DiskState) (reader : ReadingValue) → IsReader observable s reader
+    → LeavesAlone s t Journal → IsReader observable t reader
+reader-after observable s t reader is alone = record {
+  area = is.area;
+  unspent = is.unspent;
+  reading = λ tells. subst (IsReading reader) (sym alone.content) (is.reading tells);
 }
 
 -- while a payload is appended, those before it stay first
