@@ -8,14 +8,14 @@ use Rattle.std.proofs.lemmas.Bool.{cases_lt}
 use Rattle.std.proofs.lemmas.List.{length-map, take-take, take_all}
 use Rattle.std.proofs.lemmas.Option.{get_or_from_slice_get, slice_get-map, slice_get_within}
 use Rattle.archive_sealer.specs.Window.{IsFull}
-use Rattle.atom_values.specs.Counts.{CountsFault}
 use Rattle.atom_writer.specs.Pieced.{IsNoText, text_of}
 use Rattle.atom_writer.specs.Pieces.{text}
 use Rattle.atom_writer.proofs.PiecedLemmas.{one_reading}
 use Rattle.feed_disk.specs.Disk.{DiskState}
 use Rattle.feed_disk.specs.Moments.{AlwaysLeaves, LeavesAlone, NowOnly}
+use Rattle.feed_disk.specs.declared.area.Area.{Area}
 use Rattle.feed_disk.specs.declared.area.Area.TheVariants.{Journal, Sealed}
-use Rattle.feed_disk.proofs.MomentLemmas.{alone_joins, alone_leaves, always_begins, always_joins, always_weaker}
+use Rattle.feed_disk.proofs.MomentLemmas.{alone_joins, alone_leaves, always_joins, always_weaker}
 use Rattle.feed_journal.specs.Limits.{payload_count_limit}
 use Rattle.feed_journal.specs.Log.{IsListed, KeepsAtRest, LeavesOneList, LogValue}
 use Rattle.feed_journal.specs.Reading.{IsReading, ReadingValue}
@@ -29,7 +29,7 @@ use Rattle.feed_recovery.proofs.FaultLemmas.{some_same}
 use Rattle.feed_recovery.proofs.HistoryLemmas.{take_next}
 use Rattle.feed_recovery.proofs.LoadedLemmas.{begins_still}
 use Rattle.feed_recovery.proofs.ReadingLemmas.{readable_alone, reads_begin}
-use Rattle.member_rules.specs.Coding.{heads, operations}
+use Rattle.member_rules.specs.Coding.{operations}
 use Rattle.member_rules.specs.Documents.{archive}
 use Rattle.member_rules.specs.Head.{HeadValue, IsHead}
 use Rattle.member_rules.specs.History.{IsLawful}
@@ -38,48 +38,21 @@ use Rattle.member_rules.specs.Operation.{IsOperation}
 use Rattle.member_rules.specs.Windows.{windows_of}
 use Rattle.member_rules.specs.declared.operation.Op.{Op}
 use Rattle.member_rules.proofs.CutLemmas.{sealed-stay, windows-in_turn, windows-sealed}
-use Rattle.member_rules.proofs.HeadLemmas.{heads_compared}
 use Rattle.member_rules.proofs.OperationLemmas.{operations_compared}
 use Rattle.member_rules.proofs.ServedLemmas.{archive-stays, prefix-lawful}
 use Rattle.store_scrub.specs.Making.{HasSeals, IsNoHistory, KeepsSeals, MakesAll, StopsWithoutRoom}
 use Rattle.store_scrub.specs.Repair.{Fit}
 use Rattle.store_scrub.specs.Steps.{HasAppended, HasMadeTo, HasSealed, IsAppendable, IsBegun, IsMakingFault, IsNext}
-use Rattle.store_scrub.specs.Steps.{IsReadFault, IsStepFault, IsTakeFault, IsWindowFault, KeepsRecords, LacksPlace}
+use Rattle.store_scrub.specs.Steps.{IsStepFault, IsTakeFault, IsWindowFault, KeepsRecords, LacksPlace}
 use Rattle.store_scrub.specs.Steps.{LacksRoom, MakesTo, last_seal}
 use Rattle.store_scrub.specs.declared.fault.RepairFault.{RepairFault}
 use Rattle.store_scrub.specs.declared.fault.RepairFault.TheVariants.{NotInit, BadRecord, Full, DiskFault, NoMemory}
-
--- a step without a fault, and one more
-pub counts-then : (a b c : ℕ) (first second : Type 0) → CountsFault a b first → ¬ first → CountsFault b c second
-    → CountsFault a c second
-counts-then a b c first second one none two =
-    let same = one.unfailed none in
-    subst (λ (n : ℕ). CountsFault n c second) same two
 
 pub on-ok : {T E : Type 0} (result : Result T E) (P Q : Type 0) → (P → Q) → OnOk result P → OnOk result Q
 on-ok (Ok value) P Q then holds = then holds
 on-ok (Err fault) P Q then holds = tt
 
 -- What was read of the journal.
-
--- a journal's first payload is that of its head
-head-there : (payloads : List (List ℕ)) (payload : List ℕ) (head : HeadValue) (history : List Op)
-    → slice_get payloads 0 ≡ Some payload → IsJournal payloads head history → text_of heads head ≡ payload
-head-there payloads payload head history there is = some_same (text_of heads head) payload
-    (ap (λ (l : List (List ℕ)). slice_get l 0) (sym is.is) ∙ there)
-
-pub begun-head : (payloads : List (List ℕ)) (payload : List ℕ) (head : HeadValue) → slice_get payloads 0 ≡ Some payload
-    → IsHead head → payload ≡ text_of heads head → IsBegun payloads head []
-begun-head payloads payload head there is_head bytes other history is = (
-  one_reading heads heads_compared other head is.is_head is_head
-      (head-there payloads payload other history there is ∙ bytes),
-  refl,
-)
-
-pub no-head : (payloads : List (List ℕ)) (payload : List ℕ) → slice_get payloads 0 ≡ Some payload
-    → IsNoText heads payload → (head : HeadValue) (history : List Op) → ¬ IsJournal payloads head history
-no-head payloads payload there none head history is =
-    none head is.is_head (sym (head-there payloads payload head history there is))
 
 -- the operation of a payload
 record IsThere (history : List Op) (index : ℕ) (payload : List ℕ) : Type 0 where
@@ -223,12 +196,13 @@ made-begin disk head begun is_head none other history kept has =
       rests = λ begins. subst (λ (n : ℕ). NowOnly disk Sealed (Begins (seals_of other history n))) same begins;
     }
 
-pub keeps-begin : (disk : DiskState) → KeepsSeals disk disk
-keeps-begin disk head history kept has begins =
-    always_begins disk Sealed (HasFirst (seals_of head history kept)) (λ i may.
+-- over calls that leave the sealed area alone, each image has the seals first that are kept
+pub keeps-alone : (s t : DiskState) → LeavesAlone s t Sealed → KeepsSeals s t
+keeps-alone s t alone head history kept has begins =
+    alone_leaves s t Sealed (HasFirst (seals_of head history kept)) (λ i may.
     subst (λ (l : List (List ℕ)). HasFirst l i) has.seals
-    (begun-first (disk.content Sealed) i
-    (subst (λ (l : List (List ℕ)). Begins l i) (sym has.seals) (begins i may))))
+    (begun-first (s.content Sealed) i
+    (subst (λ (l : List (List ℕ)). Begins l i) (sym has.seals) (begins i may)))) alone
 
 -- After one more operation, and the seal before it.
 
@@ -422,14 +396,6 @@ made-full s m t head begun size needed capacity is_head first more made lacks ot
 
 -- Why a step fails.
 
-pub read-fails : (s t : DiskState) (head : HeadValue) (history : List Op) (fault : RepairFault) → IsReadFault s fault
-    → IsStepFault s t head history fault
-read-fails s t head history NotInit why = why
-read-fails s t head history (BadRecord area index at) why = why
-read-fails s t head history (Full size needed capacity) why = absurd why
-read-fails s t head history DiskFault why = tt
-read-fails s t head history NoMemory why = tt
-
 pub take-fails : (s t : DiskState) (head : HeadValue) (history : List Op) (payload : List ℕ) (fault : RepairFault)
     → slice_get (records (s.content Journal)) (length history + 1) ≡ Some payload → IsTakeFault payload fault
     → IsStepFault s t head history fault
@@ -483,6 +449,43 @@ step-fails s m t head begun (Full size needed capacity) is_head same first made 
     (subst (λ (l : List ℕ). length begun + 1 < length (records l)) same why.1) made why.0
 step-fails s m t head begun DiskFault is_head same first made why = tt
 step-fails s m t head begun NoMemory is_head same first made why = tt
+
+-- After calls that leave each area alone.
+
+module _ (s m t : DiskState) (alone : (a : Area) → LeavesAlone s m a) where
+  has-later : (head : HeadValue) (history : List Op) (kept : ℕ) → HasSeals s head history kept
+      → HasSeals m head history kept
+  has-later head history kept has = record {
+    is_journal = subst (λ (l : List ℕ). IsJournal (records l) head history) (sym (alone Journal).content)
+        has.is_journal;
+    archived = has.archived;
+    seals = ap records (alone Sealed).content ∙ has.seals;
+  }
+
+  pub makes-later : MakesAll m t → MakesAll s t
+  makes-later made head history kept has =
+      let all = made head history kept (has-later head history kept has) in
+      record {
+        seals = all.seals;
+        fit = all.fit;
+        rests = λ begins. all.rests (λ i may. begins i ((alone Sealed).now i may));
+      }
+
+  pub keeps-later : KeepsSeals m t → KeepsSeals s t
+  keeps-later keeps head history kept has begins =
+      always_joins s m t Sealed (HasFirst (seals_of head history kept))
+      (keeps-alone s m (alone Sealed) head history kept has begins)
+      (keeps head history kept (has-later head history kept has) (λ i may. begins i ((alone Sealed).now i may)))
+
+  pub fails-later : (fault : RepairFault) → IsMakingFault m t fault → IsMakingFault s t fault
+  fails-later NotInit why head history journal =
+      why head history (subst (λ (l : List ℕ). IsJournal (records l) head history) (sym (alone Journal).content) journal)
+  fails-later (BadRecord area index at) why head history journal =
+      why head history (subst (λ (l : List ℕ). IsJournal (records l) head history) (sym (alone Journal).content) journal)
+  fails-later (Full size needed capacity) why head history kept has =
+      why head history kept (has-later head history kept has)
+  fails-later DiskFault why = tt
+  fails-later NoMemory why = tt
 
 -- A step after a frame was read.
 

@@ -18,7 +18,8 @@ returns-then-not-fits-clause-refused g c = λ tells.
     let seals = c.requires.seals in
     let listed = seals.listed tells in
     record {
-      size_is = c.size.ensures.size ∙ ap (λ (l : LogValue). l.size) c.reserve.ensures.log
+      size_is = c.size.ensures.size ∙ ap (λ (l : LogValue). l.size) {y = record log { spare = c.reserve.new.self.spare }}
+          c.reserve.ensures.log
           ∙ is_size log.extents log.size ((g.D.Disk.state c.args.disk.now).content Sealed) seals.readable.rules.follow
           listed.list listed.long;
       needed_is = c.needed.ensures;
@@ -38,7 +39,8 @@ returns-then-not-fits-clause-keeps g c = λ tells. keeps-still (g.D.Disk.state c
 
 -- the log is that of the sealed area
 in-sealed : (g : Over) (c : After-append g) → c.reserve.new.self.area ≡ Sealed
-in-sealed g c = ap (λ (l : LogValue). l.area) c.reserve.ensures.log ∙ c.requires.seals.readable.area
+in-sealed g c = ap (λ (l : LogValue). l.area) {y = record c.args.seals.now { spare = c.reserve.new.self.spare }}
+    c.reserve.ensures.log ∙ c.requires.seals.readable.area
 
 pub returns-in_err-append-clause-keeps : goal.returns-in_err-append-clause-keeps
 returns-in_err-append-clause-keeps g c = λ tells.

@@ -4,7 +4,7 @@ use Rattle.feed_disk.proofs.MomentLemmas.{alone_begins, alone_joins}
 use Rattle.feed_journal.specs.Records.{records}
 use Rattle.feed_recovery.proofs.LoadedLemmas.{journal_sealed}
 use Rattle.store_scrub.specs.Steps.{HasMadeLast, IsBegun}
-use Rattle.store_scrub.proofs.MakingLemmas.{keeps-begin, keeps-more, made-all, made-alone, made-begin, made-more}
+use Rattle.store_scrub.proofs.MakingLemmas.{keeps-alone, keeps-more, made-all, made-alone, made-begin, made-more}
 use Rattle.store_scrub.proofs.MakingLemmas.{step-fails}
 use Rattle.store_scrub.proofs.making.make_each.Goals as goal
 use Rattle.store_scrub.proofs.making.make_each.Goals.{After-make_next}
@@ -18,7 +18,7 @@ frames-init g c =
       others = λ a other. alone_begins s a;
       faults = refl;
       made = λ tells. made-begin s c.args.head.now c.args.window.now.history c.requires.making.is_head c.requires.none;
-      keeps = λ tells. keeps-begin s;
+      keeps = λ tells. keeps-alone s s (alone_begins s Sealed);
     }
 
 -- what was read before this step, of the journal as it was at first
