@@ -478,11 +478,11 @@ module _ (s m t : DiskState) (alone : (a : Area) → LeavesAlone s m a) where
       (keeps head history kept (has-later head history kept has) (λ i may. begins i ((alone Sealed).now i may)))
 
   pub fails-later : (fault : RepairFault) → IsMakingFault m t fault → IsMakingFault s t fault
-  fails-later NotInit why head history journal =
+  fails-later NotInit why = λ head history journal.
       why head history (subst (λ (l : List ℕ). IsJournal (records l) head history) (sym (alone Journal).content) journal)
-  fails-later (BadRecord area index at) why head history journal =
+  fails-later (BadRecord area index at) why = λ head history journal.
       why head history (subst (λ (l : List ℕ). IsJournal (records l) head history) (sym (alone Journal).content) journal)
-  fails-later (Full size needed capacity) why head history kept has =
+  fails-later (Full size needed capacity) why = λ head history kept has.
       why head history kept (has-later head history kept has)
   fails-later DiskFault why = tt
   fails-later NoMemory why = tt
