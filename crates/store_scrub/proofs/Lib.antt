@@ -6,6 +6,8 @@ pub mod EndLemmas
 pub mod JournalLemmas
 -- the seals that a repair keeps
 pub mod KeptLemmas
+-- `make_seals`: what was read of the journal, and the seals that were appended
+pub mod MakingLemmas
 -- a rebuild of the sealed area
 pub mod RebuildLemmas
 -- a repair
