@@ -14,7 +14,7 @@ use Rattle.feed_disk.specs.declared.area.Area.TheVariants.{Journal, Sealed}
 use Rattle.feed_disk.proofs.MomentLemmas.{always_begins}
 use Rattle.feed_journal.specs.Records.{records}
 use Rattle.scrub_command.specs.Answer.{EndsRepairing, EndsWithStatus, repair_fault}
-use Rattle.std.specs.Prelude.{IsOk}
+use Rattle.std.specs.Prelude.{IsErrAnd, IsOk}
 use Rattle.store_scrub.specs.Repair.{LeavesUnwritten, RepairsSafely, SettlesStore, StopsFull}
 use Rattle.store_scrub.specs.declared.fault.RepairFault.{RepairFault}
 use Rattle.store_scrub.specs.declared.fault.RepairFault.TheVariants as repairs
@@ -54,8 +54,10 @@ module _ {A : Type 0} (before after : DiskState) where
   }
 
   -- memory ran out for the line
-  pub ends-unprinted : RepairsSafely before after → LeavesRepaired {A = A} before after (Err faults.NoMemory)
-  ends-unprinted safe = record {
+  pub ends-unprinted : (result : Result A Fault) → IsErrAnd result (λ fault. fault ≡ faults.NoMemory)
+      → RepairsSafely before after → LeavesRepaired before after result
+  ends-unprinted (Ok line) fails safe = absurd fails
+  ends-unprinted (Err memory) fails safe = record {
     safe = safe;
     settles = λ done. absurd cc;
     stops = λ (fault, is, status).
@@ -154,8 +156,8 @@ module _ {A : Type 0} {result : Result A Fault} {fault : Fault} {ended : ℕ} wh
   -- a fault whose status has this code ended the command
   pub ends-full : result ≡ Err fault → ended ≡ code_of (fault_answer fault).status → ended ≡ 11
       → EndsWithStatus result Full
-  ends-full is status e = (fault, (is, full-code _ (sym status ∙ e)))
+  ends-full is status e = (fault, is, full-code _ (sym status ∙ e))
 
   pub ends-bad : result ≡ Err fault → ended ≡ code_of (fault_answer fault).status → ended ≡ 6
       → EndsWithStatus result BadStore
-  ends-bad is status e = (fault, (is, bad-code _ (sym status ∙ e)))
+  ends-bad is status e = (fault, is, bad-code _ (sym status ∙ e))

@@ -13,7 +13,7 @@ returns-in_ok-line_of-in-Ok-clause-ends g c = λ observable.
 
 pub returns-in_err-line_of-in-Ok-clause-ends : goal.returns-in_err-line_of-in-Ok-clause-ends
 returns-in_err-line_of-in-Ok-clause-ends g c = λ observable.
-    ends-unprinted _ _ (c.repair.ensures.moments observable)
+    ends-unprinted _ _ c.from_residual.result c.from_residual.ensures.1 (c.repair.ensures.moments observable)
 
 pub returns-in-Err-clause-refused : goal.returns-in-Err-clause-refused
 returns-in-Err-clause-refused g c = λ refuses observable.
