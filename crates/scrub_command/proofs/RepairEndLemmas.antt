@@ -57,7 +57,7 @@ module _ {A : Type 0} (before after : DiskState) where
   pub ends-unprinted : (result : Result A Fault) → IsErrAnd result (λ fault. fault ≡ faults.NoMemory)
       → RepairsSafely before after → LeavesRepaired before after result
   ends-unprinted (Ok line) fails safe = absurd fails
-  ends-unprinted (Err memory) fails safe = record {
+  ends-unprinted (Err cause) fails safe = record {
     safe = safe;
     settles = λ done. absurd cc;
     stops = λ (fault, is, status).

@@ -24,5 +24,4 @@ pub returns-in-Err-clause-ends : goal.returns-in-Err-clause-ends
 returns-in-Err-clause-ends g c = λ observable.
     rw c.of_repair.ensures (ends-stopped _ _ _ _ c.in-Err.is (c.repair.ensures.moments observable)
     (λ size needed capacity is. c.repair.ensures.full size needed capacity is observable)
-    c.repair.ensures.unwritten.0
-    (λ area index at is. c.repair.ensures.unwritten.1 area index at is observable))
+    (c.repair.ensures.unwritten observable).0 (c.repair.ensures.unwritten observable).1)
