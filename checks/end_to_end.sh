@@ -404,11 +404,26 @@ entry 6 NOW f
 entry 5 NOW e
 TEXT
 
+# damage: the first byte of the archive, which a repair brings back
+: >"$work/input"
+stored scrub
+echo 'sound 6 1' | compare 'scrub of a sound store' 0
+stored show archive 1
+masked <"$work/output" >"$work/text"
+printf '?' | dd of="$work/store/sealed" bs=1 seek=5 conv=notrunc 2>/dev/null
+stored scrub
+echo 'bad seal 1' | compare 'scrub of a damaged archive' 6
+stored scrub --repair
+echo 'repaired 0 1' | compare 'scrub --repair' 0
+stored show archive 1
+compare 'a repaired archive' 0 <"$work/text"
+
 # damage: the first byte of the second operation, whose payload begins after the frames of the head and of the first
 printf '\011' | dd of="$work/store/journal" bs=1 seek=134 conv=notrunc 2>/dev/null
-: >"$work/input"
 stored apply
 echo 'bad store journal 2 0' | compare 'a damaged journal' 6
+stored scrub --repair
+echo 'bad store journal 2 0' | compare 'scrub --repair of a damaged journal' 6
 
 # stores that have no room
 for options in '--window 4' '--window 1'; do

@@ -1,7 +1,8 @@
 #!/bin/sh
 # Refuses memory to the built program. In each run a preloaded library, `refuse_memory.c`, refuses one request for memory
 # and grants all others: the first request, in the next run the second one, until a run makes fewer. It does so for `init`,
-# `apply`, `show feed`, `show pile`, a POST to `serve` that seals an archive, three runs of `mirror`, `audit` and `drill`.
+# `apply`, `show feed`, `show pile`, `scrub`, `scrub --repair` of a damaged archive, a POST to `serve` that seals an archive,
+# three runs of `mirror`, `audit` and `drill`.
 # Each run has to end in one of these ways:
 # - As if nothing was refused: the status, the output, the reply and the files are right.
 # - No memory: status 5, or the reply 503. A store is as before. `apply` and `mirror` keep the lines and the documents
@@ -345,6 +346,27 @@ class Apply(Case):
         return kind
 
 
+class Repair(Case):
+    """`scrub --repair` of a store whose archive 2 is damaged. It keeps archive 1, and makes the later ones in order."""
+
+    def prepare(self, room):
+        super().prepare(room)
+        with open(f"{room}/files/sealed", "r+b") as file:
+            length = int.from_bytes(file.read(5)[1:], "big")
+            # the first letter of archive 2
+            file.seek(5 + length + 5)
+            file.write(b"?")
+
+    def play(self, room, refused):
+        kind = kind_of(run(room, self.words, self.given, refused), self.right, self.faults)
+        least = 3 if kind == "as if nothing was refused" else 1
+        ways = [(0, b"repaired %d %d\n" % (kept, 3 - kept)) for kept in range(least, 4)]
+        check("a second repair", run(room, self.words), *ways)
+        check("a scrub then", run(room, ["scrub"]), (0, b"sound 13 3\n"))
+        check("the store then", opened(room), store_at(self.version))
+        return kind
+
+
 class Mirror(Case):
     """`mirror`, which takes documents in a known order, and holds the first ones in the end."""
 
@@ -513,6 +535,8 @@ def cases():
         Apply("apply", ["apply"], document_of(BASE, 9), version=4, given=b"add e\nadd f\nadd g\nadd h\nadd i\n"),
         Case("feed", ["show", "feed"], document_of(BASE, 13), version=13),
         Case("pile", ["show", "pile"], pile_of(whole), version=13, before=(b"", *piles)),
+        Case("scrub", ["scrub"], b"sound 13 3\n", version=13),
+        Repair("repair", ["scrub", "--repair"], b"repaired 1 2\n", version=13),
         Post("post", ["serve"], b"", version=4),
         List("list", ["serve", "--service"], b"", version=4),
         Mirror("mirror", mirror, missing, some, given=pile_of(some)),

@@ -9,8 +9,11 @@
 #   take further entries.
 # - The mirror takes a pile of documents in any order, and the documents of the server. Each file must open to the first
 #   documents taken, with each one that was synced, or after which the next one was asked for. It then takes the rest.
+# - The archives of the store are damaged and repaired (`scrub --repair`). A second repair of the files must keep each
+#   archive that was kept, and each one that was made and synced, and bring the others back.
 # - Some files are opened after two crashes: the program alone is killed or the machine stops, a load of the files is
-#   recorded, and the machine stops at some moment of that. The second crash must leave what the load printed.
+#   recorded, and the machine stops at some moment of that. The second crash must leave what the load printed. A repair is
+#   made after each of the two.
 # Usage: checks/torn.sh [IMAGES [PROGRAM]]. IMAGES, the number of stores and mirrors to open, is 20,000 if it isn't given.
 # PROGRAM is run in place of the one of this repository. SEED in the environment makes a run repeatable. It prints a line of
 # counts and ends with 0 if nothing was lost. It ends at the first loss with 1, and leaves the files. It needs `strace` and
@@ -437,7 +440,86 @@ def record_mirror(documents, is_fetch):
     return moments
 
 
-# The crashes. A moment has a `Store` or `Mirror`, the least and the greatest version that it may show, and the files.
+# Repairs
+
+class Repair:
+    """What a second repair has to do: to keep the first few archives, and to bring the others back."""
+
+    areas, words, given = ("journal", "sealed"), ["scrub", "--repair"], b""
+
+    def __init__(self, documents):
+        self.documents = documents
+
+    def versions(self, answer, least, most):
+        """Returns the number of archives that were kept, and that of all."""
+        status, printed = answer
+        words = printed.split()
+        if status or words[:1] != [b"repaired"]:
+            raise Lost(f"status {status}: {printed[:80]}")
+        kept, made = int(words[1]), int(words[2])
+        if kept < least or kept + made != most:
+            raise Lost(f"{printed} of {most} archives, and at least {least} were there")
+        return [kept, most]
+
+    def check(self, folder, chance, least, most):
+        """Repairs a store, and has some take further operations."""
+        self.versions(run(folder, self.words), least, most)
+        documents = dict(read_pile(run(folder, ["show", "pile"])[1]))
+        if documents != self.documents:
+            raise Lost("other documents after two repairs")
+        if not chance.randrange(4):
+            status, printed = run(folder, ["apply"], b"add further\n" * 7)
+            if status:
+                raise Lost(f"apply after two repairs: status {status}: {printed[:80]}")
+
+
+def ends_of(text):
+    """The offsets after each frame of a file."""
+    ends, at = [], 0
+    while text[at] == 1:
+        at += 5 + int.from_bytes(text[at + 1 : at + 5], "big")
+        ends.append(at)
+    return ends
+
+
+def damaged(sealed, ends):
+    """Yields a damage of the archives, and how many of the first ones are right."""
+    yield b"", 0
+    for kept in random.sample(range(len(ends)), 3):
+        at = random.randrange(ends[kept - 1] + 5 if kept else 5, ends[kept])
+        yield sealed[:at] + bytes([sealed[at] ^ 1]) + sealed[at + 1 :], kept
+    at = random.randrange(1, len(sealed))
+    yield sealed[:at], sum(end < at for end in ends)
+
+
+def record_repairs(documents):
+    """Repairs damaged copies of the store, and returns the moments of that."""
+    repair, all_of = Repair(documents), len(documents) - 1
+    with open(f"{work}/store/journal", "rb") as journal, open(f"{work}/store/sealed", "rb") as sealed:
+        journal, sealed = journal.read(), sealed.read()
+    moments = []
+    for number, (left, kept) in enumerate(damaged(sealed, ends_of(sealed))):
+        folder, trace = f"{work}/repair{number}", f"{work}/repair{number}.trace"
+        # The gate after the journal is open in every second one.
+        texts = {"journal": journal[:-1] + bytes([number % 2]), "sealed": left}
+        lay(folder, texts)
+        repair.versions(traced(folder, repair.words, trace), kept, all_of)
+        files, least, opened = {area: File(text, (), True, True) for area, text in texts.items()}, kept, kept
+        moments.append((repair, least, all_of, copied(files)))
+        for event in events_of(trace, repair.areas):
+            if event[0] != "told":
+                take(files, event)
+                # a gate that opens is one byte in the synced bytes
+                opened += event[:2] == ("write", "sealed") and event[3] == b"\x01"
+                least = opened if event[:2] == ("sync", "sealed") else least
+            moments.append((repair, least, all_of, copied(files)))
+        if least != all_of:
+            raise Lost(f"{least} of {all_of} archives were made")
+        compare_files(folder, files)
+    return moments
+
+
+# The crashes. A moment has a `Store`, `Mirror` or `Repair`, the least and the greatest version that it may show, and the files.
 
 def crash(folder, chance, moment):
     """Opens files that a crash may leave."""
@@ -507,10 +589,12 @@ def main():
     # the order in which a mirror asks: the feed, and then the archives, newest first
     walked = sorted(newest, key=lambda it: -int(it[0].rpartition("/")[2].replace("feed", "1000")))
     of_mirror = record_mirror(shuffled, False) + record_mirror(walked, True)
-    MOMENTS.extend(of_store + of_mirror)
+    of_repair = record_repairs(store.piles[-1])
+    MOMENTS.extend(of_store + of_mirror + of_repair)
     unsynced = sum(any(file.pending for file in it[3].values()) for it in MOMENTS)
-    acts = plan(range(len(of_store)), images * 3 // 4)
-    acts += plan(range(len(of_store), len(MOMENTS)), images - images * 3 // 4)
+    acts = plan(range(len(of_store)), images * 5 // 8)
+    acts += plan(range(len(of_store), len(of_store + of_mirror)), images // 4)
+    acts += plan(range(len(of_store + of_mirror), len(MOMENTS)), images - images * 5 // 8 - images // 4)
     random.shuffle(acts)
     tasks = [(number, act, moment) for number, (act, moment) in enumerate(acts)]
     # The processes have the moments from this one.
@@ -522,7 +606,8 @@ def main():
     finally:
         pool.shutdown(cancel_futures=True)
     second = SECOND_CRASHES * sum(act is crash_twice for act, _ in acts)
-    print(f"{len(of_store)} moments of a store, {len(of_mirror)} of a mirror, {unsynced} with bytes not synced, "
+    print(f"{len(of_store)} moments of a store, {len(of_mirror)} of a mirror, {len(of_repair)} of a repair, "
+          f"{unsynced} with bytes not synced, "
           f"{len(acts) + second - second // SECOND_CRASHES} files opened, {second} of them after two crashes, 0 lost")
 
 

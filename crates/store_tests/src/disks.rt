@@ -25,12 +25,25 @@ pub fn disk_of(rt: &impl Abort, alloc: Global, journal: &[u8], failing: [u64; 2]
 
 /// Returns a disk with these areas, of which no device call fails.
 pub fn disk_with(rt: &impl Abort, alloc: Global, journal: &[u8], sealed: &[u8]) -> MemoryDisk {
+    disk_failing(rt, alloc, journal, sealed, 0)
+}
+
+/// Returns a disk with these areas, of which this device call fails. 0 is no call.
+pub fn disk_failing(
+    rt: &impl Abort,
+    alloc: Global,
+    journal: &[u8],
+    sealed: &[u8],
+    call: u64,
+) -> MemoryDisk {
+    let mut calls = Many::new(alloc);
+    calls.push(call).expect(rt, "memory");
     MemoryDisk::new(
         alloc,
         Bytes::of(alloc, journal).expect(rt, "memory"),
         Bytes::of(alloc, sealed).expect(rt, "memory"),
         Bytes::of(alloc, b"").expect(rt, "memory"),
-        Many::new(alloc),
+        calls,
     )
 }
 

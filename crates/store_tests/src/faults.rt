@@ -8,6 +8,7 @@ use member_rules::RuleFault;
 use std::alloc::Global;
 use std::fmt::Display;
 use std::process::Abort;
+use store_scrub::{RepairFault, Unsound};
 
 /// Compares the sentence of an error.
 fn compare<E: Display>(rt: &impl Abort, alloc: Global, fault: &E, want: &str) {
@@ -63,6 +64,67 @@ fn a_fault_of_an_opening_is_one_sentence(rt: HostRuntime) {
         compare(&rt, rt.alloc(), fault, want);
     }
     for (fault, want) in &LOAD {
+        compare(&rt, rt.alloc(), fault, want);
+    }
+}
+
+static UNSOUND: [(Unsound, &str); 7] = [
+    (Unsound::NotInit, "the disk has no store"),
+    (
+        Unsound::BadRecord {
+            area: Area::Journal,
+            index: 3,
+            at: 21,
+        },
+        "record 3 of the journal is bad at byte 21",
+    ),
+    (
+        Unsound::SealCount {
+            records: 9,
+            seals: 4,
+        },
+        "4 seals after 9 operations",
+    ),
+    (Unsound::BadSeal { index: 2 }, "seal 2 is bad"),
+    (
+        Unsound::OpenGate {
+            area: Area::Sealed,
+            at: 669,
+        },
+        "the sealed area has an open gate at byte 669",
+    ),
+    (Unsound::DiskFault, "disk fault"),
+    (Unsound::NoMemory, "out of memory"),
+];
+
+static REPAIR: [(RepairFault, &str); 5] = [
+    (RepairFault::NotInit, "the disk has no store"),
+    (
+        RepairFault::BadRecord {
+            area: Area::Journal,
+            index: 3,
+            at: 21,
+        },
+        "record 3 of the journal is bad at byte 21",
+    ),
+    (
+        RepairFault::Full {
+            size: 2_544,
+            needed: 1_649,
+            capacity: 4_096,
+        },
+        "the sealed area has 2544 bytes, and no room for 1649 more within 4096",
+    ),
+    (RepairFault::DiskFault, "disk fault"),
+    (RepairFault::NoMemory, "out of memory"),
+];
+
+#[test]
+fn a_fault_of_a_scrub_or_a_repair_is_one_sentence(rt: HostRuntime) {
+    for (fault, want) in &UNSOUND {
+        compare(&rt, rt.alloc(), fault, want);
+    }
+    for (fault, want) in &REPAIR {
         compare(&rt, rt.alloc(), fault, want);
     }
 }

@@ -26,6 +26,8 @@ mod logs;
 #[cfg(test)]
 mod reader;
 #[cfg(test)]
+mod repairs;
+#[cfg(test)]
 mod scrubs;
 #[cfg(test)]
 mod stores;

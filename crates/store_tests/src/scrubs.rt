@@ -13,7 +13,7 @@ use std::process::Abort;
 use store_scrub::{Sound, Unsound, scrub};
 
 /// Returns the bytes of an area.
-fn area_of<D: Disk>(rt: &impl Abort, alloc: Global, disk: &mut D, area: Area) -> Vec<u8> {
+pub fn area_of<D: Disk>(rt: &impl Abort, alloc: Global, disk: &mut D, area: Area) -> Vec<u8> {
     let size = disk.size(area).expect(rt, "a device call");
     let mut bytes = vec![in alloc; 0u8; size.min(65_536) as usize].expect(rt, "memory");
     disk.read(area, 0, &mut bytes).expect(rt, "a device call");
@@ -22,7 +22,7 @@ fn area_of<D: Disk>(rt: &impl Abort, alloc: Global, disk: &mut D, area: Area) ->
 
 /// How an area differs from that of a sound store.
 #[derive(Clone, Copy, Debug)]
-enum Change {
+pub enum Change {
     Same,
     /// The byte at this offset has its last bit turned over.
     Byte(usize),
@@ -30,7 +30,7 @@ enum Change {
     Cut(usize),
 }
 
-fn changed(rt: &impl Abort, alloc: Global, area: &[u8], change: Change) -> Vec<u8> {
+pub fn changed(rt: &impl Abort, alloc: Global, area: &[u8], change: Change) -> Vec<u8> {
     let mut bytes = Vec::new(alloc);
     bytes.extend_from_slice(area).expect(rt, "memory");
     match change {
@@ -46,7 +46,7 @@ fn changed(rt: &impl Abort, alloc: Global, area: &[u8], change: Change) -> Vec<u
 }
 
 /// Looks at a store with these areas.
-fn scrubbed(
+pub fn scrubbed(
     rt: &impl Abort,
     alloc: Global,
     journal: &[u8],
@@ -226,11 +226,11 @@ static THIRTEEN: [(Change, Change, Result<Sound, Unsound>); 19] = [
     ),
 ];
 
-fn sound(records: u32, seals: u32) -> Result<Sound, Unsound> {
+pub fn sound(records: u32, seals: u32) -> Result<Sound, Unsound> {
     Ok(Sound { records, seals })
 }
 
-fn seal_count(records: u32, seals: u32) -> Result<Sound, Unsound> {
+pub fn seal_count(records: u32, seals: u32) -> Result<Sound, Unsound> {
     Err(Unsound::SealCount { records, seals })
 }
 
@@ -243,7 +243,7 @@ fn open_gate(area: Area, at: u64) -> Result<Sound, Unsound> {
 }
 
 /// The areas of the store of 13 operations.
-fn thirteen_areas(rt: &impl Abort, alloc: Global) -> (Vec<u8>, Vec<u8>) {
+pub fn thirteen_areas(rt: &impl Abort, alloc: Global) -> (Vec<u8>, Vec<u8>) {
     let mut disk = disk_of(rt, alloc, b"", [0, 0]);
     let areas = thirteen(rt, alloc, &mut disk);
     drop(disk);
@@ -263,7 +263,7 @@ fn a_store_of_13_operations_has_these_faults(rt: HostRuntime) {
 }
 
 /// The end of the frame at an offset, if one is there.
-fn end_of_frame(area: &[u8], at: usize) -> Option<usize> {
+pub fn end_of_frame(area: &[u8], at: usize) -> Option<usize> {
     let frame = area.get(at..)?;
     let (Some(1), Some(header)) = (frame.first(), frame.get(1..5)) else {
         return None;
@@ -277,20 +277,20 @@ fn end_of_frame(area: &[u8], at: usize) -> Option<usize> {
     (end < area.len()).then_some(end)
 }
 
-/// The number of frames of an area, 9 at most, and the offset of the gate after them.
-fn frames_of(area: &[u8]) -> (u32, usize) {
+/// The number of frames of an area, 20 at most, and the offset of the gate after them.
+pub fn frames_of(area: &[u8]) -> (u32, usize) {
     let mut end = 0usize;
-    for count in 0..9 {
+    for count in 0..20 {
         match end_of_frame(area, end) {
             Some(next) => end = next,
             None => return (count, end),
         }
     }
-    (9, end)
+    (20, end)
 }
 
 /// Whether the gate at this offset is open, in an area that has room for a frame.
-fn is_open(area: &[u8], gate: usize) -> bool {
+pub fn is_open(area: &[u8], gate: usize) -> bool {
     area.len() >= 6 && area.get(gate) == Some(&1)
 }
 
