@@ -739,7 +739,7 @@ returns-in-Ok-write_all-clause-ends g c = read_all _ c.in-Ok.is c.read_words.ens
       opens = λ clock source answered. applied.opens clock source tt;
     })
     c.answer.ensures.scrubbed
-    (λ is observable. repair-weaker (λ _. tt)
+    (λ is observable. repair-weaker (λ _. refl)
     (λ e. absurd (omega (arith, e, c.with_status-in-Ok-write_all.ensures.status)))
     (λ e. absurd (omega (arith, e, c.with_status-in-Ok-write_all.ensures.status)))
     (c.in-Ok-answer.ensures.repaired is observable)))
@@ -805,7 +805,7 @@ returns-in-Ok-answer-clause-ends g c = read_all _ c.in-Ok.is c.read_words.ensure
       opens = λ clock source answered. applied.opens clock source tt;
     })
     c.answer.ensures.scrubbed
-    (λ is observable. repair-weaker (λ _. tt)
+    (λ is observable. repair-weaker (λ _. refl)
     (λ e. absurd (omega (arith, e, c.with_status-in-Err-write_all.ensures.status)))
     (λ e. absurd (omega (arith, e, c.with_status-in-Err-write_all.ensures.status)))
     (c.in-Ok-answer.ensures.repaired is observable)))
@@ -911,4 +911,5 @@ returns-clause-ends g c = read_all _ c.in-Ok.is c.read_words.ensures.only
     let is = c.with_status-in-Err.ensures.status ∙ ap code_of c.print_fault-in-Err.ensures.status in
     repair-weaker (⊎_elim (λ e. absurd (no_end c.in-Err.fault (sym is ∙ e)))
     (λ e. absurd (no_output c.in-Err.fault (sym is ∙ e))))
-    (ends-full refl is) (ends-bad refl is) (c.in-Err.ensures.repaired same observable)))
+    (ends-full {fault = c.in-Err.fault} refl is) (ends-bad {fault = c.in-Err.fault} refl is)
+    (c.in-Err.ensures.repaired same observable)))
