@@ -169,26 +169,25 @@ fn erases_what_it_has_drawn(rt: HostRuntime) {
 fn counts_both_files_of_a_store_and_begins_again(rt: HostRuntime) {
     let terminal = Terminal::new(rt.alloc());
     let progress = Progress::new(&terminal, true);
-    progress.note_size(Area::Journal, 30_000_000);
-    progress.count_file(Area::Journal, 0, 29_900_000);
+    progress.note_size(Area::Sealed, 30_000_000);
+    progress.count_file(Area::Sealed, 0, 29_900_000);
     terminal.wait(1_000);
-    progress.count_file(Area::Journal, 29_900_000, 100_000);
+    progress.count_file(Area::Sealed, 29_900_000, 100_000);
     assert!(rt; terminal.has("\rreading files: 30.0 MB of 30.0 MB, 30.0 MB/s\x1b[K"));
     terminal.wait(1_000);
-    progress.note_size(Area::Sealed, 12_345_678);
+    progress.note_size(Area::Journal, 12_345_678);
     assert!(rt; terminal.has("\rreading files: 30.0 MB of 42.3 MB, 15.0 MB/s\x1b[K"));
     terminal.wait(1_000);
-    progress.count_file(Area::Sealed, 0, 3_000_000);
+    progress.count_file(Area::Journal, 0, 3_000_000);
     assert!(rt; terminal.has("\rreading files: 33.0 MB of 42.3 MB, 11.0 MB/s\x1b[K"));
-    // Each read goes on where the last one of its file ended, or a little before.
-    terminal.wait(1_000);
-    progress.count_file(Area::Sealed, 2_999_990, 3_000_010);
-    assert!(rt; terminal.has("\rreading files: 36.0 MB of 42.3 MB, 9.0 MB/s\x1b[K"));
-    // The second pass reads them in turns.
-    progress.count_file(Area::Journal, 16, 9_999_984);
+    // A second pass over one of them, in turns with the first one over the other.
+    progress.count_file(Area::Sealed, 16, 1_999_984);
     terminal.wait(500);
-    progress.count_file(Area::Sealed, 16, 4_999_984);
-    assert!(rt; terminal.has("\rreading files: 15.0 MB of 42.3 MB, 30.0 MB/s\x1b[K"));
+    progress.count_file(Area::Journal, 2_999_990, 3_000_010);
+    assert!(rt; terminal.has("\rreading files: 8.0 MB of 42.3 MB, 16.0 MB/s\x1b[K"));
+    terminal.wait(500);
+    progress.count_file(Area::Sealed, 2_000_000, 7_000_000);
+    assert!(rt; terminal.has("\rreading files: 15.0 MB of 42.3 MB, 15.0 MB/s\x1b[K"));
 }
 
 #[test]
@@ -211,6 +210,14 @@ fn counts_the_input_after_the_files(rt: HostRuntime) {
     terminal.wait(900);
     progress.count_input(65_536, 1_950_000);
     assert!(rt; terminal.has("\rreading input: 2.0 MB of 2.0 MB, 2.0 MB/s\x1b[K"));
+    terminal.wait(1_000);
+    progress.count_input(65_536, 0);
+    assert!(rt; terminal.has("\rreading input: 2.0 MB of 2.0 MB, 1.0 MB/s\x1b[K"));
+    // The report of a mirror reads the file again, from its end.
+    progress.count_file(Area::Mirror, 900_000, 100_000);
+    terminal.wait(1_000);
+    progress.count_file(Area::Mirror, 800_000, 100_000);
+    assert!(rt; terminal.has("\rreading files: 0.2 MB, 0.2 MB/s\x1b[K"));
 }
 
 #[test]
@@ -246,6 +253,9 @@ fn counts_documents(rt: HostRuntime) {
     terminal.wait(2_000);
     progress.count_document(600_000);
     assert!(rt; terminal.has("\rfetching: 1.0 MB, 0.5 MB/s\x1b[K"));
+    terminal.wait(2_000);
+    progress.count_file(Area::Mirror, 5, 400_000);
+    assert!(rt; terminal.has("\rreading files: 0.4 MB\x1b[K"));
 }
 
 #[test]

@@ -14,15 +14,20 @@ const FIRST_MILLIS: u64 = 500;
 /// The least time between two drawings.
 const PAUSE_MILLIS: u64 = 100;
 
+/// The fewest bytes of short reads of the input after which the clock is looked at. A certificate is read byte by byte.
+const LOOK_BYTES: usize = 4_096;
+
 /// What is being read.
 #[derive(Clone, Copy, PartialEq, Eq)]
 enum Reading {
-    /// The files of the disk.
+    /// The files of the disk, from their beginning to their end.
     Files,
     /// The program's input.
     Input,
     /// Documents of a server.
     Documents,
+    /// Parts of the files, after the input or the documents.
+    Parts,
 }
 
 /// How far a file was read.
@@ -45,14 +50,16 @@ impl Place {
         }
     }
 
-    /// Goes back to the beginning of the file.
-    fn rewind(&mut self) {
-        self.start = 0;
-        self.end = 0;
+    /// Goes to where a read ended. Returns whether it began before the last one.
+    fn go(&mut self, at: u64, count: u64) -> bool {
+        let is_back = at < self.start;
+        self.start = at;
+        self.end = at.saturating_add(count);
+        is_back
     }
 }
 
-/// Counts what is read: the files, then the input or the documents of a server.
+/// Counts what is read: the files, then the input or the documents of a server, and then parts of the files.
 #[derive(Clone, Copy)]
 pub(crate) struct Meter {
     reading: Reading,
@@ -61,14 +68,15 @@ pub(crate) struct Meter {
     journal: Place,
     sealed: Place,
     mirror: Place,
-    /// How many bytes of the input or of documents were read.
+    /// How many bytes were read, of anything but `Reading::Files`.
     done: u64,
     /// How many bytes the input has, if that is known.
     input_size: Option<u64>,
     /// Whether the input is typed at a terminal.
     pub(crate) is_typed: bool,
+    is_input_over: bool,
     /// How many bytes of the input were read since the last look at the clock.
-    unseen: u64,
+    unseen: usize,
     /// The earliest time of the next drawing.
     next: Option<Instant>,
     pub(crate) is_drawn: bool,
@@ -86,6 +94,7 @@ impl Meter {
             done: 0,
             input_size: None,
             is_typed: false,
+            is_input_over: false,
             unseen: 0,
             next: now.checked_add(Duration::from_millis(FIRST_MILLIS)),
             is_drawn: false,
@@ -112,30 +121,31 @@ impl Meter {
         self.place(area).size = size;
     }
 
-    /// Counts a read of an area's file. A read before the last one begins a new pass over the files.
+    /// Counts a read of an area's file. One before the last one begins a new pass over the file, and a new rate.
     ///
-    /// Once the input or documents are read, reads of files go anywhere, and don't count.
+    /// Between the reads of the input, reads of files go anywhere, and don't count.
     pub(crate) fn count_file(&mut self, area: Area, at: u64, count: u64) {
-        if self.reading != Reading::Files {
-            return;
+        match self.reading {
+            Reading::Files => {
+                if self.place(area).go(at, count) {
+                    self.since = None;
+                }
+            }
+            Reading::Input if !self.is_input_over => {}
+            Reading::Input | Reading::Documents | Reading::Parts => {
+                self.turn_to(Reading::Parts);
+                self.done = self.done.saturating_add(count);
+            }
         }
-        if at < self.place(area).start {
-            self.journal.rewind();
-            self.sealed.rewind();
-            self.mirror.rewind();
-            self.since = None;
-        }
-        let place = self.place(area);
-        place.start = at;
-        place.end = at.saturating_add(count);
     }
 
-    /// Counts bytes of the input. Returns whether `least` bytes of it were counted since the last look at the clock.
-    pub(crate) fn count_input(&mut self, count: u64, least: u64) -> bool {
+    /// Counts a read of the input, which was asked for `room` bytes. Returns whether the clock is to be looked at.
+    pub(crate) fn count_input(&mut self, room: usize, count: usize) -> bool {
         self.turn_to(Reading::Input);
-        self.done = self.done.saturating_add(count);
+        self.done = self.done.saturating_add(count as u64);
+        self.is_input_over = room > 0 && count == 0;
         self.unseen = self.unseen.saturating_add(count);
-        self.unseen >= least
+        room >= LOOK_BYTES || self.unseen >= LOOK_BYTES
     }
 
     /// Counts a document of a server.
@@ -175,7 +185,7 @@ impl Meter {
                 .end
                 .saturating_add(self.sealed.end)
                 .saturating_add(self.mirror.end),
-            Reading::Input | Reading::Documents => self.done,
+            Reading::Input | Reading::Documents | Reading::Parts => self.done,
         }
     }
 
@@ -189,7 +199,7 @@ impl Meter {
                     .saturating_add(self.mirror.size),
             ),
             Reading::Input => self.input_size,
-            Reading::Documents => None,
+            Reading::Documents | Reading::Parts => None,
         }
     }
 
@@ -206,7 +216,7 @@ impl Meter {
     pub(crate) fn line(&self, now: Instant) -> ArrayString<MAX_LINE> {
         let mut line = ArrayString::new();
         let what = match self.reading {
-            Reading::Files => "reading files",
+            Reading::Files | Reading::Parts => "reading files",
             Reading::Input => "reading input",
             Reading::Documents => "fetching",
         };

@@ -8,9 +8,6 @@ use std::fs;
 use std::rt::{self, Env, Files};
 use std::time::Instant;
 
-/// The fewest bytes of input after which the clock is looked at. A certificate is read byte by byte.
-const LOOK_BYTES: usize = 4_096;
-
 /// Erases the line that the cursor is in.
 const ERASED: &str = "\r\x1b[K";
 
@@ -84,8 +81,7 @@ impl<R: rt::Clock + Eprint> Progress<'_, R> {
     /// Counts a read of the input, which was asked for `room` bytes.
     pub fn count_input(&self, room: usize, count: usize) {
         if let Some(mut meter) = self.meter.get() {
-            let is_much = meter.count_input(count as u64, LOOK_BYTES as u64);
-            if is_much || room >= LOOK_BYTES {
+            if meter.count_input(room, count) {
                 self.look(meter);
             } else {
                 self.meter.set(Some(meter));
