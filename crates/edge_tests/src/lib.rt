@@ -5,6 +5,8 @@
 #[cfg(test)]
 mod log;
 #[cfg(test)]
+mod progress;
+#[cfg(test)]
 mod system;
 #[cfg(test)]
 mod tcp;

@@ -8,7 +8,7 @@ use document_server::Clock;
 use std::io::{self, Error, ErrorKind, Read, Write};
 use std::rt::Clock as RuntimeClock;
 use std::time::Duration;
-use system_edge::{InputSource, OutputSink, SystemClock};
+use system_edge::{InputSource, OutputSink, Progress, SystemClock};
 
 /// A reader and writer of which a signal interrupts the first two calls. The third call moves one byte, and all later
 /// calls fail.
@@ -54,8 +54,10 @@ impl Write for Interrupted {
 
 #[test]
 fn makes_an_interrupted_call_again(rt: HostRuntime) {
+    let progress = Progress::new(&rt, false);
     let mut input = InputSource {
         reader: Interrupted { calls: 0 },
+        progress: &progress,
         faults: 0,
         bytes_read: 0,
     };
@@ -66,6 +68,7 @@ fn makes_an_interrupted_call_again(rt: HostRuntime) {
     );
     let mut output = OutputSink {
         writer: Interrupted { calls: 0 },
+        progress: &progress,
         faults: 0,
     };
     let writes = (output.write(b"abcd"), output.write(b"abcd"));

@@ -12,7 +12,7 @@ use std::net::{Net, Shutdown, SocketAddr, TcpStream};
 use std::process::Abort;
 use std::rt;
 use std::time::{Duration, Instant};
-use system_edge::{Log, TcpDoor};
+use system_edge::{Log, Progress, TcpDoor};
 
 /// A request that is whole.
 const REQUEST: &[u8] = b"POST / HTTP/1.1\r\nContent-Length: 4\r\n\r\nseek";
@@ -28,11 +28,16 @@ fn empty_disk(rt: &impl Abort, alloc: Global) -> MemoryDisk {
 }
 
 /// A door that listens, and its address.
-fn listening<'a, R>(rt: &'a R, alloc: Global, log: &'a Log<'a, R>) -> (TcpDoor<'a, R>, SocketAddr)
+fn listening<'a, R>(
+    rt: &'a R,
+    alloc: Global,
+    log: &'a Log<'a, R>,
+    progress: &'a Progress<'a, R>,
+) -> (TcpDoor<'a, R>, SocketAddr)
 where
     R: Net + rt::Clock + Eprint + Abort,
 {
-    let mut door = TcpDoor::new(alloc, rt, log);
+    let mut door = TcpDoor::new(alloc, rt, log, progress);
     door.listen(b"127.0.0.1:0").expect(rt, "a port");
     let address = door.address().expect(rt, "an address");
     (door, address)
@@ -87,7 +92,8 @@ fn expect_reply(rt: &impl Abort, mut client: TcpStream) {
 fn serves_clients(rt: HostRuntime) {
     let disk = empty_disk(&rt, rt.alloc());
     let log = Log::new(&rt);
-    let (mut door, address) = listening(&rt, rt.alloc(), &log);
+    let progress = Progress::new(&rt, false);
+    let (mut door, address) = listening(&rt, rt.alloc(), &log, &progress);
     let no_head = [b'!'; 32_768];
     // A whole request, one that the client ends early, one that is whole and goes on, and one without an end.
     let all: [&[u8]; 4] = [REQUEST, b"seek", b"GET / HTTP/1.1\r\n\r\nmore", &no_head];
@@ -105,7 +111,8 @@ fn serves_clients(rt: HostRuntime) {
 fn serves_a_client_while_another_is_silent(rt: HostRuntime) {
     let disk = empty_disk(&rt, rt.alloc());
     let log = Log::new(&rt);
-    let (mut door, address) = listening(&rt, rt.alloc(), &log);
+    let progress = Progress::new(&rt, false);
+    let (mut door, address) = listening(&rt, rt.alloc(), &log, &progress);
     let mut silent = client_of(&rt, address, b"");
     let client = client_of(&rt, address, REQUEST);
     answer_next(&rt, &mut door, &disk, REQUEST, b"found");
@@ -129,7 +136,8 @@ static ARRIVING: [&[u8]; 4] = [
 fn serves_a_client_while_the_request_of_another_arrives(rt: HostRuntime) {
     let disk = empty_disk(&rt, rt.alloc());
     let log = Log::new(&rt);
-    let (mut door, address) = listening(&rt, rt.alloc(), &log);
+    let progress = Progress::new(&rt, false);
+    let (mut door, address) = listening(&rt, rt.alloc(), &log, &progress);
     for &request in &ARRIVING {
         let mut slow = client_of(&rt, address, b"");
         // Every byte of the slow client's request is followed by the whole request of another one.
@@ -164,7 +172,8 @@ static DECIDED: [&[u8]; 8] = [
 fn serves_clients_before_they_end(rt: HostRuntime) {
     let disk = empty_disk(&rt, rt.alloc());
     let log = Log::new(&rt);
-    let (mut door, address) = listening(&rt, rt.alloc(), &log);
+    let progress = Progress::new(&rt, false);
+    let (mut door, address) = listening(&rt, rt.alloc(), &log, &progress);
     for &sent in &DECIDED {
         let begun = Instant::now(&rt).expect(&rt, "a clock");
         let client = client_of(&rt, address, sent);
@@ -182,7 +191,8 @@ fn serves_clients_before_they_end(rt: HostRuntime) {
 fn reads_on_after_a_reply(rt: HostRuntime) {
     let disk = empty_disk(&rt, rt.alloc());
     let log = Log::new(&rt);
-    let (mut door, address) = listening(&rt, rt.alloc(), &log);
+    let progress = Progress::new(&rt, false);
+    let (mut door, address) = listening(&rt, rt.alloc(), &log, &progress);
     let mut slow = client_of(&rt, address, REQUEST);
     answer_next(&rt, &mut door, &disk, REQUEST, b"found");
     // The first client goes on sending after another one was served.
@@ -202,7 +212,8 @@ fn reads_on_after_a_reply(rt: HostRuntime) {
 fn serves_a_client_while_another_takes_no_reply(rt: HostRuntime) {
     let disk = empty_disk(&rt, rt.alloc());
     let log = Log::new(&rt);
-    let (mut door, address) = listening(&rt, rt.alloc(), &log);
+    let progress = Progress::new(&rt, false);
+    let (mut door, address) = listening(&rt, rt.alloc(), &log, &progress);
     // It is more than the system has room for.
     let long = vec![in rt.alloc(); b'!'; 33_554_432].expect(&rt, "memory");
     let greedy = client_of(&rt, address, REQUEST);

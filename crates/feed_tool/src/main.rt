@@ -6,7 +6,8 @@
 //! The contract of `run` says which exit status the program ends with and which bytes it prints, as far as contracts
 //! see the content of what it is lent. They see the words, and of the system's objects only counts.
 //!
-//! With `FEED_LOG=stderr` in the environment, the adapters write a line to standard error for each event.
+//! With `FEED_LOG=stderr` in the environment, the adapters write a line to standard error for each event. Without the
+//! variable, and if standard error is a terminal, a long command shows there how much it has read.
 //!
 //! `system_edge` has these as thin adapters. The traits that they implement are in the crates below, with objects in
 //! memory for tests.
@@ -15,10 +16,11 @@
 use doc_source::HttpFetch;
 use feed_commands::{Fault, print_fault, run};
 use feed_disk::FileDisk;
-use std::io::{self, BufReader};
+use std::io::{self, BufReader, IsTerminal};
 use std::process::ExitCode;
 use system_edge::{
-    InputSource, Log, LoggedDisk, LoggedFetch, OutputSink, SystemClock, TcpDoor, given_words,
+    InputSource, Log, LoggedDisk, LoggedFetch, OutputSink, Progress, SystemClock, TcpDoor,
+    given_words, input_size,
 };
 
 /// How many bytes the program reads of its input at a time. A caller that asks for fewer gets them from this buffer.
@@ -27,14 +29,20 @@ const INPUT_BUFFER: usize = 65_536;
 fn main(rt: HostRuntime) -> ExitCode {
     let mut clock = SystemClock { runtime: &rt };
     let log = Log::new(&rt);
-    let mut door = TcpDoor::new(rt.alloc(), &rt, &log);
+    let progress = Progress::new(&rt, rt.stderr().is_terminal());
+    if progress.is_on() {
+        progress.expect_input(rt.stdin().is_terminal(), input_size(&rt));
+    }
+    let mut door = TcpDoor::new(rt.alloc(), &rt, &log, &progress);
     let mut fetch = LoggedFetch {
         fetch: HttpFetch::new(&rt),
         runtime: &rt,
         log: &log,
+        progress: &progress,
     };
     let mut output = OutputSink {
         writer: io::writer(&rt),
+        progress: &progress,
         faults: 0,
     };
     let words = given_words(&rt);
@@ -48,12 +56,14 @@ fn main(rt: HostRuntime) -> ExitCode {
                 disk,
                 runtime: &rt,
                 log: &log,
+                progress: &progress,
             },
             &mut clock,
             &mut door,
             &mut fetch,
             &mut InputSource {
                 reader,
+                progress: &progress,
                 faults: 0,
                 bytes_read: 0,
             },
@@ -66,6 +76,7 @@ fn main(rt: HostRuntime) -> ExitCode {
         // `BufReader` fails only if there is no memory for its buffer.
         (_, _, Err(_)) => print_fault(&mut output, Fault::NoMemory).code(),
     };
+    progress.end();
     // Some clients of `serve` may still be taking their replies.
     door.finish();
     ExitCode::from(status)

@@ -6,7 +6,8 @@
 //! ```
 //! let mut clock = SystemClock { runtime: &rt };
 //! let log = Log::new(&rt);
-//! let mut door = TcpDoor::new(rt.alloc(), &rt, &log);
+//! let progress = Progress::new(&rt, rt.stderr().is_terminal());
+//! let mut door = TcpDoor::new(rt.alloc(), &rt, &log, &progress);
 //! let ended = serve(rt.alloc(), &mut disk, &mut clock, &mut door, b"127.0.0.1:8080", 100);
 //! door.finish();
 //! ```
@@ -16,17 +17,20 @@
 //!
 //! Stands on `document_server` for the clock and the door, on `doc_source` for the input and the output, on `http_face`
 //! for connections, on `httparse` for a look at heads that are arriving, on `mio` for waiting, and on `arrayvec` for the
-//! lines of the log.
+//! lines of the log and of the progress.
 #![tactic(auto)]
 
 mod log;
 mod logged;
+mod meter;
+mod progress;
 mod system;
 mod tcp;
 mod words;
 
 pub use log::{Line, Log};
 pub use logged::{LoggedDisk, LoggedFetch};
+pub use progress::{Progress, input_size};
 pub use system::{InputSource, OutputSink, SystemClock};
 pub use tcp::{EndedConn, TcpConn, TcpDoor};
 pub use words::given_words;

@@ -1,6 +1,8 @@
-//! A disk and a fetch whose calls are logged. To contracts they are the disk and the fetch that they hold.
+//! A disk and a fetch whose calls are logged and counted for the line of progress. To contracts they are the disk and the
+//! fetch that they hold.
 
 use crate::log::{Line, Log};
+use crate::progress::Progress;
 use atom_values::Failed;
 use doc_source::{Fetch, GetFault};
 use feed_disk::{Area, Disk};
@@ -34,12 +36,13 @@ fn area_name(area: Area) -> &'static str {
     }
 }
 
-/// A fetch that logs each document that it is asked for.
+/// A fetch that logs and counts each document that it is asked for.
 #[derive(Drop)]
 pub struct LoggedFetch<'a, F: Fetch + Drop, R: rt::Clock + Eprint> {
     pub fetch: F,
     pub runtime: &'a R,
     pub log: &'a Log<'a, R>,
+    pub progress: &'a Progress<'a, R>,
 }
 
 impl<F: Fetch + Drop, R: rt::Clock + Eprint> LoggedFetch<'_, F, R> {
@@ -74,16 +77,20 @@ impl<F: Fetch + Drop, R: rt::Clock + Eprint> Fetch for LoggedFetch<'_, F, R> {
         if let Some(began) = began {
             self.log_get(address, began, &found);
         }
+        if let Ok(Some(bytes)) = &found {
+            self.progress.count_document(bytes.len());
+        }
         found
     }
 }
 
-/// A disk that logs each sync that took longer than 100 ms, and each call that failed.
+/// A disk that logs each sync that took longer than 100 ms, and each call that failed, and counts each read.
 #[derive(Drop)]
 pub struct LoggedDisk<'a, D: Disk + Drop, R: rt::Clock + Eprint> {
     pub disk: D,
     pub runtime: &'a R,
     pub log: &'a Log<'a, R>,
+    pub progress: &'a Progress<'a, R>,
 }
 
 impl<D: Disk + Drop, R: rt::Clock + Eprint> LoggedDisk<'_, D, R> {
@@ -117,16 +124,18 @@ impl<D: Disk + Drop, R: rt::Clock + Eprint> Disk for LoggedDisk<'_, D, R> {
 
     fn size(&mut self, area: Area) -> Result<u64, Failed> {
         let size = self.disk.size(area);
-        if size.is_err() {
-            self.log_fault("size", area);
+        match size {
+            Ok(bytes) => self.progress.note_size(area, bytes),
+            Err(Failed) => self.log_fault("size", area),
         }
         size
     }
 
     fn read(&mut self, area: Area, at: u64, into: &mut [u8]) -> Result<usize, Failed> {
         let count = self.disk.read(area, at, into);
-        if count.is_err() {
-            self.log_fault("read", area);
+        match count {
+            Ok(bytes) => self.progress.count_file(area, at, bytes),
+            Err(Failed) => self.log_fault("read", area),
         }
         count
     }
@@ -136,6 +145,7 @@ impl<D: Disk + Drop, R: rt::Clock + Eprint> Disk for LoggedDisk<'_, D, R> {
         if written.is_err() {
             self.log_fault("write", area);
         }
+        self.progress.tick();
         written
     }
 
@@ -148,6 +158,7 @@ impl<D: Disk + Drop, R: rt::Clock + Eprint> Disk for LoggedDisk<'_, D, R> {
         if synced.is_err() {
             self.log_fault("sync", area);
         }
+        self.progress.tick();
         synced
     }
 

@@ -3,6 +3,7 @@
 
 ghost use Rattle.std.specs.Prelude.{[]};
 
+use crate::progress::Progress;
 use atom_values::Failed;
 use doc_source::{Sink, Source};
 use document_server::Clock;
@@ -32,24 +33,27 @@ impl<R: rt::Clock> Clock for SystemClock<'_, R> {
     }
 }
 
-/// The program's input.
+/// The program's input, whose reads are counted for the line of progress.
 #[derive(Drop)]
-pub struct InputSource<R: Read + Drop> {
-    pub reader: R,
+pub struct InputSource<'a, I: Read + Drop, R: rt::Clock + Eprint> {
+    pub reader: I,
+    pub progress: &'a Progress<'a, R>,
     pub faults: u64,
     pub bytes_read: u64,
 }
 
-impl<R: Read + Drop> Source for InputSource<R> {
+impl<I: Read + Drop, R: rt::Clock + Eprint> Source for InputSource<'_, I, R> {
     ghost observable = { ⊥ };
 
     ghost state = { λ s. record { left = []; faults = s.faults; bytes_read = s.bytes_read } };
 
     fn read(&mut self, into: &mut [u8]) -> Result<usize, Failed> {
+        self.progress.await_input();
         // A read that a signal interrupted took no byte, and is made again.
         for _ in 0..u64::MAX {
             match self.reader.read(into) {
                 Ok(count) => {
+                    self.progress.count_input(into.len(), count);
                     self.bytes_read = self.bytes_read.saturating_add(count as u64);
                     return Ok(count);
                 }
@@ -62,19 +66,21 @@ impl<R: Read + Drop> Source for InputSource<R> {
     }
 }
 
-/// The program's output.
+/// The program's output. Its first write ends the line of progress, since both may go to one terminal.
 #[derive(Drop)]
-pub struct OutputSink<W: Write + Drop> {
+pub struct OutputSink<'a, W: Write + Drop, R: rt::Clock + Eprint> {
     pub writer: W,
+    pub progress: &'a Progress<'a, R>,
     pub faults: u64,
 }
 
-impl<W: Write + Drop> Sink for OutputSink<W> {
+impl<W: Write + Drop, R: rt::Clock + Eprint> Sink for OutputSink<'_, W, R> {
     ghost observable = { ⊥ };
 
     ghost state = { λ s. record { taken = []; faults = s.faults } };
 
     fn write(&mut self, from: &[u8]) -> Result<usize, Failed> {
+        self.progress.end();
         // A write that a signal interrupted took no byte, and is made again. One that takes no byte of some is a
         // failure, since it could be made again for ever.
         for _ in 0..u64::MAX {

@@ -5,6 +5,7 @@ ghost use Rattle.std.specs.Prelude.{[]};
 use super::conn::TcpConn;
 use super::port::Port;
 use crate::log::{Line, Log};
+use crate::progress::Progress;
 use atom_values::Failed;
 use document_server::Door;
 use std::alloc::Global;
@@ -23,17 +24,24 @@ pub struct TcpDoor<'a, R: Net + rt::Clock + Eprint> {
     alloc: Global,
     runtime: &'a R,
     log: &'a Log<'a, R>,
+    progress: &'a Progress<'a, R>,
     port: Option<Port<'a, R>>,
     faults: u64,
 }
 
 impl<'a, R: Net + rt::Clock + Eprint> TcpDoor<'a, R> {
     /// A door that doesn't listen yet.
-    pub fn new(alloc: Global, runtime: &'a R, log: &'a Log<'a, R>) -> TcpDoor<'a, R> {
+    pub fn new(
+        alloc: Global,
+        runtime: &'a R,
+        log: &'a Log<'a, R>,
+        progress: &'a Progress<'a, R>,
+    ) -> TcpDoor<'a, R> {
         TcpDoor {
             alloc,
             runtime,
             log,
+            progress,
             port: None,
             faults: 0,
         }
@@ -83,6 +91,8 @@ impl<'a, R: Net + rt::Clock + Eprint> Door for TcpDoor<'a, R> {
     ghost only_at = { λ _ _. Unit {0} };
 
     fn listen(&mut self, at: &[u8]) -> Result<(), Failed> {
+        // The load is over.
+        self.progress.end();
         self.port = Port::bind(self.alloc, self.runtime, self.log, at);
         if self.port.is_none() {
             self.faults = self.faults.saturating_add(1);
