@@ -24,12 +24,12 @@ returns-in-Document-clause-refused g c = λ source. rw (c.in-Show.is, c.in-Docum
 
 pub returns-in-Scrub-false-clause-answer : goal.returns-in-Scrub-false-clause-answer
 returns-in-Scrub-false-clause-answer g c = λ source.
-    rw scrub-is c.in-Scrub-false.is c.in-Scrub-false.repair-test (IfOk-weaker c.scrub.result _ _
+    rw (scrub-is c.in-Scrub-false.is c.in-Scrub-false.repair-test) (IfOk-weaker c.scrub.result _ _
     (λ written given seen. scrub-given _ _ (given (seen.disk tt))) c.scrub.ensures.answer)
 
 pub returns-in-Scrub-false-clause-refused : goal.returns-in-Scrub-false-clause-refused
 returns-in-Scrub-false-clause-refused g c = λ source.
-    rw scrub-is c.in-Scrub-false.is c.in-Scrub-false.repair-test (IfErr-weaker c.scrub.result _ _
+    rw (scrub-is c.in-Scrub-false.is c.in-Scrub-false.repair-test) (IfErr-weaker c.scrub.result _ _
     (λ fault given refusal seen. scrub-given _ _ (given refusal (seen.disk tt))) c.scrub.ensures.refused)
 
 pub returns-in-Scrub-false-clause-safe : goal.returns-in-Scrub-false-clause-safe
@@ -41,10 +41,10 @@ returns-in-Scrub-false-clause-mirror g c = c.scrub.ensures.areas Mirror
 
 pub returns-in-Scrub-true-clause-answer : goal.returns-in-Scrub-true-clause-answer
 returns-in-Scrub-true-clause-answer g c = λ source.
-    rw scrub-is c.in-Scrub-true.is c.in-Scrub-true.repair-test (IfOk-weaker c.repair.result _ _
+    rw (scrub-is c.in-Scrub-true.is c.in-Scrub-true.repair-test) (IfOk-weaker c.repair.result _ _
     (λ written given seen. repair-given _ _ (given (seen.disk tt))) c.repair.ensures.answer)
 
 pub returns-in-Scrub-true-clause-refused : goal.returns-in-Scrub-true-clause-refused
 returns-in-Scrub-true-clause-refused g c = λ source.
-    rw scrub-is c.in-Scrub-true.is c.in-Scrub-true.repair-test (IfErr-weaker c.repair.result _ _
+    rw (scrub-is c.in-Scrub-true.is c.in-Scrub-true.repair-test) (IfErr-weaker c.repair.result _ _
     (λ fault given refusal seen. repair-given _ _ (given refusal (seen.disk tt))) c.repair.ensures.refused)
