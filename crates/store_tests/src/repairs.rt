@@ -86,9 +86,8 @@ fn resealed(rt: &impl Abort, alloc: Global, sound: &[u8], area: &[u8], seals: u3
         end = end_of_frame(sound, end).unwrap_or(end);
     }
     let mut bytes = Vec::new(alloc);
-    bytes
-        .extend_from_slice(sound.get(..end).unwrap_or(b""))
-        .expect(rt, "memory");
+    let first = sound.get(..end).unwrap_or(b"");
+    bytes.extend_from_slice(first).expect(rt, "memory");
     bytes.push(0).expect(rt, "memory");
     let rest = area.get(end.saturating_add(1)..).unwrap_or(b"");
     bytes.extend_from_slice(rest).expect(rt, "memory");
