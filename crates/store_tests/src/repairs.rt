@@ -86,10 +86,10 @@ fn resealed(rt: &impl Abort, alloc: Global, sound: &[u8], area: &[u8], seals: u3
         end = end_of_frame(sound, end).unwrap_or(end);
     }
     let mut bytes = Vec::new(alloc);
-    let first = sound.get(..end).unwrap_or(b"");
+    let first = &sound[..end.min(sound.len())];
     bytes.extend_from_slice(first).expect(rt, "memory");
     bytes.push(0).expect(rt, "memory");
-    let rest = area.get(end.saturating_add(1)..).unwrap_or(b"");
+    let rest = &area[bytes.len().min(area.len())..];
     bytes.extend_from_slice(rest).expect(rt, "memory");
     bytes
 }
