@@ -13,6 +13,7 @@ const MAX_VALUE: usize = 200;
 const MAX_LINE: usize = 1_024;
 
 /// Where events are written: to standard error or nowhere.
+#[derive(Drop)]
 pub struct Log {
     to: Option<Stderr>,
 }
