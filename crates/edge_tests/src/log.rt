@@ -64,7 +64,10 @@ static VALUES: [(Option<&[u8]>, bool); 7] = [
 fn is_off_unless_asked_for(rt: HostRuntime) {
     for &(value, wanted) in &VALUES {
         let system = Variable { value };
-        assert!(rt; Log::new(&system).is_on() == wanted, "{value:?}");
+        assert!(rt;
+            Log::new(&system, rt.stderr()).is_on() == wanted,
+            "{value:?}"
+        );
     }
 }
 

@@ -31,7 +31,7 @@ fn empty_disk(rt: &impl Abort, alloc: Global) -> MemoryDisk {
 fn listening<'a, R>(
     rt: &'a R,
     alloc: Global,
-    log: &'a Log<'a, R>,
+    log: &'a Log,
     progress: &'a Progress<'a, R>,
 ) -> (TcpDoor<'a, R>, SocketAddr)
 where
@@ -91,7 +91,7 @@ fn expect_reply(rt: &impl Abort, mut client: TcpStream) {
 #[test]
 fn serves_clients(rt: HostRuntime) {
     let disk = empty_disk(&rt, rt.alloc());
-    let log = Log::new(&rt);
+    let log = Log::new(&rt, rt.stderr());
     let progress = Progress::new(&rt, false);
     let (mut door, address) = listening(&rt, rt.alloc(), &log, &progress);
     let no_head = [b'!'; 32_768];
@@ -110,7 +110,7 @@ fn serves_clients(rt: HostRuntime) {
 #[test]
 fn serves_a_client_while_another_is_silent(rt: HostRuntime) {
     let disk = empty_disk(&rt, rt.alloc());
-    let log = Log::new(&rt);
+    let log = Log::new(&rt, rt.stderr());
     let progress = Progress::new(&rt, false);
     let (mut door, address) = listening(&rt, rt.alloc(), &log, &progress);
     let mut silent = client_of(&rt, address, b"");
@@ -135,7 +135,7 @@ static ARRIVING: [&[u8]; 4] = [
 #[test]
 fn serves_a_client_while_the_request_of_another_arrives(rt: HostRuntime) {
     let disk = empty_disk(&rt, rt.alloc());
-    let log = Log::new(&rt);
+    let log = Log::new(&rt, rt.stderr());
     let progress = Progress::new(&rt, false);
     let (mut door, address) = listening(&rt, rt.alloc(), &log, &progress);
     for &request in &ARRIVING {
@@ -171,7 +171,7 @@ static DECIDED: [&[u8]; 8] = [
 #[test]
 fn serves_clients_before_they_end(rt: HostRuntime) {
     let disk = empty_disk(&rt, rt.alloc());
-    let log = Log::new(&rt);
+    let log = Log::new(&rt, rt.stderr());
     let progress = Progress::new(&rt, false);
     let (mut door, address) = listening(&rt, rt.alloc(), &log, &progress);
     for &sent in &DECIDED {
@@ -190,7 +190,7 @@ fn serves_clients_before_they_end(rt: HostRuntime) {
 #[test]
 fn reads_on_after_a_reply(rt: HostRuntime) {
     let disk = empty_disk(&rt, rt.alloc());
-    let log = Log::new(&rt);
+    let log = Log::new(&rt, rt.stderr());
     let progress = Progress::new(&rt, false);
     let (mut door, address) = listening(&rt, rt.alloc(), &log, &progress);
     let mut slow = client_of(&rt, address, REQUEST);
@@ -211,7 +211,7 @@ fn reads_on_after_a_reply(rt: HostRuntime) {
 #[test]
 fn serves_a_client_while_another_takes_no_reply(rt: HostRuntime) {
     let disk = empty_disk(&rt, rt.alloc());
-    let log = Log::new(&rt);
+    let log = Log::new(&rt, rt.stderr());
     let progress = Progress::new(&rt, false);
     let (mut door, address) = listening(&rt, rt.alloc(), &log, &progress);
     // It is more than the system has room for.

@@ -28,7 +28,7 @@ const INPUT_BUFFER: usize = 65_536;
 
 fn main(rt: HostRuntime) -> ExitCode {
     let mut clock = SystemClock { runtime: &rt };
-    let log = Log::new(&rt);
+    let log = Log::new(&rt, rt.stderr());
     let progress = Progress::new(&rt, rt.stderr().is_terminal());
     if progress.is_on() {
         progress.expect_input(rt.stdin().is_terminal(), input_size(&rt));

@@ -5,7 +5,7 @@
 //!
 //! ```
 //! let mut clock = SystemClock { runtime: &rt };
-//! let log = Log::new(&rt);
+//! let log = Log::new(&rt, rt.stderr());
 //! let progress = Progress::new(&rt, rt.stderr().is_terminal());
 //! let mut door = TcpDoor::new(rt.alloc(), &rt, &log, &progress);
 //! let ended = serve(rt.alloc(), &mut disk, &mut clock, &mut door, b"127.0.0.1:8080", 100);

@@ -14,7 +14,7 @@ use std::time::{Duration, Instant};
 const LONG_SYNC_MILLIS: u64 = 100;
 
 /// When a call began. `None` if it isn't logged or the clock can't be read.
-fn began<R: rt::Clock + Eprint>(runtime: &R, log: &Log<R>) -> Option<Instant> {
+fn began<R: rt::Clock + Eprint>(runtime: &R, log: &Log) -> Option<Instant> {
     if log.is_on() {
         Instant::now(runtime).ok()
     } else {
@@ -41,7 +41,7 @@ fn area_name(area: Area) -> &'static str {
 pub struct LoggedFetch<'a, F: Fetch + Drop, R: rt::Clock + Eprint> {
     pub fetch: F,
     pub runtime: &'a R,
-    pub log: &'a Log<'a, R>,
+    pub log: &'a Log,
     pub progress: &'a Progress<'a, R>,
 }
 
@@ -62,7 +62,7 @@ impl<F: Fetch + Drop, R: rt::Clock + Eprint> LoggedFetch<'_, F, R> {
             Err(GetFault::Failed) => line.word("answer", "failed"),
             Err(GetFault::NoMemory) => line.word("answer", "no-memory"),
         }
-        self.log.write(&line);
+        self.log.write(line);
     }
 }
 
@@ -89,7 +89,7 @@ impl<F: Fetch + Drop, R: rt::Clock + Eprint> Fetch for LoggedFetch<'_, F, R> {
 pub struct LoggedDisk<'a, D: Disk + Drop, R: rt::Clock + Eprint> {
     pub disk: D,
     pub runtime: &'a R,
-    pub log: &'a Log<'a, R>,
+    pub log: &'a Log,
     pub progress: &'a Progress<'a, R>,
 }
 
@@ -100,7 +100,7 @@ impl<D: Disk + Drop, R: rt::Clock + Eprint> LoggedDisk<'_, D, R> {
             let mut line = Line::new("disk-fault");
             line.word("call", call);
             line.word("area", area_name(area));
-            self.log.write(&line);
+            self.log.write(line);
         }
     }
 
@@ -111,7 +111,7 @@ impl<D: Disk + Drop, R: rt::Clock + Eprint> LoggedDisk<'_, D, R> {
                 let mut line = Line::new("sync");
                 line.word("area", area_name(area));
                 line.millis("ms", time);
-                self.log.write(&line);
+                self.log.write(line);
             }
         }
     }

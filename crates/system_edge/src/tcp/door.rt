@@ -23,7 +23,7 @@ use std::time::Instant;
 pub struct TcpDoor<'a, R: Net + rt::Clock + Eprint> {
     alloc: Global,
     runtime: &'a R,
-    log: &'a Log<'a, R>,
+    log: &'a Log,
     progress: &'a Progress<'a, R>,
     port: Option<Port<'a, R>>,
     faults: u64,
@@ -34,7 +34,7 @@ impl<'a, R: Net + rt::Clock + Eprint> TcpDoor<'a, R> {
     pub fn new(
         alloc: Global,
         runtime: &'a R,
-        log: &'a Log<'a, R>,
+        log: &'a Log,
         progress: &'a Progress<'a, R>,
     ) -> TcpDoor<'a, R> {
         TcpDoor {
@@ -66,14 +66,14 @@ impl<'a, R: Net + rt::Clock + Eprint> TcpDoor<'a, R> {
         if let Some(address) = self.address() {
             let mut line = Line::new("listen");
             line.address("address", address);
-            self.log.write(&line);
+            self.log.write(line);
         }
     }
 
     /// Logs a connection that was given back.
     fn log_connection(&self, link: &TcpConn<R::Stream>) {
         if let Ok(now) = Instant::now(self.runtime) {
-            self.log.write(&link.line(now, link.end()));
+            self.log.write(link.line(now, link.end()));
         }
     }
 }

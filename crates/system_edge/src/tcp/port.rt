@@ -57,7 +57,7 @@ const CALLS: Token = Token(0);
 #[derive(Drop)]
 pub(super) struct Port<'a, R: Net + rt::Clock + Eprint> {
     alloc: Global,
-    log: &'a Log<'a, R>,
+    log: &'a Log,
     /// The room for what a client sends.
     part: Vec<u8>,
     /// The memory of an earlier reply, for the next one: the system takes long to give new memory.
@@ -78,12 +78,7 @@ pub(super) struct Port<'a, R: Net + rt::Clock + Eprint> {
 impl<'a, R: Net + rt::Clock + Eprint> Port<'a, R> {
     /// Binds a port, or returns `None`. std sets SO_REUSEADDR, so after a restart the port can be bound at once, while
     /// the system still keeps the connections of the last run.
-    pub(super) fn bind(
-        alloc: Global,
-        runtime: &R,
-        log: &'a Log<'a, R>,
-        at: &[u8],
-    ) -> Option<Port<'a, R>> {
+    pub(super) fn bind(alloc: Global, runtime: &R, log: &'a Log, at: &[u8]) -> Option<Port<'a, R>> {
         let listener = TcpListener::bind(runtime, str::from_utf8(at).ok()?).ok()?;
         let poll = Poll::new(runtime).ok()?;
         let listening = Listening::new(listener, &poll, CALLS)?;
@@ -292,7 +287,7 @@ impl<'a, R: Net + rt::Clock + Eprint> Port<'a, R> {
             return false;
         };
         if self.log.is_on() {
-            self.log.write(&client.conn.line(now, Some("cut")));
+            self.log.write(client.conn.line(now, Some("cut")));
         }
         true
     }
@@ -334,7 +329,7 @@ impl<'a, R: Net + rt::Clock + Eprint> Port<'a, R> {
     /// Logs how the rest of a reply ended.
     fn log_rest(&self, reply: &Replying<R::Stream>, end: &str) {
         if self.log.is_on() {
-            self.log.write(&reply.line(end));
+            self.log.write(reply.line(end));
         }
     }
 
@@ -347,7 +342,7 @@ impl<'a, R: Net + rt::Clock + Eprint> Port<'a, R> {
             return;
         };
         for client in self.arriving.iter() {
-            self.log.write(&client.conn.line(now, Some("stopped")));
+            self.log.write(client.conn.line(now, Some("stopped")));
         }
     }
 
