@@ -135,6 +135,7 @@ try 'a pile' 'reading files' "$files" show pile
 try 'scrub' 'reading files' "$files" scrub
 folder=empty input=lines call=read delay=100000
 try 'apply in memory' 'reading input' "$(megabytes "$work/lines")" apply 90
+input=pile
 try 'mirror' 'reading input' "$(megabytes "$work/pile")" mirror --base "$base"
 try 'mirror, a report' 'reading input' "$(megabytes "$work/pile")" mirror --base "$base" --report
 input=both
@@ -181,7 +182,7 @@ same 'a closed standard error, standard output' "$(masked "$work/wanted")" "$(ma
 
 cd "$work/store" || exit 1
 seen=$work/server
-at_terminal "$(slow pread64 40000) serve --listen 127.0.0.1:$port --requests 9 >'$work/served'" &
+at_terminal "$(slow pread64 40000) serve --listen 127.0.0.1:$port --requests 8 >'$work/served'" &
 server=$!
 began=$(now)
 tries=0
@@ -209,7 +210,7 @@ same 'mirror --fetch, standard output' "$(cksum <"$work/certificate")" "$(cksum 
 wait "$server"
 same 'a server, the status' 0 "$?"
 server=
-same 'a server, standard output' 9 "$(grep -c '^200 ' "$work/served")"
+same 'a server, standard output' 8 "$(grep -c '^200 ' "$work/served")"
 seen=$work/server
 same 'a server that has ended, the line' "drawn, of $files" "$(drawn 'reading files' "$took")"
 

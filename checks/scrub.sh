@@ -226,7 +226,7 @@ def try_damage(folder, store, damage):
         if answer != (6 if not expected.startswith(b"sound") else 0, expected):
             raise Differs(f"{answer}, and not {expected}")
     elif within is not None:
-        compare_changed(answer, within, expected)
+        compare_changed(answer, within, expected, journal, sealed)
     compare_load(folder, files, answer)
     lay(folder, files)
     compare_repair(folder, store, files, answer, within is None)
@@ -244,7 +244,12 @@ def is_unread(line, journal, store):
     return words[:2] == [b"bad", b"store"] and same <= int(words[3]) < len(journal.payloads)
 
 
-def compare_changed(answer, within, expected):
+def window_of(journal):
+    """The window size that the head of a journal states."""
+    return int.from_bytes(journal.payloads[0][-20:-16], "big")
+
+
+def compare_changed(answer, within, expected, journal, sealed):
     """Compares what is said of a journal with a byte changed in this payload."""
     status, line = answer
     words = line.split(b" ")
@@ -252,6 +257,10 @@ def compare_changed(answer, within, expected):
         return
     # The operations of the windows after the changed one are the same, and so are their archives but for the title.
     if words[:2] == [b"bad", b"seal"] and status == 6 and (within == 0 or int(words[2]) > (within - 1) // WINDOW):
+        return
+    # A head with a window that isn't full has no archive.
+    records, seals = len(journal.payloads) - 1, len(sealed.payloads)
+    if within == 0 and window_of(journal) > records and answer == (6, b"seal count %d %d\n" % (records, seals)):
         return
     if answer != (0, expected):
         raise Differs(f"{answer} for payload {within}")
