@@ -5,7 +5,7 @@ ghost use Rattle.std.specs.Prelude.{◌≤◌};
 use std::env::FillError;
 use std::fmt::Display;
 use std::io;
-use std::net::{Ipv4Addr, SocketAddr};
+use std::net::{Ipv4Addr, Ipv6Addr, SocketAddr};
 use std::rt::Env;
 use std::time::Duration;
 use system_edge::{EndedConn, Line, Log};
@@ -129,6 +129,48 @@ fn writes_a_line_for_a_connection(rt: HostRuntime) {
             end,
         };
         assert_eq!(rt; ended.line().as_str(), wanted);
+    }
+}
+
+/// The bytes of an address, its port and its text.
+static ADDRESSES: [([u8; 4], u16, &str); 4] = [
+    ([127, 0, 0, 1], 80, "127.0.0.1:80"),
+    ([203, 0, 113, 7], 65_535, "203.0.113.7:65535"),
+    ([0, 0, 0, 0], 0, "0.0.0.0:0"),
+    ([255, 99, 10, 9], 8_080, "255.99.10.9:8080"),
+];
+
+#[test]
+fn writes_addresses(rt: HostRuntime) {
+    for &(octets, port, wanted) in &ADDRESSES {
+        let mut line = Line::new("listen");
+        line.address("address", SocketAddr::from((Ipv4Addr::from(octets), port)));
+        assert_eq!(rt;
+            line.as_str().strip_prefix("event=listen address="),
+            Some(wanted)
+        );
+    }
+    let mut line = Line::new("listen");
+    line.address("address", SocketAddr::from((Ipv6Addr::LOCALHOST, 80)));
+    assert_eq!(rt; line.as_str(), "event=listen address=[::1]:80");
+}
+
+/// A time in microseconds, and its text in milliseconds.
+static TIMES: [(u64, &str); 6] = [
+    (0, "0.000"),
+    (9, "0.009"),
+    (10, "0.010"),
+    (99, "0.099"),
+    (100, "0.100"),
+    (61_000_999, "61000.999"),
+];
+
+#[test]
+fn writes_times(rt: HostRuntime) {
+    for &(micros, wanted) in &TIMES {
+        let mut line = Line::new("sync");
+        line.millis("ms", Duration::from_micros(micros));
+        assert_eq!(rt; line.as_str().strip_prefix("event=sync ms="), Some(wanted));
     }
 }
 

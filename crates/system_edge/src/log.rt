@@ -1,6 +1,7 @@
 //! The log: a line of `key=value` pairs on standard error for each event, if the environment asks for it.
 
 use arrayvec::ArrayString;
+use itoa::Buffer;
 use std::fmt::Write;
 use std::net::SocketAddr;
 use std::rt::{Env, Stderr};
@@ -86,24 +87,46 @@ impl Line {
         self.push(word);
     }
 
+    /// Adds the digits of a number.
+    fn digits(&mut self, number: u64) {
+        self.push(Buffer::new().format(number));
+    }
+
     /// Adds a number.
     pub fn number(&mut self, key: &str, number: u64) {
         self.key(key);
-        let _ = write!(self.text, "{number}");
+        self.digits(number);
     }
 
     /// Adds the address of a socket.
     pub fn address(&mut self, key: &str, address: SocketAddr) {
         self.key(key);
-        let _ = write!(self.text, "{address}");
+        let SocketAddr::V4(address) = address else {
+            let _ = write!(self.text, "{address}");
+            return;
+        };
+        let octets = address.ip().octets();
+        let mut mark = "";
+        for octet in &octets {
+            self.push(mark);
+            self.digits(u64::from(*octet));
+            mark = ".";
+        }
+        self.push(":");
+        self.digits(u64::from(address.port()));
     }
 
     /// Adds a time in milliseconds, with three digits after the point.
     pub fn millis(&mut self, key: &str, time: Duration) {
-        let millis = time.as_millis();
         let micros = time.subsec_micros() % 1_000;
         self.key(key);
-        let _ = write!(self.text, "{millis}.{micros:03}");
+        self.digits(u64::try_from(time.as_millis()).unwrap_or(u64::MAX));
+        self.push(match micros {
+            0..=9 => ".00",
+            10..=99 => ".0",
+            _ => ".",
+        });
+        self.digits(u64::from(micros));
     }
 
     /// Adds bytes that came from outside. A backslash, and each byte that isn't a printable ASCII character, is written
