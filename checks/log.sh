@@ -122,6 +122,25 @@ same 'the lines of foreign' "$(fetched)" "$(mask "$work/with/foreign.err")"
 same 'the bytes of the feed' "$(wc -c <"$work/with/feed" | tr -d ' ')" \
     "$(sed -n 's/.*\/feed .* bytes=//p' "$work/with/mirror.err")"
 
+# Lines of connections are kept for a tenth of a second at most while the server waits, and are written earlier if they are
+# many. Here the first one is written before the second connection, and the others fill the room for them three times.
+cd "$work/with/store" || exit 1
+FEED_LOG=stderr "$tool" serve --listen "127.0.0.1:$port" --requests 201 >/dev/null 2>../many.err &
+server=$!
+tries=0
+until ask -o /dev/null "${base}n0"; do
+    tries=$((tries + 1))
+    [ "$tries" -le 100 ] || { echo 'FAILED: the server does not answer'; exit 1; }
+    sleep 0.1
+done
+sleep 1
+same 'the line of a server that waits' "$(line GET /n0 404)" "$(mask "$work/with/many.err" | grep '^event=connection ')"
+ask -o /dev/null "${base}n[1-200]"
+wait "$server"
+server=
+same 'many lines' "$(for number in $(seq 0 200); do line GET "/n$number" 404; done)" \
+    "$(mask "$work/with/many.err" | grep '^event=connection ')"
+
 # A closed standard error changes nothing.
 cd "$work/with/mirror" || exit 1
 FEED_LOG=stderr "$tool" foreign --from "${base}feed" >../closed.out 2>&-

@@ -2,6 +2,7 @@
 
 use arrayvec::ArrayString;
 use itoa::Buffer;
+use std::cell::RefCell;
 use std::fmt::Write;
 use std::net::SocketAddr;
 use std::rt::{Env, Stderr};
@@ -13,10 +14,18 @@ const MAX_VALUE: usize = 200;
 /// The room of a line with its LF. A line with three values of `MAX_VALUE` bytes fits.
 const MAX_LINE: usize = 1_024;
 
+/// The room for lines that are kept. Some eighty lines of connections fit.
+const MAX_KEPT: usize = 8_192;
+
 /// Where events are written: to standard error or nowhere.
+///
+/// A line is written at once, or kept and written with others, since a call of the system costs more than the rest of a
+/// line. Lines are written in the order in which they came.
 #[derive(Drop)]
 pub struct Log {
     to: Option<Stderr>,
+    /// Whole lines that aren't written yet.
+    kept: RefCell<ArrayString<MAX_KEPT>>,
 }
 
 impl Log {
@@ -29,6 +38,7 @@ impl Log {
         };
         Log {
             to: if is_asked { Some(stderr) } else { None },
+            kept: RefCell::new(ArrayString::new()),
         }
     }
 
@@ -37,11 +47,48 @@ impl Log {
         self.to.is_some()
     }
 
-    /// Writes a line and its LF in one call of the system. A failure changes nothing, since nothing depends on the log.
-    pub fn write(&self, mut line: Line) {
+    /// Writes a line with those that are kept.
+    pub fn write(&self, line: Line) {
+        self.keep(line);
+        self.flush();
+    }
+
+    /// Keeps a line until the next `flush`. If there is no room for it, those that are kept are written first.
+    pub fn keep(&self, mut line: Line) {
+        line.end();
+        if !self.push(line.as_str()) {
+            self.flush();
+            // A line is shorter than the room for all.
+            self.push(line.as_str());
+        }
+    }
+
+    /// Adds a text to what is kept. Returns whether there was room for it.
+    fn push(&self, text: &str) -> bool {
+        match self.kept.try_borrow_mut() {
+            Ok(mut kept) => kept.try_push_str(text).is_ok(),
+            Err(_) => false,
+        }
+    }
+
+    /// Whether a line is kept.
+    pub fn has_kept(&self) -> bool {
+        match self.kept.try_borrow() {
+            Ok(kept) => !kept.as_str().is_empty(),
+            Err(_) => false,
+        }
+    }
+
+    /// Writes the lines that are kept in one call of the system. A failure loses them and changes nothing else, since
+    /// nothing depends on the log.
+    pub fn flush(&self) {
         if let Some(stderr) = self.to {
-            line.end();
-            let _ = stderr.write_all(line.text.as_str().as_bytes());
+            if let Ok(mut kept) = self.kept.try_borrow_mut() {
+                if !kept.as_str().is_empty() {
+                    let _ = stderr.write_all(kept.as_str().as_bytes());
+                    kept.clear();
+                }
+            }
         }
     }
 }

@@ -59,6 +59,7 @@ impl<'a, R: Net + rt::Clock + Eprint> TcpDoor<'a, R> {
             // A failure leaves nothing to do: the program's end closes all connections.
             let _ = port.finish(self.runtime);
         }
+        self.log.flush();
     }
 
     /// Logs the address at which the door listens.
@@ -73,7 +74,7 @@ impl<'a, R: Net + rt::Clock + Eprint> TcpDoor<'a, R> {
     /// Logs a connection that was given back.
     fn log_connection(&self, link: &TcpConn<R::Stream>) {
         if let Ok(now) = Instant::now(self.runtime) {
-            self.log.write(link.line(now, link.end()));
+            self.log.keep(link.line(now, link.end()));
         }
     }
 }

@@ -47,6 +47,9 @@ const MAX_ACCEPTED: u32 = 64;
 /// The pause after a lack of memory or descriptors, so that the loop doesn't spin.
 const PAUSE_MILLIS: u64 = 10;
 
+/// How long the lines of connections are kept, so that they are written together.
+const LOG_MILLIS: u64 = 100;
+
 /// How many reports the system gives at a time. No more sockets than this are watched.
 const MAX_REPORTS: usize = 1024;
 
@@ -73,6 +76,8 @@ pub(super) struct Port<'a, R: Net + rt::Clock + Eprint> {
     replying: VecDeque<Replying<R::Stream>>,
     /// In the order in which their replies ended.
     closing: VecDeque<Closing<R::Stream>>,
+    /// When the kept lines of the log are to be written.
+    log_deadline: Option<Instant>,
 }
 
 impl<'a, R: Net + rt::Clock + Eprint> Port<'a, R> {
@@ -82,19 +87,30 @@ impl<'a, R: Net + rt::Clock + Eprint> Port<'a, R> {
         let listener = TcpListener::bind(runtime, str::from_utf8(at).ok()?).ok()?;
         let poll = Poll::new(runtime).ok()?;
         let listening = Listening::new(listener, &poll, CALLS)?;
-        Some(Port {
+        let reports = Events::with_capacity(alloc, MAX_REPORTS).ok()?;
+        let mut port = Port {
             alloc,
             log,
-            part: vec![in alloc; 0; PART].ok()?,
+            part: Vec::new(alloc),
             spare: Vec::new(alloc),
             listening,
             poll,
-            reports: Events::with_capacity(alloc, MAX_REPORTS).ok()?,
+            reports,
             accepted: 0,
-            arriving: VecDeque::with_capacity(alloc, MAX_ARRIVING).ok()?,
-            replying: VecDeque::with_capacity(alloc, MAX_REPLYING).ok()?,
-            closing: VecDeque::with_capacity(alloc, MAX_CLOSING).ok()?,
-        })
+            arriving: VecDeque::new(alloc),
+            replying: VecDeque::new(alloc),
+            closing: VecDeque::new(alloc),
+            log_deadline: None,
+        };
+        if port.reserve() { Some(port) } else { None }
+    }
+
+    /// Takes the memory of the parts and of the queues. Returns whether there was enough.
+    fn reserve(&mut self) -> bool {
+        self.part.resize(PART, 0).is_ok()
+            && self.arriving.reserve(MAX_ARRIVING).is_ok()
+            && self.replying.reserve(MAX_REPLYING).is_ok()
+            && self.closing.reserve(MAX_CLOSING).is_ok()
     }
 
     /// The address at which the port listens.
@@ -287,7 +303,7 @@ impl<'a, R: Net + rt::Clock + Eprint> Port<'a, R> {
             return false;
         };
         if self.log.is_on() {
-            self.log.write(client.conn.line(now, Some("cut")));
+            self.log.keep(client.conn.line(now, Some("cut")));
         }
         true
     }
@@ -329,7 +345,7 @@ impl<'a, R: Net + rt::Clock + Eprint> Port<'a, R> {
     /// Logs how the rest of a reply ended.
     fn log_rest(&self, reply: &Replying<R::Stream>, end: &str) {
         if self.log.is_on() {
-            self.log.write(reply.line(end));
+            self.log.keep(reply.line(end));
         }
     }
 
@@ -342,12 +358,25 @@ impl<'a, R: Net + rt::Clock + Eprint> Port<'a, R> {
             return;
         };
         for client in self.arriving.iter() {
-            self.log.write(client.conn.line(now, Some("stopped")));
+            self.log.keep(client.conn.line(now, Some("stopped")));
+        }
+    }
+
+    /// Writes the kept lines of the log once their time is over.
+    fn tend_log(&mut self, now: Instant) {
+        if !self.log.has_kept() {
+            self.log_deadline = None;
+        } else if self.log_deadline.is_none() {
+            self.log_deadline = now.checked_add(Duration::from_millis(LOG_MILLIS));
+        } else if self.log_deadline.is_some_and(|deadline| deadline <= now) {
+            self.log.flush();
+            self.log_deadline = None;
         }
     }
 
     /// Waits until somebody connects, a client can be served further, or a client's time is over.
     fn wait(&mut self, now: Instant) -> Result<(), Failed> {
+        self.tend_log(now);
         let mut all_watched = true;
         for client in self.arriving.iter_mut() {
             all_watched = client.conn.watch(&self.poll) && all_watched;
@@ -376,12 +405,16 @@ impl<'a, R: Net + rt::Clock + Eprint> Port<'a, R> {
             || self.replying.iter().any(|reply| reply.client.is_ready)
     }
 
-    /// When the next client's time is over.
+    /// When the next client's time is over, or that of the kept lines. The first client of each queue is the next one,
+    /// since all clients of a queue have the same time.
     fn next_deadline(&self) -> Option<Instant> {
-        (self.arriving.iter().map(|client| client.deadline))
-            .chain(self.replying.iter().map(|reply| reply.deadline))
-            .chain(self.closing.iter().map(|link| link.deadline))
-            .min()
+        let arriving = self.arriving.front().map(|client| client.deadline);
+        let replying = self.replying.front().map(|reply| reply.deadline);
+        let closing = self.closing.front().map(|link| link.deadline);
+        earlier(
+            earlier(arriving, replying),
+            earlier(closing, self.log_deadline),
+        )
     }
 
     /// Waits at most for the time, and takes the system's reports.
@@ -405,5 +438,14 @@ impl<'a, R: Net + rt::Clock + Eprint> Port<'a, R> {
             link.client.note(reports);
         }
         Ok(())
+    }
+}
+
+/// The earlier of two times, or the one that there is.
+fn earlier(one: Option<Instant>, other: Option<Instant>) -> Option<Instant> {
+    match (one, other) {
+        (Some(one), Some(other)) => Some(one.min(other)),
+        (one, None) => one,
+        (None, other) => other,
     }
 }
