@@ -4,7 +4,6 @@ use atom_values::{AtomText, Bytes, Stamp};
 use atom_writer::FeedName;
 use chain_links::{Address, Base};
 use deleted_entries::FeedId;
-use document_server::Line;
 use feed_disk::Choice;
 use feed_life::{Event, Life, Stop};
 use http_face::{Request, Verb};
@@ -16,7 +15,7 @@ use std::process::Abort;
 pub const NOW: u64 = 1_700_000_000_000;
 
 /// The content that unsynced bytes have after a crash.
-#[derive(Clone, Copy, Debug, PartialEq, Eq)]
+#[derive(Clone, Copy)]
 pub enum Left {
     Old,
     New,
@@ -29,7 +28,7 @@ pub enum Left {
 pub type Crash = (u64, Left);
 
 /// An event, without its crash.
-#[derive(Clone, Copy, Debug, PartialEq, Eq)]
+#[derive(Clone, Copy)]
 pub enum Does {
     /// A POST of an entry with the title `t` and this number.
     Make(u32),
@@ -78,16 +77,8 @@ pub fn life(rt: &impl Abort, alloc: Global, window: u32, capacity: u64, mirrors:
     life
 }
 
-fn bytes(rt: &impl Abort, alloc: Global, from: &[u8]) -> Bytes {
+pub fn bytes(rt: &impl Abort, alloc: Global, from: &[u8]) -> Bytes {
     Bytes::of(alloc, from).expect(rt, "memory")
-}
-
-/// The entry document with the title `t` and this number.
-fn body(rt: &impl Abort, alloc: Global, title: u32) -> Bytes {
-    let text = format!(in alloc;
-        "<entry xmlns=\"http://www.w3.org/2005/Atom\"><title>t{title}</title></entry>"
-    ).expect(rt, "memory");
-    bytes(rt, alloc, text.as_bytes())
 }
 
 /// The path of an address.
@@ -100,18 +91,22 @@ fn path(rt: &impl Abort, alloc: Global, address: Address) -> Bytes {
     bytes(rt, alloc, text.expect(rt, "memory").as_bytes())
 }
 
-/// A request of an address, with this body.
-pub fn request(
-    rt: &impl Abort,
-    alloc: Global,
-    verb: Verb,
-    address: Address,
-    title: Option<u32>,
-) -> Request {
-    let body = match title {
-        Some(title) => body(rt, alloc, title),
-        None => bytes(rt, alloc, b""),
+/// The request of an event that is one.
+pub fn request(rt: &impl Abort, alloc: Global, does: Does) -> Request {
+    let (verb, address, title) = match does {
+        Does::Make(title) => (Verb::Post, Address::Feed, Some(title)),
+        Does::Replace(number, title) => (Verb::Put, Address::Member(number), Some(title)),
+        Does::Delete(number) => (Verb::Delete, Address::Member(number), None),
+        Does::Archive(number) => (Verb::Get, Address::Archive(number), None),
+        _ => (Verb::Get, Address::Feed, None),
     };
+    let body = match title {
+        Some(title) => format!(in alloc;
+            "<entry xmlns=\"http://www.w3.org/2005/Atom\"><title>t{title}</title></entry>"
+        ),
+        None => format!(in alloc; ""),
+    };
+    let body = bytes(rt, alloc, body.expect(rt, "memory").as_bytes());
     assert!(rt; body.slice().len() <= 65_536);
     Request {
         verb,
@@ -128,12 +123,8 @@ fn title(rt: &impl Abort, alloc: Global, number: u32) -> Setting {
     Setting::Title(ShortText::of(text).expect(rt, "a short title"))
 }
 
-/// This size of windows, as a setting.
-fn window(rt: &impl Abort, size: u32) -> Setting {
-    Setting::Window(WindowSize::new(size).expect(rt, "a size"))
-}
-
-fn stop(rt: &impl Abort, alloc: Global, (call, left): Crash) -> Stop {
+fn stop(rt: &impl Abort, alloc: Global, crash: Option<Crash>) -> Option<Stop> {
+    let (call, left) = crash?;
     let choice = match left {
         Left::Old => Choice::Old,
         Left::New => Choice::New,
@@ -143,48 +134,29 @@ fn stop(rt: &impl Abort, alloc: Global, (call, left): Crash) -> Stop {
             bytes: bytes(rt, alloc, b"x"),
         },
     };
-    Stop { call, choice }
-}
-
-/// A change of a setting.
-fn set(setting: Setting, stop: Option<Stop>) -> Event {
-    Event::Set {
-        setting,
-        now: NOW,
-        stop,
-    }
+    Some(Stop { call, choice })
 }
 
 /// An event.
 pub fn event(rt: &impl Abort, alloc: Global, does: Does, crash: Option<Crash>) -> Event {
-    let stop = crash.map(|crash| stop(rt, alloc, crash));
-    let (verb, address, title) = match does {
-        Does::Give(mirror, sent) => return Event::Give { mirror, sent, stop },
-        Does::Walk(mirror) => return Event::Walk { mirror, stop },
-        Does::Title(number) => return set(title(rt, alloc, number), stop),
-        Does::Window(size) => return set(window(rt, size), stop),
-        Does::Make(title) => (Verb::Post, Address::Feed, Some(title)),
-        Does::Replace(number, title) => (Verb::Put, Address::Member(number), Some(title)),
-        Does::Delete(number) => (Verb::Delete, Address::Member(number), None),
-        Does::Feed => (Verb::Get, Address::Feed, None),
-        Does::Archive(number) => (Verb::Get, Address::Archive(number), None),
-    };
-    let request = request(rt, alloc, verb, address, title);
-    Event::Ask {
-        request,
-        now: NOW,
-        stop,
+    let (now, stop) = (NOW, stop(rt, alloc, crash));
+    match does {
+        Does::Give(mirror, sent) => Event::Give { mirror, sent, stop },
+        Does::Walk(mirror) => Event::Walk { mirror, stop },
+        Does::Title(number) => Event::Set {
+            setting: title(rt, alloc, number),
+            now,
+            stop,
+        },
+        Does::Window(size) => Event::Set {
+            setting: Setting::Window(WindowSize::new(size).expect(rt, "a size")),
+            now,
+            stop,
+        },
+        _ => Event::Ask {
+            request: request(rt, alloc, does),
+            now,
+            stop,
+        },
     }
-}
-
-/// One step of a life.
-pub fn step(
-    rt: &impl Abort,
-    alloc: Global,
-    life: &mut Life,
-    does: Does,
-    crash: Option<Crash>,
-) -> Option<Line> {
-    let event = event(rt, alloc, does, crash);
-    life.step(event).expect(rt, "memory")
 }

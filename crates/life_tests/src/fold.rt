@@ -8,7 +8,7 @@ use std::alloc::Global;
 use std::process::Abort;
 
 /// An operation.
-#[derive(Clone, Copy, Debug, PartialEq, Eq)]
+#[derive(Clone, Copy)]
 pub enum Change {
     /// On the member with this number: its new title is `t` and the other number, or it is deleted.
     Member(u32, Option<u32>),
@@ -19,23 +19,29 @@ pub enum Change {
 }
 
 /// A document of the feed: the subscription document of a version, or an archive.
-#[derive(Clone, Copy, Debug, PartialEq, Eq)]
+#[derive(Clone, Copy, PartialEq, Eq)]
 pub enum Doc {
     Feed(u32),
     Archive(u32),
 }
 
-/// A feed, what was sent of it, and two mirrors.
+/// A feed, what was sent of it, and its mirrors.
 #[derive(Drop)]
 pub struct Fold {
-    pub window: u32,
-    pub changes: Vec<Change>,
+    /// Names the course in messages.
+    pub name: &'static str,
+    window: u32,
+    /// The number of mirrors, at most two.
+    pub mirrors: u32,
+    /// How many documents a mirror has room for.
+    pub room: usize,
+    changes: Vec<Change>,
     /// How many archives are in the sealed area. The last one may have been written for an operation that a crash lost.
     seals: u32,
     /// The documents that were sent, each with the version then.
     pub sent: Vec<(Doc, u32)>,
     /// The documents that each mirror holds.
-    pub held: [Vec<Doc>; 2],
+    held: [Vec<Doc>; 2],
     pub stops: u64,
     pub mirror_stops: u64,
 }
@@ -45,7 +51,7 @@ pub struct Fold {
 pub fn appended((call, left): Crash) -> u64 {
     let whole = call.saturating_sub(1) / 4;
     let amid = call.saturating_sub(1) % 4;
-    if call > 0 && amid >= 2 && left == Left::New {
+    if call > 0 && amid >= 2 && matches!(left, Left::New) {
         whole + 1
     } else {
         whole
@@ -65,26 +71,18 @@ fn last_of(changes: &[Change], number: u32) -> Option<Option<u32>> {
     last
 }
 
-/// The number of members ever made. They are numbered from 1.
-fn made(changes: &[Change]) -> u32 {
-    let mut most = 0;
+/// The number of members ever made, which are numbered from 1, and how many of them are live.
+fn members(changes: &[Change]) -> (u32, u32) {
+    let (mut made, mut deleted) = (0u32, 0u32);
     for change in changes {
-        if let Change::Member(number, _) = *change {
-            most = number.max(most);
+        if let Change::Member(number, title) = *change {
+            made = number.max(made);
+            if title.is_none() {
+                deleted = deleted.saturating_add(1);
+            }
         }
     }
-    most
-}
-
-/// The number of members that are live.
-fn live(changes: &[Change]) -> u32 {
-    let mut live = made(changes);
-    for change in changes {
-        if let Change::Member(_, None) = *change {
-            live = live.saturating_sub(1);
-        }
-    }
-    live
+    (made, made.saturating_sub(deleted))
 }
 
 /// The version of the newest subscription document that is held.
@@ -101,29 +99,28 @@ fn best(held: &[Doc]) -> Option<u32> {
     best
 }
 
-/// Whether a mirror takes a document, which it does if it holds neither it nor a newer one.
-fn is_taken(held: &[Doc], doc: Doc) -> bool {
-    match doc {
-        Doc::Feed(version) => match best(held) {
-            Some(newest) => newest < version,
-            None => true,
-        },
-        Doc::Archive(_) => !held.contains(&doc),
-    }
-}
-
-/// Gives a document to a mirror that appends at most `left` more payloads.
-fn give(rt: &impl Abort, held: &mut Vec<Doc>, doc: Doc, left: &mut u64) {
-    if *left > 0 && is_taken(held.as_slice(), doc) {
+/// Gives a document to a mirror that has room for this many and appends at most `left` more payloads. It takes the
+/// document if it holds neither it nor a newer one.
+fn give(rt: &impl Abort, held: &mut Vec<Doc>, doc: Doc, room: usize, left: &mut u64) {
+    let is_new = match (doc, best(held.as_slice())) {
+        (Doc::Feed(version), Some(newest)) => newest < version,
+        (Doc::Feed(_), None) => true,
+        (Doc::Archive(_), _) => !held.as_slice().contains(&doc),
+    };
+    if is_new && *left > 0 && held.len() < room {
         held.push(doc).expect(rt, "memory");
         *left = left.saturating_sub(1);
     }
 }
 
 impl Fold {
-    pub fn new(alloc: Global, window: u32) -> Fold {
+    /// A feed without operations, and two mirrors with room for each document.
+    pub fn new(alloc: Global, name: &'static str, window: u32) -> Fold {
         Fold {
+            name,
             window,
+            mirrors: 2,
+            room: usize::MAX,
             changes: Vec::new(alloc),
             seals: 0,
             sent: Vec::new(alloc),
@@ -138,11 +135,6 @@ impl Fold {
         u32::try_from(self.changes.len()).unwrap_or(u32::MAX)
     }
 
-    /// The number of archives that the feed has.
-    pub fn sealed(&self) -> u32 {
-        self.prev(self.version())
-    }
-
     /// The size of a window that begins after this many operations.
     fn size_after(&self, operations: u32) -> u32 {
         let mut size = self.window;
@@ -154,27 +146,24 @@ impl Fold {
         size
     }
 
-    /// The number of operations up to the end of this window. Windows are counted from 1.
-    fn end(&self, number: u32) -> u32 {
-        let mut end: u32 = 0;
-        for _ in 0..number {
-            end = end.saturating_add(self.size_after(end));
+    /// The last window, of at most this many, that ends before this operation, and its last operation. Windows and
+    /// operations are counted from 1, and 0 is none.
+    pub fn windows(&self, most: u32, operation: u32) -> (u32, u32) {
+        let (mut last, mut end) = (0, 0u32);
+        for number in 1..=most {
+            let next = end.saturating_add(self.size_after(end));
+            if next >= operation {
+                break;
+            }
+            last = number;
+            end = next;
         }
-        end
+        (last, end)
     }
 
     /// The newest archive that the subscription document of a version names, or 0.
-    fn prev(&self, version: u32) -> u32 {
-        let mut prev = 0;
-        let mut end = self.size_after(0);
-        for number in 1..=version {
-            if end >= version {
-                break;
-            }
-            prev = number;
-            end = end.saturating_add(self.size_after(end));
-        }
-        prev
+    pub fn prev(&self, version: u32) -> u32 {
+        self.windows(version, version).0
     }
 
     /// The operation of a request if it has one, and the status of the reply.
@@ -182,14 +171,16 @@ impl Fold {
         let changes = self.changes.as_slice();
         let (number, title) = match does {
             Does::Make(title) => {
-                let number = made(changes).saturating_add(1);
+                let number = members(changes).0.saturating_add(1);
                 return (Some(Change::Member(number, Some(title))), 201);
             }
             Does::Title(number) => return (Some(Change::Title(number)), 200),
             Does::Window(size) => return (Some(Change::Window(size)), 200),
             Does::Replace(number, title) => (number, Some(title)),
             Does::Delete(number) => (number, None),
-            Does::Archive(number) if number == 0 || number > self.sealed() => return (None, 404),
+            Does::Archive(number) if number == 0 || number > self.prev(self.version()) => {
+                return (None, 404);
+            }
             _ => return (None, 200),
         };
         match last_of(changes, number) {
@@ -211,38 +202,30 @@ impl Fold {
         }
     }
 
-    /// Keeps the document that a request was answered with.
-    fn send(&mut self, rt: &impl Abort, does: Does) {
-        let version = self.version();
-        let doc = match does {
-            Does::Feed => Doc::Feed(version),
-            Does::Archive(number) => Doc::Archive(number),
-            _ => return,
-        };
-        self.sent.push((doc, version)).expect(rt, "memory");
-    }
-
     /// A gift or a walk, of which at most this many payloads are appended. Returns whether its mirror and its document
     /// exist.
     fn offer(&mut self, rt: &impl Abort, does: Does, payloads: u64) -> bool {
         let version = self.version();
-        let prev = self.prev(version);
+        let (prev, room) = (self.prev(version), self.room);
         let (mirror, doc) = match does {
-            Does::Give(mirror, sent) => (mirror, self.sent.get(sent as usize).map(|sent| sent.0)),
-            Does::Walk(mirror) => (mirror, Some(Doc::Feed(version))),
+            Does::Give(mirror, sent) => match self.sent.get(sent as usize) {
+                Some(&(doc, _)) => (mirror, doc),
+                None => return false,
+            },
+            Does::Walk(mirror) => (mirror, Doc::Feed(version)),
             _ => return false,
         };
-        let Some(doc) = doc else {
+        if mirror >= self.mirrors {
             return false;
-        };
+        }
         let Some(held) = self.held.get_mut(mirror as usize) else {
             return false;
         };
         let mut left = payloads;
-        give(rt, held, doc, &mut left);
+        give(rt, held, doc, room, &mut left);
         if matches!(does, Does::Walk(_)) {
             for number in (1..=prev).rev() {
-                give(rt, held, Doc::Archive(number), &mut left);
+                give(rt, held, Doc::Archive(number), room, &mut left);
             }
         }
         true
@@ -268,12 +251,14 @@ impl Fold {
             self.stops = self.stops.saturating_add(1);
             return None;
         }
-        if matches!(does, Does::Title(_) | Does::Window(_)) {
-            return None;
-        }
-        if status == 200 {
-            self.send(rt, does);
-        }
+        let version = self.version();
+        let sent = match does {
+            Does::Title(_) | Does::Window(_) => return None,
+            Does::Feed => Doc::Feed(version),
+            Does::Archive(number) if status == 200 => Doc::Archive(number),
+            _ => return Some(status),
+        };
+        self.sent.push((sent, version)).expect(rt, "memory");
         Some(status)
     }
 
@@ -296,10 +281,8 @@ impl Fold {
             }
         }
         let changes = self.changes.as_slice().get(..version as usize);
-        Outcome::Complete {
-            version,
-            live: live(changes.unwrap_or(&[])),
-        }
+        let (_, live) = members(changes.unwrap_or(&[]));
+        Outcome::Complete { version, live }
     }
 
     /// The feed's title after this many operations.
@@ -315,11 +298,16 @@ impl Fold {
 
     /// The text of a document.
     pub fn text(&self, rt: &impl Abort, alloc: Global, doc: Doc) -> String {
-        let (prev, last) = match doc {
-            Doc::Feed(version) => (self.prev(version), version),
-            Doc::Archive(number) => (number.saturating_sub(1), self.end(number)),
+        let (prev, before, last) = match doc {
+            Doc::Feed(version) => {
+                let (prev, before) = self.windows(version, version);
+                (prev, before, version)
+            }
+            Doc::Archive(number) => {
+                let (prev, before) = self.windows(number.saturating_sub(1), u32::MAX);
+                (prev, before, self.windows(number, u32::MAX).1)
+            }
         };
-        let before = self.end(prev);
         let first = before.saturating_add(1);
         let title = self.title(rt, alloc, last);
         let updated = moment(rt, alloc, last);
@@ -355,28 +343,22 @@ pub fn address(rt: &impl Abort, alloc: Global, doc: Doc) -> String {
     text.expect(rt, "memory")
 }
 
-/// The line of a link to an archive. There is none to archive 0.
-fn link(rt: &impl Abort, alloc: Global, relation: &str, number: u32) -> String {
-    if number == 0 {
-        return String::new(alloc);
-    }
-    format!(in alloc;
-        "<link rel=\"{relation}\" href=\"http://feed.example/archive/{number}\"/>\n"
-    ).expect(rt, "memory")
-}
-
-/// The lines of a document's links, and the mark of an archive.
+/// The lines of a document's links, and the mark of an archive. There is no link to archive 0.
 fn links(rt: &impl Abort, alloc: Global, doc: Doc, prev: u32) -> String {
     let own = address(rt, alloc, doc);
-    let older = link(rt, alloc, "prev-archive", prev);
+    let older = if prev == 0 {
+        String::new(alloc)
+    } else {
+        format!(in alloc;
+            "<link rel=\"prev-archive\" href=\"http://feed.example/archive/{prev}\"/>\n"
+        ).expect(rt, "memory")
+    };
     let text = match doc {
         Doc::Feed(_) => format!(in alloc; "<link rel=\"self\" href=\"{own}\"/>\n{older}"),
-        Doc::Archive(number) => {
-            let newer = link(rt, alloc, "next-archive", number.saturating_add(1));
-            format!(in alloc;
-                "<link rel=\"self\" href=\"{own}\"/>\n<link rel=\"current\" href=\"http://feed.example/feed\"/>\n{older}{newer}<fh:archive/>\n"
-            )
-        }
+        Doc::Archive(number) => format!(in alloc;
+            "<link rel=\"self\" href=\"{own}\"/>\n<link rel=\"current\" href=\"http://feed.example/feed\"/>\n{older}<link rel=\"next-archive\" href=\"http://feed.example/archive/{}\"/>\n<fh:archive/>\n",
+            number.saturating_add(1)
+        ),
     };
     text.expect(rt, "memory")
 }

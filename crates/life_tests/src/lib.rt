@@ -9,18 +9,10 @@
 #[cfg(test)]
 mod courses;
 #[cfg(test)]
-mod crashes;
-#[cfg(test)]
 mod draws;
 #[cfg(test)]
 mod events;
 #[cfg(test)]
-mod fetches;
-#[cfg(test)]
 mod fold;
 #[cfg(test)]
-mod generated;
-#[cfg(test)]
-mod orders;
-#[cfg(test)]
-mod relays;
+mod stores;

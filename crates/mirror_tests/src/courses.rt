@@ -1,202 +1,214 @@
-//! Courses of a mirror: it is loaded, offered documents, and its entries are read.
+//! Courses of a mirror, as data: what is asked of it, step by step, and what it answers.
 
-ghost use Rattle.std.specs.Prelude.{◌≡◌, false, IsTrue, OnOk};
+ghost use Rattle.std.specs.Prelude.{◌≡◌, ◌≤◌, All, false, length};
+ghost use Rattle.doc_source.specs.Pile.{offer_limit};
 ghost use Rattle.mirror_walk.specs.Mirror.{StandsFor, is_spent};
 
-use crate::disks::CAPACITY;
-use crate::feeds::base;
+use crate::areas::{CAPACITY, Piece, disk_of, expect_area};
+use crate::documents::{BASE, Given, base, bytes_of};
+use crate::mirrors::{entries, fault_text, offer, outcome, told, walk};
 use atom_grammar::MAX_DOCUMENT;
-use atom_values::Entry;
-use doc_source::Offer;
+use atom_values::{Bytes, Many};
+use doc_source::{MAX_OFFERS, Offer, PileFetch};
 use feed_disk::Disk;
-use feed_journal::LogFault;
-use mirror_walk::{Accepted, Mirror, Offered, Outcome};
+use mirror_walk::Mirror;
 use std::alloc::Global;
 use std::process::Abort;
 
-/// How a course went.
-#[derive(Debug, PartialEq, Eq, Drop)]
+/// The address that a document is found at, and the document.
+pub type Found = (&'static str, Given);
+
+/// What is asked of a mirror.
+pub enum Act {
+    /// The answer to the offer of a document that was found at an address.
+    Offer(&'static str, Given),
+    /// The same, and the outcome afterwards.
+    Show(&'static str, Given),
+    Outcome,
+    /// The titles of the live entries.
+    Titles,
+    /// What the mirror tells of its documents.
+    Told,
+    /// A walk over a source of these documents, of which this get fails. 0 lists none.
+    Walk(&'static [Found], u64),
+}
+
+/// An act, and what it shows.
+pub type Step = (Act, &'static str);
+
+/// The steps of a mirror over a disk.
+#[derive(Clone, Copy)]
 pub struct Course {
-    /// The documents that were held already.
-    pub known: u64,
-    /// The documents that were new.
-    pub taken: u64,
-    /// The titles of the live entries, in order of number, if no document is missing.
-    pub titles: Vec<u8>,
-    /// The call that failed, and its error. Empty if none failed.
-    pub fault: String,
+    pub base: &'static str,
+    pub capacity: u64,
+    /// The area before the first step.
+    pub area: &'static [Piece],
+    pub steps: &'static [Step],
+    /// The area after the last step. If it is empty, it isn't compared.
+    pub left: &'static [Piece],
 }
 
-/// Loads a mirror, offers it the documents and reads its entries. Ends at the first call that fails.
-pub fn run_course<D: Disk>(
-    rt: &impl Abort,
-    alloc: Global,
-    disk: &mut D,
-    offers: &[Offer],
-) -> Course {
-    let mut course = Course {
-        known: 0,
-        taken: 0,
-        titles: Vec::new(alloc),
-        fault: String::new(alloc),
-    };
-    let base = base(rt, alloc, "http://feed.example/");
-    course.fault = match Mirror::load(alloc, disk, base, CAPACITY) {
-        Ok(mut mirror) => {
-            let fault = fill(rt, alloc, &mut mirror, disk, offers, &mut course);
-            drop(mirror);
-            fault
-        }
-        Err(fault) => {
-            let text = format!(in alloc; "load: {fault}").expect(rt, "memory");
-            drop(fault);
-            text
-        }
-    };
-    course
-}
+/// The steps of a mirror over an empty disk.
+pub const EMPTY: Course = Course {
+    base: BASE,
+    capacity: CAPACITY,
+    area: &[],
+    steps: &[],
+    left: &[],
+};
 
-/// Offers the documents and reads the entries. Returns the fault, or nothing.
-fn fill<D: Disk>(
-    rt: &impl Abort,
-    alloc: Global,
-    mirror: &mut Mirror,
-    disk: &mut D,
-    offers: &[Offer],
-    course: &mut Course,
-) -> String
-    requires unspent { is_spent mirror.old ≡ false }
-    requires stands { D.observable → StandsFor (D.state disk.old) mirror.old }
+/// The offers of a source.
+pub fn offers_of(rt: &impl Abort, alloc: Global, all: &[Found]) -> Many<Offer, MAX_OFFERS>
+    ensures { All (λ offer. length offer.bytes ≤ offer_limit) result.items }
 {
-    match offer_all(rt, mirror, disk, offers, course) {
-        Ok(()) => fill_titles(rt, alloc, mirror, disk, course),
-        Err(fault) => {
-            let text = format!(in alloc; "offer: {fault}").expect(rt, "memory");
-            drop(fault);
-            text
-        }
-    }
-}
-
-/// Reads the entries. Returns the fault, or nothing.
-fn fill_titles<D: Disk>(
-    rt: &impl Abort,
-    alloc: Global,
-    mirror: &mut Mirror,
-    disk: &mut D,
-    course: &mut Course,
-) -> String
-    requires unspent { is_spent mirror.old ≡ false }
-    requires stands { D.observable → StandsFor (D.state disk.old) mirror.old }
-{
-    let mut entries = Vec::new(alloc);
-    let read = read_entries(rt, mirror, disk, &mut entries);
-    for entry in &entries {
-        let title = entry.title.value.bytes();
-        course.titles.extend_from_slice(title).expect(rt, "memory");
-    }
-    drop(entries);
-    match read {
-        Ok(()) => String::new(alloc),
-        Err(fault) => format!(in alloc; "entry: {fault}").expect(rt, "memory"),
-    }
-}
-
-/// Offers the documents, and counts the answers.
-fn offer_all<D: Disk>(
-    rt: &impl Abort,
-    mirror: &mut Mirror,
-    disk: &mut D,
-    offers: &[Offer],
-    course: &mut Course,
-) -> Result<(), Offered>
-    requires unspent { is_spent mirror.old ≡ false }
-    requires stands { D.observable → StandsFor (D.state disk.old) mirror.old }
-    ensures unspent { OnOk result (is_spent mirror.new ≡ false) }
-    ensures stands { OnOk result (D.observable → StandsFor (D.state disk.new) mirror.new) }
-{
-    for offer in offers {
-        let (address, bytes) = (offer.address.slice(), offer.bytes.slice());
+    let mut offers = Many::new(alloc);
+    for (address, given) in all {
+        let bytes = bytes_of(rt, alloc, given);
         assert!(rt; bytes.len() <= MAX_DOCUMENT);
-        let count = match mirror.offer(disk, address, bytes)? {
-            Accepted::Taken => &mut course.taken,
-            Accepted::Known | Accepted::Stale => &mut course.known,
+        let offer = Offer {
+            address: Bytes::of(alloc, address.as_bytes()).expect(rt, "memory"),
+            bytes: Bytes::from_vec(bytes),
         };
-        *count = count.saturating_add(1);
+        offers.push(offer).expect(rt, "memory");
     }
-    Ok(())
+    offers
 }
 
-/// Reads the live entries in order of number, if no document is missing.
-pub fn read_entries<D: Disk>(
-    rt: &impl Abort,
-    mirror: &mut Mirror,
-    disk: &mut D,
-    entries: &mut Vec<Entry>,
-) -> Result<(), LogFault>
-    requires unspent { is_spent mirror.old ≡ false }
-    requires stands { D.observable → StandsFor (D.state disk.old) mirror.old }
-{
-    let outcome = mirror.outcome().expect(rt, "memory");
-    if let Outcome::Complete { live, .. } = outcome {
-        let mut after = 0;
-        // One more than there are.
-        for _ in 0..=live {
-            let Some(entry) = next_entry(mirror, disk, after)? else {
-                return Ok(());
-            };
-            after = entry.number;
-            entries.push(entry).expect(rt, "memory");
+/// The addresses that were asked, after the base.
+fn asked_text(rt: &impl Abort, alloc: Global, fetch: &PileFetch) -> String {
+    let mut text = String::new(alloc);
+    for address in fetch.asked() {
+        let address = str::from_utf8(address.slice()).expect(rt, "an address");
+        let address = address.strip_prefix(BASE).expect(rt, "the base");
+        if !text.is_empty() {
+            text.push_str(" ").expect(rt, "memory");
         }
+        text.push_str(address).expect(rt, "memory");
     }
-    Ok(())
+    text
 }
 
-/// The live entry with the least number after this one.
-fn next_entry<D: Disk>(
-    mirror: &mut Mirror,
-    disk: &mut D,
-    after: u32,
-) -> Result<Option<Entry>, LogFault>
-    requires unspent { is_spent mirror.old ≡ false }
-    requires listed { IsTrue mirror.old.listed }
-    requires stands { D.observable → StandsFor (D.state disk.old) mirror.old }
-    ensures unspent { OnOk result (is_spent mirror.new ≡ false) }
-    ensures listed { OnOk result (IsTrue mirror.new.listed) }
-    ensures stands { OnOk result (D.observable → StandsFor (D.state disk.new) mirror.new) }
-{
-    let Some(number) = mirror.next_live(after) else {
-        return Ok(None);
-    };
-    let entry = mirror.entry(disk, number)?;
-    Ok(Some(entry))
-}
-
-/// The titles of the live entries, in order of number. Empty if a document is missing.
-pub fn read_titles<D: Disk>(
+/// The addresses that a walk over a source of these documents asks, and its result.
+fn walk_over<D: Disk>(
     rt: &impl Abort,
     alloc: Global,
     mirror: &mut Mirror,
     disk: &mut D,
+    found: &[Found],
+    failing: u64,
 ) -> String
     requires unspent { is_spent mirror.old ≡ false }
     requires stands { D.observable → StandsFor (D.state disk.old) mirror.old }
-    ensures unspent { is_spent mirror.new ≡ false }
-    ensures stands { D.observable → StandsFor (D.state disk.new) mirror.new }
+    ensures { is_spent mirror.new ≡ false → D.observable → StandsFor (D.state disk.new) mirror.new }
 {
-    let mut titles = String::new(alloc);
-    let outcome = mirror.outcome().expect(rt, "memory");
-    if let Outcome::Complete { live, .. } = outcome {
-        let mut after = 0;
-        for _ in 0..live {
-            let Some(entry) = next_entry(mirror, disk, after).expect(rt, "an entry") else {
-                break;
-            };
-            after = entry.number;
-            let title = str::from_utf8(entry.title.value.bytes()).expect(rt, "a title");
-            titles.push_str(title).expect(rt, "memory");
-            drop(entry);
+    let mut calls = Many::new(alloc);
+    calls.push(failing).expect(rt, "memory");
+    let mut fetch = PileFetch::new(alloc, offers_of(rt, alloc, found), calls);
+    let walked = walk(rt, alloc, mirror, disk, &mut fetch);
+    let asked = asked_text(rt, alloc, &fetch);
+    drop(fetch);
+    format!(in alloc; "{asked}: {walked}").expect(rt, "memory")
+}
+
+/// Does what an act asks, and returns what it shows.
+fn perform<D: Disk>(
+    rt: &impl Abort,
+    alloc: Global,
+    mirror: &mut Mirror,
+    disk: &mut D,
+    act: &Act,
+) -> String
+    requires unspent { is_spent mirror.old ≡ false }
+    requires stands { D.observable → StandsFor (D.state disk.old) mirror.old }
+    ensures { is_spent mirror.new ≡ false → D.observable → StandsFor (D.state disk.new) mirror.new }
+{
+    match act {
+        Act::Offer(address, given) => {
+            let bytes = bytes_of(rt, alloc, given);
+            offer(rt, alloc, mirror, disk, address, &bytes)
+        }
+        Act::Show(address, given) => {
+            let bytes = bytes_of(rt, alloc, given);
+            let answer = offer(rt, alloc, mirror, disk, address, &bytes);
+            assert!(rt; !mirror.is_spent());
+            let outcome = outcome(rt, alloc, mirror);
+            format!(in alloc; "{answer}, {outcome}").expect(rt, "memory")
+        }
+        Act::Outcome => outcome(rt, alloc, mirror),
+        Act::Titles => entries(rt, alloc, mirror, disk, None),
+        Act::Told => told(rt, alloc, mirror),
+        Act::Walk(found, failing) => walk_over(rt, alloc, mirror, disk, found, *failing),
+    }
+}
+
+/// Appends a line and its end.
+fn append(rt: &impl Abort, text: &mut String, line: &str) {
+    text.push_str(line).expect(rt, "memory");
+    text.push_str(";").expect(rt, "memory");
+}
+
+/// Appends what a mirror shows that is loaded from the disk. It ends with a load that fails, and with the step that
+/// spends the mirror.
+fn run_part<D: Disk>(
+    rt: &impl Abort,
+    alloc: Global,
+    disk: &mut D,
+    course: &Course,
+    (steps, text): (&[Step], &mut String),
+) {
+    assert!(rt; course.capacity <= CAPACITY);
+    let base = base(rt, alloc, course.base);
+    match Mirror::load(alloc, disk, base, course.capacity) {
+        Ok(mut mirror) => {
+            for (act, _) in steps {
+                if mirror.is_spent() {
+                    break;
+                }
+                let line = perform(rt, alloc, &mut mirror, disk, act);
+                append(rt, text, line.as_str());
+            }
+            drop(mirror);
+        }
+        Err(fault) => {
+            let line = fault_text(rt, alloc, &fault);
+            drop(fault);
+            append(rt, text, line.as_str());
         }
     }
-    titles
+}
+
+/// What the steps show. The mirror is loaded from the disk before the first of each `size` steps.
+pub fn run<D: Disk>(
+    rt: &impl Abort,
+    alloc: Global,
+    disk: &mut D,
+    course: &Course,
+    size: usize,
+) -> String {
+    assert!(rt; size > 0);
+    let mut text = String::new(alloc);
+    for steps in course.steps.chunks(size) {
+        run_part(rt, alloc, disk, course, (steps, &mut text));
+    }
+    text
+}
+
+/// Compares what the steps of each course show and the area that they leave: of one mirror, and of one that is loaded
+/// from the disk before each step.
+pub fn follow(rt: &impl Abort, alloc: Global, courses: &[Course]) {
+    for course in courses {
+        let mut wanted = String::new(alloc);
+        for (_, line) in course.steps {
+            append(rt, &mut wanted, line);
+        }
+        for size in [1, 100] {
+            let mut disk = disk_of(rt, alloc, course.area, 0);
+            let text = run(rt, alloc, &mut disk, course, size);
+            assert!(rt; text.as_str() == wanted.as_str(), "{wanted} {text}");
+            if !course.left.is_empty() {
+                expect_area(rt, alloc, &mut disk, course.left);
+            }
+            drop(disk);
+        }
+    }
 }

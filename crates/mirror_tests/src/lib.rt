@@ -1,10 +1,14 @@
 //! Tests of the public calls of `doc_source`, `mirror_walk` and `feed_relay`.
 //!
-//! They are in a crate of their own, so that these crates are proved once, without their tests.
+//! They are in a crate of their own, so that these crates are proved once, without their tests. Most tests are tables
+//! of courses (`courses`), whose documents and areas are data too (`documents`, `areas`).
+//!
 //! A test drops large values by `drop`: a value that goes out of scope is proved to be dropped field by field, in each
 //! function.
 #![tactic(auto)]
 
+#[cfg(test)]
+mod areas;
 #[cfg(test)]
 mod chains;
 #[cfg(test)]
@@ -12,11 +16,9 @@ mod courses;
 #[cfg(test)]
 mod crashes;
 #[cfg(test)]
-mod disks;
+mod documents;
 #[cfg(test)]
 mod faults;
-#[cfg(test)]
-mod feeds;
 #[cfg(test)]
 mod fetches;
 #[cfg(test)]

@@ -8,7 +8,7 @@ use std::alloc::Global;
 use std::process::Abort;
 
 /// A source that gives at most `most` bytes a call.
-#[derive(Debug, Drop)]
+#[derive(Drop)]
 struct Trickle {
     inner: ListSource,
     most: usize,
@@ -47,50 +47,40 @@ fn source_of(rt: &impl Abort, alloc: Global, bytes: &[u8], failing: u64, most: u
     }
 }
 
-/// An answer in short. A failed call has none.
-fn text_of(alloc: Global, answer: &Result<Option<Offer>, PileFault>) -> Option<String> {
-    match answer {
-        Ok(Some(offer)) => {
-            let address = str::from_utf8(offer.address.slice()).ok()?;
-            let bytes = str::from_utf8(offer.bytes.slice()).ok()?;
-            format!(in alloc; "({address}:{bytes})").ok()
-        }
-        Ok(None) => format!(in alloc; "end").ok(),
-        Err(PileFault::SourceFault) => Some(String::new(alloc)),
-        Err(fault) => format!(in alloc; "{fault}").ok(),
-    }
-}
-
-/// Reads on, and appends the answer. Returns whether the pile has ended.
-fn append_answer(
+/// An answer in short. A failed call has none. A `;` comes after the answers that end the pile.
+fn answer_text(
     rt: &impl Abort,
     alloc: Global,
-    reader: &mut PileReader,
-    source: &mut Trickle,
-    text: &mut String,
-) -> bool {
-    let answer = reader.next(source);
-    let line = text_of(alloc, &answer).expect(rt, "a text");
-    let ended = !matches!(answer, Ok(Some(_)) | Err(PileFault::SourceFault));
-    drop(answer);
-    text.push_str(line.as_str()).expect(rt, "memory");
-    if ended {
-        text.push_str(";").expect(rt, "memory");
-    }
-    ended
+    answer: &Result<Option<Offer>, PileFault>,
+) -> String {
+    let text = match answer {
+        Ok(Some(offer)) => {
+            let address = str::from_utf8(offer.address.slice()).expect(rt, "text");
+            let bytes = str::from_utf8(offer.bytes.slice()).expect(rt, "text");
+            format!(in alloc; "({address}:{bytes})")
+        }
+        Ok(None) => format!(in alloc; "end;"),
+        Err(PileFault::SourceFault) => format!(in alloc; ""),
+        Err(fault) => format!(in alloc; "{fault};"),
+    };
+    text.expect(rt, "memory")
 }
 
 /// All answers, and the one after the last.
 fn answers(rt: &impl Abort, alloc: Global, source: &mut Trickle, limit: u64) -> String {
     let mut reader = PileReader::new(alloc, limit).expect(rt, "memory");
     let mut text = String::new(alloc);
-    let mut ended = false;
+    let mut ends = 0u8;
     for _ in 0..1000 {
-        if append_answer(rt, alloc, &mut reader, source, &mut text) {
-            if ended {
-                break;
-            }
-            ended = true;
+        let answer = reader.next(source);
+        let line = answer_text(rt, alloc, &answer);
+        drop(answer);
+        text.push_str(line.as_str()).expect(rt, "memory");
+        if line.as_str().ends_with(";") {
+            ends = ends.saturating_add(1);
+        }
+        if ends == 2 {
+            break;
         }
     }
     drop(reader);
@@ -102,14 +92,21 @@ fn expect(rt: &impl Abort, alloc: Global, bytes: &[u8], failing: u64, limit: u64
     for most in [1, 7, 100_000] {
         let mut source = source_of(rt, alloc, bytes, failing, most);
         let text = answers(rt, alloc, &mut source, limit);
-        assert_eq!(rt; text.as_str(), wanted);
         drop(source);
+        assert!(rt;
+            text.as_str() == wanted,
+            "{limit} {failing} {wanted} {text}"
+        );
     }
 }
 
 const TWO: &[u8] = b"pile 1\na 3\nxyz\nbb 0\n\n";
 
+const BAD_HEAD: &str = "bad pile at offset 0;bad pile at offset 0;";
+
 const BAD: &str = "bad pile at offset 7;bad pile at offset 7;";
+
+const BAD_SECOND: &str = "(a:xyz)bad pile at offset 15;bad pile at offset 15;";
 
 /// Bytes, the limit, and all answers.
 static READ: [(&[u8], u64, &str); 21] = [
@@ -121,11 +118,7 @@ static READ: [(&[u8], u64, &str); 21] = [
         1000,
         "(a:x\nz)(b:\n)end;end;",
     ),
-    (
-        b"pile 2\n",
-        1000,
-        "bad pile at offset 0;bad pile at offset 0;",
-    ),
+    (b"pile 2\n", 1000, BAD_HEAD),
     (b"pile 1\na 03\nxyz\n", 1000, BAD),
     (b"pile 1\na +3\nxyz\n", 1000, BAD),
     (b"pile 1\na \nxyz\n", 1000, BAD),
@@ -156,44 +149,49 @@ static READ: [(&[u8], u64, &str); 21] = [
         3,
         "the pile has more than 3 bytes;the pile has more than 3 bytes;",
     ),
-    (
-        b"pilf 1\na",
-        4,
-        "bad pile at offset 0;bad pile at offset 0;",
-    ),
-    (b"", 0, "bad pile at offset 0;bad pile at offset 0;"),
+    (b"pilf 1\na", 4, BAD_HEAD),
+    (b"", 0, BAD_HEAD),
+];
+
+/// The answers to the first bytes of `TWO`: to none, to one, and so on. A pile that is cut is refused at its last offer.
+static CUT: [&str; 22] = [
+    BAD_HEAD,
+    BAD_HEAD,
+    BAD_HEAD,
+    BAD_HEAD,
+    BAD_HEAD,
+    BAD_HEAD,
+    BAD_HEAD,
+    "end;end;",
+    BAD,
+    BAD,
+    BAD,
+    BAD,
+    BAD,
+    BAD,
+    BAD,
+    "(a:xyz)end;end;",
+    BAD_SECOND,
+    BAD_SECOND,
+    BAD_SECOND,
+    BAD_SECOND,
+    BAD_SECOND,
+    "(a:xyz)(bb:)end;end;",
 ];
 
 #[test]
 fn a_pile_is_read_or_refused(rt: HostRuntime) {
-    for &(bytes, limit, wanted) in &READ {
-        expect(&rt, rt.alloc(), bytes, 0, limit, wanted);
+    let alloc = rt.alloc();
+    for (bytes, limit, wanted) in &READ {
+        expect(&rt, alloc, bytes, 0, *limit, wanted);
     }
-}
-
-/// The answers to the first bytes of `TWO`.
-fn cut_at(len: usize) -> &'static str {
-    match len {
-        0..7 => "bad pile at offset 0;bad pile at offset 0;",
-        7 => "end;end;",
-        15 => "(a:xyz)end;end;",
-        21 => "(a:xyz)(bb:)end;end;",
-        8..15 => BAD,
-        _ => "(a:xyz)bad pile at offset 15;bad pile at offset 15;",
+    for (len, wanted) in CUT.iter().enumerate() {
+        let bytes = TWO.get(..len).expect(&rt, "bytes");
+        expect(&rt, alloc, bytes, 0, 1000, wanted);
     }
-}
-
-#[test]
-fn a_pile_that_is_cut_is_refused_at_its_last_offer(rt: HostRuntime) {
-    for len in 0..22 {
-        expect(&rt, rt.alloc(), &TWO[..len], 0, 1000, cut_at(len));
-    }
-}
-
-#[test]
-fn after_a_failed_call_a_pile_is_read_on(rt: HostRuntime) {
+    // After a failed call a pile is read on.
     for call in 1..30 {
-        expect(&rt, rt.alloc(), TWO, call, 1000, "(a:xyz)(bb:)end;end;");
+        expect(&rt, alloc, TWO, call, 1000, "(a:xyz)(bb:)end;end;");
     }
 }
 
@@ -205,25 +203,17 @@ fn write(sink: &mut ListSink, offer: &Offer) -> Result<(), Failed> {
 
 #[test]
 fn an_offer_is_copied_and_written(rt: HostRuntime) {
+    let alloc = rt.alloc();
     let offer = Offer {
-        address: Bytes::of(rt.alloc(), b"a").expect(&rt, "memory"),
-        bytes: Bytes::of(rt.alloc(), b"x\nz").expect(&rt, "memory"),
+        address: Bytes::of(alloc, b"a").expect(&rt, "memory"),
+        bytes: Bytes::of(alloc, b"x\nz").expect(&rt, "memory"),
     };
-    let copied = offer.copy(rt.alloc()).expect(&rt, "memory");
+    let copied = offer.copy(alloc).expect(&rt, "memory");
     assert!(rt; copied == offer);
     drop(offer);
-    let mut sink = ListSink::new(rt.alloc(), Many::new(rt.alloc()));
-    assert_eq!(rt; write(&mut sink, &copied), Ok(()));
-    assert_eq!(rt; sink.bytes(), b"pile 1\na 3\nx\nz\n".as_slice());
+    let mut sink = ListSink::new(alloc, Many::new(alloc));
+    assert!(rt; write(&mut sink, &copied).is_ok());
+    assert!(rt; sink.bytes() == b"pile 1\na 3\nx\nz\n".as_slice());
     drop(copied);
     drop(sink);
-}
-
-#[test]
-fn a_fault_has_its_sentence(rt: HostRuntime) {
-    let faults = [PileFault::SourceFault, PileFault::NoMemory];
-    for (fault, wanted) in faults.iter().zip(["source fault", "out of memory"]) {
-        let text = format!(in rt.alloc(); "{fault}").expect(&rt, "memory");
-        assert_eq!(rt; text.as_str(), wanted);
-    }
 }

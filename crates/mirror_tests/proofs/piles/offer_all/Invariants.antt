@@ -3,7 +3,5 @@ use Rattle.mirror_walk.specs.Mirror.{StandsFor, is_spent}
 use Rattle.mirror_tests.proofs.piles.offer_all.Given as goal
 
 abbrev pub invariant-loop : goal.invariant-loop
-invariant-loop g l = record {
-  unspent : is_spent l.mirror ≡ false;
-  stands : g.D.Disk.observable → StandsFor (g.D.Disk.state l.disk) l.mirror;
-}
+invariant-loop g l =
+    is_spent l.mirror ≡ false → g.D.Disk.observable → StandsFor (g.D.Disk.state l.disk) l.mirror

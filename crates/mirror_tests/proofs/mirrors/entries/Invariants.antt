@@ -1,6 +1,6 @@
 use Rattle.std.proofs.Common.{◌≡◌, false, IsTrue}
 use Rattle.mirror_walk.specs.Mirror.{StandsFor, is_spent}
-use Rattle.mirror_tests.proofs.courses.read_entries.Given as goal
+use Rattle.mirror_tests.proofs.mirrors.entries.Given as goal
 
 abbrev pub invariant-loop : goal.invariant-loop
 invariant-loop g l = record {

@@ -1,9 +1,0 @@
-use Rattle.std.proofs.Common.{◌≡◌, false}
-use Rattle.mirror_walk.specs.Mirror.{StandsFor, is_spent}
-use Rattle.mirror_tests.proofs.logs.answers.Given as goal
-
-abbrev pub invariant-loop-given : goal.invariant-loop-given
-invariant-loop-given g l = record {
-  unspent : is_spent l.mirror ≡ false;
-  stands : g.D.Disk.observable → StandsFor (g.D.Disk.state l.disk) l.mirror;
-}
