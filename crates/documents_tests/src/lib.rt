@@ -6,13 +6,15 @@
 #![tactic(auto)]
 
 #[cfg(test)]
-mod chain;
-#[cfg(test)]
 mod codec;
+#[cfg(test)]
+mod generated;
 #[cfg(test)]
 mod reading;
 #[cfg(test)]
 mod rules;
+#[cfg(test)]
+mod samples;
 #[cfg(test)]
 mod sealing;
 #[cfg(test)]

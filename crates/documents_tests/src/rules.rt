@@ -1,128 +1,234 @@
 //! Tests of `member_rules`. Expected answers come from RFC 5023 sections 9.2 to 9.4 and from the plain functions.
-ghost use Rattle.std.specs.Prelude.{◌≡◌, ◌≤◌, pos, length};
-ghost use Rattle.member_rules.specs.Head.{title_limit};
+ghost use Rattle.std.specs.Prelude.{pos};
 ghost use Rattle.member_rules.specs.Table.{IsTableOf};
 
-use atom_values::{AtomText, Copies, Draft, Entry, Stamp, Text, TextKind};
-use atom_writer::FeedName;
-use chain_links::Base;
-use deleted_entries::{FeedId, Tombstone};
-use member_rules::{
-    Ask, Head, Members, NEWEST_FORMAT, Op, Removal, RuleFault, Setting, ShortText, State,
-    WindowSize, decide, plain_count, plain_last_moment, plain_live_count, plain_state,
+use crate::samples::NewSetting::{Title, Window};
+use crate::samples::Step::{Add, Change, Remove, Set};
+use crate::samples::{
+    NewSetting, PLAIN, Parts, Step, apply, ask, empty, expect_equal_copy, expect_sentence, filled,
+    moment, operation, setting, text,
 };
+use atom_grammar::ReadFault;
+use member_rules::{CodecFault, Members, Op, RuleFault, Setting, ShortText, State, WindowSize};
 use std::alloc::Global;
-use std::fmt::{Debug, Display};
 use std::process::Abort;
 
 /// The greatest moment: 9999-12-31T23:59:59.999Z.
 const LAST: u64 = 253_402_300_799_999;
 
-pub(crate) fn moment(rt: &impl Abort, millis: i64) -> Stamp {
-    Stamp::new(millis).expect(rt, "a moment")
-}
+const END: i64 = 253_402_300_799_999;
 
-pub(crate) fn feed_name(rt: &impl Abort, alloc: Global) -> FeedName
-    ensures title { length result.title ≤ title_limit }
-    ensures author { length result.author ≤ title_limit }
-{
-    FeedName {
-        base: Base::parse(alloc, b"http://feed.example/").expect(rt, "a base"),
-        id: FeedId::parse(b"6d1f0c5a-93be-4c27-8d10-2b7f9e4a5c36").expect(rt, "a feed identifier"),
-        title: AtomText::of(alloc, b"Feed").expect(rt, "a text"),
-        author: AtomText::of(alloc, b"Editor").expect(rt, "a text"),
-    }
-}
+const DATED: Parts = Parts {
+    id: None,
+    updated: Some(1_000),
+    long: None,
+};
 
-pub(crate) fn draft(rt: &impl Abort, alloc: Global) -> Draft {
-    let title = AtomText::of(alloc, b"A").expect(rt, "a text");
-    Draft::titled(alloc, title)
-}
+const OTHER: Parts = Parts {
+    id: Some(b"tag:me"),
+    updated: None,
+    long: None,
+};
 
-/// A member's entry, accepted at the moment `edited`.
-pub(crate) fn entry(rt: &impl Abort, alloc: Global, number: u32, edited: i64, updated: i64) -> Entry
-    requires { 1 ≤ number }
-{
-    let mut draft = draft(rt, alloc);
-    draft.updated = Some(moment(rt, updated));
-    draft.normal(number, moment(rt, edited), None)
-}
+const OWN: Parts = Parts {
+    id: Some(b"urn:uuid:6d1f0c5a-93be-8c27-8000-000000000001"),
+    updated: None,
+    long: None,
+};
 
-fn short_text(rt: &impl Abort, alloc: Global, bytes: &[u8]) -> ShortText {
-    let text = AtomText::of(alloc, bytes).expect(rt, "a text");
-    ShortText::of(text).expect(rt, "a short text")
-}
+/// What an ask became.
+///
+/// An operation: its kind, the number of its member, its moment, and the stamp that it carries, or the size or the number
+/// of bytes of the title that it sets. A refusal: its kind, the number of the member, the clock or the length, then a
+/// moment or the number of bytes of an identifier, and 0.
+type Answer = (&'static str, u64, i64, i64);
 
-/// The setting of this title.
-pub(crate) fn title_setting(rt: &impl Abort, alloc: Global, bytes: &[u8]) -> Setting {
-    Setting::Title(short_text(rt, alloc, bytes))
-}
+/// The parts of the drafts, the asks with the clock in milliseconds, and what the last of them becomes.
+type Course = (Parts, &'static [(Step, u64)], Answer);
 
-/// The setting of windows of this size.
-pub(crate) fn window_setting(rt: &impl Abort, operations: u32) -> Setting {
-    Setting::Window(WindowSize::new(operations).expect(rt, "a size"))
-}
+static COURSES: [Course; 37] = [
+    (PLAIN, &[(Add(0), LAST)], ("Add", 1, END, END)),
+    (PLAIN, &[(Add(0), 5), (Add(0), 5)], ("Add", 2, 6, 6)),
+    (PLAIN, &[(Add(0), 5), (Add(0), 3)], ("Add", 2, 6, 6)),
+    (PLAIN, &[(Add(0), 5), (Change(1), 9)], ("Change", 1, 9, 9)),
+    (PLAIN, &[(Add(0), 5), (Remove(1), 9)], ("Remove", 1, 9, 9)),
+    (
+        PLAIN,
+        &[(Add(0), 5), (Remove(1), 9), (Add(0), 10)],
+        ("Add", 2, 10, 10),
+    ),
+    // A setting names no member, so its number is 0. It is accepted whatever the members' states are.
+    (PLAIN, &[(Set(Title(b"aaa")), 5)], ("Title", 0, 5, 3)),
+    (
+        PLAIN,
+        &[(Add(0), 5), (Remove(1), 9), (Set(Window(1)), 9)],
+        ("Window", 0, 10, 1),
+    ),
+    (
+        PLAIN,
+        &[
+            (Set(Window(100)), 5),
+            (Set(Title(b"")), 3),
+            (Set(Window(2)), LAST),
+        ],
+        ("Window", 0, END, 2),
+    ),
+    (
+        PLAIN,
+        &[(Set(Title(b"a")), 5), (Set(Window(2)), 5), (Add(0), 5)],
+        ("Add", 1, 7, 7),
+    ),
+    (
+        PLAIN,
+        &[(Add(0), 5), (Set(Title(b"aa")), 6), (Change(1), 7)],
+        ("Change", 1, 7, 7),
+    ),
+    (
+        PLAIN,
+        &[(Add(0), 5), (Set(Window(2)), 6), (Remove(1), 6)],
+        ("Remove", 1, 7, 7),
+    ),
+    // A tombstone isn't before the entry's `updated`.
+    (
+        DATED,
+        &[(Add(0), 5), (Remove(1), 9)],
+        ("Remove", 1, 9, 1_000),
+    ),
+    (
+        DATED,
+        &[(Add(0), 5), (Remove(1), 2_000)],
+        ("Remove", 1, 2_000, 2_000),
+    ),
+    (
+        DATED,
+        &[(Add(0), 5), (Remove(1), 9), (Remove(1), 10)],
+        ("Deleted", 1, 1_000, 0),
+    ),
+    // The identifier is that of another member.
+    (OTHER, &[(Remove(0), 5)], ("NotFound", 0, 0, 0)),
+    (OTHER, &[(Remove(1), u64::MAX)], ("NotFound", 1, 0, 0)),
+    (OTHER, &[(Add(0), 5), (Change(0), 6)], ("NotFound", 0, 0, 0)),
+    (OTHER, &[(Add(0), 5), (Change(2), 6)], ("NotFound", 2, 0, 0)),
+    (
+        OTHER,
+        &[(Add(0), 5), (Remove(1), 9), (Remove(1), 10)],
+        ("Deleted", 1, 9, 0),
+    ),
+    (
+        OTHER,
+        &[(Add(0), 5), (Remove(1), 9), (Change(1), u64::MAX)],
+        ("Deleted", 1, 9, 0),
+    ),
+    (OTHER, &[(Add(0), 5), (Change(1), 9)], ("OtherId", 1, 6, 0)),
+    (
+        OTHER,
+        &[(Add(0), 5), (Change(1), u64::MAX)],
+        ("OtherId", 1, 6, 0),
+    ),
+    (
+        OTHER,
+        &[(Add(0), LAST), (Add(0), LAST)],
+        ("ClockSpent", LAST, END, 0),
+    ),
+    (
+        OTHER,
+        &[(Add(0), LAST), (Remove(1), 0)],
+        ("ClockSpent", 0, END, 0),
+    ),
+    (OTHER, &[(Add(0), u64::MAX)], ("ClockSpent", u64::MAX, 0, 0)),
+    (
+        OTHER,
+        &[(Add(0), LAST), (Set(Title(b"a")), 5)],
+        ("ClockSpent", 5, END, 0),
+    ),
+    (
+        OTHER,
+        &[(Set(Title(b"a")), LAST), (Set(Window(1)), 0)],
+        ("ClockSpent", 0, END, 0),
+    ),
+    (
+        OTHER,
+        &[(Set(Window(1)), 9), (Set(Title(b"a")), u64::MAX)],
+        ("ClockSpent", u64::MAX, 9, 0),
+    ),
+    (
+        OTHER,
+        &[(Set(Title(b"a")), 5), (Remove(1), 6)],
+        ("NotFound", 1, 0, 0),
+    ),
+    // The member's own identifier isn't refused.
+    (OWN, &[(Add(0), 5), (Change(1), 9)], ("Change", 1, 9, 9)),
+    (
+        OWN,
+        &[(Add(0), 5), (Change(1), u64::MAX)],
+        ("ClockSpent", u64::MAX, 5, 0),
+    ),
+    // Each ask with the identifier.
+    (
+        OWN,
+        &[
+            (Add(0), 5),
+            (Change(3), 6),
+            (Remove(3), 7),
+            (Set(Title(b"aaa")), 8),
+            (Set(Window(3)), 9),
+        ],
+        ("Window", 0, 9, 3),
+    ),
+    // An entry has a greatest length.
+    (
+        Parts {
+            id: None,
+            updated: None,
+            long: Some((0, 0)),
+        },
+        &[(Add(0), 1_000)],
+        ("Add", 1, 1_000, 1_000),
+    ),
+    (
+        Parts {
+            id: None,
+            updated: None,
+            long: Some((10_000, 16_298)),
+        },
+        &[(Add(0), 1_000)],
+        ("Add", 1, 1_000, 1_000),
+    ),
+    (
+        Parts {
+            id: None,
+            updated: None,
+            long: Some((10_000, 16_299)),
+        },
+        &[(Add(0), 1_000)],
+        ("TooLarge", 394_241, 0, 0),
+    ),
+    (
+        Parts {
+            id: None,
+            updated: None,
+            long: Some((65_536, 0)),
+        },
+        &[(Add(0), 1_000)],
+        ("TooLarge", 655_622, 0, 0),
+    ),
+];
 
-/// A feed with its history, and the table of the members after that history.
-#[derive(Drop)]
-pub(crate) struct Feed {
-    pub(crate) name: FeedName,
-    pub(crate) members: Members,
-    pub(crate) history: Vec<Op>,
-}
-
-/// A feed that was made at the start of 1970.
-pub(crate) fn empty(rt: &impl Abort, alloc: Global) -> Feed
-    ensures table { IsTableOf result.members (pos 0) result.history.items }
-    ensures empty { result.members.operations ≡ 0 }
-{
-    let created = Stamp::new(0).expect(rt, "a moment");
-    Feed {
-        name: feed_name(rt, alloc),
-        members: Members::new(alloc, created),
-        history: Vec::new(alloc),
-    }
-}
-
-/// Decides the ask, and commits the operation that it becomes.
-pub(crate) fn apply(rt: &impl Abort, feed: &mut Feed, ask: Ask, now: u64) -> Option<RuleFault>
-    requires { IsTableOf feed.old.members (pos 0) feed.old.history.items }
-    ensures { IsTableOf feed.new.members (pos 0) feed.new.history.items }
-{
-    assert!(rt; feed.history.len() < 10_000);
-    feed.members.prepare().expect(rt, "memory");
-    match decide(&feed.members, &feed.name, ask, now) {
-        Ok(operation) => {
-            feed.members.commit(&operation);
-            feed.history.push(operation).expect(rt, "memory");
-            None
-        }
-        Err(fault) => Some(fault),
-    }
-}
-
-fn fault_text(rt: &impl Abort, alloc: Global, fault: &RuleFault) -> String {
-    let text = match fault {
-        RuleFault::NotFound { number } => format!(in alloc; "NotFound {number}"),
-        RuleFault::Deleted { number, when } => {
-            format!(in alloc; "Deleted {number} {}", when.millis())
-        }
+fn refused(fault: &RuleFault) -> Answer {
+    match fault {
+        RuleFault::NotFound { number } => ("NotFound", u64::from(*number), 0, 0),
+        RuleFault::Deleted { number, when } => ("Deleted", u64::from(*number), when.millis(), 0),
         RuleFault::OtherId { number, given } => {
-            format!(in alloc; "OtherId {number} {}", given.bytes().len())
+            ("OtherId", u64::from(*number), given.bytes().len() as i64, 0)
         }
-        RuleFault::ClockSpent { last, now } => {
-            format!(in alloc; "ClockSpent {} {now}", last.millis())
-        }
-        RuleFault::TooLarge { length } => format!(in alloc; "TooLarge {length}"),
-        RuleFault::NoMemory => format!(in alloc; "NoMemory"),
-    };
-    text.expect(rt, "memory")
+        RuleFault::ClockSpent { last, now } => ("ClockSpent", *now, last.millis(), 0),
+        RuleFault::TooLarge { length } => ("TooLarge", *length, 0, 0),
+        RuleFault::NoMemory => ("NoMemory", 0, 0, 0),
+    }
 }
 
-/// The operation by its kind, its number, its moment and the stamp that it carries, or the size or the number of bytes
-/// of the title that it sets.
-fn operation_text(rt: &impl Abort, alloc: Global, operation: &Op) -> String {
-    let (name, carried) = match operation {
+fn accepted(operation: &Op) -> Answer {
+    let (kind, carried) = match operation {
         Op::Add(entry) => ("Add", entry.updated.millis()),
         Op::Change(entry) => ("Change", entry.updated.millis()),
         Op::Remove(removal) => ("Remove", removal.tombstone.when.millis()),
@@ -132,357 +238,99 @@ fn operation_text(rt: &impl Abort, alloc: Global, operation: &Op) -> String {
         },
     };
     let (number, moment) = (operation.number(), operation.moment().millis());
-    format!(in alloc; "{name} {number} {moment} {carried}").expect(rt, "memory")
+    (kind, u64::from(number), moment, carried)
 }
 
-#[derive(Clone, Copy)]
-enum Verb {
-    Create,
-    Replace,
-    Delete,
-    /// Sets a title of this many letters.
-    Title,
-    /// Sets this size of windows.
-    Window,
-}
-
-use Verb::{Create, Delete, Replace, Title, Window};
-
-/// An ask: what is asked, the number of the member or of the setting, and the clock in milliseconds.
-type Step = (Verb, u32, u64);
-
-/// The identifier and the `updated` that the drafts of some cases have.
-#[derive(Clone, Copy)]
-struct Drafts {
-    id: Option<&'static [u8]>,
-    updated: Option<i64>,
-}
-
-fn case_draft(rt: &impl Abort, alloc: Global, drafts: &Drafts) -> Draft {
-    let mut draft = draft(rt, alloc);
-    if let Some(id) = drafts.id {
-        draft.id = Some(AtomText::of(alloc, id).expect(rt, "a text"));
-    }
-    if let Some(updated) = drafts.updated {
-        draft.updated = Stamp::new(updated);
-    }
-    draft
-}
-
-/// The title of this many letters, or the size of windows.
-fn case_setting(rt: &impl Abort, alloc: Global, verb: Verb, number: u32) -> Setting {
-    match verb {
-        Title => title_setting(rt, alloc, &[b'a'; 64][..number.min(64) as usize]),
-        _ => window_setting(rt, number),
-    }
-}
-
-fn case_ask(rt: &impl Abort, alloc: Global, drafts: &Drafts, verb: Verb, number: u32) -> Ask {
-    match verb {
-        Create => Ask::Create(case_draft(rt, alloc, drafts)),
-        Replace => Ask::Replace {
-            number,
-            draft: case_draft(rt, alloc, drafts),
-        },
-        Delete => Ask::Delete { number },
-        Title | Window => Ask::Change(case_setting(rt, alloc, verb, number)),
-    }
-}
-
-/// The answer to the last step, as text.
-fn last_answer(rt: &impl Abort, alloc: Global, drafts: &Drafts, steps: &[Step]) -> String {
+/// Compares what the last ask becomes. Each ask is compared with its copy.
+fn expect_answer(rt: &impl Abort, alloc: Global, (parts, steps, expected): &Course) {
     let mut feed = empty(rt, alloc);
-    let mut answer = None;
-    for (verb, number, now) in steps {
-        let ask = case_ask(rt, alloc, drafts, *verb, *number);
-        answer = apply(rt, &mut feed, ask, *now);
+    let mut fault = None;
+    for (step, now) in *steps {
+        let ask = ask(rt, alloc, parts, *step);
+        expect_equal_copy(rt, alloc, &ask);
+        fault = apply(rt, &mut feed, ask, *now);
     }
-    let text = match (&answer, feed.history.last()) {
-        (Some(fault), _) => fault_text(rt, alloc, fault),
-        (None, Some(operation)) => operation_text(rt, alloc, operation),
+    let answer = match (&fault, feed.history.last()) {
+        (Some(fault), _) => refused(fault),
+        (None, Some(operation)) => accepted(operation),
         (None, None) => panic!(rt; "no step"),
     };
-    drop((feed, answer));
-    text
-}
-
-/// Compares the last answer of each case.
-fn expect(
-    rt: &impl Abort,
-    alloc: Global,
-    drafts: &Drafts,
-    cases: &[(&'static [Step], &'static str)],
-) {
-    for (steps, expected) in cases {
-        let answer = last_answer(rt, alloc, drafts, steps);
-        assert!(rt; answer.as_str() == *expected);
-    }
-}
-
-const PLAIN: Drafts = Drafts {
-    id: None,
-    updated: None,
-};
-
-const DATED: Drafts = Drafts {
-    id: None,
-    updated: Some(1_000),
-};
-
-const OTHER: Drafts = Drafts {
-    id: Some(b"tag:me"),
-    updated: None,
-};
-
-const OWN: Drafts = Drafts {
-    id: Some(b"urn:uuid:6d1f0c5a-93be-8c27-8000-000000000001"),
-    updated: None,
-};
-
-/// Steps, and the operation of the last.
-static OPERATIONS: [(&[Step], &str); 12] = [
-    (
-        &[(Create, 0, LAST)],
-        "Add 1 253402300799999 253402300799999",
-    ),
-    (&[(Create, 0, 5), (Create, 0, 5)], "Add 2 6 6"),
-    (&[(Create, 0, 5), (Create, 0, 3)], "Add 2 6 6"),
-    (&[(Create, 0, 5), (Replace, 1, 9)], "Change 1 9 9"),
-    (&[(Create, 0, 5), (Delete, 1, 9)], "Remove 1 9 9"),
-    (
-        &[(Create, 0, 5), (Delete, 1, 9), (Create, 0, 10)],
-        "Add 2 10 10",
-    ),
-    // A setting names no member, so its number is 0. It is accepted whatever the members' states are.
-    (&[(Title, 3, 5)], "Title 0 5 3"),
-    (
-        &[(Create, 0, 5), (Delete, 1, 9), (Window, 1, 9)],
-        "Window 0 10 1",
-    ),
-    (
-        &[(Window, 100, 5), (Title, 0, 3), (Window, 2, LAST)],
-        "Window 0 253402300799999 2",
-    ),
-    (
-        &[(Title, 1, 5), (Window, 2, 5), (Create, 0, 5)],
-        "Add 1 7 7",
-    ),
-    (
-        &[(Create, 0, 5), (Title, 2, 6), (Replace, 1, 7)],
-        "Change 1 7 7",
-    ),
-    (
-        &[(Create, 0, 5), (Window, 2, 6), (Delete, 1, 6)],
-        "Remove 1 7 7",
-    ),
-];
-
-/// Steps whose drafts have an `updated`, and what the last becomes.
-static DATED_OPERATIONS: [(&[Step], &str); 3] = [
-    (&[(Create, 0, 5), (Delete, 1, 9)], "Remove 1 9 1000"),
-    (&[(Create, 0, 5), (Delete, 1, 2_000)], "Remove 1 2000 2000"),
-    (
-        &[(Create, 0, 5), (Delete, 1, 9), (Delete, 1, 10)],
-        "Deleted 1 1000",
-    ),
-];
-
-#[test]
-fn answers_the_operation(rt: HostRuntime) {
-    expect(&rt, rt.alloc(), &PLAIN, &OPERATIONS);
-    // A tombstone isn't before the entry's `updated`.
-    expect(&rt, rt.alloc(), &DATED, &DATED_OPERATIONS);
-}
-
-/// Steps with the id of another member in drafts, and the refusal of the last.
-static REFUSALS: [(&[Step], &str); 15] = [
-    (&[(Delete, 0, 5)], "NotFound 0"),
-    (&[(Delete, 1, u64::MAX)], "NotFound 1"),
-    (&[(Create, 0, 5), (Replace, 0, 6)], "NotFound 0"),
-    (&[(Create, 0, 5), (Replace, 2, 6)], "NotFound 2"),
-    (
-        &[(Create, 0, 5), (Delete, 1, 9), (Delete, 1, 10)],
-        "Deleted 1 9",
-    ),
-    (
-        &[(Create, 0, 5), (Delete, 1, 9), (Replace, 1, u64::MAX)],
-        "Deleted 1 9",
-    ),
-    (&[(Create, 0, 5), (Replace, 1, 9)], "OtherId 1 6"),
-    (&[(Create, 0, 5), (Replace, 1, u64::MAX)], "OtherId 1 6"),
-    (
-        &[(Create, 0, LAST), (Create, 0, LAST)],
-        "ClockSpent 253402300799999 253402300799999",
-    ),
-    (
-        &[(Create, 0, LAST), (Delete, 1, 0)],
-        "ClockSpent 253402300799999 0",
-    ),
-    (
-        &[(Create, 0, u64::MAX)],
-        "ClockSpent 0 18446744073709551615",
-    ),
-    (
-        &[(Create, 0, LAST), (Title, 1, 5)],
-        "ClockSpent 253402300799999 5",
-    ),
-    (
-        &[(Title, 1, LAST), (Window, 1, 0)],
-        "ClockSpent 253402300799999 0",
-    ),
-    (
-        &[(Window, 1, 9), (Title, 1, u64::MAX)],
-        "ClockSpent 9 18446744073709551615",
-    ),
-    (&[(Title, 1, 5), (Delete, 1, 6)], "NotFound 1"),
-];
-
-/// Steps with the member's own id in drafts, and what the last becomes.
-static OWN_ID: [(&[Step], &str); 2] = [
-    (&[(Create, 0, 5), (Replace, 1, 9)], "Change 1 9 9"),
-    (
-        &[(Create, 0, 5), (Replace, 1, u64::MAX)],
-        "ClockSpent 5 18446744073709551615",
-    ),
-];
-
-#[test]
-fn answers_the_first_refusal(rt: HostRuntime) {
-    expect(&rt, rt.alloc(), &OTHER, &REFUSALS);
-    // The member's own identifier isn't refused.
-    expect(&rt, rt.alloc(), &OWN, &OWN_ID);
-}
-
-/// A text of ampersands, each of which takes five bytes in a document, followed by letters.
-fn letters(rt: &impl Abort, alloc: Global, ampersands: usize, others: usize) -> Option<Text> {
-    let mut bytes = Vec::new(alloc);
-    bytes.resize(ampersands, b'&').expect(rt, "memory");
-    bytes
-        .resize(ampersands.saturating_add(others), b'a')
-        .expect(rt, "memory");
-    Some(Text {
-        kind: TextKind::Plain,
-        value: AtomText::of(alloc, bytes.as_slice()).expect(rt, "a text"),
-    })
-}
-
-/// A draft with the longest content, and a summary of this many ampersands and letters.
-fn large_draft(rt: &impl Abort, alloc: Global, ampersands: usize, others: usize) -> Draft {
-    let mut draft = draft(rt, alloc);
-    draft.content = letters(rt, alloc, 65_536, 0);
-    draft.summary = letters(rt, alloc, ampersands, others);
-    draft
-}
-
-fn large_answer(rt: &impl Abort, alloc: Global, draft: Draft) -> String {
-    let feed = empty(rt, alloc);
-    let decided = decide(&feed.members, &feed.name, Ask::Create(draft), 1_000);
-    let text = match &decided {
-        Ok(operation) => operation_text(rt, alloc, operation),
-        Err(fault) => fault_text(rt, alloc, fault),
-    };
-    drop((feed, decided));
-    text
+    drop((feed, fault));
+    assert!(rt;
+        answer.0 == expected.0 && answer.1 == expected.1,
+        "{}",
+        answer.0
+    );
+    assert!(rt;
+        answer.2 == expected.2 && answer.3 == expected.3,
+        "{}",
+        answer.0
+    );
 }
 
 #[test]
-fn entries_have_a_greatest_length(rt: HostRuntime) {
-    for (ampersands, others, expected) in [
-        (0, 0, "Add 1 1000 1000"),
-        (10_000, 16_298, "Add 1 1000 1000"),
-        (10_000, 16_299, "TooLarge 394241"),
-        (65_536, 0, "TooLarge 655622"),
-    ] {
-        let draft = large_draft(&rt, rt.alloc(), ampersands, others);
-        let answer = large_answer(&rt, rt.alloc(), draft);
-        assert!(rt; answer.as_str() == expected);
+fn answers_the_last_ask(rt: HostRuntime) {
+    for course in &COURSES {
+        expect_answer(&rt, rt.alloc(), course);
     }
 }
 
-/// An operation on the member, at this moment. Its entry or its tombstone has this stamp.
-fn operation(rt: &impl Abort, alloc: Global, step: Step, stamp: i64) -> Op {
-    let (verb, number, now) = step;
-    let accepted = moment(rt, i64::try_from(now).unwrap_or(i64::MAX));
-    match verb {
-        Create => Op::Add(entry(rt, alloc, number.max(1), accepted.millis(), stamp)),
-        Replace => Op::Change(entry(rt, alloc, number.max(1), accepted.millis(), stamp)),
-        Delete => Op::Remove(Removal {
-            tombstone: Tombstone {
-                number: number.max(1),
-                when: moment(rt, stamp).max(accepted),
-            },
-            moment: accepted,
-        }),
-        Title | Window => Op::Set {
-            setting: case_setting(rt, alloc, verb, number),
-            moment: accepted,
-        },
-    }
-}
+/// An operation, its moment and its stamp, and whether it may follow a member that was made at moment 5 with the
+/// `updated` 1,000. Then the member that the operation names, and its number.
+type Following = (Step, i64, i64, bool, Option<u32>, u32);
 
-/// Operations, the last moment, and whether they may follow.
-static FOLLOWING: [(Step, i64, bool); 16] = [
-    ((Create, 2, 6), 0, true),
-    ((Create, 2, 5), 0, false),
-    ((Create, 1, 6), 0, false),
-    ((Create, 3, 6), 0, false),
-    ((Replace, 1, 6), 1_000, true),
-    ((Replace, 1, 6), 999, false),
-    ((Replace, 2, 6), 1_000, false),
-    ((Delete, 1, 6), 1_000, true),
-    ((Delete, 1, 6), 999, false),
-    ((Delete, 1, 6), 1_001, false),
-    ((Delete, 2, 6), 1_000, false),
-    ((Title, 3, 6), 0, true),
-    ((Title, 3, 5), 0, false),
-    ((Title, 3, 4), 0, false),
-    ((Window, 1, 6), 0, true),
-    ((Window, 1, 5), 0, false),
+static FOLLOWING: [Following; 21] = [
+    (Add(2), 6, 0, true, Some(2), 2),
+    (Add(2), 5, 0, false, Some(2), 2),
+    (Add(1), 6, 0, false, Some(1), 1),
+    (Add(3), 6, 0, false, Some(3), 3),
+    (Change(1), 6, 1_000, true, Some(1), 1),
+    (Change(1), 6, 999, false, Some(1), 1),
+    (Change(2), 6, 1_000, false, Some(2), 2),
+    (Remove(1), 6, 1_000, true, Some(1), 1),
+    (Remove(1), 6, 999, false, Some(1), 1),
+    (Remove(1), 6, 1_001, false, Some(1), 1),
+    (Remove(2), 6, 1_000, false, Some(2), 2),
+    (Set(Title(b"aaa")), 6, 0, true, None, 0),
+    (Set(Title(b"aaa")), 5, 0, false, None, 0),
+    (Set(Title(b"aaa")), 4, 0, false, None, 0),
+    (Set(Window(1)), 6, 0, true, None, 0),
+    (Set(Window(1)), 5, 0, false, None, 0),
+    (Add(3), 5, 7, false, Some(3), 3),
+    (Change(3), 5, 7, false, Some(3), 3),
+    (Remove(3), 5, 7, false, Some(3), 3),
+    (Set(Title(b"aaa")), 5, 7, false, None, 0),
+    (Set(Window(3)), 5, 7, false, None, 0),
 ];
 
 #[test]
 fn tells_which_operations_may_follow(rt: HostRuntime) {
-    // The history is one member, made at moment 5 with the `updated` 1,000.
-    let mut feed = empty(&rt, rt.alloc());
-    let ask = case_ask(&rt, rt.alloc(), &DATED, Create, 0);
+    let alloc = rt.alloc();
+    let mut feed = empty(&rt, alloc);
+    let ask = ask(&rt, alloc, &DATED, Add(0));
     drop(apply(&rt, &mut feed, ask, 5));
-    for &(step, stamp, expected) in &FOLLOWING {
-        let operation = operation(&rt, rt.alloc(), step, stamp);
-        assert!(rt; feed.members.may_follow(&operation) == expected);
+    for &(step, at, stamp, follows, member, number) in &FOLLOWING {
+        let operation = operation(&rt, alloc, step, at, stamp);
+        let told = feed.members.may_follow(&operation);
+        assert!(rt; told == follows, "{number} at {at} with {stamp}");
+        assert!(rt; operation.member() == member && operation.number() == number);
+        expect_equal_copy(&rt, alloc, &operation);
         drop(operation);
     }
     drop(feed);
 }
 
-/// What operations do, the members that they name, and their numbers.
-static NAMED: [(Verb, Option<u32>, u32); 5] = [
-    (Create, Some(3), 3),
-    (Replace, Some(3), 3),
-    (Delete, Some(3), 3),
-    (Title, None, 0),
-    (Window, None, 0),
-];
-
-#[test]
-fn a_setting_names_no_member(rt: HostRuntime) {
-    for &(verb, member, number) in &NAMED {
-        let operation = operation(&rt, rt.alloc(), (verb, 3, 5), 7);
-        assert!(rt; operation.member() == member && operation.number() == number);
-        drop(operation);
-    }
-}
-
-/// Steps. After each, the newest member, how many were made, and how many are live.
-static NEWEST: [(Step, Option<u32>, u32, u32); 9] = [
-    ((Title, 3, 4), None, 0, 0),
-    ((Create, 0, 5), Some(1), 1, 1),
-    ((Create, 0, 6), Some(2), 2, 2),
-    ((Window, 4, 7), Some(2), 2, 2),
-    ((Create, 0, 8), Some(3), 3, 3),
-    ((Replace, 2, 9), Some(2), 3, 3),
-    ((Delete, 1, 10), Some(1), 3, 2),
-    ((Title, 0, 11), Some(1), 3, 2),
-    ((Window, 1, 12), Some(1), 3, 2),
+/// Steps with the clock. After each, the newest member, how many were made, and how many are live.
+static NEWEST: [(Step, u64, Option<u32>, u32, u32); 9] = [
+    (Set(Title(b"aaa")), 4, None, 0, 0),
+    (Add(0), 5, Some(1), 1, 1),
+    (Add(0), 6, Some(2), 2, 2),
+    (Set(Window(4)), 7, Some(2), 2, 2),
+    (Add(0), 8, Some(3), 3, 3),
+    (Change(2), 9, Some(2), 3, 3),
+    (Remove(1), 10, Some(1), 3, 2),
+    (Set(Title(b"")), 11, Some(1), 3, 2),
+    (Set(Window(1)), 12, Some(1), 3, 2),
 ];
 
 /// A member: its number, the member before it, the `edited` of its entry and the operation that set the entry.
@@ -497,75 +345,44 @@ static MEMBERS: [Listed; 5] = [
     (4, None, None, None),
 ];
 
-fn listed(members: &Members, number: u32) -> Listed {
-    (
-        number,
-        members.before(number),
-        members.edited(number).map(|stamp| stamp.millis()),
-        match members.state(number) {
-            State::Live { version, .. } => Some(version),
-            State::Never | State::Gone { .. } => None,
-        },
-    )
+fn expect_member(rt: &impl Abort, members: &Members, (number, before, edited, version): &Listed) {
+    let stamp = match members.edited(*number) {
+        Some(stamp) => Some(stamp.millis()),
+        None => None,
+    };
+    let found = match members.state(*number) {
+        State::Live { version, .. } => Some(version),
+        State::Never | State::Gone { .. } => None,
+    };
+    assert!(rt;
+        members.before(*number) == *before && stamp == *edited,
+        "{number}"
+    );
+    assert!(rt; found == *version, "{number}");
 }
 
 #[test]
 fn members_come_by_their_last_operations(rt: HostRuntime) {
     let mut feed = empty(&rt, rt.alloc());
     assert!(rt; feed.members.newest() == None);
-    for &((verb, number, now), newest, count, live) in &NEWEST {
+    for &(step, now, newest, count, live) in &NEWEST {
         // The entry's `updated` is 1,000.
-        let ask = case_ask(&rt, rt.alloc(), &DATED, verb, number);
+        let ask = ask(&rt, rt.alloc(), &DATED, step);
         drop(apply(&rt, &mut feed, ask, now));
-        assert!(rt; feed.members.newest() == newest);
-        assert!(rt; feed.members.count() == count && feed.members.live_count() == live);
-        assert!(rt; u64::try_from(feed.members.last_moment().millis()).ok() == Some(now));
+        assert!(rt;
+            feed.members.newest() == newest && feed.members.count() == count,
+            "{now}"
+        );
+        let last = u64::try_from(feed.members.last_moment().millis()).ok();
+        assert!(rt;
+            feed.members.live_count() == live && last == Some(now),
+            "{now}"
+        );
     }
     for member in &MEMBERS {
-        assert!(rt; listed(&feed.members, member.0) == *member);
+        expect_member(&rt, &feed.members, member);
     }
     drop(feed);
-}
-
-/// Compares all that a copy has with all that its original has.
-fn expect_equal_copy<T: Copies + Debug + Drop>(rt: &impl Abort, alloc: Global, value: &T) {
-    let copy = value.copy(alloc).expect(rt, "memory");
-    let copied = format!(in alloc; "{copy:?}").expect(rt, "memory");
-    let original = format!(in alloc; "{value:?}").expect(rt, "memory");
-    assert!(rt; copied.as_str() == original.as_str());
-    drop(copy);
-}
-
-#[test]
-fn copies_of_operations_are_equal(rt: HostRuntime) {
-    for verb in [Create, Replace, Delete, Title, Window] {
-        let operation = operation(&rt, rt.alloc(), (verb, 3, 5), 7);
-        expect_equal_copy(&rt, rt.alloc(), &operation);
-        drop(operation);
-    }
-}
-
-#[test]
-fn copies_of_asks_are_equal(rt: HostRuntime) {
-    for verb in [Create, Replace, Delete, Title, Window] {
-        let ask = case_ask(&rt, rt.alloc(), &OWN, verb, 3);
-        expect_equal_copy(&rt, rt.alloc(), &ask);
-        drop(ask);
-    }
-}
-
-#[test]
-fn copies_of_settings_are_equal(rt: HostRuntime) {
-    let size = WindowSize::new(100).expect(&rt, "a size");
-    expect_equal_copy(&rt, rt.alloc(), &size);
-    let text = short_text(&rt, rt.alloc(), b"New");
-    expect_equal_copy(&rt, rt.alloc(), &text);
-    drop(text);
-    for verb in [Title, Window] {
-        let setting = case_setting(&rt, rt.alloc(), verb, 3);
-        expect_equal_copy(&rt, rt.alloc(), &setting);
-        drop(setting);
-    }
 }
 
 /// How many letters a text has, and whether it may be a feed's title.
@@ -581,130 +398,60 @@ static SIZES: [(u32, bool); 6] = [
     (u32::MAX, false),
 ];
 
+static SETTINGS: [NewSetting; 2] = [Title(b"aaa"), Window(3)];
+
 #[test]
-fn settings_have_limits(rt: HostRuntime) {
+fn settings_have_limits_and_equal_copies(rt: HostRuntime) {
+    let alloc = rt.alloc();
     for &(length, taken) in &TEXTS {
-        let mut letters = Vec::new(rt.alloc());
-        letters.resize(length, b'a').expect(&rt, "memory");
-        let text = AtomText::of(rt.alloc(), letters.as_slice()).expect(&rt, "a text");
-        let short = ShortText::of(text);
+        let short = ShortText::of(filled(&rt, alloc, 0, length));
         assert!(rt; short.is_some() == taken, "{length}");
         if let Some(short) = short {
-            let text = short.into_text();
-            assert!(rt; text.bytes() == letters.as_slice());
-            drop(text);
+            expect_equal_copy(&rt, alloc, &short);
+            assert!(rt;
+                short.into_text() == filled(&rt, alloc, 0, length),
+                "{length}"
+            );
         }
     }
     for &(operations, taken) in &SIZES {
-        let size = WindowSize::new(operations).map(|size| size.get());
-        assert!(rt;
-            size == if taken { Some(operations) } else { None },
-            "{operations}"
-        );
+        let size = WindowSize::new(operations);
+        assert!(rt; size.is_some() == taken, "{operations}");
+        if let Some(size) = size {
+            expect_equal_copy(&rt, alloc, &size);
+            assert!(rt; size.get() == operations);
+        }
+    }
+    for new in &SETTINGS {
+        let setting = setting(&rt, alloc, *new);
+        expect_equal_copy(&rt, alloc, &setting);
+        drop(setting);
     }
 }
 
 #[test]
-fn a_copy_of_a_head_is_equal(rt: HostRuntime) {
-    let head = Head {
-        format: NEWEST_FORMAT,
-        name: feed_name(&rt, rt.alloc()),
-        window: 4,
-        capacity: 65_536,
-        created: Stamp::new(0).unwrap(),
-    };
-    expect_equal_copy(&rt, rt.alloc(), &head);
-    drop(head);
-}
-
-/// The next number of a fixed sequence.
-pub(crate) fn next(seed: u64) -> u64 {
-    seed.wrapping_mul(6_364_136_223_846_793_005)
-        .wrapping_add(1_442_695_040_888_963_407)
-}
-
-/// The number of a live member, of a deleted one, the next one or 0.
-fn some_number(seed: u64, count: u32) -> u32 {
-    ((seed >> 33) % (u64::from(count) + 2)) as u32
-}
-
-pub(crate) fn some_ask(rt: &impl Abort, alloc: Global, seed: u64, number: u32) -> Ask {
-    let drafts = Drafts {
-        id: None,
-        updated: if seed >> 60 == 0 { Some(9_000) } else { None },
-    };
-    let (verb, number) = match (seed >> 20) % 8 {
-        0 | 1 => (Replace, number),
-        2 | 3 => (Delete, number),
-        4 if seed >> 63 == 0 => (Title, number),
-        4 => (Window, number.min(99) + 1),
-        _ => (Create, number),
-    };
-    case_ask(rt, alloc, &drafts, verb, number)
-}
-
-/// Compares the sentence of an error.
-pub(crate) fn expect_sentence<E: Display>(rt: &impl Abort, alloc: Global, fault: &E, want: &str) {
-    let sentence = format!(in alloc; "{fault}").expect(rt, "memory");
-    assert!(rt; sentence.as_str() == want, "{sentence}");
-}
-
-#[test]
-fn a_refusal_has_a_sentence(rt: HostRuntime) {
-    let (when, last) = (moment(&rt, 0), moment(&rt, 0));
-    let cases = [
-        (RuleFault::NotFound { number: 3 }, "there is no member 3"),
-        (
-            RuleFault::Deleted { number: 3, when },
-            "member 3 was deleted",
-        ),
-        (
-            RuleFault::ClockSpent { last, now: 7 },
-            "no later timestamp is left",
-        ),
-        (
-            RuleFault::TooLarge { length: 394_241 },
-            "the entry takes 394241 bytes, and at most 394240 are allowed",
-        ),
-        (RuleFault::NoMemory, "out of memory"),
-    ];
-    for (fault, want) in &cases {
-        expect_sentence(&rt, rt.alloc(), fault, want);
-    }
-    let given = AtomText::of(rt.alloc(), b"tag:a").expect(&rt, "a text");
-    let other = RuleFault::OtherId { number: 3, given };
+fn refusals_have_sentences(rt: HostRuntime) {
+    let alloc = rt.alloc();
+    let (when, last, number) = (moment(&rt, 0), moment(&rt, 0), 3);
+    let given = text(&rt, alloc, b"tag:a");
+    let fault = RuleFault::NotFound { number };
+    expect_sentence(&rt, alloc, fault, "there is no member 3");
+    let fault = RuleFault::Deleted { number, when };
+    expect_sentence(&rt, alloc, fault, "member 3 was deleted");
+    let fault = RuleFault::OtherId { number, given };
     let want = "the entry has another identifier than member 3";
-    expect_sentence(&rt, rt.alloc(), &other, want);
-    drop((cases, other));
-}
-
-/// Compares the table with the plain functions, which read the whole history.
-fn compare(rt: &impl Abort, feed: &Feed, number: u32) {
-    let (members, history) = (&feed.members, feed.history.as_slice());
-    assert!(rt; history.len() < 10_000);
-    let created = Stamp::new(0).expect(rt, "a moment");
-    assert!(rt; members.state(number) == plain_state(history, number));
-    assert!(rt; members.count() == plain_count(history));
-    assert!(rt; members.last_moment() == plain_last_moment(created, history));
-    if history.len() % 250 == 0 {
-        assert!(rt; members.live_count() == plain_live_count(history));
-    }
-}
-
-#[test]
-fn table_is_the_plain_fold(rt: HostRuntime) {
-    let mut feed = empty(&rt, rt.alloc());
-    let mut seed = 1;
-    for round in 0..3_000 {
-        seed = next(seed);
-        let number = some_number(seed, feed.members.count());
-        let ask = some_ask(&rt, rt.alloc(), seed, number);
-        let now = (seed >> 40) % (10 * round + 1);
-        drop(apply(&rt, &mut feed, ask, now));
-        compare(&rt, &feed, number);
-    }
-    // Enough members were deleted for the comparison to mean something.
-    assert!(rt; feed.members.live_count() > 100);
-    assert!(rt; feed.members.count() > feed.members.live_count().saturating_add(100));
-    drop(feed);
+    expect_sentence(&rt, alloc, fault, want);
+    let fault = RuleFault::ClockSpent { last, now: 7 };
+    expect_sentence(&rt, alloc, fault, "no later timestamp is left");
+    let fault = RuleFault::TooLarge { length: 394_241 };
+    let want = "the entry takes 394241 bytes, and at most 394240 are allowed";
+    expect_sentence(&rt, alloc, fault, want);
+    expect_sentence(&rt, alloc, RuleFault::NoMemory, "out of memory");
+    let fault = ReadFault::NotADocument { at: 7 };
+    let want = "not a feed document: no piece of one begins at byte 7";
+    expect_sentence(&rt, alloc, fault, want);
+    expect_sentence(&rt, alloc, ReadFault::NoMemory, "out of memory");
+    let fault = CodecFault::BadField { at: 21 };
+    expect_sentence(&rt, alloc, fault, "the field at byte 21 is bad");
+    expect_sentence(&rt, alloc, CodecFault::NoMemory, "out of memory");
 }

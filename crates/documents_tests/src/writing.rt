@@ -1,47 +1,15 @@
-use crate::reading::{ARCHIVE, SUBSCRIPTION};
+//! Documents and member documents that are written, and the rules of documents.
+
+use crate::reading::{ARCHIVE, SUBSCRIPTION, expect_written};
+use crate::samples::{feed_name, moment, text};
 use atom_grammar::{MAX_DOCUMENT, read_doc};
-use atom_values::{AtomText, Copies, Draft, Many, Stamp};
-use atom_writer::{
-    Doc, FeedName, Kind, MAX_ARCHIVE, doc_len, entry_len, is_placed, write_doc, write_member,
-};
-use chain_links::{Address, Base, Place, Span};
-use deleted_entries::{FeedId, Item, Tombstone};
+use atom_values::{Copies, Draft, Entry, Many};
+use atom_writer::{Doc, FeedName, Kind, MAX_ARCHIVE, entry_len, is_placed, write_member};
+use chain_links::{Address, Place, Span};
+use deleted_entries::{Item, Tombstone};
+use member_rules::{Op, op_bytes};
 use std::alloc::Global;
 use std::process::Abort;
-
-fn feed_name(rt: &impl Abort, alloc: Global) -> FeedName {
-    FeedName {
-        base: Base::parse(alloc, b"http://feed.example/").expect(rt, "a base"),
-        id: FeedId::parse(b"6d1f0c5a-93be-4c27-8d10-2b7f9e4a5c36").expect(rt, "a feed identifier"),
-        title: AtomText::of(alloc, b"F&").expect(rt, "a text"),
-        author: AtomText::of(alloc, b"Editor").expect(rt, "a text"),
-    }
-}
-
-/// The second subscription document of a chain: member 6 was changed, and member 1 was removed.
-fn made_by_hand(rt: &impl Abort, alloc: Global) -> Doc {
-    let edited = Stamp::new(1_700_000_000_002).expect(rt, "a timestamp");
-    let title = AtomText::of(alloc, "a&b<c>d\"e\r\u{10FFFF}".as_bytes()).expect(rt, "a text");
-    let entry = Draft::titled(alloc, title).normal(6, edited, None);
-    let mut items = Many::new(alloc);
-    items.push(Item::Kept(entry)).expect(rt, "memory");
-    items
-        .push(Item::Gone(Tombstone {
-            number: 1,
-            when: edited,
-        }))
-        .expect(rt, "memory");
-    let span = Span { first: 9, last: 10 };
-    let doc = Doc::new(
-        feed_name(rt, alloc),
-        Kind::Subscription,
-        span,
-        2,
-        edited,
-        items,
-    );
-    doc.expect(rt, "a document")
-}
 
 const MADE_BY_HAND: &str = "<?xml version=\"1.0\" encoding=\"utf-8\"?>\n\
 <feed xmlns=\"http://www.w3.org/2005/Atom\" xmlns:fh=\"http://purl.org/syndication/history/1.0\" \
@@ -61,66 +29,81 @@ xmlns:sp=\"urn:archived-feed:span:1\">\n\
 <at:deleted-entry ref=\"urn:uuid:6d1f0c5a-93be-8c27-8000-000000000001\" when=\"2023-11-14T22:13:20.002Z\"/>\n\
 </feed>\n";
 
-fn expect_text(rt: &impl Abort, alloc: Global, doc: &Doc, text: &str) {
-    let written = write_doc(alloc, doc).expect(rt, "memory");
-    assert!(rt; written.as_slice() == text.as_bytes());
-    assert!(rt; doc_len(doc) == text.len() as u64);
-}
-
-fn expect_text_of_copy(rt: &impl Abort, alloc: Global, doc: &Doc, text: &str) {
-    let copy = doc.copy(alloc).expect(rt, "memory");
-    expect_text(rt, alloc, &copy, text);
-    drop(copy);
-}
-
+/// The second subscription document of a chain: member 6 was changed, and member 1 was removed.
 #[test]
-fn writes_documents_and_their_copies(rt: HostRuntime) {
-    let doc = made_by_hand(&rt, rt.alloc());
-    expect_text(&rt, rt.alloc(), &doc, MADE_BY_HAND);
-    expect_text_of_copy(&rt, rt.alloc(), &doc, MADE_BY_HAND);
-    drop(doc);
-    for text in [SUBSCRIPTION, ARCHIVE] {
-        assert!(rt; text.len() <= MAX_DOCUMENT);
-        let doc = read_doc(rt.alloc(), text.as_bytes()).expect(&rt, "a document");
-        expect_text_of_copy(&rt, rt.alloc(), &doc, text);
-        drop(doc);
-    }
-}
-
-#[test]
-fn a_document_has_a_place(rt: HostRuntime) {
-    let subscription = made_by_hand(&rt, rt.alloc());
+fn writes_a_document_that_was_made(rt: HostRuntime) {
+    let alloc = rt.alloc();
+    let when = moment(&rt, 1_700_000_000_002);
+    let title = text(&rt, alloc, "a&b<c>d\"e\r\u{10FFFF}".as_bytes());
+    let entry = Draft::titled(alloc, title).normal(6, when, None);
+    let mut items = Many::new(alloc);
+    items.push(Item::Kept(entry)).expect(&rt, "memory");
+    let tombstone = Tombstone { number: 1, when };
+    items.push(Item::Gone(tombstone)).expect(&rt, "memory");
+    let mut name = feed_name(&rt, alloc);
+    name.title = text(&rt, alloc, b"F&");
+    let span = Span { first: 9, last: 10 };
+    let made = Doc::new(name, Kind::Subscription, span, 2, when, items);
+    let doc = made.expect(&rt, "a document");
     let expected = Place {
         address: Address::Feed,
-        span: Span { first: 9, last: 10 },
+        span,
         prev: 2,
     };
-    assert!(rt; subscription.place() == expected);
-    assert!(rt; ARCHIVE.len() <= MAX_DOCUMENT);
-    let archive = read_doc(rt.alloc(), ARCHIVE.as_bytes()).expect(&rt, "a document");
-    let expected = Place {
-        address: Address::Archive(2),
-        span: Span { first: 5, last: 8 },
-        prev: 1,
-    };
-    assert!(rt; archive.place() == expected);
-    drop((subscription, archive));
+    assert!(rt; doc.place() == expected);
+    expect_written(&rt, alloc, &doc, MADE_BY_HAND.as_bytes());
+    drop(doc);
 }
 
-/// The member documents of the last entry of each document.
-static MEMBERS: [(&str, &str); 2] = [
-    (
-        SUBSCRIPTION,
-        "<?xml version=\"1.0\" encoding=\"utf-8\"?>\n\
+/// A document that is read. The tombstone of a member is before its one entry, if it has two items.
+struct Read {
+    text: &'static str,
+    place: Place,
+    items: usize,
+    /// The member document of its entry.
+    member: &'static str,
+    /// The bytes of the operation that adds its entry, field by field.
+    added: &'static [u8],
+}
+
+static READ: [Read; 2] = [
+    Read {
+        text: SUBSCRIPTION,
+        place: Place {
+            address: Address::Feed,
+            span: Span { first: 1, last: 1 },
+            prev: 0,
+        },
+        items: 1,
+        member: "<?xml version=\"1.0\" encoding=\"utf-8\"?>\n\
 <entry xmlns=\"http://www.w3.org/2005/Atom\" xmlns:app=\"http://www.w3.org/2007/app\">\
 <id>urn:uuid:6d1f0c5a-93be-8c27-8000-000000000001</id><title>Hello</title>\
 <updated>2023-11-14T22:13:21Z</updated><app:edited>2023-11-14T22:13:20Z</app:edited>\
 <author><name>Editor</name></author><link rel=\"edit\" href=\"http://feed.example/member/1\"/>\
 <content></content></entry>\n",
-    ),
-    (
-        ARCHIVE,
-        "<?xml version=\"1.0\" encoding=\"utf-8\"?>\n\
+        added: b"\x01\
+\x00\x00\x00\x01\
+\x00\x00\x3a\x16\x3e\xe9\xc8\x00\
+\x00\x00\x3a\x16\x3e\xe9\xcb\xe8\
+\x00\x00\x00\x00\x05Hello\
+\x00\
+\x00\
+\x00\
+\x00\
+\x00\
+\x00\
+\x00\
+\x01\x00\x00\x00\x00\x00",
+    },
+    Read {
+        text: ARCHIVE,
+        place: Place {
+            address: Address::Archive(2),
+            span: Span { first: 5, last: 8 },
+            prev: 1,
+        },
+        items: 2,
+        member: "<?xml version=\"1.0\" encoding=\"utf-8\"?>\n\
 <entry xmlns=\"http://www.w3.org/2005/Atom\" xmlns:app=\"http://www.w3.org/2007/app\">\
 <id>urn:uuid:6d1f0c5a-93be-8c27-8000-000000000003</id>\
 <title type=\"html\">&lt;b&gt;A &amp; B&lt;/b&gt;</title><updated>1970-01-01T00:00:00Z</updated>\
@@ -133,31 +116,66 @@ static MEMBERS: [(&str, &str); 2] = [
 title=\"a&amp;b&lt;c&gt;d&quot;e&#13;\u{10FFFF}\" length=\"12\"/><link rel=\"via\" href=\"u\"/>\
 <category term=\"t\" scheme=\"s&#9;\" label=\"l&#10;\"/><category term=\"only\"/>\
 <rights>r</rights><summary type=\"html\">s</summary><content>\"</content></entry>\n",
-    ),
+        added: b"\x01\
+\x00\x00\x00\x03\
+\x00\x00\x38\x8a\x6f\x04\x60\x01\
+\x00\x00\x38\x8a\x6f\x04\x60\x00\
+\x01\x00\x00\x00\x0c<b>A & B</b>\
+\x01\x00\x00\x38\x8a\x6f\x04\x5f\xff\
+\x02\x00\x00\x00\x02N&\x01\x00\x00\x00\x11http://n.example/\x01\x00\x00\x00\x0bn@n.example\
+\x00\x00\x00\x01M\x00\x00\
+\x01\x00\x00\x00\x01P\x00\x00\
+\x02\x00\x00\x00\x13http://a/?x=1&y=\"2\"\x00\x00\x00\x09alternate\x01\x00\x00\x00\x09text/html\
+\x01\x00\x00\x00\x02en\x01\x00\x00\x00\x0ea&b<c>d\"e\r\xf4\x8f\xbf\xbf\x01\x00\x00\x00\x0212\
+\x00\x00\x00\x01u\x00\x00\x00\x03via\x00\x00\x00\x00\
+\x02\x00\x00\x00\x01t\x01\x00\x00\x00\x02s\t\x01\x00\x00\x00\x02l\n\x00\x00\x00\x04only\x00\x00\
+\x01\x00\x00\x00\x00\x01r\
+\x01\x01\x00\x00\x00\x01s\
+\x01\x00\x00\x00\x00\x01\"",
+    },
 ];
 
+/// Compares the member document of an entry, the length of its piece, and the bytes of the operation that adds it.
+fn expect_entry(rt: &impl Abort, alloc: Global, name: &FeedName, entry: &Entry, read: &Read) {
+    let written = write_member(alloc, name, entry).expect(rt, "memory");
+    assert!(rt; written.as_slice() == read.member.as_bytes());
+    let begin = read.text.find("<entry>").expect(rt, "an entry");
+    let end = read.text.find("</feed>").expect(rt, "an end");
+    assert!(rt; entry_len(name, entry) == end.saturating_sub(begin) as u64);
+    let operation = Op::Add(entry.copy(alloc).expect(rt, "memory"));
+    let added = op_bytes(alloc, &operation).expect(rt, "memory");
+    drop(operation);
+    assert!(rt; added.as_slice() == read.added);
+}
+
+/// Compares the document of a text.
+fn expect_read(rt: &impl Abort, alloc: Global, read: &Read) {
+    assert!(rt; read.text.len() <= MAX_DOCUMENT);
+    let doc = read_doc(alloc, read.text.as_bytes()).expect(rt, "a document");
+    assert!(rt; doc.place() == read.place && doc.items.as_slice().len() == read.items);
+    for item in doc.items.as_slice() {
+        match item {
+            Item::Kept(entry) => expect_entry(rt, alloc, &doc.name, entry, read),
+            Item::Gone(gone) => {
+                assert!(rt; gone.number == 1 && gone.when.millis() == 1_700_000_000_003);
+                assert!(rt; read.items == 2);
+            }
+        }
+    }
+    drop(doc);
+}
+
 #[test]
-fn writes_member_documents(rt: HostRuntime) {
-    for (text, member) in &MEMBERS {
-        assert!(rt; text.len() <= MAX_DOCUMENT);
-        let doc = read_doc(rt.alloc(), text.as_bytes()).expect(&rt, "a document");
-        let Some(Item::Kept(entry)) = doc.items.as_slice().last() else {
-            panic!(rt; "no entry");
-        };
-        let written = write_member(rt.alloc(), &doc.name, entry).expect(&rt, "memory");
-        assert!(rt; written.as_slice() == member.as_bytes());
-        // The piece of the entry is the line before the end of the document.
-        let piece = text
-            .lines()
-            .find(|line| line.starts_with("<entry>"))
-            .expect(&rt, "a piece");
-        assert!(rt; entry_len(&doc.name, entry) == piece.len() as u64 + 1);
-        drop(doc);
+fn reads_each_part_of_a_document(rt: HostRuntime) {
+    for read in &READ {
+        expect_read(&rt, rt.alloc(), read);
     }
 }
 
 /// Kind, first, last, `prev`, the numbers of the items, and whether `Doc::new` takes the parts.
-static RULES: [(Kind, u32, u32, u32, &[u8], bool); 32] = [
+type Rule = (Kind, u32, u32, u32, &'static [u8], bool);
+
+static RULES: [Rule; 32] = [
     (Kind::Subscription, 1, 0, 0, &[], true),
     (Kind::Subscription, 1, 0, 0, &[1], false),
     (Kind::Subscription, 0, 0, 1, &[], false),
@@ -192,40 +210,28 @@ static RULES: [(Kind, u32, u32, u32, &[u8], bool); 32] = [
     (Kind::Archive(u32::MAX), 7, 7, MAX_ARCHIVE, &[], false),
 ];
 
-#[test]
-fn documents_keep_their_rules(rt: HostRuntime) {
-    let name = feed_name(&rt, rt.alloc());
-    let when = Stamp::new(0).expect(&rt, "a timestamp");
-    for (kind, first, last, prev, numbers, kept) in &RULES {
-        let mut items = Many::new(rt.alloc());
-        for number in *numbers {
-            let number = u32::from(*number);
-            assert!(rt; number >= 1);
-            items
-                .push(Item::Gone(Tombstone { number, when }))
-                .expect(&rt, "memory");
-        }
-        let span = Span {
-            first: *first,
-            last: *last,
-        };
-        let doc = Doc::new(
-            name.copy(rt.alloc()).expect(&rt, "memory"),
-            *kind,
-            span,
-            *prev,
-            when,
-            items,
-        );
-        assert!(rt; doc.is_some() == *kept, "{kind:?}, {span:?} after {prev}");
-        drop(doc);
+/// Compares whether `Doc::new` takes the parts.
+fn expect_rule(rt: &impl Abort, alloc: Global, (kind, first, last, prev, numbers, kept): &Rule) {
+    let mut items = Many::new(alloc);
+    let when = moment(rt, 0);
+    for number in *numbers {
+        let number = u32::from(*number);
+        assert!(rt; number >= 1);
+        let tombstone = Tombstone { number, when };
+        items.push(Item::Gone(tombstone)).expect(rt, "memory");
     }
-    drop(name);
+    let (first, last) = (*first, *last);
+    let span = Span { first, last };
+    let doc = Doc::new(feed_name(rt, alloc), *kind, span, *prev, when, items);
+    assert!(rt; doc.is_some() == *kept, "{first}-{last} after {prev}");
+    drop(doc);
 }
 
 #[test]
-fn tells_whether_a_place_is_allowed(rt: HostRuntime) {
+fn documents_keep_their_rules(rt: HostRuntime) {
+    for rule in &RULES {
+        expect_rule(&rt, rt.alloc(), rule);
+    }
     let span = Span { first: 5, last: 8 };
-    assert!(rt; is_placed(Kind::Archive(2), span, 1));
-    assert!(rt; !is_placed(Kind::Archive(1), span, 0));
+    assert!(rt; is_placed(Kind::Archive(2), span, 1) && !is_placed(Kind::Archive(1), span, 0));
 }

@@ -2,5 +2,5 @@ use Rattle.std.specs.Prelude.{pos}
 use Rattle.member_rules.specs.Table.{IsTableOf}
 use Rattle.documents_tests.proofs.rules.members_come_by_their_last_operations.Given as goal
 
-abbrev pub invariant-loop-verb : goal.invariant-loop-verb
-invariant-loop-verb g l = IsTableOf l.feed.members (pos 0) l.feed.history.items
+abbrev pub invariant-loop-step : goal.invariant-loop-step
+invariant-loop-step g l = IsTableOf l.feed.members (pos 0) l.feed.history.items

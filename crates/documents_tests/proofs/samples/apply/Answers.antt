@@ -1,7 +1,7 @@
 use Rattle.std.proofs.Common.{◌≡◌, ◌++◌, ◌∷◌, [], pos, sym, subst}
 use Rattle.member_rules.specs.Table.{IsTableOf}
 use Rattle.member_rules.proofs.TableLemmas.{IsTableOf-with_room}
-use Rattle.documents_tests.proofs.rules.apply.Goals as goal
+use Rattle.documents_tests.proofs.samples.apply.Goals as goal
 
 pub commit-requires-clause-follows : goal.commit-requires-clause-follows
 commit-requires-clause-follows g c =

@@ -1,6 +1,0 @@
-use Rattle.std.specs.Prelude.{pos}
-use Rattle.member_rules.specs.Table.{IsTableOf}
-use Rattle.documents_tests.proofs.rules.last_answer.Given as goal
-
-abbrev pub invariant-loop-verb : goal.invariant-loop-verb
-invariant-loop-verb g l = IsTableOf l.feed.members (pos 0) l.feed.history.items
