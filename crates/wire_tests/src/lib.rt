@@ -18,8 +18,6 @@ mod pages;
 #[cfg(test)]
 mod replies;
 #[cfg(test)]
-mod reply_after_commit;
-#[cfg(test)]
 mod requests;
 #[cfg(test)]
 mod responses;
@@ -29,3 +27,5 @@ mod sentences;
 mod sessions;
 #[cfg(test)]
 mod stores;
+#[cfg(test)]
+mod watched;

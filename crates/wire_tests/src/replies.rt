@@ -10,7 +10,6 @@ use std::alloc::Global;
 use std::process::Abort;
 
 /// A reply with a fixed line.
-#[derive(Clone, Copy)]
 struct Told {
     media: Media,
     location: Option<&'static [u8]>,
@@ -76,21 +75,7 @@ static WRITTEN: [(Told, &[u8]); 6] = [
     ),
 ];
 
-/// Returns the status that the reply has from the server.
-fn status_of(told: &Told) -> u16
-    ensures { HasPhrase result }
-{
-    if told.location.is_some() {
-        return 201;
-    }
-    match told.line {
-        Line7::NotFound => 404,
-        Line7::NotAllowed => 405,
-        Line7::NoMemory => 503,
-        _ => 500,
-    }
-}
-
+/// Returns the reply, with the status that it has from the server.
 fn reply_of(rt: &impl Abort, alloc: Global, told: &Told) -> Reply
     ensures { HasPhrase result.status }
 {
@@ -98,8 +83,15 @@ fn reply_of(rt: &impl Abort, alloc: Global, told: &Told) -> Reply
         Some(address) => Some(Bytes::of(alloc, address).expect(rt, "memory")),
         None => None,
     };
+    let status = match told.line {
+        Line7::NotFound => 404,
+        Line7::Draft => 201,
+        Line7::NotAllowed => 405,
+        Line7::NoMemory => 503,
+        _ => 500,
+    };
     Reply {
-        status: status_of(told),
+        status,
         media: told.media,
         location,
         allow: told.allow,
@@ -112,7 +104,7 @@ fn begun(rt: &impl Abort, alloc: Global, failing: u64) -> ScriptConn
     ensures { IsSome (⟦<ScriptConn as Conn>⟧.state result).begun }
 {
     let mut conn = conn_of(rt, alloc, b"", failing);
-    let disk = disk_of(rt, alloc, 0);
+    let disk = disk_of(rt, alloc, b"", 0);
     conn.begin(&disk);
     drop(disk);
     conn
@@ -121,13 +113,17 @@ fn begun(rt: &impl Abort, alloc: Global, failing: u64) -> ScriptConn
 #[test]
 fn writes_a_short_reply_in_one_call(rt: HostRuntime) {
     let alloc = rt.alloc();
-    for (told, bytes) in WRITTEN {
+    for (row, (told, bytes)) in WRITTEN.iter().enumerate() {
         let mut conn = begun(&rt, alloc, 2);
-        let reply = reply_of(&rt, alloc, &told);
+        let reply = reply_of(&rt, alloc, told);
         let copy = reply.copy(alloc).expect(&rt, "memory");
         let end = write_reply(&mut conn, &copy);
-        assert!(rt; (end, conn.sent(), conn.begun()) == (Ok(()), bytes, Some(0)));
-        drop((conn, reply, copy));
+        assert!(rt;
+            (end, conn.sent(), conn.begun()) == (Ok(()), *bytes, Some(0)),
+            "row {row}"
+        );
+        drop((reply, copy));
+        drop(conn);
     }
 }
 
@@ -147,7 +143,7 @@ fn counts_the_bytes_of_a_reply_that_is_cut_off(rt: HostRuntime) {
     let alloc = rt.alloc();
     let mut bytes = Vec::from_slice(alloc, HEAD).expect(&rt, "memory");
     bytes.resize(5_106, b'a').expect(&rt, "memory");
-    for (failing, end, sent) in CUTS {
+    for &(failing, end, sent) in &CUTS {
         let mut conn = begun(&rt, alloc, failing);
         let reply = Reply {
             status: 200,
@@ -156,8 +152,8 @@ fn counts_the_bytes_of_a_reply_that_is_cut_off(rt: HostRuntime) {
             allow: None,
             body: Body::Made(Bytes::of(alloc, &bytes[106..]).expect(&rt, "memory")),
         };
-        assert!(rt; write_reply(&mut conn, &reply) == end);
-        assert!(rt; conn.sent() == &bytes[..sent]);
+        assert!(rt; write_reply(&mut conn, &reply) == end, "call {failing}");
+        assert!(rt; conn.sent() == &bytes[..sent], "call {failing}");
         drop((conn, reply));
     }
 }

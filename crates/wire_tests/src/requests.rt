@@ -6,27 +6,27 @@ use atom_values::Copies;
 use http_face::{Request, RequestFault, Verb, read_request};
 use std::alloc::Global;
 use std::process::Abort;
-use std::test::Fail;
 
 /// The fields of a request.
-#[derive(Clone, Copy, Debug, PartialEq, Eq)]
-struct Fields<'a> {
+struct Fields {
     verb: Verb,
-    target: &'a [u8],
-    media: Option<&'a [u8]>,
-    body: &'a [u8],
+    target: &'static [u8],
+    media: Option<&'static [u8]>,
+    body: &'static [u8],
 }
 
-fn fields_of(request: &Request) -> Fields<'_> {
-    Fields {
-        verb: request.verb,
-        target: request.target.slice(),
-        media: request.media.as_ref().map(|media| media.slice()),
-        body: request.body.slice(),
-    }
+fn has_fields(request: &Request, wanted: &Fields) -> bool {
+    let media = match &request.media {
+        Some(media) => Some(media.slice()),
+        None => None,
+    };
+    request.verb == wanted.verb
+        && request.target.slice() == wanted.target
+        && media == wanted.media
+        && request.body.slice() == wanted.body
 }
 
-/// Reads a request from a connection of these bytes, of which this call fails. 0 lists no call.
+/// Reads a request from a connection of these bytes, of which this call fails. 0 is no call.
 fn read(
     rt: &impl Abort,
     alloc: Global,
@@ -40,7 +40,7 @@ fn read(
 }
 
 /// Bytes, and the fields of the request that they begin with.
-static REQUESTS: [(&[u8], Fields<'static>); 6] = [
+static REQUESTS: [(&[u8], Fields); 6] = [
     (
         b"GET /feed HTTP/1.1\r\nHost: a\r\n\r\n",
         Fields {
@@ -99,185 +99,266 @@ static REQUESTS: [(&[u8], Fields<'static>); 6] = [
 
 #[test]
 fn reads_requests(rt: HostRuntime) {
-    for (bytes, want) in REQUESTS {
+    for (row, (bytes, wanted)) in REQUESTS.iter().enumerate() {
         let request = read(&rt, rt.alloc(), bytes, 0).expect(&rt, "a request");
         let copy = request.copy(rt.alloc()).expect(&rt, "memory");
-        assert!(rt; fields_of(&copy) == want);
+        assert!(rt; has_fields(&copy, wanted), "row {row}");
         drop((request, copy));
     }
 }
 
-/// Bytes, and the fault of a connection that ends after them.
-static FAULTS: [(&[u8], RequestFault); 12] = [
-    (b"GET\x01", RequestFault::BadHead),
-    (b"GET /\x00 HTTP/1.1\r\n", RequestFault::BadHead),
-    (b"", RequestFault::EndedEarly { read: 0 }),
-    (b"POST / HTTP/1.1\r\n\r\n", RequestFault::NoLength),
-    (
-        b"POST / HTTP/1.1\r\nContent-Length: 1\r\nTransfer-Encoding: chunked\r\n\r\na",
-        RequestFault::NoLength,
-    ),
-    (
-        b"PUT / HTTP/1.1\r\nContent-Length: 1\r\ncontent-length: 1\r\n\r\na",
-        RequestFault::TwoLengths,
-    ),
-    (
-        b"POST / HTTP/1.1\r\nContent-Length: +1\r\n\r\na",
-        RequestFault::BadHead,
-    ),
-    (
-        b"POST / HTTP/1.1\r\nContent-Length:\r\n\r\na",
-        RequestFault::BadHead,
-    ),
-    (
-        b"POST / HTTP/1.1\r\nContent-Length: 0000000000000000000000000000001\r\n\r\na",
-        RequestFault::BadHead,
-    ),
-    (
-        b"POST / HTTP/1.1\r\nContent-Length: 65537\r\n\r\na",
-        RequestFault::BodyTooLarge { length: 65_537 },
-    ),
-    (
-        b"POST / HTTP/1.1\r\nContent-Length: 999999999999999999999999999999\r\n\r\na",
-        RequestFault::BodyTooLarge {
-            length: 999_999_999_999_999_999_999_999_999_999,
-        },
-    ),
-    (
-        b"POST / HTTP/1.1\r\nContent-Length: 10\r\n\r\nabcd",
-        RequestFault::EndedEarly { read: 43 },
-    ),
-];
-
-#[test]
-fn reports_faults(rt: HostRuntime) -> Result<(), Fail> {
-    for (bytes, fault) in FAULTS {
-        assert!(rt; read(&rt, rt.alloc(), bytes, 0).err() == Some(fault));
-    }
-    Ok(())
+/// The bytes of a connection.
+enum Source {
+    Bytes(&'static [u8]),
+    /// A start, this many times a part, and an end.
+    Repeated(&'static [u8], usize, &'static [u8], &'static [u8]),
 }
 
-/// Bytes that begin with the start, then have `count` times the part, and the end.
-fn repeated(
+fn bytes_of(rt: &impl Abort, alloc: Global, source: &Source) -> Vec<u8> {
+    let mut bytes = Vec::new(alloc);
+    match source {
+        Source::Bytes(all) => bytes.extend_from_slice(all).expect(rt, "memory"),
+        Source::Repeated(start, count, part, end) => {
+            bytes.extend_from_slice(start).expect(rt, "memory");
+            for _ in 0..*count {
+                bytes.extend_from_slice(part).expect(rt, "memory");
+            }
+            bytes.extend_from_slice(end).expect(rt, "memory");
+        }
+    }
+    bytes
+}
+
+/// Returns why the bytes of a connection are no request, and how many calls read them.
+fn refusal(
+    rt: &impl Abort,
     alloc: Global,
-    start: &[u8],
-    count: usize,
-    part: &[u8],
-    end: &[u8],
-) -> Result<Vec<u8>, Fail> {
-    let mut bytes = Vec::from_slice(alloc, start)?;
-    for _ in 0..count {
-        bytes.extend_from_slice(part)?;
-    }
-    bytes.extend_from_slice(end)?;
-    Ok(bytes)
+    bytes: &[u8],
+    failing: u64,
+) -> (Option<RequestFault>, u64) {
+    let mut conn = conn_of(rt, alloc, bytes, failing);
+    let fault = read_request(alloc, &mut conn).err();
+    let reads = conn.reads();
+    drop(conn);
+    (fault, reads)
 }
 
-/// Numbers of fields of 5 bytes, and the fault of a head that has them.
-static FIELD_COUNTS: [(usize, Option<RequestFault>); 3] = [
-    (64, None),
-    (65, Some(RequestFault::HeadTooLarge)),
-    (4_000, Some(RequestFault::HeadTooLarge)),
+/// The bytes of a connection, its call that fails, or 0, the fault, and how many calls read them.
+static FAULTS: [(Source, u64, Option<RequestFault>, Option<u64>); 26] = [
+    // The connection ends after the bytes.
+    (
+        Source::Bytes(b"GET\x01"),
+        0,
+        Some(RequestFault::BadHead),
+        None,
+    ),
+    (
+        Source::Bytes(b"GET /\x00 HTTP/1.1\r\n"),
+        0,
+        Some(RequestFault::BadHead),
+        None,
+    ),
+    (
+        Source::Bytes(b""),
+        0,
+        Some(RequestFault::EndedEarly { read: 0 }),
+        None,
+    ),
+    (
+        Source::Bytes(b"POST / HTTP/1.1\r\n\r\n"),
+        0,
+        Some(RequestFault::NoLength),
+        None,
+    ),
+    (
+        Source::Bytes(
+            b"POST / HTTP/1.1\r\nContent-Length: 1\r\nTransfer-Encoding: chunked\r\n\r\na",
+        ),
+        0,
+        Some(RequestFault::NoLength),
+        None,
+    ),
+    (
+        Source::Bytes(b"PUT / HTTP/1.1\r\nContent-Length: 1\r\ncontent-length: 1\r\n\r\na"),
+        0,
+        Some(RequestFault::TwoLengths),
+        None,
+    ),
+    (
+        Source::Bytes(b"POST / HTTP/1.1\r\nContent-Length: +1\r\n\r\na"),
+        0,
+        Some(RequestFault::BadHead),
+        None,
+    ),
+    (
+        Source::Bytes(b"POST / HTTP/1.1\r\nContent-Length:\r\n\r\na"),
+        0,
+        Some(RequestFault::BadHead),
+        None,
+    ),
+    (
+        Source::Bytes(
+            b"POST / HTTP/1.1\r\nContent-Length: 0000000000000000000000000000001\r\n\r\na",
+        ),
+        0,
+        Some(RequestFault::BadHead),
+        None,
+    ),
+    (
+        Source::Bytes(b"POST / HTTP/1.1\r\nContent-Length: 65537\r\n\r\na"),
+        0,
+        Some(RequestFault::BodyTooLarge { length: 65_537 }),
+        None,
+    ),
+    (
+        Source::Bytes(
+            b"POST / HTTP/1.1\r\nContent-Length: 999999999999999999999999999999\r\n\r\na",
+        ),
+        0,
+        Some(RequestFault::BodyTooLarge {
+            length: 999_999_999_999_999_999_999_999_999_999,
+        }),
+        None,
+    ),
+    (
+        Source::Bytes(b"POST / HTTP/1.1\r\nContent-Length: 10\r\n\r\nabcd"),
+        0,
+        Some(RequestFault::EndedEarly { read: 43 }),
+        None,
+    ),
+    // Numbers of fields of 5 bytes.
+    (
+        Source::Repeated(b"GET / HTTP/1.1\r\n", 64, b"a:b\r\n", b"\r\n"),
+        0,
+        None,
+        None,
+    ),
+    (
+        Source::Repeated(b"GET / HTTP/1.1\r\n", 65, b"a:b\r\n", b"\r\n"),
+        0,
+        Some(RequestFault::HeadTooLarge),
+        None,
+    ),
+    (
+        Source::Repeated(b"GET / HTTP/1.1\r\n", 4_000, b"a:b\r\n", b"\r\n"),
+        0,
+        Some(RequestFault::HeadTooLarge),
+        None,
+    ),
+    // Lengths of a target, with which a head has 17 bytes more.
+    (
+        Source::Repeated(b"GET ", 16_367, b"/", b" HTTP/1.1\r\n\r\n"),
+        0,
+        None,
+        None,
+    ),
+    (
+        Source::Repeated(b"GET ", 16_368, b"/", b" HTTP/1.1\r\n\r\n"),
+        0,
+        Some(RequestFault::HeadTooLarge),
+        None,
+    ),
+    // The connection ends after 20 bytes. Call 1 reads all of them, and call 2 none.
+    (
+        Source::Bytes(b"POST / HTTP/1.1\r\nCon"),
+        1,
+        Some(RequestFault::ConnFault),
+        None,
+    ),
+    (
+        Source::Bytes(b"POST / HTTP/1.1\r\nCon"),
+        2,
+        Some(RequestFault::ConnFault),
+        None,
+    ),
+    (
+        Source::Bytes(b"POST / HTTP/1.1\r\nCon"),
+        3,
+        Some(RequestFault::EndedEarly { read: 20 }),
+        None,
+    ),
+    // The bytes decide the result with the first read, although the connection is still open. Call 2 fails, so the result is
+    // another one if there is a second read. A client that waits for its reply sends no byte for such a read.
+    (Source::Bytes(b"GET / HTTP/1.1\r\n\r\n"), 2, None, Some(1)),
+    (
+        Source::Bytes(b"DELETE /a HTTP/1.1\r\nContent-Length: 9\r\n\r\n"),
+        2,
+        None,
+        Some(1),
+    ),
+    (
+        Source::Bytes(b"POST / HTTP/1.1\r\nContent-Length: 4\r\n\r\nabcd"),
+        2,
+        None,
+        Some(1),
+    ),
+    (
+        Source::Bytes(b"POST / HTTP/1.1\r\n\r\n"),
+        2,
+        Some(RequestFault::NoLength),
+        Some(1),
+    ),
+    (
+        Source::Bytes(b"G\x00"),
+        2,
+        Some(RequestFault::BadHead),
+        Some(1),
+    ),
+    // The first read fills the buffer of the head, and the second reads the rest of the body.
+    (
+        Source::Repeated(
+            b"PUT / HTTP/1.1\r\nContent-Length: 20000\r\n\r\n",
+            20_000,
+            b"a",
+            b"",
+        ),
+        3,
+        None,
+        Some(2),
+    ),
 ];
 
 #[test]
-fn limits_the_fields(rt: HostRuntime) -> Result<(), Fail> {
-    let alloc = rt.alloc();
-    for (count, fault) in FIELD_COUNTS {
-        let head = repeated(alloc, b"GET / HTTP/1.1\r\n", count, b"a:b\r\n", b"\r\n")?;
-        assert!(rt; read(&rt, alloc, &head, 0).err() == fault);
+fn reports_faults(rt: HostRuntime) {
+    for (row, (source, failing, wanted, calls)) in FAULTS.iter().enumerate() {
+        let bytes = bytes_of(&rt, rt.alloc(), source);
+        let (fault, reads) = refusal(&rt, rt.alloc(), &bytes, *failing);
+        assert!(rt;
+            fault == *wanted && reads == calls.unwrap_or(reads),
+            "row {row}"
+        );
     }
-    Ok(())
 }
 
-/// Lengths of a target, with which a head has 17 bytes more, and its fault.
-static HEAD_LENGTHS: [(usize, Option<RequestFault>); 2] = [
-    (16_367, None),
-    (16_368, Some(RequestFault::HeadTooLarge)),
-];
+/// A body of the limit, 65,536 bytes, and a byte after it.
+static LONGEST: Source = Source::Repeated(
+    b"PUT / HTTP/1.1\r\nContent-Length: 65536\r\n\r\n",
+    65_536,
+    b"a",
+    b"b",
+);
 
 #[test]
-fn limits_the_head(rt: HostRuntime) -> Result<(), Fail> {
+fn reads_a_body_of_the_limit(rt: HostRuntime) {
     let alloc = rt.alloc();
-    for (count, fault) in HEAD_LENGTHS {
-        let head = repeated(alloc, b"GET ", count, b"/", b" HTTP/1.1\r\n\r\n")?;
-        assert!(rt; read(&rt, alloc, &head, 0).err() == fault);
-    }
-    Ok(())
-}
-
-#[test]
-fn reads_a_body_of_the_limit(rt: HostRuntime) -> Result<(), Fail> {
-    let alloc = rt.alloc();
-    let head = b"PUT / HTTP/1.1\r\nContent-Length: 65536\r\n\r\n";
-    let bytes = repeated(alloc, head, 65_536, b"a", b"b")?;
-    let body = vec![in alloc; b'a'; 65_536]?;
+    let bytes = bytes_of(&rt, alloc, &LONGEST);
+    let body = vec![in alloc; b'a'; 65_536].expect(&rt, "memory");
     let request = read(&rt, alloc, &bytes, 0).expect(&rt, "a request");
     assert!(rt; request.body.slice() == body.as_slice());
     drop(request);
-    Ok(())
 }
 
 const WHOLE: &[u8] = b"POST / HTTP/1.1\r\nContent-Length: 4\r\n\r\nabcd";
 
 #[test]
-fn counts_the_bytes_of_an_early_end(rt: HostRuntime) -> Result<(), Fail> {
+fn counts_the_bytes_of_an_early_end(rt: HostRuntime) {
     for whole in [WHOLE, NEWS] {
         for end in 0..whole.len() {
-            let read_bytes = read(&rt, rt.alloc(), &whole[..end], 0).err();
-            assert!(rt; read_bytes == Some(RequestFault::EndedEarly { read: end as u64 }));
+            let (fault, _) = refusal(&rt, rt.alloc(), &whole[..end], 0);
+            assert!(rt;
+                fault == Some(RequestFault::EndedEarly { read: end as u64 }),
+                "{end} bytes"
+            );
         }
     }
-    Ok(())
-}
-
-/// Calls that fail, and the fault of a connection that ends after 20 bytes. Call 1 reads all of them, and call 2 none.
-static FAILING: [(u64, RequestFault); 3] = [
-    (1, RequestFault::ConnFault),
-    (2, RequestFault::ConnFault),
-    (3, RequestFault::EndedEarly { read: 20 }),
-];
-
-#[test]
-fn reports_a_failed_call(rt: HostRuntime) -> Result<(), Fail> {
-    for (failing, fault) in FAILING {
-        assert!(rt; read(&rt, rt.alloc(), &WHOLE[..20], failing).err() == Some(fault));
-    }
-    Ok(())
-}
-
-/// Bytes that decide their result with the first read, although the connection is still open.
-static SETTLED: [(&[u8], Option<RequestFault>); 5] = [
-    (b"GET / HTTP/1.1\r\n\r\n", None),
-    (b"DELETE /a HTTP/1.1\r\nContent-Length: 9\r\n\r\n", None),
-    (WHOLE, None),
-    (b"POST / HTTP/1.1\r\n\r\n", Some(RequestFault::NoLength)),
-    (b"G\x00", Some(RequestFault::BadHead)),
-];
-
-/// Call 2 is listed to fail, so the result is another one if `read_request` reads a second time. A client that waits for
-/// its reply sends no byte for such a read.
-#[test]
-fn reads_no_more_once_the_result_is_certain(rt: HostRuntime) -> Result<(), Fail> {
-    let alloc = rt.alloc();
-    for (bytes, fault) in SETTLED {
-        let mut conn = conn_of(&rt, alloc, bytes, 2);
-        let request = read_request(alloc, &mut conn);
-        assert!(rt; (request.err(), conn.reads()) == (fault, 1));
-        drop(conn);
-    }
-    Ok(())
-}
-
-#[test]
-fn reads_a_long_body_and_no_more(rt: HostRuntime) -> Result<(), Fail> {
-    let alloc = rt.alloc();
-    let head = b"PUT / HTTP/1.1\r\nContent-Length: 20000\r\n\r\n";
-    let bytes = repeated(alloc, head, 20_000, b"a", b"")?;
-    // The first read fills the buffer of the head, and the second reads the rest of the body.
-    let mut conn = conn_of(&rt, alloc, &bytes, 3);
-    let request = read_request(alloc, &mut conn);
-    assert!(rt; (request.err(), conn.reads()) == (None, 2));
-    drop(conn);
-    Ok(())
 }

@@ -111,15 +111,18 @@ static RESPONSES: [(&[u8], Answer<'static>, u64); 27] = [
 
 #[test]
 fn reads_responses(rt: HostRuntime) {
-    for (bytes, want, calls) in RESPONSES {
-        for failing in 0..4 {
-            let fails = failing > 0 && failing <= calls;
-            let want = if fails {
+    for (row, &(bytes, want, calls)) in RESPONSES.iter().enumerate() {
+        assert!(rt; answers(&rt, rt.alloc(), bytes, 0, want), "row {row}");
+        for failing in 1..4 {
+            let want = if failing <= calls {
                 Err(ResponseFault::ConnFault)
             } else {
                 want
             };
-            assert!(rt; answers(&rt, rt.alloc(), bytes, failing, want));
+            assert!(rt;
+                answers(&rt, rt.alloc(), bytes, failing, want),
+                "row {row}, call {failing} fails"
+            );
         }
     }
 }
@@ -149,10 +152,13 @@ static HEADS: [(usize, usize, Answer<'static>); 5] = [
 
 #[test]
 fn limits_heads(rt: HostRuntime) {
-    for (fields, length, want) in HEADS {
+    for &(fields, length, want) in &HEADS {
         let head = head_of(&rt, rt.alloc(), fields, length);
-        assert_eq!(rt; head.len(), length);
-        assert!(rt; answers(&rt, rt.alloc(), head.as_slice(), 0, want));
+        let is_right = answers(&rt, rt.alloc(), &head, 0, want);
+        assert!(rt;
+            head.len() == length && is_right,
+            "{fields} fields, {length} bytes"
+        );
     }
 }
 
@@ -170,14 +176,7 @@ fn reads_long_bodies(rt: HostRuntime) {
     for length in [16_365, 16_366, 200_000] {
         let body = behind(&rt, rt.alloc(), b"", length);
         let bytes = behind(&rt, rt.alloc(), b"HTTP/1.0 200 OK\r\n\r\n", length);
-        assert!(rt;
-            answers(
-                &rt,
-                rt.alloc(),
-                bytes.as_slice(),
-                0,
-                Ok(Some(body.as_slice()))
-            )
-        );
+        let is_right = answers(&rt, rt.alloc(), &bytes, 0, Ok(Some(&body)));
+        assert!(rt; is_right, "{length} bytes");
     }
 }

@@ -1,7 +1,15 @@
 //! The sentences of the errors.
 
 use http_face::{CutOff, RequestFault, ResponseFault};
-use std::test::Fail;
+use std::alloc::Global;
+use std::fmt::Display;
+use std::process::Abort;
+
+/// Compares the sentence of an error.
+fn compare<E: Display>(rt: &impl Abort, alloc: Global, fault: &E, want: &str) {
+    let sentence = format!(in alloc; "{fault}").expect(rt, "memory");
+    assert!(rt; sentence.as_str() == want, "{sentence}");
+}
 
 static SENTENCES: [(RequestFault, &str); 8] = [
     (RequestFault::ConnFault, "connection fault"),
@@ -20,19 +28,6 @@ static SENTENCES: [(RequestFault, &str); 8] = [
     (RequestFault::NoMemory, "out of memory"),
 ];
 
-#[test]
-fn says_what_failed(rt: HostRuntime) -> Result<(), Fail> {
-    let alloc = rt.alloc();
-    for (fault, want) in SENTENCES {
-        let sentence = format!(in alloc; "{fault}")?;
-        assert!(rt; sentence.as_str() == want);
-    }
-    let cut = CutOff { sent: 106 };
-    let sentence = format!(in alloc; "{cut}")?;
-    assert!(rt; sentence.as_str() == "cut off after 106 bytes");
-    Ok(())
-}
-
 static RESPONSES: [(ResponseFault, &str); 3] = [
     (ResponseFault::ConnFault, "connection fault"),
     (ResponseFault::BadResponse, "bad response"),
@@ -40,9 +35,17 @@ static RESPONSES: [(ResponseFault, &str); 3] = [
 ];
 
 #[test]
-fn says_why_a_response_is_not_read(rt: HostRuntime) {
-    for (fault, want) in RESPONSES {
-        let sentence = format!(in rt.alloc(); "{fault}").expect(&rt, "memory");
-        assert!(rt; sentence.as_str() == want);
+fn says_what_failed(rt: HostRuntime) {
+    for (fault, want) in &SENTENCES {
+        compare(&rt, rt.alloc(), fault, want);
     }
+    for (fault, want) in &RESPONSES {
+        compare(&rt, rt.alloc(), fault, want);
+    }
+    compare(
+        &rt,
+        rt.alloc(),
+        &CutOff { sent: 106 },
+        "cut off after 106 bytes",
+    );
 }

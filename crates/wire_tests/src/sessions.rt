@@ -2,15 +2,15 @@
 //!
 //! A function that owns a disk or a door has few exits, since the proof drops each of its values at each exit.
 
-ghost use Rattle.std.specs.Prelude.{◌≡◌, ◌<◌, ◌≤◌, length, None, All};
+ghost use Rattle.std.specs.Prelude.{◌≡◌, None, All};
 
 use crate::answer_faults::{DISK, counts, posted_disk};
-use crate::conns::{conn_of, disk_of};
-use crate::stores::{CAPACITY, NOW, init, post_of, store_disk};
+use crate::conns::{Filling, conn_of, crashed, disk_of};
+use crate::stores::{CAPACITY, NOW, init, store_disk};
 use atom_values::Many;
 use document_server::{Door, End, Line, MAX_CONNECTIONS, ScriptDoor, ServeEnd, SetClock, serve};
-use feed_disk::{Choice, Disk, MemoryDisk};
-use feed_recovery::{LoadFault, Store};
+use feed_disk::{Disk, MemoryDisk};
+use feed_recovery::LoadFault;
 use http_face::{Conn, ScriptConn};
 use std::alloc::Global;
 use std::process::Abort;
@@ -44,14 +44,6 @@ fn door_of(rt: &impl Abort, alloc: Global, rows: &[Row], failing: u64) -> Script
     ScriptDoor::new(alloc, conns_of(rt, alloc, rows), calls).expect(rt, "memory")
 }
 
-/// Returns a clock of two moments.
-fn clock_of(rt: &impl Abort, alloc: Global, first: u64, second: u64) -> SetClock {
-    let mut moments = Many::new(alloc);
-    moments.push(first).expect(rt, "memory");
-    moments.push(second).expect(rt, "memory");
-    SetClock::new(moments)
-}
-
 /// Serves connections, with the clock at `first` and then at `NOW`, and with the pages of the feed if `service`.
 pub fn served<D: Disk, L: Door>(
     rt: &impl Abort,
@@ -61,11 +53,12 @@ pub fn served<D: Disk, L: Door>(
     first: u64,
     requests: u32,
     service: bool,
-) -> ServeEnd
-    requires some { 1 ≤ requests }
-    requires few { requests ≤ 1_000_000 }
-{
-    let mut clock = clock_of(rt, alloc, first, NOW);
+) -> ServeEnd {
+    assert!(rt; 1 <= requests && requests <= 1_000_000);
+    let mut moments = Many::new(alloc);
+    moments.push(first).expect(rt, "memory");
+    moments.push(NOW).expect(rt, "memory");
+    let mut clock = SetClock::new(moments);
     let session = serve(alloc, disk, &mut clock, door, b"here", requests, service);
     drop(clock);
     session
@@ -87,38 +80,56 @@ fn is_served(row: &Row, line: Option<&Line>, conn: Option<&ScriptConn>) -> bool 
     }
 }
 
+/// A session: the moment of the clock at the first request, after which it is `NOW`, the greatest number of connections, and
+/// whether it has the pages of the feed.
+struct Terms {
+    first: u64,
+    requests: u32,
+    service: bool,
+}
+
 /// Serves connections until the door has none left or `requests` were served, and compares them with the rows.
 fn follow<D: Disk>(
     rt: &impl Abort,
     alloc: Global,
     disk: &mut D,
     door: &mut ScriptDoor,
-    first: u64,
-    requests: u32,
-    service: bool,
+    terms: &Terms,
     rows: &[Row],
-)
-    requires some { 1 ≤ requests }
-    requires few { requests ≤ 1_000_000 }
-{
+) {
     let before = door.given().len();
-    let session = served(rt, alloc, disk, door, first, requests, service);
-    let given = door.given();
-    assert!(rt;
-        (
-            session.end,
-            session.lines.len(),
-            given.len().saturating_sub(before)
-        ) == (End::Done, rows.len(), rows.len())
+    let session = served(
+        rt,
+        alloc,
+        disk,
+        door,
+        terms.first,
+        terms.requests,
+        terms.service,
     );
+    let given = door.given();
+    assert!(rt; session.end == End::Done && session.lines.len() == rows.len());
+    assert!(rt; given.len().saturating_sub(before) == rows.len());
     for (index, row) in rows.iter().enumerate() {
         let line = session.lines.get(index);
-        assert!(rt;
-            is_served(row, line, given.get(index.saturating_add(before))),
-            "row {index}"
-        );
+        let conn = given.get(index.saturating_add(before));
+        assert!(rt; is_served(row, line, conn), "row {index}");
     }
     drop(session);
+}
+
+/// Does so with a door of its own, of which this call fails. 0 is no call.
+fn follow_with_door<D: Disk>(
+    rt: &impl Abort,
+    alloc: Global,
+    disk: &mut D,
+    failing: u64,
+    terms: &Terms,
+    rows: &[Row],
+) {
+    let mut door = door_of(rt, alloc, rows, failing);
+    follow(rt, alloc, disk, &mut door, terms, rows);
+    drop(door);
 }
 
 /// A request with 65 fields.
@@ -234,23 +245,27 @@ static ROWS: [Row; 16] = [
     ),
 ];
 
+/// At most two connections, and all of them.
+static TWO: Terms = Terms {
+    first: NOW,
+    requests: 2,
+    service: false,
+};
+
+static ALL: Terms = Terms {
+    first: NOW,
+    requests: 100,
+    service: false,
+};
+
 #[test]
 fn serves_one_connection_after_the_other(rt: HostRuntime) {
     let alloc = rt.alloc();
     let mut disk = store_disk(&rt, alloc, 4, CAPACITY, 0);
     let mut door = door_of(&rt, alloc, &ROWS, 0);
     // The first session leaves the other connections to the second.
-    follow(&rt, alloc, &mut disk, &mut door, NOW, 2, false, &ROWS[..2]);
-    follow(
-        &rt,
-        alloc,
-        &mut disk,
-        &mut door,
-        NOW,
-        100,
-        false,
-        &ROWS[2..],
-    );
+    follow(&rt, alloc, &mut disk, &mut door, &TWO, &ROWS[..2]);
+    follow(&rt, alloc, &mut disk, &mut door, &ALL, &ROWS[2..]);
     drop((disk, door));
 }
 
@@ -322,33 +337,19 @@ static NO_PAGES: [Row; 2] = [
     ),
 ];
 
+static WITH_PAGES: Terms = Terms {
+    first: NOW,
+    requests: 100,
+    service: true,
+};
+
 #[test]
 fn serves_the_pages_of_the_feed_only_if_asked_to(rt: HostRuntime) {
     let alloc = rt.alloc();
     let mut disk = store_disk(&rt, alloc, 4, CAPACITY, 0);
-    let mut with_pages = door_of(&rt, alloc, &PAGES, 0);
-    let mut without = door_of(&rt, alloc, &NO_PAGES, 0);
-    follow(
-        &rt,
-        alloc,
-        &mut disk,
-        &mut with_pages,
-        NOW,
-        100,
-        true,
-        &PAGES,
-    );
-    follow(
-        &rt,
-        alloc,
-        &mut disk,
-        &mut without,
-        NOW,
-        100,
-        false,
-        &NO_PAGES,
-    );
-    drop((disk, with_pages, without));
+    follow_with_door(&rt, alloc, &mut disk, 0, &WITH_PAGES, &PAGES);
+    follow_with_door(&rt, alloc, &mut disk, 0, &ALL, &NO_PAGES);
+    drop(disk);
 }
 
 /// Connections with the clock at 22:13:25 and then at 22:13:20.
@@ -373,22 +374,21 @@ static BACK: [Row; 2] = [
     ),
 ];
 
+static TWO_BACK: Terms = Terms {
+    first: NOW + 5_000,
+    requests: 2,
+    service: false,
+};
+
 #[test]
 fn serves_where_the_clock_goes_back(rt: HostRuntime) {
     let alloc = rt.alloc();
-    let mut disk = store_disk(&rt, alloc, 4, CAPACITY, 0);
-    let mut door = door_of(&rt, alloc, &BACK, 0);
-    follow(
-        &rt,
-        alloc,
-        &mut disk,
-        &mut door,
-        NOW + 5_000,
-        2,
-        false,
-        &BACK,
-    );
-    drop((disk, door));
+    // Call 4 of the door would be the one after the second connection. It isn't made.
+    for failing in [0, 4] {
+        let mut disk = store_disk(&rt, alloc, 4, CAPACITY, 0);
+        follow_with_door(&rt, alloc, &mut disk, failing, &TWO_BACK, &BACK);
+        drop(disk);
+    }
 }
 
 /// Serves connections, and returns why the session ended and the number of its lines.
@@ -417,7 +417,7 @@ static DOOR_FAULTS: [(u64, (End, usize)); 5] = [
 fn ends_where_a_call_of_the_door_fails(rt: HostRuntime) {
     let alloc = rt.alloc();
     let mut disk = store_disk(&rt, alloc, 4, CAPACITY, 0);
-    for (failing, end) in DOOR_FAULTS {
+    for &(failing, end) in &DOOR_FAULTS {
         let mut door = door_of(&rt, alloc, &BACK, failing);
         let ended = end_of(&rt, alloc, &mut disk, &mut door);
         assert!(rt; ended == end, "call {failing}");
@@ -426,28 +426,9 @@ fn ends_where_a_call_of_the_door_fails(rt: HostRuntime) {
     drop(disk);
 }
 
-#[test]
-fn asks_the_door_for_no_more_than_it_serves(rt: HostRuntime) {
-    let alloc = rt.alloc();
-    let mut disk = store_disk(&rt, alloc, 4, CAPACITY, 0);
-    // The call after the second connection would fail.
-    let mut door = door_of(&rt, alloc, &BACK, 4);
-    follow(
-        &rt,
-        alloc,
-        &mut disk,
-        &mut door,
-        NOW + 5_000,
-        2,
-        false,
-        &BACK,
-    );
-    drop((disk, door));
-}
-
 /// Serves connections on a disk without a store, and then twice with one. The first call of the door fails.
 fn unopened(rt: &impl Abort, alloc: Global) -> [(End, usize); 3] {
-    let mut disk = disk_of(rt, alloc, 0);
+    let mut disk = disk_of(rt, alloc, b"", 0);
     let mut door = door_of(rt, alloc, &BACK, 1);
     let missing = end_of(rt, alloc, &mut disk, &mut door);
     init(rt, alloc, &mut disk, 4, CAPACITY);
@@ -469,44 +450,38 @@ fn does_not_listen_without_a_store(rt: HostRuntime) {
     );
 }
 
-/// A session of one POST, on a store without operations.
+/// The session of a POST.
 #[derive(Drop)]
 struct Session {
     /// The number of device calls before the session.
     made: u64,
     /// The number of device calls after it.
     calls: u64,
-    end: End,
-    /// The only line, and the bytes that its connection was sent.
-    line: Option<Told>,
+    /// The bytes that the connection was sent.
     sent: Vec<u8>,
-    /// How many operations a load finds afterwards.
-    found: Found,
+    ended: Ended,
 }
 
-/// The number of operations that a load finds after a crash that leaves the old bytes, on the disk as it reads, and
-/// after a crash that leaves the new bytes.
-type Found = [u32; 3];
-
-/// Returns the number of operations that a load finds.
-fn version_of<D: Disk>(rt: &impl Abort, alloc: Global, disk: &mut D) -> u32 {
-    let store = Store::load(alloc, disk).expect(rt, "a store");
-    let version = store.version();
-    drop(store);
-    version
+/// How such a session ends: its end, its only line, the numbers of operations that a load finds after a crash that leaves the
+/// old bytes, on the disk as it reads, and after a crash that leaves the new bytes, and the number of seals.
+#[derive(Clone, Copy, PartialEq)]
+struct Ended {
+    end: End,
+    line: Option<Told>,
+    found: [u32; 3],
+    seals: u32,
 }
 
-/// Returns how many operations a load finds on the disk, and after a crash within its last call.
-fn found_on(rt: &impl Abort, alloc: Global, disk: &mut MemoryDisk) -> Found {
-    let mut old = disk.image(disk.calls(), &Choice::Old).expect(rt, "memory");
-    let mut new = disk.image(disk.calls(), &Choice::New).expect(rt, "memory");
-    let found = [
-        version_of(rt, alloc, &mut old),
-        version_of(rt, alloc, disk),
-        version_of(rt, alloc, &mut new),
-    ];
+/// Returns the numbers of operations that a load finds on the disk and after a crash within its last call, and the number of
+/// seals.
+fn found_on(rt: &impl Abort, alloc: Global, disk: &mut MemoryDisk) -> ([u32; 3], u32) {
+    let mut old = crashed(rt, disk, disk.calls(), Filling::Old);
+    let mut new = crashed(rt, disk, disk.calls(), Filling::New);
+    let (before, _) = counts(rt, alloc, &mut old);
+    let (after, _) = counts(rt, alloc, &mut new);
     drop((old, new));
-    found
+    let (read, seals) = counts(rt, alloc, disk);
+    ([before, read, after], seals)
 }
 
 /// Returns the bytes that the first connection was sent.
@@ -518,123 +493,178 @@ fn sent_of(rt: &impl Abort, alloc: Global, door: &ScriptDoor) -> Vec<u8> {
     Vec::from_slice(alloc, sent).expect(rt, "memory")
 }
 
-/// Serves a POST on a store of which this device call fails.
-fn post_failing(rt: &impl Abort, alloc: Global, failing: u64) -> Session {
-    let mut disk = store_disk(rt, alloc, 4, CAPACITY, failing);
+/// Serves a POST on a store with windows of 4 operations after some others, of which this device call fails.
+fn post_failing(rt: &impl Abort, alloc: Global, posts: usize, failing: u64) -> Session {
+    let mut disk = posted_disk(rt, alloc, posts, failing);
     let mut door = door_of(rt, alloc, &BACK[..1], 0);
     let made = disk.calls();
     let session = served(rt, alloc, &mut disk, &mut door, NOW, 100, false);
-    let posted = Session {
+    let calls = disk.calls();
+    let (end, line) = (session.end, session.lines.get(0).map(told));
+    drop(session);
+    let sent = sent_of(rt, alloc, &door);
+    let (found, seals) = found_on(rt, alloc, &mut disk);
+    drop((disk, door));
+    Session {
         made,
-        calls: disk.calls(),
-        end: session.end,
-        line: session.lines.get(0).map(told),
-        sent: sent_of(rt, alloc, &door),
-        found: found_on(rt, alloc, &mut disk),
-    };
-    drop((disk, door, session));
-    posted
+        calls,
+        sent,
+        ended: Ended {
+            end,
+            line,
+            found,
+            seals,
+        },
+    }
 }
 
-/// How many operations a load finds if a call of the commit fails: the write of the operation, its sync, the write of
-/// the gate, and its sync.
-static FOUND: [Found; 4] = [[0, 0, 0], [0, 0, 0], [0, 0, 1], [0, 1, 1]];
+/// Serves a POST of which device calls fail, from a call on, and compares how the sessions end. A reply is `DISK`.
+fn expect_ends(rt: &impl Abort, alloc: Global, posts: usize, first: u64, rows: &[Ended]) {
+    for (index, wanted) in rows.iter().enumerate() {
+        let failed = post_failing(rt, alloc, posts, first.saturating_add(index as u64));
+        let sent: &[u8] = if wanted.line.is_some() { DISK } else { b"" };
+        assert!(rt;
+            failed.ended == *wanted && failed.sent.as_slice() == sent,
+            "{posts} posts, call {index}"
+        );
+        drop(failed);
+    }
+}
+
+/// The POST on a store without operations works.
+const POSTED: Ended = Ended {
+    end: End::Done,
+    line: Some((201, 1, true)),
+    found: [0, 1, 1],
+    seals: 0,
+};
+
+/// A call of the load fails.
+static UNLOADED: [Ended; 1] = [Ended {
+    end: End::Load(LoadFault::DiskFault),
+    line: None,
+    found: [0, 0, 0],
+    seals: 0,
+}];
+
+/// The line of a POST whose commit failed, on a store without operations and on one of 4.
+const UNDONE: Option<Told> = Some((500, 0, true));
+
+const UNDONE_5: Option<Told> = Some((500, 4, true));
+
+/// A call of the commit fails: the write of the operation, its sync, the write of the gate, and its sync.
+static UNCOMMITTED: [Ended; 4] = [
+    Ended {
+        end: End::DiskFault,
+        line: UNDONE,
+        found: [0, 0, 0],
+        seals: 0,
+    },
+    Ended {
+        end: End::DiskFault,
+        line: UNDONE,
+        found: [0, 0, 0],
+        seals: 0,
+    },
+    Ended {
+        end: End::DiskFault,
+        line: UNDONE,
+        found: [0, 0, 1],
+        seals: 0,
+    },
+    Ended {
+        end: End::DiskFault,
+        line: UNDONE,
+        found: [0, 1, 1],
+        seals: 0,
+    },
+];
 
 #[test]
 fn ends_where_a_device_call_fails(rt: HostRuntime) {
     let alloc = rt.alloc();
-    let whole = post_failing(&rt, alloc, 0);
-    assert!(rt;
-        (whole.end, whole.line, whole.found) == (End::Done, Some((201, 1, true)), [0, 1, 1])
-    );
+    let whole = post_failing(&rt, alloc, 0, 0);
+    assert!(rt; whole.ended == POSTED);
     // The commit makes the last four calls, and the load those before.
     let loaded = whole.calls.saturating_sub(4);
     for call in whole.made.saturating_add(1)..=loaded {
-        let failed = post_failing(&rt, alloc, call);
-        let is_unsent = failed.line.is_none() && failed.sent.is_empty();
-        assert!(rt;
-            failed.end == End::Load(LoadFault::DiskFault) && is_unsent,
-            "call {call}"
-        );
-        assert!(rt; failed.found == [0, 0, 0], "call {call}");
-        drop(failed);
+        expect_ends(&rt, alloc, 0, call, &UNLOADED);
     }
-    for (index, &found) in FOUND.iter().enumerate() {
-        let failed = post_failing(&rt, alloc, loaded.saturating_add(1 + index as u64));
-        let end = (failed.end, failed.line, failed.found);
-        assert!(rt;
-            end == (End::DiskFault, Some((500, 0, true)), found),
-            "call {index}"
-        );
-        assert!(rt; failed.sent.as_slice() == DISK, "call {index}");
-        drop(failed);
-    }
+    expect_ends(&rt, alloc, 0, loaded.saturating_add(1), &UNCOMMITTED);
     drop(whole);
 }
 
-/// A session of the fifth POST, on a store with windows of 4 operations.
-#[derive(Drop)]
-struct Sealing {
-    /// The number of device calls after it.
-    calls: u64,
-    end: End,
-    /// The only line, and the bytes that its connection was sent.
-    line: Option<Told>,
-    sent: Vec<u8>,
-    /// The numbers of operations and of seals that a load finds afterwards.
-    found: (u32, u32),
-}
+/// The fifth POST works, and seals an archive.
+const SEALED: Ended = Ended {
+    end: End::Done,
+    line: Some((201, 5, true)),
+    found: [4, 5, 5],
+    seals: 1,
+};
 
-/// Serves the fifth POST on a store of which this device call fails.
-fn seal_failing(rt: &impl Abort, alloc: Global, failing: u64) -> Sealing {
-    let mut disk = posted_disk(rt, alloc, 4, failing);
-    let mut door = door_of(rt, alloc, &BACK[..1], 0);
-    let session = served(rt, alloc, &mut disk, &mut door, NOW, 100, false);
-    let sealing = Sealing {
-        calls: disk.calls(),
-        end: session.end,
-        line: session.lines.get(0).map(told),
-        sent: sent_of(rt, alloc, &door),
-        found: counts(rt, alloc, &mut disk),
-    };
-    drop((disk, door, session));
-    sealing
-}
-
-/// The line of a POST whose commit failed.
-const UNDONE: Option<Told> = Some((500, 4, true));
-
-/// How the session of the fifth POST ends if a device call fails, its line, the bytes that are sent, and the numbers of
-/// operations and of seals that a load finds. The first call is the last one of the store's load. The next eight are the
-/// commit: the seal's write, its sync, the write of the gate and its sync, and the same four for the operation.
-static SEALING: [(End, Option<Told>, &[u8], (u32, u32)); 9] = [
-    (End::Load(LoadFault::DiskFault), None, b"", (4, 0)),
-    (End::DiskFault, UNDONE, DISK, (4, 0)),
-    (End::DiskFault, UNDONE, DISK, (4, 0)),
-    (End::DiskFault, UNDONE, DISK, (4, 0)),
-    (End::DiskFault, UNDONE, DISK, (4, 1)),
-    (End::DiskFault, UNDONE, DISK, (4, 1)),
-    (End::DiskFault, UNDONE, DISK, (4, 1)),
-    (End::DiskFault, UNDONE, DISK, (4, 1)),
-    (End::DiskFault, UNDONE, DISK, (5, 1)),
+/// A call of the fifth POST fails. The first call is the last one of the store's load. The next eight are the commit: the
+/// seal's write, its sync, the write of the gate and its sync, and the same four for the operation.
+static UNSEALED: [Ended; 9] = [
+    Ended {
+        end: End::Load(LoadFault::DiskFault),
+        line: None,
+        found: [4, 4, 4],
+        seals: 0,
+    },
+    Ended {
+        end: End::DiskFault,
+        line: UNDONE_5,
+        found: [4, 4, 4],
+        seals: 0,
+    },
+    Ended {
+        end: End::DiskFault,
+        line: UNDONE_5,
+        found: [4, 4, 4],
+        seals: 0,
+    },
+    Ended {
+        end: End::DiskFault,
+        line: UNDONE_5,
+        found: [4, 4, 4],
+        seals: 0,
+    },
+    Ended {
+        end: End::DiskFault,
+        line: UNDONE_5,
+        found: [4, 4, 4],
+        seals: 1,
+    },
+    Ended {
+        end: End::DiskFault,
+        line: UNDONE_5,
+        found: [4, 4, 4],
+        seals: 1,
+    },
+    Ended {
+        end: End::DiskFault,
+        line: UNDONE_5,
+        found: [4, 4, 4],
+        seals: 1,
+    },
+    Ended {
+        end: End::DiskFault,
+        line: UNDONE_5,
+        found: [4, 4, 5],
+        seals: 1,
+    },
+    Ended {
+        end: End::DiskFault,
+        line: UNDONE_5,
+        found: [4, 5, 5],
+        seals: 1,
+    },
 ];
 
 #[test]
 fn ends_where_a_call_of_a_seal_or_of_its_operation_fails(rt: HostRuntime) {
-    let alloc = rt.alloc();
-    let whole = seal_failing(&rt, alloc, 0);
-    assert!(rt; (whole.end, whole.line, whole.found) == (End::Done, Some((201, 5, true)), (5, 1)));
-    let loaded = whole.calls.saturating_sub(8);
+    let whole = post_failing(&rt, rt.alloc(), 4, 0);
+    assert!(rt; whole.ended == SEALED);
+    expect_ends(&rt, rt.alloc(), 4, whole.calls.saturating_sub(8), &UNSEALED);
     drop(whole);
-    for (index, &wanted) in SEALING.iter().enumerate() {
-        let failed = seal_failing(&rt, alloc, loaded.saturating_add(index as u64));
-        let sealing = (
-            failed.end,
-            failed.line,
-            failed.sent.as_slice(),
-            failed.found,
-        );
-        assert!(rt; sealing == wanted, "call {index}");
-        drop(failed);
-    }
 }

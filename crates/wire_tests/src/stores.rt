@@ -2,7 +2,7 @@
 //!
 //! A function that owns a store or a disk has few exits, since the proof drops each of its values at each exit.
 
-ghost use Rattle.std.specs.Prelude.{◌≡◌, ◌≤◌, false};
+ghost use Rattle.std.specs.Prelude.{◌≡◌, false};
 ghost use Rattle.feed_recovery.specs.Store.{StandsFor, is_spent};
 
 use crate::conns::{conn_of, disk_of};
@@ -24,12 +24,11 @@ pub const NOW: u64 = 1_700_000_000_000;
 /// The capacity of a store unless a test has another.
 pub const CAPACITY: u64 = 1 << 36;
 
-/// Returns the head of a feed that is made at `NOW`.
-fn head_of(rt: &impl Abort, alloc: Global, window: u32, capacity: u64) -> Head
-    requires window { (1 ≤ window) × (window ≤ 100) }
-    requires capacity { (4_096 ≤ capacity) × (capacity ≤ 68_719_476_736) }
-{
-    Head {
+/// Makes a store that has no operation. Its feed is made at `NOW`.
+pub fn init<D: Disk>(rt: &impl Abort, alloc: Global, disk: &mut D, window: u32, capacity: u64) {
+    assert!(rt; 1 <= window && window <= 100);
+    assert!(rt; 4_096 <= capacity && capacity <= CAPACITY);
+    let head = Head {
         format: NEWEST_FORMAT,
         name: FeedName {
             base: Base::parse(alloc, b"http://feed.example/").expect(rt, "a base"),
@@ -40,31 +39,20 @@ fn head_of(rt: &impl Abort, alloc: Global, window: u32, capacity: u64) -> Head
         window,
         capacity,
         created: Stamp::new(NOW as i64).expect(rt, "a timestamp"),
-    }
-}
-
-/// Makes a store that has no operation.
-pub fn init<D: Disk>(rt: &impl Abort, alloc: Global, disk: &mut D, window: u32, capacity: u64)
-    requires window { (1 ≤ window) × (window ≤ 100) }
-    requires capacity { (4_096 ≤ capacity) × (capacity ≤ 68_719_476_736) }
-{
-    let head = head_of(rt, alloc, window, capacity);
+    };
     Store::init(alloc, disk, &head).expect(rt, "a store");
     drop(head);
 }
 
-/// Returns a disk with a store that has no operation, of which this device call fails. 0 lists no call.
+/// Returns a disk with a store that has no operation, of which this device call fails. 0 is no call.
 pub fn store_disk(
     rt: &impl Abort,
     alloc: Global,
     window: u32,
     capacity: u64,
     failing: u64,
-) -> MemoryDisk
-    requires window { (1 ≤ window) × (window ≤ 100) }
-    requires capacity { (4_096 ≤ capacity) × (capacity ≤ 68_719_476_736) }
-{
-    let mut disk = disk_of(rt, alloc, failing);
+) -> MemoryDisk {
+    let mut disk = disk_of(rt, alloc, b"", failing);
     init(rt, alloc, &mut disk, window, capacity);
     disk
 }
@@ -92,7 +80,7 @@ pub fn reply_to<D: Disk>(
 }
 
 /// Loads the store and answers a request at a moment of the clock. Returns the bytes that the connection is sent.
-pub fn exchange<D: Disk>(
+fn exchange<D: Disk>(
     rt: &impl Abort,
     alloc: Global,
     disk: &mut D,
@@ -106,7 +94,7 @@ pub fn exchange<D: Disk>(
 }
 
 /// Returns a POST of an entry with a title of this many letters and a comment of this many.
-pub fn post_of(rt: &impl Abort, alloc: Global, title: usize, comment: usize) -> Vec<u8> {
+fn post_of(rt: &impl Abort, alloc: Global, title: usize, comment: usize) -> Vec<u8> {
     let title = vec![in alloc; b'a'; title].expect(rt, "memory");
     let comment = vec![in alloc; b'a'; comment].expect(rt, "memory");
     let parts: [&[u8]; 5] = [
@@ -125,4 +113,54 @@ pub fn post_of(rt: &impl Abort, alloc: Global, title: usize, comment: usize) -> 
     [start.as_bytes(), body.as_slice()]
         .concat(alloc)
         .expect(rt, "memory")
+}
+
+/// A request on a store.
+#[derive(Clone, Copy)]
+pub enum Ask {
+    /// These bytes, at `NOW`.
+    Bytes(&'static [u8]),
+    /// These bytes, at this moment of the clock.
+    At(u64, &'static [u8]),
+    /// A POST of an entry with a title of this many letters and a comment of this many, at `NOW`.
+    Post(usize, usize),
+}
+
+/// The reply to a request.
+#[derive(Clone, Copy)]
+pub enum Sent {
+    /// These bytes.
+    Whole(&'static [u8]),
+    /// Bytes that begin and end so.
+    Ends(&'static [u8], &'static [u8]),
+}
+
+/// A request, and its reply.
+pub type Row = (Ask, Sent);
+
+pub fn is_sent(sent: &[u8], wanted: Sent) -> bool {
+    match wanted {
+        Sent::Whole(bytes) => sent == bytes,
+        Sent::Ends(front, back) => sent.starts_with(front) && sent.ends_with(back),
+    }
+}
+
+/// Answers a request on a store. Returns the bytes that the connection is sent.
+pub fn sent_for<D: Disk>(rt: &impl Abort, alloc: Global, disk: &mut D, ask: Ask) -> Vec<u8> {
+    match ask {
+        Ask::Bytes(bytes) => exchange(rt, alloc, disk, NOW, bytes),
+        Ask::At(now, bytes) => exchange(rt, alloc, disk, now, bytes),
+        Ask::Post(title, comment) => {
+            let request = post_of(rt, alloc, title, comment);
+            exchange(rt, alloc, disk, NOW, &request)
+        }
+    }
+}
+
+/// Answers requests on a store, each with the expected reply.
+pub fn follow<D: Disk>(rt: &impl Abort, alloc: Global, disk: &mut D, rows: &[Row]) {
+    for (index, &(ask, wanted)) in rows.iter().enumerate() {
+        let sent = sent_for(rt, alloc, disk, ask);
+        assert!(rt; is_sent(&sent, wanted), "row {index}");
+    }
 }

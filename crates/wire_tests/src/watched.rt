@@ -1,4 +1,5 @@
-//! The order of a commit and its reply: the first byte of a 201 is sent after the last sync of the commit returned.
+//! A disk and a connection whose calls are counted together, and the order of a commit and its reply: the first byte of a
+//! 201 is sent after the last sync of the commit returned.
 //!
 //! Contracts see neither the content of this disk nor the bytes of this connection, so that no proof of the server can
 //! rest on them. The test compares the order in which the server calls them.
@@ -18,7 +19,7 @@ use std::cell::Cell;
 
 /// The calls on the disk and on the connection, numbered together from 1, and the numbers of some. 0 is no call.
 #[derive(Drop)]
-struct Events {
+pub struct Events {
     count: Cell<u64>,
     /// The last `read` of the connection.
     asked: Cell<u64>,
@@ -31,7 +32,7 @@ struct Events {
 }
 
 impl Events {
-    fn new() -> Events {
+    pub fn new() -> Events {
         Events {
             count: Cell::new(0),
             asked: Cell::new(0),
@@ -51,7 +52,7 @@ impl Events {
 
 /// A disk that passes its calls to one in memory. Contracts see its counts alone, as those of a disk of files.
 #[derive(Drop)]
-struct WatchedDisk<'a> {
+pub struct WatchedDisk<'a> {
     memory: MemoryDisk,
     events: &'a Events,
     clock: u64,
@@ -59,7 +60,7 @@ struct WatchedDisk<'a> {
 }
 
 impl<'a> WatchedDisk<'a> {
-    fn new(memory: MemoryDisk, events: &'a Events) -> WatchedDisk<'a> {
+    pub fn new(memory: MemoryDisk, events: &'a Events) -> WatchedDisk<'a> {
         WatchedDisk {
             memory,
             events,
@@ -88,12 +89,12 @@ impl<'a> WatchedDisk<'a> {
     }
 }
 
-/// Reads from the disk, unless the offset is past the area's end.
+/// Reads from the disk. From past the area's end it reads no byte.
 fn read_within<D: Disk>(disk: &mut D, area: Area, at: u64, into: &mut [u8]) -> Result<usize, Failed>
     ensures { IfOk result (λ count. count ≤ length into.old) }
 {
     if disk.size(area)? < at {
-        return Err(Failed);
+        return Ok(0);
     }
     disk.read(area, at, into)
 }
@@ -258,7 +259,7 @@ const POST: &[u8] =
 fn reply_after_commit(rt: HostRuntime) {
     let alloc = rt.alloc();
     let events = Events::new();
-    let mut disk = WatchedDisk::new(disk_of(&rt, alloc, 0), &events);
+    let mut disk = WatchedDisk::new(disk_of(&rt, alloc, b"", 0), &events);
     init(&rt, alloc, &mut disk, 4, CAPACITY);
     let mut door = WatchedDoor {
         request: Some(POST),

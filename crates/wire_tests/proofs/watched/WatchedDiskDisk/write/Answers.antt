@@ -1,6 +1,6 @@
 use Rattle.std.proofs.Common.{arith, false}
 use Rattle.feed_disk.proofs.FileLemmas.{passes_torn}
-use Rattle.wire_tests.proofs.reply_after_commit.WatchedDiskDisk.write.Goals as goal
+use Rattle.wire_tests.proofs.watched.WatchedDiskDisk.write.Goals as goal
 
 pub returns-in-Ok-clause-area : goal.returns-in-Ok-clause-area
 returns-in-Ok-clause-area c =
