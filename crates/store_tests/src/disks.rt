@@ -8,36 +8,18 @@ use feed_disk::{Area, Choice, Disk, MemoryDisk};
 use std::alloc::Global;
 use std::process::Abort;
 
-/// Returns a disk with this journal and empty other areas, of which these device calls fail. 0 lists no call.
-pub fn disk_of(rt: &impl Abort, alloc: Global, journal: &[u8], failing: [u64; 2]) -> MemoryDisk {
-    let mut calls = Many::new(alloc);
-    for call in failing {
-        calls.push(call).expect(rt, "memory");
-    }
-    MemoryDisk::new(
-        alloc,
-        Bytes::of(alloc, journal).expect(rt, "memory"),
-        Bytes::of(alloc, b"").expect(rt, "memory"),
-        Bytes::of(alloc, b"").expect(rt, "memory"),
-        calls,
-    )
-}
-
-/// Returns a disk with these areas, of which no device call fails.
-pub fn disk_with(rt: &impl Abort, alloc: Global, journal: &[u8], sealed: &[u8]) -> MemoryDisk {
-    disk_failing(rt, alloc, journal, sealed, 0)
-}
-
-/// Returns a disk with these areas, of which this device call fails. 0 is no call.
-pub fn disk_failing(
+/// Returns a disk with these areas, of which these device calls fail. 0 is no call.
+pub fn disk_of(
     rt: &impl Abort,
     alloc: Global,
     journal: &[u8],
     sealed: &[u8],
-    call: u64,
+    failing: &[u64],
 ) -> MemoryDisk {
     let mut calls = Many::new(alloc);
-    calls.push(call).expect(rt, "memory");
+    for call in failing {
+        calls.push(*call).expect(rt, "memory");
+    }
     MemoryDisk::new(
         alloc,
         Bytes::of(alloc, journal).expect(rt, "memory"),
@@ -47,16 +29,21 @@ pub fn disk_failing(
     )
 }
 
-/// Appends the bytes of an area of up to 192 bytes, and `/`.
-pub fn append_area<D: Disk>(rt: &impl Abort, all: &mut Vec<u8>, disk: &mut D, area: Area) {
-    let mut bytes = [0u8; 192];
-    let count = disk.read(area, 0, &mut bytes).expect(rt, "a device call");
-    all.extend_from_slice(&bytes[..count]).expect(rt, "memory");
-    all.push(b'/').expect(rt, "memory");
+/// Appends some bytes.
+pub fn append(rt: &impl Abort, all: &mut Vec<u8>, bytes: &[u8]) {
+    all.extend_from_slice(bytes).expect(rt, "memory");
+}
+
+/// Returns the bytes of an area, in two device calls.
+pub fn area_of<D: Disk>(rt: &impl Abort, alloc: Global, disk: &mut D, area: Area) -> Vec<u8> {
+    let size = disk.size(area).expect(rt, "a device call");
+    let mut bytes = vec![in alloc; 0u8; size.min(65_536) as usize].expect(rt, "memory");
+    disk.read(area, 0, &mut bytes).expect(rt, "a device call");
+    bytes
 }
 
 /// A `Choice` as a table has it.
-#[derive(Clone, Copy, Debug)]
+#[derive(Clone, Copy)]
 pub enum Filling {
     Old,
     New,

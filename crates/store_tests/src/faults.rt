@@ -22,14 +22,6 @@ static LOG: [(LogFault, &str); 3] = [
     (LogFault::NoMemory, "out of memory"),
 ];
 
-#[test]
-fn a_fault_of_a_log_is_one_sentence(rt: HostRuntime) {
-    compare(&rt, rt.alloc(), &DiskFault, "disk fault");
-    for (fault, want) in &LOG {
-        compare(&rt, rt.alloc(), fault, want);
-    }
-}
-
 static INIT: [(InitFault, &str); 3] = [
     (InitFault::AlreadyInit, "the disk has a store already"),
     (InitFault::DiskFault, "disk fault"),
@@ -57,16 +49,6 @@ static LOAD: [(LoadFault, &str); 6] = [
     (LoadFault::DiskFault, "disk fault"),
     (LoadFault::NoMemory, "out of memory"),
 ];
-
-#[test]
-fn a_fault_of_an_opening_is_one_sentence(rt: HostRuntime) {
-    for (fault, want) in &INIT {
-        compare(&rt, rt.alloc(), fault, want);
-    }
-    for (fault, want) in &LOAD {
-        compare(&rt, rt.alloc(), fault, want);
-    }
-}
 
 static UNSOUND: [(Unsound, &str); 7] = [
     (Unsound::NotInit, "the disk has no store"),
@@ -119,48 +101,6 @@ static REPAIR: [(RepairFault, &str); 5] = [
     (RepairFault::NoMemory, "out of memory"),
 ];
 
-#[test]
-fn a_fault_of_a_scrub_or_a_repair_is_one_sentence(rt: HostRuntime) {
-    for (fault, want) in &UNSOUND {
-        compare(&rt, rt.alloc(), fault, want);
-    }
-    for (fault, want) in &REPAIR {
-        compare(&rt, rt.alloc(), fault, want);
-    }
-}
-
-/// Compares the sentence of the refusal of a request.
-fn compare_refusal(rt: &impl Abort, alloc: Global, fault: PrepareFault, want: &str) {
-    compare(rt, alloc, &fault, want);
-    drop(fault);
-}
-
-#[test]
-fn a_refused_request_is_one_sentence(rt: HostRuntime) {
-    for (area, want) in [
-        (Area::Journal, "journal"),
-        (Area::Sealed, "sealed"),
-        (Area::Mirror, "mirror"),
-    ] {
-        compare(&rt, rt.alloc(), &area, want);
-    }
-    let missing = PrepareFault::Rule(RuleFault::NotFound { number: 3 });
-    compare_refusal(&rt, rt.alloc(), missing, "there is no member 3");
-    let full = PrepareFault::Full {
-        area: Area::Sealed,
-        size: 2_544,
-        needed: 1_649,
-        capacity: 4_096,
-    };
-    compare_refusal(
-        &rt,
-        rt.alloc(),
-        full,
-        "the sealed area has 2544 bytes, and no room for 1649 more within 4096",
-    );
-    compare_refusal(&rt, rt.alloc(), PrepareFault::NoMemory, "out of memory");
-}
-
 static ARCHIVE: [(ArchiveFault, &str); 4] = [
     (
         ArchiveFault::NotSealed {
@@ -177,12 +117,64 @@ static ARCHIVE: [(ArchiveFault, &str); 4] = [
     (ArchiveFault::NoMemory, "out of memory"),
 ];
 
+static AREAS: [(Area, &str); 3] = [
+    (Area::Journal, "journal"),
+    (Area::Sealed, "sealed"),
+    (Area::Mirror, "mirror"),
+];
+
 #[test]
-fn a_fault_of_a_document_is_one_sentence(rt: HostRuntime) {
-    let when = Stamp::new(0).expect(&rt, "a timestamp");
+fn a_fault_of_a_log_or_a_store_is_one_sentence(rt: HostRuntime) {
+    compare(&rt, rt.alloc(), &DiskFault, "disk fault");
+    for (fault, want) in &LOG {
+        compare(&rt, rt.alloc(), fault, want);
+    }
+    for (fault, want) in &INIT {
+        compare(&rt, rt.alloc(), fault, want);
+    }
+    for (fault, want) in &LOAD {
+        compare(&rt, rt.alloc(), fault, want);
+    }
+}
+
+#[test]
+fn a_fault_of_a_scrub_or_a_document_is_one_sentence(rt: HostRuntime) {
+    for (fault, want) in &UNSOUND {
+        compare(&rt, rt.alloc(), fault, want);
+    }
+    for (fault, want) in &REPAIR {
+        compare(&rt, rt.alloc(), fault, want);
+    }
     for (fault, want) in &ARCHIVE {
         compare(&rt, rt.alloc(), fault, want);
     }
+    for (area, want) in &AREAS {
+        compare(&rt, rt.alloc(), area, want);
+    }
+}
+
+#[test]
+fn a_refused_request_or_a_missing_member_is_one_sentence(rt: HostRuntime) {
+    for (fault, want) in [
+        (
+            PrepareFault::Rule(RuleFault::NotFound { number: 3 }),
+            "there is no member 3",
+        ),
+        (
+            PrepareFault::Full {
+                area: Area::Sealed,
+                size: 2_544,
+                needed: 1_649,
+                capacity: 4_096,
+            },
+            "the sealed area has 2544 bytes, and no room for 1649 more within 4096",
+        ),
+        (PrepareFault::NoMemory, "out of memory"),
+    ] {
+        compare(&rt, rt.alloc(), &fault, want);
+        drop(fault);
+    }
+    let when = Stamp::new(0).expect(&rt, "a timestamp");
     for (fault, want) in [
         (MemberFault::NotFound { number: 7 }, "there is no member 7"),
         (

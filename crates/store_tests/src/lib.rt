@@ -8,8 +8,6 @@
 #[cfg(test)]
 mod commits;
 #[cfg(test)]
-mod cuts;
-#[cfg(test)]
 mod disks;
 #[cfg(test)]
 mod faults;
@@ -25,8 +23,6 @@ mod images;
 mod logs;
 #[cfg(test)]
 mod reader;
-#[cfg(test)]
-mod repairs;
 #[cfg(test)]
 mod scrubs;
 #[cfg(test)]

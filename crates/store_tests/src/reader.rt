@@ -1,6 +1,6 @@
 //! `FrameReader` over a disk in memory: its payloads are those of `Log`, and a failed device call is a fault.
 
-use crate::disks::disk_of;
+use crate::disks::{append, disk_of};
 use feed_disk::{Area, Disk};
 use feed_journal::{FrameReader, Log, LogFault};
 use std::alloc::Global;
@@ -10,17 +10,16 @@ use std::process::Abort;
 const LENGTHS: [u32; 7] = [0, 1, 5, 300, 65_535, 65_536, 70_000];
 
 /// Returns an area with payloads of these lengths. Their bytes differ, so that a wrong offset shows.
-fn area_of(rt: &impl Abort, alloc: Global) -> Vec<u8> {
+fn long_area(rt: &impl Abort, alloc: Global) -> Vec<u8> {
     let mut area = Vec::new(alloc);
     for length in LENGTHS {
-        area.push(1).expect(rt, "memory");
-        area.extend_from_slice(&length.to_be_bytes())
-            .expect(rt, "memory");
+        append(rt, &mut area, b"\x01");
+        append(rt, &mut area, &length.to_be_bytes());
         for index in 0..length {
             area.push((index % 251) as u8).expect(rt, "memory");
         }
     }
-    area.push(0).expect(rt, "memory");
+    append(rt, &mut area, b"\x00");
     area
 }
 
@@ -45,50 +44,34 @@ fn count_same<D: Disk>(alloc: Global, disk: &mut D) -> Result<Option<u32>, LogFa
     Ok(ends.then_some(same))
 }
 
-/// Reads the area without its last `cut` bytes, on a disk of which this device call fails.
-fn read_cut(
-    rt: &impl Abort,
-    alloc: Global,
-    cut: usize,
-    failing: u64,
-) -> Result<Option<u32>, LogFault> {
-    let area = area_of(rt, alloc);
-    let kept = area.len().saturating_sub(cut);
-    let mut disk = disk_of(rt, alloc, &area[..kept], [failing, 0]);
-    let found = count_same(alloc, &mut disk);
-    drop((area, disk));
-    found
-}
-
-#[test]
-fn a_reader_finds_the_payloads_of_the_log(rt: HostRuntime) {
-    assert!(rt; read_cut(&rt, rt.alloc(), 0, 0) == Ok(Some(7)));
-}
-
-#[test]
-fn a_frame_that_the_area_ends_within_is_not_read(rt: HostRuntime) {
+/// The number of bytes that are cut from the area's end, the device calls that fail, each in a run of its own, from the
+/// first to the one before the second, and what is read. 0 is no call.
+static READS: [(usize, u64, u64, Result<Option<u32>, LogFault>); 7] = [
+    (0, 0, 1, Ok(Some(7))),
     // The area ends before the gate that follows the last payload, within that payload, and within its header.
-    for cut in [1, 60_000, 70_003] {
-        assert!(rt;
-            read_cut(&rt, rt.alloc(), cut, 0) == Ok(Some(6)),
-            "cut {cut}"
-        );
-    }
-}
-
-#[test]
-fn an_empty_area_has_no_frame(rt: HostRuntime) {
-    assert!(rt; read_cut(&rt, rt.alloc(), 1_000_000, 0) == Ok(Some(0)));
-}
-
-#[test]
-fn a_failed_call_of_a_reader_is_a_disk_fault(rt: HostRuntime) {
+    (1, 0, 1, Ok(Some(6))),
+    (60_000, 0, 1, Ok(Some(6))),
+    (70_003, 0, 1, Ok(Some(6))),
+    (1_000_000, 0, 1, Ok(Some(0))),
     // The load makes the device calls 1 to 6, and the reader's opening 7 and 8. The log reads each of 7 payloads in one
     // call. The reader makes one call for the four short frames, one for the payload of 65,535 bytes, two for each of
     // the frames behind it, and one for the gate after them.
-    for call in 1u64..23 {
-        let fault = read_cut(&rt, rt.alloc(), 0, call).err();
-        assert!(rt; fault == Some(LogFault::DiskFault), "call {call}");
+    (0, 1, 23, Err(LogFault::DiskFault)),
+    (0, 23, 24, Ok(Some(7))),
+];
+
+#[test]
+fn a_reader_finds_the_payloads_of_the_log(rt: HostRuntime) {
+    let alloc = rt.alloc();
+    let whole = long_area(&rt, alloc);
+    for &(cut, first, end, wanted) in &READS {
+        let kept = whole.len().saturating_sub(cut);
+        for call in first..end {
+            let mut disk = disk_of(&rt, alloc, &whole[..kept], b"", &[call]);
+            let found = count_same(alloc, &mut disk);
+            drop(disk);
+            assert!(rt; found == wanted, "cut {cut}, call {call}");
+        }
     }
-    assert!(rt; read_cut(&rt, rt.alloc(), 0, 23) == Ok(Some(7)));
+    drop(whole);
 }

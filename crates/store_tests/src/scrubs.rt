@@ -1,38 +1,91 @@
-//! `scrub`: each fault of a store, and stores that differ from a sound one in one byte or in their length.
+//! `scrub` and `repair`: each fault of a store, stores that differ from a sound one in one byte or in their length, and
+//! repairs that a crash or a failed device call stopped.
+//!
+//! The expected areas are made of those of the sound store and of the changed ones, by docs/FORMATS.md.
 
-ghost use Rattle.std.specs.Prelude.{◌≡◌, false};
-ghost use Rattle.feed_recovery.specs.Store.{StandsFor, is_spent};
-
-use crate::disks::{disk_of, disk_with};
+use crate::disks::{Filling, append, area_of, crashed, disk_of};
 use crate::formats::{five_operations, refusal};
-use crate::stores::{add, head};
-use feed_disk::{Area, Disk};
-use feed_recovery::{LoadFault, Store};
+use crate::stores::{Request, Step, init, session};
+use feed_disk::{Area, Disk, MemoryDisk};
+use feed_recovery::LoadFault;
 use std::alloc::Global;
 use std::process::Abort;
-use store_scrub::{Sound, Unsound, scrub};
+use store_scrub::{RepairFault, Unsound, repair, scrub};
 
-/// Returns the bytes of an area.
-pub fn area_of<D: Disk>(rt: &impl Abort, alloc: Global, disk: &mut D, area: Area) -> Vec<u8> {
-    let size = disk.size(area).expect(rt, "a device call");
-    let mut bytes = vec![in alloc; 0u8; size.min(65_536) as usize].expect(rt, "memory");
-    disk.read(area, 0, &mut bytes).expect(rt, "a device call");
-    bytes
+/// How many operations and seals a store has, or why it isn't sound.
+type Found = Result<(u32, u32), Unsound>;
+
+/// What a scrub finds in a store, what a repair then returns, as the numbers of seals that it kept and made, and what a
+/// scrub finds after that.
+#[derive(Clone, Copy, PartialEq)]
+struct Answers {
+    before: Found,
+    returned: Result<(u32, u32), RepairFault>,
+    after: Found,
+}
+
+/// The answers, and the areas that the repair left.
+#[derive(Drop)]
+struct Outcome {
+    answers: Answers,
+    journal: Vec<u8>,
+    sealed: Vec<u8>,
+}
+
+fn found_in<D: Disk>(alloc: Global, disk: &mut D) -> Found {
+    match scrub(alloc, disk) {
+        Ok(sound) => Ok((sound.records, sound.seals)),
+        Err(unsound) => Err(unsound),
+    }
+}
+
+fn repaired<D: Disk>(alloc: Global, disk: &mut D) -> Result<(u32, u32), RepairFault> {
+    match repair(alloc, disk) {
+        Ok(repaired) => Ok((repaired.kept, repaired.made)),
+        Err(fault) => Err(fault),
+    }
+}
+
+fn outcome_of<D: Disk>(rt: &impl Abort, alloc: Global, disk: &mut D) -> Outcome {
+    let before = found_in(alloc, disk);
+    let returned = repaired(alloc, disk);
+    let journal = area_of(rt, alloc, disk, Area::Journal);
+    let sealed = area_of(rt, alloc, disk, Area::Sealed);
+    let after = found_in(alloc, disk);
+    Outcome {
+        answers: Answers {
+            before,
+            returned,
+            after,
+        },
+        journal,
+        sealed,
+    }
+}
+
+/// The outcome for a store with these areas.
+fn outcome_with(rt: &impl Abort, alloc: Global, journal: &[u8], sealed: &[u8]) -> Outcome {
+    let mut disk = disk_of(rt, alloc, journal, sealed, &[]);
+    let outcome = outcome_of(rt, alloc, &mut disk);
+    drop(disk);
+    outcome
 }
 
 /// How an area differs from that of a sound store.
-#[derive(Clone, Copy, Debug)]
-pub enum Change {
+#[derive(Clone, Copy)]
+enum Change {
     Same,
     /// The byte at this offset has its last bit turned over.
     Byte(usize),
     /// Only this many bytes are left.
     Cut(usize),
+    /// The head of the journal has this capacity.
+    Capacity(u64),
 }
 
-pub fn changed(rt: &impl Abort, alloc: Global, area: &[u8], change: Change) -> Vec<u8> {
+fn changed(rt: &impl Abort, alloc: Global, area: &[u8], change: Change) -> Vec<u8> {
     let mut bytes = Vec::new(alloc);
-    bytes.extend_from_slice(area).expect(rt, "memory");
+    append(rt, &mut bytes, area);
     match change {
         Change::Same => {}
         Change::Byte(at) => {
@@ -41,229 +94,18 @@ pub fn changed(rt: &impl Abort, alloc: Global, area: &[u8], change: Change) -> V
             }
         }
         Change::Cut(count) => bytes.truncate(count),
+        Change::Capacity(capacity) => {
+            bytes.truncate(68);
+            append(rt, &mut bytes, &capacity.to_be_bytes());
+            let rest = area.get(76..).unwrap_or(b"");
+            append(rt, &mut bytes, rest);
+        }
     }
     bytes
 }
 
-/// Looks at a store with these areas.
-pub fn scrubbed(
-    rt: &impl Abort,
-    alloc: Global,
-    journal: &[u8],
-    sealed: &[u8],
-) -> Result<Sound, Unsound> {
-    let mut disk = disk_with(rt, alloc, journal, sealed);
-    let found = scrub(alloc, &mut disk);
-    drop(disk);
-    found
-}
-
-/// Makes four members.
-fn add_four<D: Disk>(rt: &impl Abort, alloc: Global, store: &mut Store, disk: &mut D)
-    requires unspent { is_spent store.old ≡ false }
-    requires stands { D.observable → StandsFor (D.state disk.old) store.old }
-    ensures unspent { is_spent store.new ≡ false }
-    ensures stands { D.observable → StandsFor (D.state disk.new) store.new }
-{
-    add(rt, alloc, store, disk, b"a");
-    add(rt, alloc, store, disk, b"a");
-    add(rt, alloc, store, disk, b"a");
-    add(rt, alloc, store, disk, b"a");
-}
-
-/// Makes a store with windows of 4 operations and 13 members. Returns its journal and its sealed area.
-fn thirteen<D: Disk>(rt: &impl Abort, alloc: Global, disk: &mut D) -> (Vec<u8>, Vec<u8>) {
-    let head = head(rt, alloc, 4, 1_073_741_824);
-    Store::init(alloc, disk, &head).expect(rt, "a store");
-    let mut store = Store::load(alloc, disk).expect(rt, "a store");
-    add_four(rt, alloc, &mut store, disk);
-    add_four(rt, alloc, &mut store, disk);
-    add_four(rt, alloc, &mut store, disk);
-    add(rt, alloc, &mut store, disk, b"a");
-    drop((head, store));
-    let journal = area_of(rt, alloc, disk, Area::Journal);
-    let sealed = area_of(rt, alloc, disk, Area::Sealed);
-    (journal, sealed)
-}
-
-/// How the journal and the sealed area of the store of `thirteen` differ, and what a scrub returns. The frame of the head
-/// has 84 bytes, that of each operation 45, and those of the seals 1,649, 1,713 and 1,717. The title of seal 1 is at offset
-/// 325, and that of seal 2 at 1,974.
-static THIRTEEN: [(Change, Change, Result<Sound, Unsound>); 19] = [
-    (
-        Change::Same,
-        Change::Same,
-        Ok(Sound {
-            records: 13,
-            seals: 3,
-        }),
-    ),
-    (
-        Change::Same,
-        Change::Byte(1_974),
-        Err(Unsound::BadSeal { index: 2 }),
-    ),
-    (
-        Change::Same,
-        Change::Cut(0),
-        Err(Unsound::SealCount {
-            records: 13,
-            seals: 0,
-        }),
-    ),
-    // The gate at the end of an area is opened.
-    (
-        Change::Byte(669),
-        Change::Same,
-        Err(Unsound::OpenGate {
-            area: Area::Journal,
-            at: 669,
-        }),
-    ),
-    (
-        Change::Same,
-        Change::Byte(5_079),
-        Err(Unsound::OpenGate {
-            area: Area::Sealed,
-            at: 5_079,
-        }),
-    ),
-    (
-        Change::Byte(669),
-        Change::Byte(5_079),
-        Err(Unsound::OpenGate {
-            area: Area::Journal,
-            at: 669,
-        }),
-    ),
-    (
-        Change::Byte(669),
-        Change::Byte(1_974),
-        Err(Unsound::BadSeal { index: 2 }),
-    ),
-    (
-        Change::Byte(669),
-        Change::Cut(0),
-        Err(Unsound::SealCount {
-            records: 13,
-            seals: 0,
-        }),
-    ),
-    // No head, a head without operations, and an operation that is none.
-    (Change::Cut(0), Change::Same, Err(Unsound::NotInit)),
-    (Change::Byte(0), Change::Same, Err(Unsound::NotInit)),
-    (
-        Change::Byte(84),
-        Change::Cut(0),
-        Ok(Sound {
-            records: 0,
-            seals: 0,
-        }),
-    ),
-    (
-        Change::Byte(89),
-        Change::Byte(1_974),
-        Err(Unsound::BadRecord {
-            area: Area::Journal,
-            index: 1,
-            at: 0,
-        }),
-    ),
-    // The gate of a frame is closed: 5 operations with archive 1, and 12 with archive 3, which isn't sealed.
-    (
-        Change::Byte(309),
-        Change::Byte(1_974),
-        Err(Unsound::SealCount {
-            records: 5,
-            seals: 3,
-        }),
-    ),
-    (
-        Change::Byte(309),
-        Change::Byte(325),
-        Err(Unsound::BadSeal { index: 1 }),
-    ),
-    (
-        Change::Byte(309),
-        Change::Byte(1_649),
-        Ok(Sound {
-            records: 5,
-            seals: 1,
-        }),
-    ),
-    (
-        Change::Byte(624),
-        Change::Same,
-        Ok(Sound {
-            records: 12,
-            seals: 3,
-        }),
-    ),
-    (
-        Change::Byte(624),
-        Change::Byte(3_362),
-        Ok(Sound {
-            records: 12,
-            seals: 2,
-        }),
-    ),
-    // An open gate that no frame can begin with, and one that could.
-    (
-        Change::Byte(219),
-        Change::Cut(5),
-        Ok(Sound {
-            records: 3,
-            seals: 0,
-        }),
-    ),
-    (
-        Change::Byte(219),
-        Change::Cut(6),
-        Err(Unsound::OpenGate {
-            area: Area::Sealed,
-            at: 0,
-        }),
-    ),
-];
-
-pub fn sound(records: u32, seals: u32) -> Result<Sound, Unsound> {
-    Ok(Sound { records, seals })
-}
-
-pub fn seal_count(records: u32, seals: u32) -> Result<Sound, Unsound> {
-    Err(Unsound::SealCount { records, seals })
-}
-
-fn bad_seal(index: u32) -> Result<Sound, Unsound> {
-    Err(Unsound::BadSeal { index })
-}
-
-fn open_gate(area: Area, at: u64) -> Result<Sound, Unsound> {
-    Err(Unsound::OpenGate { area, at })
-}
-
-/// The areas of the store of 13 operations.
-pub fn thirteen_areas(rt: &impl Abort, alloc: Global) -> (Vec<u8>, Vec<u8>) {
-    let mut disk = disk_of(rt, alloc, b"", [0, 0]);
-    let areas = thirteen(rt, alloc, &mut disk);
-    drop(disk);
-    areas
-}
-
-#[test]
-fn a_store_of_13_operations_has_these_faults(rt: HostRuntime) {
-    let alloc = rt.alloc();
-    let (journal, sealed) = thirteen_areas(&rt, alloc);
-    for (first, second, want) in &THIRTEEN {
-        let left = changed(&rt, alloc, &journal, *first);
-        let right = changed(&rt, alloc, &sealed, *second);
-        let found = scrubbed(&rt, alloc, &left, &right);
-        assert!(rt; found == *want, "{first:?} {second:?} {found:?}");
-    }
-}
-
 /// The end of the frame at an offset, if one is there.
-pub fn end_of_frame(area: &[u8], at: usize) -> Option<usize> {
+fn end_of_frame(area: &[u8], at: usize) -> Option<usize> {
     let frame = area.get(at..)?;
     let (Some(1), Some(header)) = (frame.first(), frame.get(1..5)) else {
         return None;
@@ -277,81 +119,567 @@ pub fn end_of_frame(area: &[u8], at: usize) -> Option<usize> {
     (end < area.len()).then_some(end)
 }
 
-/// The number of frames of an area, 20 at most, and the offset of the gate after them.
-pub fn frames_of(area: &[u8]) -> (u32, usize) {
+/// How many of the first frames of an area are those of a sound one, `most` at most, and the offset after them.
+fn same_frames(sound: &[u8], area: &[u8], most: u32) -> (u32, usize) {
     let mut end = 0usize;
-    for count in 0..20 {
-        match end_of_frame(area, end) {
-            Some(next) => end = next,
-            None => return (count, end),
+    for count in 0..most {
+        match (end_of_frame(sound, end), end_of_frame(area, end)) {
+            (Some(next), Some(other)) if sound.get(end..next) == area.get(end..other) => end = next,
+            _ => return (count, end),
         }
     }
-    (20, end)
+    (most, end)
 }
 
-/// Whether the gate at this offset is open, in an area that has room for a frame.
-pub fn is_open(area: &[u8], gate: usize) -> bool {
-    area.len() >= 6 && area.get(gate) == Some(&1)
+/// The number of frames of an area, 20 at most, and the offset of the gate after them. Then whether that gate is open, in an
+/// area that has room for a frame.
+fn frames_of(area: &[u8]) -> (u32, usize, bool) {
+    let (count, gate) = same_frames(area, area, 20);
+    (count, gate, area.len() >= 6 && area.get(gate) == Some(&1))
 }
 
-/// What a scrub returns of a store of 5 operations whose only seal is the payload of `sealed`, if its sealed area is
-/// `changed` instead.
-fn wanted_by_seals(sealed: &[u8], changed: &[u8]) -> Result<Sound, Unsound> {
-    let (seals, gate) = frames_of(changed);
-    let whole = sealed.get(5..sealed.len().saturating_sub(1));
-    if let Some(end) = end_of_frame(changed, 0) {
-        if changed.get(5..end) != whole {
-            return bad_seal(1);
+/// Closes the open gate after the frames of a journal, as a repair does.
+fn close(journal: &mut Vec<u8>) {
+    let (_, gate, is_open) = frames_of(journal.as_slice());
+    if is_open {
+        if let Some(byte) = journal.get_mut(gate) {
+            *byte = 0;
         }
     }
-    if seals != 1 {
-        return seal_count(5, seals);
-    }
-    if is_open(changed, gate) {
-        return open_gate(Area::Sealed, gate as u64);
-    }
-    sound(5, 1)
 }
 
-/// What a scrub returns of the same store, if only the beginning of its journal is left.
-fn wanted_by_length(journal: &[u8]) -> Result<Sound, Unsound> {
-    let (payloads, gate) = frames_of(journal);
-    match payloads {
-        0 => Err(Unsound::NotInit),
-        1..=4 => seal_count(payloads.saturating_sub(1), 1),
-        _ if is_open(journal, gate) => open_gate(Area::Journal, gate as u64),
-        _ => sound(payloads.saturating_sub(1), 1),
+/// The sealed area after a repair: the first seals of the sound one, a closed gate, and the bytes after it as they were.
+fn resealed(rt: &impl Abort, alloc: Global, sound: &[u8], area: &[u8], count: u32) -> Vec<u8> {
+    let (_, end) = same_frames(sound, sound, count);
+    let mut bytes = Vec::new(alloc);
+    let seals = &sound[..end.min(sound.len())];
+    append(rt, &mut bytes, seals);
+    append(rt, &mut bytes, b"\x00");
+    let rest = &area[bytes.len().min(area.len())..];
+    append(rt, &mut bytes, rest);
+    bytes
+}
+
+/// Whether a repair of a store with these areas has the answers, and leaves the right areas. A repair that is refused writes
+/// nothing. `sound` is the sealed area of the sound store.
+fn is_repaired(
+    rt: &impl Abort,
+    alloc: Global,
+    sound: &[u8],
+    (mut journal, mut sealed): (Vec<u8>, Vec<u8>),
+    answers: &Answers,
+) -> bool {
+    let outcome = outcome_with(rt, alloc, &journal, &sealed);
+    if let Ok((_, seals)) | Err(Unsound::SealCount { seals, .. }) = answers.after {
+        close(&mut journal);
+        sealed = resealed(rt, alloc, sound, &sealed, seals);
     }
+    let is_right = outcome.answers == *answers
+        && outcome.journal == journal
+        && outcome.sealed == sealed;
+    drop((outcome, journal, sealed));
+    is_right
+}
+
+/// 13 members.
+static THIRTEEN: [Step; 13] = [
+    Step::Commit(Request::Add("a"), (1, 1, 1)),
+    Step::Commit(Request::Add("a"), (2, 2, 2)),
+    Step::Commit(Request::Add("a"), (3, 3, 3)),
+    Step::Commit(Request::Add("a"), (4, 4, 4)),
+    Step::Commit(Request::Add("a"), (5, 5, 5)),
+    Step::Commit(Request::Add("a"), (6, 6, 6)),
+    Step::Commit(Request::Add("a"), (7, 7, 7)),
+    Step::Commit(Request::Add("a"), (8, 8, 8)),
+    Step::Commit(Request::Add("a"), (9, 9, 9)),
+    Step::Commit(Request::Add("a"), (10, 10, 10)),
+    Step::Commit(Request::Add("a"), (11, 11, 11)),
+    Step::Commit(Request::Add("a"), (12, 12, 12)),
+    Step::Commit(Request::Add("a"), (13, 13, 13)),
+];
+
+/// Makes a store with windows of 4 operations and 13 members. Returns its journal and its sealed area.
+fn thirteen(rt: &impl Abort, alloc: Global) -> (Vec<u8>, Vec<u8>) {
+    let mut disk = disk_of(rt, alloc, b"", b"", &[]);
+    init(rt, alloc, &mut disk, 4, 1_073_741_824);
+    session(rt, alloc, &mut disk, 0, &THIRTEEN);
+    let journal = area_of(rt, alloc, &mut disk, Area::Journal);
+    let sealed = area_of(rt, alloc, &mut disk, Area::Sealed);
+    drop(disk);
+    (journal, sealed)
+}
+
+/// How the journal and the sealed area of the store of `thirteen` differ, and the answers. The frame of the head has 84
+/// bytes, that of each operation 45, and those of the seals 1,649, 1,713 and 1,717. The title of seal 1 is at offset 325, and
+/// that of seal 2 at 1,974.
+static CHANGES: [(Change, Change, Answers); 30] = [
+    (
+        Change::Same,
+        Change::Same,
+        Answers {
+            before: Ok((13, 3)),
+            returned: Ok((3, 0)),
+            after: Ok((13, 3)),
+        },
+    ),
+    (
+        Change::Same,
+        Change::Byte(1_974),
+        Answers {
+            before: Err(Unsound::BadSeal { index: 2 }),
+            returned: Ok((1, 2)),
+            after: Ok((13, 3)),
+        },
+    ),
+    (
+        Change::Same,
+        Change::Cut(0),
+        Answers {
+            before: Err(Unsound::SealCount {
+                records: 13,
+                seals: 0,
+            }),
+            returned: Ok((0, 3)),
+            after: Ok((13, 3)),
+        },
+    ),
+    // The gate at the end of an area is opened.
+    (
+        Change::Byte(669),
+        Change::Same,
+        Answers {
+            before: Err(Unsound::OpenGate {
+                area: Area::Journal,
+                at: 669,
+            }),
+            returned: Ok((3, 0)),
+            after: Ok((13, 3)),
+        },
+    ),
+    (
+        Change::Same,
+        Change::Byte(5_079),
+        Answers {
+            before: Err(Unsound::OpenGate {
+                area: Area::Sealed,
+                at: 5_079,
+            }),
+            returned: Ok((3, 0)),
+            after: Ok((13, 3)),
+        },
+    ),
+    (
+        Change::Byte(669),
+        Change::Byte(5_079),
+        Answers {
+            before: Err(Unsound::OpenGate {
+                area: Area::Journal,
+                at: 669,
+            }),
+            returned: Ok((3, 0)),
+            after: Ok((13, 3)),
+        },
+    ),
+    (
+        Change::Byte(669),
+        Change::Byte(1_974),
+        Answers {
+            before: Err(Unsound::BadSeal { index: 2 }),
+            returned: Ok((1, 2)),
+            after: Ok((13, 3)),
+        },
+    ),
+    (
+        Change::Byte(669),
+        Change::Cut(0),
+        Answers {
+            before: Err(Unsound::SealCount {
+                records: 13,
+                seals: 0,
+            }),
+            returned: Ok((0, 3)),
+            after: Ok((13, 3)),
+        },
+    ),
+    // No head, a head without operations, and an operation that is none: the second, and the last.
+    (
+        Change::Cut(0),
+        Change::Same,
+        Answers {
+            before: Err(Unsound::NotInit),
+            returned: Err(RepairFault::NotInit),
+            after: Err(Unsound::NotInit),
+        },
+    ),
+    (
+        Change::Byte(0),
+        Change::Same,
+        Answers {
+            before: Err(Unsound::NotInit),
+            returned: Err(RepairFault::NotInit),
+            after: Err(Unsound::NotInit),
+        },
+    ),
+    (
+        Change::Byte(0),
+        Change::Cut(0),
+        Answers {
+            before: Err(Unsound::NotInit),
+            returned: Err(RepairFault::NotInit),
+            after: Err(Unsound::NotInit),
+        },
+    ),
+    (
+        Change::Byte(84),
+        Change::Cut(0),
+        Answers {
+            before: Ok((0, 0)),
+            returned: Ok((0, 0)),
+            after: Ok((0, 0)),
+        },
+    ),
+    (
+        Change::Byte(84),
+        Change::Same,
+        Answers {
+            before: Err(Unsound::SealCount {
+                records: 0,
+                seals: 3,
+            }),
+            returned: Ok((0, 0)),
+            after: Ok((0, 0)),
+        },
+    ),
+    (
+        Change::Byte(89),
+        Change::Byte(1_974),
+        Answers {
+            before: Err(Unsound::BadRecord {
+                area: Area::Journal,
+                index: 1,
+                at: 0,
+            }),
+            returned: Err(RepairFault::BadRecord {
+                area: Area::Journal,
+                index: 1,
+                at: 0,
+            }),
+            after: Err(Unsound::BadRecord {
+                area: Area::Journal,
+                index: 1,
+                at: 0,
+            }),
+        },
+    ),
+    (
+        Change::Byte(629),
+        Change::Cut(0),
+        Answers {
+            before: Err(Unsound::BadRecord {
+                area: Area::Journal,
+                index: 13,
+                at: 0,
+            }),
+            returned: Err(RepairFault::BadRecord {
+                area: Area::Journal,
+                index: 13,
+                at: 0,
+            }),
+            after: Err(Unsound::BadRecord {
+                area: Area::Journal,
+                index: 13,
+                at: 0,
+            }),
+        },
+    ),
+    // The gate of a frame is closed: 5 operations with archive 1.
+    (
+        Change::Byte(309),
+        Change::Same,
+        Answers {
+            before: Err(Unsound::SealCount {
+                records: 5,
+                seals: 3,
+            }),
+            returned: Ok((1, 0)),
+            after: Ok((5, 1)),
+        },
+    ),
+    (
+        Change::Byte(309),
+        Change::Byte(1_974),
+        Answers {
+            before: Err(Unsound::SealCount {
+                records: 5,
+                seals: 3,
+            }),
+            returned: Ok((1, 0)),
+            after: Ok((5, 1)),
+        },
+    ),
+    (
+        Change::Byte(309),
+        Change::Byte(325),
+        Answers {
+            before: Err(Unsound::BadSeal { index: 1 }),
+            returned: Ok((0, 1)),
+            after: Ok((5, 1)),
+        },
+    ),
+    (
+        Change::Byte(309),
+        Change::Byte(1_649),
+        Answers {
+            before: Ok((5, 1)),
+            returned: Ok((1, 0)),
+            after: Ok((5, 1)),
+        },
+    ),
+    // 12 operations with archive 3, which is kept if it is there, and isn't made.
+    (
+        Change::Byte(624),
+        Change::Same,
+        Answers {
+            before: Ok((12, 3)),
+            returned: Ok((3, 0)),
+            after: Ok((12, 3)),
+        },
+    ),
+    (
+        Change::Byte(624),
+        Change::Byte(1_974),
+        Answers {
+            before: Err(Unsound::BadSeal { index: 2 }),
+            returned: Ok((1, 1)),
+            after: Ok((12, 2)),
+        },
+    ),
+    (
+        Change::Byte(624),
+        Change::Byte(3_362),
+        Answers {
+            before: Ok((12, 2)),
+            returned: Ok((2, 0)),
+            after: Ok((12, 2)),
+        },
+    ),
+    // An open gate that no frame can begin with, and one that could.
+    (
+        Change::Byte(219),
+        Change::Cut(5),
+        Answers {
+            before: Ok((3, 0)),
+            returned: Ok((0, 0)),
+            after: Ok((3, 0)),
+        },
+    ),
+    (
+        Change::Byte(219),
+        Change::Cut(6),
+        Answers {
+            before: Err(Unsound::OpenGate {
+                area: Area::Sealed,
+                at: 0,
+            }),
+            returned: Ok((0, 0)),
+            after: Ok((3, 0)),
+        },
+    ),
+    // The three seals take 1,650, 3,363 and 5,080 bytes. A seal without room ends a repair.
+    (
+        Change::Capacity(4_096),
+        Change::Same,
+        Answers {
+            before: Ok((13, 3)),
+            returned: Ok((3, 0)),
+            after: Ok((13, 3)),
+        },
+    ),
+    (
+        Change::Capacity(4_096),
+        Change::Cut(0),
+        Answers {
+            before: Err(Unsound::SealCount {
+                records: 13,
+                seals: 0,
+            }),
+            returned: Err(RepairFault::Full {
+                size: 3_363,
+                needed: 1_717,
+                capacity: 4_096,
+            }),
+            after: Err(Unsound::SealCount {
+                records: 13,
+                seals: 2,
+            }),
+        },
+    ),
+    (
+        Change::Capacity(4_096),
+        Change::Byte(1_974),
+        Answers {
+            before: Err(Unsound::BadSeal { index: 2 }),
+            returned: Err(RepairFault::Full {
+                size: 3_363,
+                needed: 1_717,
+                capacity: 4_096,
+            }),
+            after: Err(Unsound::SealCount {
+                records: 13,
+                seals: 2,
+            }),
+        },
+    ),
+    (
+        Change::Capacity(5_079),
+        Change::Cut(0),
+        Answers {
+            before: Err(Unsound::SealCount {
+                records: 13,
+                seals: 0,
+            }),
+            returned: Err(RepairFault::Full {
+                size: 3_363,
+                needed: 1_717,
+                capacity: 5_079,
+            }),
+            after: Err(Unsound::SealCount {
+                records: 13,
+                seals: 2,
+            }),
+        },
+    ),
+    (
+        Change::Capacity(5_079),
+        Change::Byte(3_362),
+        Answers {
+            before: Err(Unsound::SealCount {
+                records: 13,
+                seals: 2,
+            }),
+            returned: Err(RepairFault::Full {
+                size: 3_363,
+                needed: 1_717,
+                capacity: 5_079,
+            }),
+            after: Err(Unsound::SealCount {
+                records: 13,
+                seals: 2,
+            }),
+        },
+    ),
+    (
+        Change::Capacity(5_080),
+        Change::Cut(0),
+        Answers {
+            before: Err(Unsound::SealCount {
+                records: 13,
+                seals: 0,
+            }),
+            returned: Ok((0, 3)),
+            after: Ok((13, 3)),
+        },
+    ),
+];
+
+#[test]
+fn a_store_of_13_operations_has_these_faults_and_is_repaired(rt: HostRuntime) {
+    let alloc = rt.alloc();
+    let (journal, sealed) = thirteen(&rt, alloc);
+    for (row, (first, second, answers)) in CHANGES.iter().enumerate() {
+        let left = changed(&rt, alloc, &journal, *first);
+        let right = changed(&rt, alloc, &sealed, *second);
+        assert!(rt;
+            is_repaired(&rt, alloc, &sealed, (left, right), answers),
+            "row {row}"
+        );
+    }
+    drop((journal, sealed));
+}
+
+/// The answers of the store of 5 operations of format 2, if its areas are these: a beginning of its journal, and a sealed
+/// area with one changed byte or a beginning of it. `sound` is the sound sealed area, which has one seal, of 4 operations.
+fn wanted_of(journal: &[u8], sealed: &[u8], sound: &[u8]) -> Answers {
+    let (payloads, gate, is_open) = frames_of(journal);
+    let (seals, end, is_seal_open) = frames_of(sealed);
+    let (right, _) = same_frames(sound, sealed, 20);
+    if payloads == 0 {
+        return Answers {
+            before: Err(Unsound::NotInit),
+            returned: Err(RepairFault::NotInit),
+            after: Err(Unsound::NotInit),
+        };
+    }
+    let records = payloads.saturating_sub(1);
+    let due = if records < 4 { 0 } else { 1 };
+    let before = if due > 0 && seals > 0 && right == 0 {
+        Err(Unsound::BadSeal { index: 1 })
+    } else if seals != due {
+        Err(Unsound::SealCount { records, seals })
+    } else if is_open {
+        Err(Unsound::OpenGate {
+            area: Area::Journal,
+            at: gate as u64,
+        })
+    } else if is_seal_open {
+        Err(Unsound::OpenGate {
+            area: Area::Sealed,
+            at: end as u64,
+        })
+    } else {
+        Ok((records, seals))
+    };
+    let kept = right.min(due);
+    Answers {
+        before,
+        returned: Ok((kept, due.saturating_sub(kept))),
+        after: Ok((records, due)),
+    }
+}
+
+/// Whether that store counts as it has to, and is brought back, if its areas differ so.
+fn comes_right(
+    rt: &impl Abort,
+    alloc: Global,
+    (journal, sealed): (&[u8], &[u8]),
+    first: Change,
+    second: Change,
+) -> bool {
+    let left = changed(rt, alloc, journal, first);
+    let right = changed(rt, alloc, sealed, second);
+    let wanted = wanted_of(&left, &right, sealed);
+    is_repaired(rt, alloc, sealed, (left, right), &wanted)
 }
 
 #[test]
-fn each_byte_and_each_length_of_a_sealed_area_counts(rt: HostRuntime) {
-    let alloc = rt.alloc();
-    let (journal, sealed) = five_operations(&rt, alloc);
+fn each_byte_of_a_sealed_area_counts_and_comes_back(rt: HostRuntime) {
+    let (journal, sealed) = five_operations(&rt, rt.alloc());
+    let areas = (journal.as_slice(), sealed.as_slice());
     for at in 0..sealed.len() {
-        for change in [Change::Byte(at), Change::Cut(at)] {
-            let left = changed(&rt, alloc, &sealed, change);
-            let want = wanted_by_seals(&sealed, &left);
-            let found = scrubbed(&rt, alloc, &journal, &left);
-            assert!(rt; found == want, "{change:?} {found:?}");
-        }
+        let is_right = comes_right(&rt, rt.alloc(), areas, Change::Same, Change::Byte(at));
+        assert!(rt; is_right, "byte {at}");
     }
+    drop((journal, sealed));
 }
 
 #[test]
-fn each_length_of_a_journal_counts(rt: HostRuntime) {
-    let alloc = rt.alloc();
-    let (journal, sealed) = five_operations(&rt, alloc);
-    for count in 0..journal.len() {
-        let left = changed(&rt, alloc, &journal, Change::Cut(count));
-        let found = scrubbed(&rt, alloc, &left, &sealed);
-        assert!(rt; found == wanted_by_length(&left), "{count} {found:?}");
+fn each_length_of_an_area_counts_and_comes_back(rt: HostRuntime) {
+    let (journal, sealed) = five_operations(&rt, rt.alloc());
+    let areas = (journal.as_slice(), sealed.as_slice());
+    for count in 0..sealed.len() {
+        let is_right = comes_right(&rt, rt.alloc(), areas, Change::Same, Change::Cut(count));
+        assert!(rt; is_right, "{count} bytes of the sealed area");
     }
+    for count in 0..journal.len() {
+        let is_right = comes_right(&rt, rt.alloc(), areas, Change::Cut(count), Change::Same);
+        assert!(rt; is_right, "{count} bytes of the journal");
+    }
+    drop((journal, sealed));
 }
 
 /// Whether a load and a scrub return the same of a journal. A load counts the seals before it compares them.
-fn agree(load: Option<LoadFault>, found: Result<Sound, Unsound>, journal: &[u8]) -> bool {
-    let (_, gate) = frames_of(journal);
+fn agree(load: Option<LoadFault>, found: Found, journal: &[u8]) -> bool {
+    let (_, gate, is_open) = frames_of(journal);
     match (load, found) {
         (Some(LoadFault::NotInit), Err(Unsound::NotInit)) => true,
         (
@@ -376,10 +704,72 @@ fn agree(load: Option<LoadFault>, found: Result<Sound, Unsound>, journal: &[u8])
                     at,
                 },
             ),
-        ) => { is_open(journal, gate) && at == gate as u64 }
-        (None, Ok(_)) => !is_open(journal, gate),
+        ) => { is_open && at == gate as u64 }
+        (None, Ok(_)) => !is_open,
         _ => false,
     }
+}
+
+/// The answers that have to follow from what a scrub found in the store of 5 operations, which has one seal. How many seals
+/// are made isn't said.
+fn answers_after(answers: &Answers, records: u32) -> Answers {
+    let before = answers.before;
+    let kept = match before {
+        Err(Unsound::NotInit) => Err(RepairFault::NotInit),
+        Err(Unsound::BadRecord { area, index, at }) => Err(RepairFault::BadRecord {
+            area,
+            index,
+            at,
+        }),
+        Err(Unsound::BadSeal { index }) => Ok(index.saturating_sub(1)),
+        // No archive has less than 4 operations.
+        Err(Unsound::SealCount { records: 0..=3, .. }) => Ok(0),
+        Ok(_) | Err(Unsound::OpenGate { .. }) => Ok(1),
+        Err(_) => Err(RepairFault::DiskFault),
+    };
+    let made = match answers.returned {
+        Ok((_, made)) => made,
+        Err(_) => 0,
+    };
+    match kept {
+        Ok(kept) => Answers {
+            before,
+            returned: Ok((kept, made)),
+            after: Ok((records, kept.saturating_add(made))),
+        },
+        Err(fault) => Answers {
+            before,
+            returned: Err(fault),
+            after: before,
+        },
+    }
+}
+
+/// Why a load refuses a store with these areas.
+fn load_with(rt: &impl Abort, alloc: Global, journal: &[u8], sealed: &[u8]) -> Option<LoadFault> {
+    let mut disk = disk_of(rt, alloc, journal, sealed, &[]);
+    let refused = refusal(alloc, &mut disk);
+    drop(disk);
+    refused
+}
+
+/// Whether a load, a scrub and a repair agree on a store with this journal, and the repair leaves what it has to. A repair
+/// that is refused writes nothing.
+fn is_consistent(rt: &impl Abort, alloc: Global, mut journal: Vec<u8>, sealed: &[u8]) -> bool {
+    let load = load_with(rt, alloc, &journal, sealed);
+    let outcome = outcome_with(rt, alloc, &journal, sealed);
+    let agrees = agree(load, outcome.answers.before, &journal);
+    let (payloads, ..) = frames_of(&journal);
+    let wanted = answers_after(&outcome.answers, payloads.saturating_sub(1));
+    let is_kept = if wanted.returned.is_ok() {
+        close(&mut journal);
+        true
+    } else {
+        outcome.sealed.as_slice() == sealed
+    };
+    let is_right = outcome.answers == wanted && outcome.journal == journal;
+    drop((outcome, journal));
+    agrees && is_kept && is_right
 }
 
 #[test]
@@ -388,36 +778,120 @@ fn each_byte_of_a_journal_counts_as_in_a_load(rt: HostRuntime) {
     let (journal, sealed) = five_operations(&rt, alloc);
     for at in 0..journal.len() {
         let left = changed(&rt, alloc, &journal, Change::Byte(at));
-        let found = scrubbed(&rt, alloc, &left, &sealed);
-        let mut disk = disk_with(&rt, alloc, &left, &sealed);
-        let load = refusal(alloc, &mut disk);
-        drop(disk);
-        assert!(rt; agree(load, found, &left), "{at} {load:?} {found:?}");
+        let is_right = is_consistent(&rt, alloc, left, &sealed);
+        assert!(rt; is_right, "byte {at}");
     }
+    drop((journal, sealed));
 }
 
-/// Looks at an empty disk of which this device call fails.
-fn scrub_failing(rt: &impl Abort, alloc: Global, call: u64) -> Option<Unsound> {
-    let journal = [1, 0, 0, 0, 0, 0];
-    let mut disk = disk_of(rt, alloc, &journal, [call, 0]);
-    let fault = scrub(alloc, &mut disk).err();
+/// Repairs the store of 13 operations after a repair that was stopped, and returns whether it is brought back.
+fn comes_back<D: Disk>(
+    rt: &impl Abort,
+    alloc: Global,
+    disk: &mut D,
+    (journal, sealed): (&[u8], &[u8]),
+) -> bool {
+    let left = area_of(rt, alloc, disk, Area::Sealed);
+    let (kept, _) = same_frames(sealed, &left, 20);
+    let outcome = outcome_of(rt, alloc, disk);
+    // A torn write leaves a gate that isn't open, and that stays.
+    let gate = journal.len().saturating_sub(1);
+    let is_back = outcome.journal.get(..gate) == journal.get(..gate)
+        && outcome.sealed.as_slice() == sealed
+        && outcome.answers.returned == Ok((kept, 3u32.saturating_sub(kept)))
+        && outcome.answers.after == Ok((13, 3));
+    drop((left, outcome));
+    is_back
+}
+
+static FILLINGS: [Filling; 3] = [Filling::Old, Filling::New, Filling::Fill(165)];
+
+/// Whether the store is brought back after a crash within a call of its repair.
+fn comes_back_after_crash(
+    rt: &impl Abort,
+    alloc: Global,
+    disk: &MemoryDisk,
+    call: u64,
+    areas: (&[u8], &[u8]),
+) -> bool {
+    let mut is_back = true;
+    for filling in &FILLINGS {
+        let mut left = crashed(rt, alloc, disk, call, *filling);
+        is_back = is_back && comes_back(rt, alloc, &mut left, areas);
+        drop(left);
+    }
+    is_back
+}
+
+/// Whether the store is brought back after a repair of which this call failed.
+fn comes_back_after_fault(
+    rt: &impl Abort,
+    alloc: Global,
+    (left, right): (&[u8], &[u8]),
+    call: u64,
+    areas: (&[u8], &[u8]),
+) -> bool {
+    let mut disk = disk_of(rt, alloc, left, right, &[call]);
+    let stopped = repaired(alloc, &mut disk);
+    let is_back = comes_back(rt, alloc, &mut disk, areas);
     drop(disk);
-    fault
+    stopped == Err(RepairFault::DiskFault) && is_back
+}
+
+/// Repairs the store of 13 operations, whose journal differs so and whose seal 2 has another title, and stops the repair in
+/// each of its calls. Returns the first call after which the store isn't brought back, or 0.
+fn lost_after(rt: &impl Abort, alloc: Global, areas: (&[u8], &[u8]), change: Change) -> u64 {
+    let (journal, sealed) = areas;
+    let left = changed(rt, alloc, journal, change);
+    let right = changed(rt, alloc, sealed, Change::Byte(1_974));
+    let mut disk = disk_of(rt, alloc, &left, &right, &[]);
+    let first = repaired(alloc, &mut disk);
+    assert!(rt; first == Ok((1, 2)));
+    let mut lost = 0;
+    for call in 1..=disk.calls() {
+        let is_back = comes_back_after_crash(rt, alloc, &disk, call, areas)
+            && comes_back_after_fault(rt, alloc, (&left, &right), call, areas);
+        if !is_back && lost == 0 {
+            lost = call;
+        }
+    }
+    drop(disk);
+    drop((left, right));
+    lost
 }
 
 #[test]
+fn a_repair_goes_on_after_a_crash_and_after_a_failed_call(rt: HostRuntime) {
+    let (journal, sealed) = thirteen(&rt, rt.alloc());
+    let areas = (journal.as_slice(), sealed.as_slice());
+    let whole = lost_after(&rt, rt.alloc(), areas, Change::Same);
+    let open = lost_after(&rt, rt.alloc(), areas, Change::Byte(669));
+    assert!(rt; (whole, open) == (0, 0), "calls {whole} and {open}");
+    drop((journal, sealed));
+}
+
+/// A device call that fails, and what a scrub finds in a store whose head has no bytes. It makes three calls: the sizes of
+/// both areas and the journal's bytes.
+static FAILING: [(u64, Found); 4] = [
+    (1, Err(Unsound::DiskFault)),
+    (2, Err(Unsound::DiskFault)),
+    (3, Err(Unsound::DiskFault)),
+    (
+        4,
+        Err(Unsound::BadRecord {
+            area: Area::Journal,
+            index: 0,
+            at: 0,
+        }),
+    ),
+];
+
+#[test]
 fn a_failed_call_of_a_scrub_is_a_disk_fault(rt: HostRuntime) {
-    // The sizes of both areas and the journal's bytes.
-    for call in 1u64..4 {
-        assert!(rt;
-            scrub_failing(&rt, rt.alloc(), call) == Some(Unsound::DiskFault),
-            "call {call}"
-        );
+    for (call, wanted) in &FAILING {
+        let mut disk = disk_of(&rt, rt.alloc(), b"\x01\x00\x00\x00\x00\x00", b"", &[*call]);
+        let found = found_in(rt.alloc(), &mut disk);
+        drop(disk);
+        assert!(rt; found == *wanted, "call {call}");
     }
-    let wanted = Unsound::BadRecord {
-        area: Area::Journal,
-        index: 0,
-        at: 0,
-    };
-    assert!(rt; scrub_failing(&rt, rt.alloc(), 4) == Some(wanted));
 }

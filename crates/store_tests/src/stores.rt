@@ -1,10 +1,9 @@
-//! `Store` on a disk in memory: what it tells of itself after an `init` and two operations, the second of which seals
-//! an archive, and its documents.
+//! `Store` on a disk in memory: requests to it, what it tells of itself, and its documents.
 
-ghost use Rattle.std.specs.Prelude.{◌≡◌, ◌≤◌, false};
+ghost use Rattle.std.specs.Prelude.{◌≡◌, ◌≢◌, false};
 ghost use Rattle.feed_recovery.specs.Store.{StandsFor, is_spent};
 
-use crate::disks::disk_of;
+use crate::disks::{append, disk_of};
 use atom_values::{AtomText, Draft, Stamp};
 use atom_writer::FeedName;
 use chain_links::Base;
@@ -18,40 +17,10 @@ use std::process::Abort;
 /// The clock in these tests.
 pub const NOW: u64 = 1_700_000_000_000;
 
-/// A store as its calls show it.
-#[derive(Clone, Copy, Debug, PartialEq, Eq)]
-struct Shown {
-    window: u32,
-    version: u32,
-    sealed: u32,
-    /// The device calls since those of the load.
-    calls: u64,
-    is_spent: bool,
-    /// The operation that set the entry of member 1.
-    first_member: Option<u32>,
-}
-
-fn show(store: &Store, loaded: u64) -> Shown
-    requires { is_spent store.now ≡ false }
-{
-    Shown {
-        window: store.head().window,
-        version: store.version(),
-        sealed: store.sealed(),
-        calls: store.calls().saturating_sub(loaded),
-        is_spent: store.is_spent(),
-        first_member: match store.state(1) {
-            State::Live { version, .. } => Some(version),
-            State::Never | State::Gone { .. } => None,
-        },
-    }
-}
-
 /// The head of a feed that is made at `NOW`.
-pub fn head(rt: &impl Abort, alloc: Global, window: u32, capacity: u64) -> Head
-    requires window { (1 ≤ window) × (window ≤ 100) }
-    requires capacity { (4_096 ≤ capacity) × (capacity ≤ 68_719_476_736) }
-{
+pub fn head(rt: &impl Abort, alloc: Global, window: u32, capacity: u64) -> Head {
+    assert!(rt; 1 <= window && window <= 100);
+    assert!(rt; 4_096 <= capacity && capacity <= 68_719_476_736);
     Head {
         format: NEWEST_FORMAT,
         name: FeedName {
@@ -66,185 +35,265 @@ pub fn head(rt: &impl Abort, alloc: Global, window: u32, capacity: u64) -> Head
     }
 }
 
-/// Makes the operation of an ask. Returns its member's number, the version that was prepared and the new version.
-pub fn change<D: Disk>(
+/// Makes a store on an empty disk.
+pub fn init<D: Disk>(rt: &impl Abort, alloc: Global, disk: &mut D, window: u32, capacity: u64) {
+    let head = head(rt, alloc, window, capacity);
+    Store::init(alloc, disk, &head).expect(rt, "a store");
+    drop(head);
+}
+
+/// A request as a table has it.
+#[derive(Clone, Copy)]
+pub enum Request {
+    /// Make a member with this title.
+    Add(&'static str),
+    Replace(u32, &'static str),
+    Delete(u32),
+    Title(&'static str),
+    /// Set the size of windows.
+    Size(u32),
+}
+
+pub fn ask_of(rt: &impl Abort, alloc: Global, request: &Request) -> Ask {
+    match request {
+        Request::Delete(number) => Ask::Delete { number: *number },
+        Request::Size(size) => {
+            Ask::Change(Setting::Window(WindowSize::new(*size).expect(rt, "a size")))
+        }
+        Request::Title(title) => {
+            let text = AtomText::of(alloc, title.as_bytes()).expect(rt, "a title");
+            Ask::Change(Setting::Title(ShortText::of(text).expect(rt, "a short title")))
+        }
+        Request::Add(title) => {
+            let text = AtomText::of(alloc, title.as_bytes()).expect(rt, "a title");
+            Ask::Create(Draft::titled(alloc, text))
+        }
+        Request::Replace(number, title) => {
+            let text = AtomText::of(alloc, title.as_bytes()).expect(rt, "a title");
+            Ask::Replace {
+                number: *number,
+                draft: Draft::titled(alloc, text),
+            }
+        }
+    }
+}
+
+/// Commits the operation of a request. Returns its member's number, the version that was prepared and the new version.
+pub fn commit<D: Disk>(
     rt: &impl Abort,
+    alloc: Global,
     store: &mut Store,
     disk: &mut D,
-    ask: Ask,
+    request: &Request,
 ) -> (u32, u32, u32)
     requires unspent { is_spent store.old ≡ false }
     requires stands { D.observable → StandsFor (D.state disk.old) store.old }
     ensures unspent { is_spent store.new ≡ false }
     ensures stands { D.observable → StandsFor (D.state disk.new) store.new }
 {
+    let ask = ask_of(rt, alloc, request);
     let ready = store.prepare(ask, NOW).expect(rt, "an operation");
     let (number, prepared) = (ready.number(), ready.version());
     let version = store.commit(disk, ready).expect(rt, "a commit");
     (number, prepared, version)
 }
 
-/// Makes a member with this title. Returns the same numbers.
-pub fn add<D: Disk>(
+/// A document of a store.
+#[derive(Clone, Copy)]
+pub enum Document {
+    Subscription,
+    Archive(u32),
+    Member(u32),
+}
+
+/// Returns a document, or the text of `refusal`.
+pub fn show_document<D: Disk>(
     rt: &impl Abort,
     alloc: Global,
     store: &mut Store,
     disk: &mut D,
-    title: &[u8],
-) -> (u32, u32, u32)
+    document: &Document,
+) -> Vec<u8>
     requires unspent { is_spent store.old ≡ false }
     requires stands { D.observable → StandsFor (D.state disk.old) store.old }
     ensures unspent { is_spent store.new ≡ false }
     ensures stands { D.observable → StandsFor (D.state disk.new) store.new }
 {
-    let title = AtomText::of(alloc, title).expect(rt, "a title");
-    change(rt, store, disk, Ask::Create(Draft::titled(alloc, title)))
+    match document {
+        Document::Subscription => store.subscription().expect(rt, "memory"),
+        Document::Archive(number) => match store.archive(disk, *number) {
+            Ok(text) => text,
+            Err(ArchiveFault::NotSealed { number, sealed }) => {
+                refusal(rt, alloc, "not sealed", number, i64::from(sealed))
+            }
+            Err(fault) => panic!(rt; "{fault}"),
+        },
+        Document::Member(number) => match store.member(disk, *number) {
+            Ok(text) => text,
+            Err(fault) => member_refusal(rt, alloc, &fault),
+        },
+    }
 }
 
-/// The ask to set this title.
-pub fn set_title(rt: &impl Abort, alloc: Global, title: &[u8]) -> Ask {
-    let text = AtomText::of(alloc, title).expect(rt, "a title");
-    Ask::Change(Setting::Title(ShortText::of(text).expect(rt, "a short title")))
+fn member_refusal(rt: &impl Abort, alloc: Global, fault: &MemberFault) -> Vec<u8>
+    ensures { fault.now ≢ MemberFault.DiskFault }
+{
+    match fault {
+        MemberFault::NotFound { number } => refusal(rt, alloc, "not found", *number, 0),
+        MemberFault::Deleted { number, when } => {
+            refusal(rt, alloc, "deleted", *number, when.millis())
+        }
+        other => panic!(rt; "{other}"),
+    }
 }
 
-/// The ask to set this size of windows.
-pub fn set_size(rt: &impl Abort, operations: u32) -> Ask {
-    Ask::Change(Setting::Window(WindowSize::new(operations).expect(rt, "a size")))
+/// The text that stands for a refused document: the reason, its number, and how many archives are sealed, or when the
+/// member was deleted.
+pub fn refusal(rt: &impl Abort, alloc: Global, why: &str, number: u32, detail: i64) -> Vec<u8> {
+    let text = format!(in alloc; "{why} {number} {detail}").expect(rt, "memory");
+    let mut bytes = Vec::new(alloc);
+    append(rt, &mut bytes, text.as_bytes());
+    bytes
 }
 
-/// Makes a store, loads it and makes two members. Returns what the store shows after each step, and what was made.
-fn steps<D: Disk>(
+/// A step of a course of a store.
+pub enum Step {
+    /// Commits the operation of a request. Its member's number, the version that was prepared and the new version.
+    Commit(Request, (u32, u32, u32)),
+    /// The version, and how many archives are sealed.
+    Counts(u32, u32),
+    /// The size of windows in the head, the device calls since the load, and the operation that set the entry of member 1.
+    State(u32, u64, Option<u32>),
+    /// A feed document, after `OPENING`.
+    Feed(Document, &'static [u8]),
+    /// A whole document, or the text of `refusal`.
+    Text(Document, &'static [u8]),
+}
+
+/// The operation that set the entry of member 1.
+fn first_member(store: &Store) -> Option<u32>
+    requires { is_spent store.now ≡ false }
+{
+    match store.state(1) {
+        State::Live { version, .. } => Some(version),
+        State::Never | State::Gone { .. } => None,
+    }
+}
+
+/// Takes a step, and returns whether it has the values of the step. The store's load made `loaded` device calls.
+fn take<D: Disk>(
+    rt: &impl Abort,
+    alloc: Global,
+    store: &mut Store,
+    disk: &mut D,
+    step: &Step,
+    loaded: u64,
+) -> bool
+    requires unspent { is_spent store.old ≡ false }
+    requires stands { D.observable → StandsFor (D.state disk.old) store.old }
+    ensures unspent { is_spent store.new ≡ false }
+    ensures stands { D.observable → StandsFor (D.state disk.new) store.new }
+{
+    match step {
+        Step::Commit(request, made) => commit(rt, alloc, store, disk, request) == *made,
+        Step::Counts(version, sealed) => (store.version(), store.sealed()) == (*version, *sealed),
+        Step::State(window, calls, first) => {
+            let made = store.calls().saturating_sub(loaded);
+            let found = (store.head().window, made, first_member(store));
+            !store.is_spent() && found == (*window, *calls, *first)
+        }
+        Step::Feed(document, rest) => {
+            let text = show_document(rt, alloc, store, disk, document);
+            text.as_slice().strip_prefix(OPENING) == Some(*rest)
+        }
+        Step::Text(document, wanted) => {
+            let text = show_document(rt, alloc, store, disk, document);
+            text.as_slice() == *wanted
+        }
+    }
+}
+
+/// Loads the store and takes steps with it.
+pub fn session<D: Disk>(rt: &impl Abort, alloc: Global, disk: &mut D, row: usize, steps: &[Step]) {
+    let mut store = Store::load(alloc, disk).expect(rt, "a store");
+    let loaded = store.calls();
+    for (index, step) in steps.iter().enumerate() {
+        let is_right = take(rt, alloc, &mut store, disk, step, loaded);
+        assert!(rt; is_right, "row {row}, step {index}");
+    }
+    drop(store);
+}
+
+/// Takes the steps of some sessions.
+pub fn sessions<D: Disk>(
     rt: &impl Abort,
     alloc: Global,
     disk: &mut D,
-) -> ([Shown; 3], [(u32, u32, u32); 2]) {
-    let head = head(rt, alloc, 1, 4_096);
-    Store::init(alloc, disk, &head).expect(rt, "a store");
-    let mut store = Store::load(alloc, disk).expect(rt, "a store");
-    let loaded = store.calls();
-    let empty = show(&store, loaded);
-    let first = add(rt, alloc, &mut store, disk, b"a");
-    let one = show(&store, loaded);
-    let second = add(rt, alloc, &mut store, disk, b"b");
-    let two = show(&store, loaded);
-    drop((head, store));
-    ([empty, one, two], [first, second])
+    row: usize,
+    sessions: &[&[Step]],
+) {
+    for steps in sessions {
+        session(rt, alloc, disk, row, steps);
+    }
 }
 
-/// The values that the store shows after each step. A commit makes four device calls, and eight with a seal.
-const SHOWN: [Shown; 3] = [
-    Shown {
-        window: 1,
-        version: 0,
-        sealed: 0,
-        calls: 0,
-        is_spent: false,
-        first_member: None,
-    },
-    Shown {
-        window: 1,
-        version: 1,
-        sealed: 0,
-        calls: 4,
-        is_spent: false,
-        first_member: Some(1),
-    },
-    Shown {
-        window: 1,
-        version: 2,
-        sealed: 1,
-        calls: 12,
-        is_spent: false,
-        first_member: Some(1),
-    },
+/// The beginning of each feed document, up to its title.
+pub const OPENING: &[u8] =
+    b"<?xml version=\"1.0\" encoding=\"utf-8\"?>\n<feed xmlns=\"http://www.w3.org/2005/Atom\" xmlns:fh=\"http://purl.org/syndication/history/1.0\" xmlns:at=\"http://purl.org/atompub/tombstones/1.0\" xmlns:app=\"http://www.w3.org/2007/app\" xmlns:sp=\"urn:archived-feed:span:1\">\n<id>urn:uuid:6d1f0c5a-93be-4c27-8d10-2b7f9e4a5c36</id>\n";
+
+/// The size of windows, the capacity, and the sessions of a store.
+static STORES: [(u32, u64, &[&[Step]]); 2] = [
+    // A commit makes four device calls, and eight with a seal.
+    (
+        1,
+        4_096,
+        &[&[
+            Step::Counts(0, 0),
+            Step::State(1, 0, None),
+            Step::Commit(Request::Add("a"), (1, 1, 1)),
+            Step::Counts(1, 0),
+            Step::State(1, 4, Some(1)),
+            Step::Commit(Request::Add("b"), (2, 2, 2)),
+            Step::Counts(2, 1),
+            Step::State(1, 12, Some(1)),
+        ]],
+    ),
+    (
+        1,
+        1_073_741_824,
+        &[
+            &[
+                Step::Commit(Request::Add("a"), (1, 1, 1)),
+                Step::Commit(Request::Add("b"), (2, 2, 2)),
+                Step::Commit(Request::Delete(1), (1, 3, 3)),
+            ],
+            &[Step::Feed(
+                Document::Subscription,
+                b"<title>Feed</title>\n<updated>2023-11-14T22:13:20.003Z</updated>\n<author><name>Editor</name></author>\n<link rel=\"self\" href=\"http://feed.example/feed\"/>\n<link rel=\"prev-archive\" href=\"http://feed.example/archive/2\"/>\n<sp:span first=\"3\" last=\"3\"/>\n<at:deleted-entry ref=\"urn:uuid:6d1f0c5a-93be-8c27-8000-000000000001\" when=\"2023-11-14T22:13:20.003Z\"/>\n</feed>\n",
+            )],
+            &[Step::Feed(
+                Document::Archive(2),
+                b"<title>Feed</title>\n<updated>2023-11-14T22:13:20.002Z</updated>\n<author><name>Editor</name></author>\n<link rel=\"self\" href=\"http://feed.example/archive/2\"/>\n<link rel=\"current\" href=\"http://feed.example/feed\"/>\n<link rel=\"prev-archive\" href=\"http://feed.example/archive/1\"/>\n<link rel=\"next-archive\" href=\"http://feed.example/archive/3\"/>\n<fh:archive/>\n<sp:span first=\"2\" last=\"2\"/>\n<entry><id>urn:uuid:6d1f0c5a-93be-8c27-8000-000000000002</id><title>b</title><updated>2023-11-14T22:13:20.002Z</updated><app:edited>2023-11-14T22:13:20.002Z</app:edited><link rel=\"edit\" href=\"http://feed.example/member/2\"/><content></content></entry>\n</feed>\n",
+            )],
+            &[Step::Text(Document::Archive(0), b"not sealed 0 2")],
+            &[Step::Text(Document::Archive(3), b"not sealed 3 2")],
+            &[Step::Text(
+                Document::Member(2),
+                b"<?xml version=\"1.0\" encoding=\"utf-8\"?>\n<entry xmlns=\"http://www.w3.org/2005/Atom\" xmlns:app=\"http://www.w3.org/2007/app\"><id>urn:uuid:6d1f0c5a-93be-8c27-8000-000000000002</id><title>b</title><updated>2023-11-14T22:13:20.002Z</updated><app:edited>2023-11-14T22:13:20.002Z</app:edited><author><name>Editor</name></author><link rel=\"edit\" href=\"http://feed.example/member/2\"/><content></content></entry>\n",
+            )],
+            &[Step::Text(Document::Member(1), b"deleted 1 1700000000003")],
+            &[Step::Text(Document::Member(3), b"not found 3 0")],
+        ],
+    ),
 ];
 
 #[test]
-fn tells_its_counts(rt: HostRuntime) {
-    let mut disk = disk_of(&rt, rt.alloc(), b"", [0, 0]);
-    let (shown, made) = steps(&rt, rt.alloc(), &mut disk);
-    assert!(rt; shown == SHOWN);
-    assert!(rt; made == [(1, 1, 1), (2, 2, 2)]);
-    drop(disk);
-}
-
-/// Makes a store with windows of one operation, two members, and deletes the first.
-fn fill<D: Disk>(rt: &impl Abort, alloc: Global, disk: &mut D) {
-    let head = head(rt, alloc, 1, 1_073_741_824);
-    Store::init(alloc, disk, &head).expect(rt, "a store");
-    let mut store = Store::load(alloc, disk).expect(rt, "a store");
-    add(rt, alloc, &mut store, disk, b"a");
-    add(rt, alloc, &mut store, disk, b"b");
-    change(rt, &mut store, disk, Ask::Delete { number: 1 });
-    drop((head, store));
-}
-
-/// Loads the store, and returns its subscription document.
-pub fn subscription<D: Disk>(rt: &impl Abort, alloc: Global, disk: &mut D) -> Vec<u8> {
-    let mut store = Store::load(alloc, disk).expect(rt, "a store");
-    let document = store.subscription().expect(rt, "memory");
-    drop(store);
-    document
-}
-
-/// Loads the store, and returns an archive.
-pub fn archive<D: Disk>(
-    rt: &impl Abort,
-    alloc: Global,
-    disk: &mut D,
-    number: u32,
-) -> Result<Vec<u8>, ArchiveFault> {
-    let mut store = Store::load(alloc, disk).expect(rt, "a store");
-    let document = store.archive(disk, number);
-    drop(store);
-    document
-}
-
-/// Loads the store, and returns the document of a member.
-fn member<D: Disk>(
-    rt: &impl Abort,
-    alloc: Global,
-    disk: &mut D,
-    number: u32,
-) -> Result<Vec<u8>, MemberFault> {
-    let mut store = Store::load(alloc, disk).expect(rt, "a store");
-    let document = store.member(disk, number);
-    drop(store);
-    document
-}
-
-const SUBSCRIPTION: &str =
-    "<?xml version=\"1.0\" encoding=\"utf-8\"?>\n<feed xmlns=\"http://www.w3.org/2005/Atom\" xmlns:fh=\"http://purl.org/syndication/history/1.0\" xmlns:at=\"http://purl.org/atompub/tombstones/1.0\" xmlns:app=\"http://www.w3.org/2007/app\" xmlns:sp=\"urn:archived-feed:span:1\">\n<id>urn:uuid:6d1f0c5a-93be-4c27-8d10-2b7f9e4a5c36</id>\n<title>Feed</title>\n<updated>2023-11-14T22:13:20.003Z</updated>\n<author><name>Editor</name></author>\n<link rel=\"self\" href=\"http://feed.example/feed\"/>\n<link rel=\"prev-archive\" href=\"http://feed.example/archive/2\"/>\n<sp:span first=\"3\" last=\"3\"/>\n<at:deleted-entry ref=\"urn:uuid:6d1f0c5a-93be-8c27-8000-000000000001\" when=\"2023-11-14T22:13:20.003Z\"/>\n</feed>\n";
-
-const ARCHIVE: &str =
-    "<?xml version=\"1.0\" encoding=\"utf-8\"?>\n<feed xmlns=\"http://www.w3.org/2005/Atom\" xmlns:fh=\"http://purl.org/syndication/history/1.0\" xmlns:at=\"http://purl.org/atompub/tombstones/1.0\" xmlns:app=\"http://www.w3.org/2007/app\" xmlns:sp=\"urn:archived-feed:span:1\">\n<id>urn:uuid:6d1f0c5a-93be-4c27-8d10-2b7f9e4a5c36</id>\n<title>Feed</title>\n<updated>2023-11-14T22:13:20.002Z</updated>\n<author><name>Editor</name></author>\n<link rel=\"self\" href=\"http://feed.example/archive/2\"/>\n<link rel=\"current\" href=\"http://feed.example/feed\"/>\n<link rel=\"prev-archive\" href=\"http://feed.example/archive/1\"/>\n<link rel=\"next-archive\" href=\"http://feed.example/archive/3\"/>\n<fh:archive/>\n<sp:span first=\"2\" last=\"2\"/>\n<entry><id>urn:uuid:6d1f0c5a-93be-8c27-8000-000000000002</id><title>b</title><updated>2023-11-14T22:13:20.002Z</updated><app:edited>2023-11-14T22:13:20.002Z</app:edited><link rel=\"edit\" href=\"http://feed.example/member/2\"/><content></content></entry>\n</feed>\n";
-
-const MEMBER: &str =
-    "<?xml version=\"1.0\" encoding=\"utf-8\"?>\n<entry xmlns=\"http://www.w3.org/2005/Atom\" xmlns:app=\"http://www.w3.org/2007/app\"><id>urn:uuid:6d1f0c5a-93be-8c27-8000-000000000002</id><title>b</title><updated>2023-11-14T22:13:20.002Z</updated><app:edited>2023-11-14T22:13:20.002Z</app:edited><author><name>Editor</name></author><link rel=\"edit\" href=\"http://feed.example/member/2\"/><content></content></entry>\n";
-
-/// Compares the documents of a store with their texts, and the refusals of others.
-fn expect_documents<D: Disk>(rt: &impl Abort, alloc: Global, disk: &mut D) {
-    fill(rt, alloc, disk);
-    let newest = subscription(rt, alloc, disk);
-    assert!(rt; newest.as_slice() == SUBSCRIPTION.as_bytes());
-    let second = archive(rt, alloc, disk, 2).expect(rt, "an archive");
-    assert!(rt; second.as_slice() == ARCHIVE.as_bytes());
-    for number in [0, 3] {
-        let refused = archive(rt, alloc, disk, number).err();
-        assert!(rt; refused == Some(ArchiveFault::NotSealed { number, sealed: 2 }));
+fn a_store_tells_its_counts_and_its_documents(rt: HostRuntime) {
+    let alloc = rt.alloc();
+    for (row, (window, capacity, steps)) in STORES.iter().enumerate() {
+        let mut disk = disk_of(&rt, alloc, b"", b"", &[]);
+        init(&rt, alloc, &mut disk, *window, *capacity);
+        sessions(&rt, alloc, &mut disk, row, steps);
+        drop(disk);
     }
-    let live = member(rt, alloc, disk, 2).expect(rt, "a member");
-    assert!(rt; live.as_slice() == MEMBER.as_bytes());
-    let when = Stamp::new(1_700_000_000_003).expect(rt, "a timestamp");
-    let gone = member(rt, alloc, disk, 1).err();
-    assert!(rt; gone == Some(MemberFault::Deleted { number: 1, when }));
-    let never = member(rt, alloc, disk, 3).err();
-    assert!(rt; never == Some(MemberFault::NotFound { number: 3 }));
-}
-
-#[test]
-fn tells_its_documents(rt: HostRuntime) {
-    let mut disk = disk_of(&rt, rt.alloc(), b"", [0, 0]);
-    expect_documents(&rt, rt.alloc(), &mut disk);
-    drop(disk);
 }
