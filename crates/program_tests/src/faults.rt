@@ -1,177 +1,111 @@
 //! Words that name no command, and failing calls of the door, the input and the output.
 
-use crate::certificates::MIRROR;
-use crate::runs::{APPLY, Run, ended_at, expect_end, no_documents};
-use crate::serve::{REQUESTS, SERVE, door_of};
-use crate::store::made;
+use crate::scripts::{expect_script, expect_turns};
 use atom_values::Many;
 use doc_source::ListSink;
 use feed_commands::{Fault, print_fault};
-use std::alloc::Global;
-use std::process::Abort;
 
-const FAULT: &[u8] = b"input fault\n";
-
-const USAGE: &[u8] =
-    b"usage: feed_tool init, apply, show, serve, mirror, audit, drill, foreign, discover, relay, scrub\n";
-
-/// Words that name no command.
-static NO_COMMANDS: [&[&str]; 16] = [
-    &[],
-    &["apply", "4", "4"],
-    &["apply", ""],
-    &["apply", "0"],
-    &["apply", "101"],
-    &["apply", "4294967300"],
-    &["apply", "+4"],
-    &["apply", "4 "],
-    &["Apply", "4"],
-    &["4", "apply"],
-    &["drill", "7"],
-    &["Show"],
-    &["show "],
-    &["show", ""],
-    &["show", "4"],
-    &["apply", "show"],
-];
-
-#[test]
-fn refuses_words_that_name_no_command(rt: HostRuntime) {
-    for words in &NO_COMMANDS {
-        let given = Run { words, ..APPLY };
-        expect_end(&rt, rt.alloc(), &given, 2, USAGE);
-    }
-}
-
-const APPLY_FOUR: &[&str] = &["apply", "4"];
-
-const SHOW: &[&str] = &["show"];
-
-/// Words, inputs, the failing calls of input and output, and how the run ends.
-static FAILING: [(&[&str], &[u8], (u64, u64), u8, &[u8]); 15] = [
-    (APPLY_FOUR, b"add a\n", (1, 0), 9, FAULT),
-    (APPLY_FOUR, b"add a\n", (2, 0), 9, FAULT),
-    (APPLY_FOUR, b"subtract\n", (2, 0), 10, b"bad line 1\n"),
-    (APPLY_FOUR, b"add a\n", (1, 1), 9, b""),
-    (APPLY_FOUR, b"add a\n", (0, 1), 8, b""),
-    (APPLY_FOUR, b"add\n", (0, 1), 10, b""),
-    (APPLY_FOUR, b"add\n", (0, 2), 10, b"bad line 1\n"),
-    (SHOW, b"<feed>", (1, 0), 9, FAULT),
-    (SHOW, b"<feed>", (2, 0), 9, FAULT),
-    (SHOW, b"<feed>", (3, 1), 10, b""),
-    // The second call comes only for bytes with which a pile can go on.
-    (MIRROR, b"pile 1\n", (2, 0), 9, FAULT),
-    (MIRROR, b"pale", (2, 0), 10, b"bad pile 0\n"),
-    (MIRROR, b"pile 1\nfeed x1", (2, 0), 10, b"bad pile 7\n"),
-    (MIRROR, b"pile 1\nfeed 67108864\n", (2, 0), 9, FAULT),
-    (
-        MIRROR,
-        b"pile 1\nfeed 67108865\n",
-        (2, 0),
-        10,
-        b"bad pile 7\n",
-    ),
-];
+const SCRIPT: &str = "\
+~ words that name no command, and calls that fail
+$  > 2 usage: feed_tool init, apply, show, serve, mirror, audit, drill, foreign, discover, relay, scrub|
+$ apply 4 4 > 2 usage: feed_tool init, apply, show, serve, mirror, audit, drill, foreign, discover, relay, scrub|
+$ apply  > 2 usage: feed_tool init, apply, show, serve, mirror, audit, drill, foreign, discover, relay, scrub|
+$ apply 0 > 2 usage: feed_tool init, apply, show, serve, mirror, audit, drill, foreign, discover, relay, scrub|
+$ apply 101 > 2 usage: feed_tool init, apply, show, serve, mirror, audit, drill, foreign, discover, relay, scrub|
+$ apply 4294967300 > 2 usage: feed_tool init, apply, show, serve, mirror, audit, drill, foreign, discover, relay, scrub|
+$ apply +4 > 2 usage: feed_tool init, apply, show, serve, mirror, audit, drill, foreign, discover, relay, scrub|
+$ apply 4_ > 2 usage: feed_tool init, apply, show, serve, mirror, audit, drill, foreign, discover, relay, scrub|
+$ Apply 4 > 2 usage: feed_tool init, apply, show, serve, mirror, audit, drill, foreign, discover, relay, scrub|
+$ 4 apply > 2 usage: feed_tool init, apply, show, serve, mirror, audit, drill, foreign, discover, relay, scrub|
+$ drill 7 > 2 usage: feed_tool init, apply, show, serve, mirror, audit, drill, foreign, discover, relay, scrub|
+$ Show > 2 usage: feed_tool init, apply, show, serve, mirror, audit, drill, foreign, discover, relay, scrub|
+$ show_ > 2 usage: feed_tool init, apply, show, serve, mirror, audit, drill, foreign, discover, relay, scrub|
+$ show  > 2 usage: feed_tool init, apply, show, serve, mirror, audit, drill, foreign, discover, relay, scrub|
+$ show 4 > 2 usage: feed_tool init, apply, show, serve, mirror, audit, drill, foreign, discover, relay, scrub|
+$ apply show > 2 usage: feed_tool init, apply, show, serve, mirror, audit, drill, foreign, discover, relay, scrub|
+$ apply 4 < add a| > 9 input fault|
+! input 1
+$ apply 4 < add a| > 9 input fault|
+! input 2
+$ apply 4 < subtract| > 10 bad line 1|
+! input 2
+$ apply 4 < add a| > 9
+! input 1
+! output 1
+$ apply 4 < add a| > 8
+! output 1
+$ apply 4 < add| > 10
+! output 1
+$ apply 4 < add| > 10 bad line 1|
+! output 2
+$ show < <feed> > 9 input fault|
+! input 1
+$ show < <feed> > 9 input fault|
+! input 2
+$ show < <feed> > 10
+! input 3
+! output 1
+The second call comes only for bytes with which a pile can go on.
+$ mirror --base http://feed.example/ < pile 1| > 9 input fault|
+! input 2
+$ mirror --base http://feed.example/ < pale > 10 bad pile 0|
+! input 2
+$ mirror --base http://feed.example/ < pile 1|feed x1 > 10 bad pile 7|
+! input 2
+$ mirror --base http://feed.example/ < pile 1|feed 67108864| > 9 input fault|
+! input 2
+$ mirror --base http://feed.example/ < pile 1|feed 67108865| > 10 bad pile 7|
+! input 2
+";
 
 #[test]
 fn reports_each_failing_call(rt: HostRuntime) {
-    for &(words, input, (failing_read, failing_write), status, printed) in &FAILING {
-        let given = Run {
-            words,
-            input,
-            failing_read,
-            failing_write,
-            ..APPLY
-        };
-        expect_end(&rt, rt.alloc(), &given, status, printed);
-    }
+    expect_script(&rt, rt.alloc(), SCRIPT);
 }
 
-/// An object of a run.
-#[derive(Clone, Copy, Debug)]
-enum Object {
-    Door,
-    Input,
-    Output,
-}
-
-const APPLY_STORE: &[&str] = &["apply"];
-
-/// Words, an input, and an object whose calls fail in turn. Then the status while a call fails, and that once no call
-/// does.
-static IN_TURN: [(&[&str], &[u8], Object, [u8; 2]); 12] = [
-    (SERVE, b"", Object::Door, [7, 0]),
-    (SERVE, b"", Object::Output, [8, 0]),
-    (APPLY_STORE, b"add a\nadd b\n", Object::Input, [9, 0]),
-    (APPLY_STORE, b"add a\nadd b\n", Object::Output, [8, 0]),
-    (APPLY_FOUR, b"add a\nadd b\n", Object::Input, [9, 0]),
-    (APPLY_FOUR, b"add a\nadd b\n", Object::Output, [8, 0]),
-    (SHOW, b"<feed>", Object::Input, [9, 10]),
-    (&["show", "feed"], b"", Object::Output, [8, 0]),
-    (&["show", "pile"], b"", Object::Output, [8, 0]),
-    (MIRROR, b"pile 1\n", Object::Input, [9, 3]),
-    (MIRROR, b"pile 1\n", Object::Output, [8, 3]),
-    (&["drill", "7", "1"], b"", Object::Output, [8, 0]),
-];
-
-/// Runs a command on a store without operations, where this call of an object fails. Returns the status.
-fn status_of(
-    rt: &impl Abort,
-    alloc: Global,
-    (words, input): (&[&str], &[u8]),
-    object: Object,
-    call: u64,
-) -> u8 {
-    let (at_door, failing_read, failing_write) = match object {
-        Object::Door => (call, 0, 0),
-        Object::Input => (0, call, 0),
-        Object::Output => (0, 0, call),
-    };
-    let mut disk = made(rt, alloc, &[], 0);
-    let mut door = door_of(rt, alloc, &REQUESTS, (0, at_door));
-    let mut fetch = no_documents(alloc);
-    let given = Run {
-        words,
-        input,
-        failing_read,
-        failing_write,
-        ..APPLY
-    };
-    let end = ended_at(rt, alloc, &mut disk, &mut door, &mut fetch, &given);
-    drop((disk, door, fetch));
-    end.status
-}
-
-/// Returns the statuses while each call of an object fails in turn, without repeats. They end with the first one that
-/// isn't `failed`.
-fn statuses_of(
-    rt: &impl Abort,
-    alloc: Global,
-    command: (&[&str], &[u8]),
-    object: Object,
-    failed: u8,
-) -> Vec<u8> {
-    let mut statuses = Vec::new(alloc);
-    for call in 1..100 {
-        let status = status_of(rt, alloc, command, object, call);
-        statuses.push(status).expect(rt, "memory");
-        if status != failed {
-            break;
-        }
-    }
-    statuses.dedup();
-    statuses
-}
+/// Commands on a store without operations of which each call of an object may fail.
+const IN_TURN: &str = "\
+$ serve --listen here --requests 6 > 7 then 0
+! each door 0
+@ POST /feed HTTP/1.1^|Content-Length: 67^|^|<entry xmlns=\"http://www.w3.org/2005/Atom\"><title>a</title></entry>
+@ DELETE /member/1 HTTP/1.1^|^|
+@ DELETE /member/1 HTTP/1.1^|^|
+@ GET /member/1 HTTP/1.1^|^|
+@ PUT /member/1 HTTP/1.1^|Content-Length: 0^|^|
+@ GET /member/2 HTTP/1.1^|^|
+$ serve --listen here --requests 6 > 8 then 0
+! each output 0
+@ POST /feed HTTP/1.1^|Content-Length: 67^|^|<entry xmlns=\"http://www.w3.org/2005/Atom\"><title>a</title></entry>
+@ DELETE /member/1 HTTP/1.1^|^|
+@ DELETE /member/1 HTTP/1.1^|^|
+@ GET /member/1 HTTP/1.1^|^|
+@ PUT /member/1 HTTP/1.1^|Content-Length: 0^|^|
+@ GET /member/2 HTTP/1.1^|^|
+$ apply < add a|add b| > 9 then 0
+! each input 0
+$ apply < add a|add b| > 8 then 0
+! each output 0
+$ apply 4 < add a|add b| > 9 then 0
+! each input 0
+$ apply 4 < add a|add b| > 8 then 0
+! each output 0
+$ show < <feed> > 9 then 10
+! each input 0
+$ show feed > 8 then 0
+! each output 0
+$ show pile > 8 then 0
+! each output 0
+$ mirror --base http://feed.example/ < pile 1| > 9 then 3
+! each input 0
+$ mirror --base http://feed.example/ < pile 1| > 8 then 3
+! each output 0
+$ drill 7 1 > 8 then 0
+! each output 0
+";
 
 #[test]
 fn each_call_may_fail(rt: HostRuntime) {
-    for &(words, input, object, wanted) in &IN_TURN {
-        let statuses = statuses_of(&rt, rt.alloc(), (words, input), object, wanted[0]);
-        assert!(rt;
-            statuses.as_slice() == wanted.as_slice(),
-            "{words:?} {object:?} {statuses:?}"
-        );
-    }
+    expect_turns(&rt, rt.alloc(), IN_TURN);
 }
 
 #[test]

@@ -1,9 +1,8 @@
-//! Lines of all kinds, generated. `apply` prints the document that a plain fold over the lines has, without a store and
-//! with one.
+//! `apply` over lines that are generated, with and without a store. A second fold of the lines, which keeps no
+//! operations, gives the expected documents.
 
-use crate::documents::{Expected, Shown, item_line, text_of};
-use crate::runs::{APPLY, Run, expect_end, expect_ran};
-use crate::store::made;
+use crate::runs::{fresh, ran};
+use crate::text::{Heading, entry_line, gone_line, heading_text, moment};
 use std::alloc::Global;
 use std::process::Abort;
 
@@ -12,7 +11,7 @@ const LINES: u32 = 2_000;
 
 /// The last item of a member in the open window. A line gives its own number to the title of what it makes.
 #[derive(Clone, Copy)]
-struct Item {
+struct Last {
     number: u32,
     line: u32,
     is_gone: bool,
@@ -35,7 +34,7 @@ pub struct Fold {
     made: u32,
     pub live: Vec<u32>,
     /// The items of the open window, the newest last.
-    items: Vec<Item>,
+    items: Vec<Last>,
 }
 
 /// No lines yet, with windows of 4 operations.
@@ -66,7 +65,7 @@ fn count_line(fold: &mut Fold) {
 }
 
 /// Makes this the newest item, and the only one of its member.
-fn name(rt: &impl Abort, items: &mut Vec<Item>, item: Item) {
+fn name(rt: &impl Abort, items: &mut Vec<Last>, item: Last) {
     let found = items.iter().position(|other| other.number == item.number);
     if let Some(at) = found {
         items.remove(at);
@@ -74,36 +73,28 @@ fn name(rt: &impl Abort, items: &mut Vec<Item>, item: Item) {
     items.push(item).expect(rt, "memory");
 }
 
-/// Makes a member. Returns the line.
-fn new_line(rt: &impl Abort, alloc: Global, fold: &mut Fold) -> String {
-    let (number, line) = (fold.made.saturating_add(1), fold.count);
-    let item = Item {
-        number,
-        line,
-        is_gone: false,
-    };
-    fold.made = number;
-    fold.live.push(number).expect(rt, "memory");
-    name(rt, &mut fold.items, item);
-    format!(in alloc; "add t{line}\n").expect(rt, "memory")
-}
-
 /// Makes a member, or changes or removes a live one. Returns the line.
 fn member_line(rt: &impl Abort, alloc: Global, fold: &mut Fold, draw: u64) -> String {
     let place = (draw / 16 % 64) as usize;
-    if place >= fold.live.len() {
-        return new_line(rt, alloc, fold);
-    }
-    let item = Item {
-        number: fold.live[place],
-        line: fold.count,
-        is_gone: draw % 4 == 0,
+    let line = fold.count;
+    let (number, is_gone) = match fold.live.get(place) {
+        Some(number) => (*number, draw % 4 == 0),
+        None => (fold.made.saturating_add(1), false),
     };
-    let text = if item.is_gone {
+    let text = if is_gone {
         fold.live.remove(place);
-        format!(in alloc; "remove {}\n", item.number)
+        format!(in alloc; "remove {number}\n")
+    } else if number > fold.made {
+        fold.made = number;
+        fold.live.push(number).expect(rt, "memory");
+        format!(in alloc; "add t{line}\n")
     } else {
-        format!(in alloc; "change {} t{}\n", item.number, item.line)
+        format!(in alloc; "change {number} t{line}\n")
+    };
+    let item = Last {
+        number,
+        line,
+        is_gone,
     };
     name(rt, &mut fold.items, item);
     text.expect(rt, "memory")
@@ -123,49 +114,6 @@ fn setting_line(rt: &impl Abort, alloc: Global, fold: &mut Fold, draw: u64) -> S
     text.expect(rt, "memory")
 }
 
-/// Appends a line.
-fn push_line(rt: &impl Abort, alloc: Global, fold: &mut Fold, draw: u64) {
-    count_line(fold);
-    let line = if draw % 16 == 1 {
-        setting_line(rt, alloc, fold, draw)
-    } else {
-        member_line(rt, alloc, fold, draw)
-    };
-    fold.lines.push_str(line.as_str()).expect(rt, "memory");
-}
-
-/// The timestamp that is `after` milliseconds after 2023-11-14T22:13:20Z. The minute is fixed, so `after` has to be less
-/// than 40,000.
-fn moment_text(rt: &impl Abort, alloc: Global, after: u32) -> String {
-    let (seconds, millis) = (20 + after / 1_000, after % 1_000);
-    let text = if millis == 0 {
-        format!(in alloc; "2023-11-14T22:13:{seconds}Z")
-    } else {
-        format!(in alloc; "2023-11-14T22:13:{seconds}.{millis:03}Z")
-    };
-    text.expect(rt, "memory")
-}
-
-/// The line of an item, where the first line had the moment `first`.
-fn item_text(rt: &impl Abort, alloc: Global, item: &Item, first: u32) -> String {
-    let moment = moment_text(rt, alloc, first.saturating_add(item.line).saturating_sub(1));
-    let title = format!(in alloc; "t{}", item.line).expect(rt, "memory");
-    let number = item.number;
-    let shown = if item.is_gone {
-        Shown::Gone {
-            number,
-            when: moment.as_str(),
-        }
-    } else {
-        Shown::Entry {
-            number,
-            title: title.as_str(),
-            updated: moment.as_str(),
-        }
-    };
-    item_line(rt, alloc, &shown)
-}
-
 /// The subscription document, where the first line had the moment `first`. There are lines.
 fn document_of(rt: &impl Abort, alloc: Global, fold: &Fold, first: u32) -> String {
     let title = match fold.title {
@@ -173,45 +121,50 @@ fn document_of(rt: &impl Abort, alloc: Global, fold: &Fold, first: u32) -> Strin
         None => format!(in alloc; "Feed"),
     };
     let title = title.expect(rt, "memory");
-    let moment = moment_text(
-        rt,
-        alloc,
-        first.saturating_add(fold.count).saturating_sub(1),
-    );
-    let bare = text_of(
-        rt,
-        alloc,
-        &Expected {
-            title: title.as_str(),
-            updated: moment.as_str(),
-            prev: fold.sealed,
-            first: fold.before.saturating_add(1),
-            last: fold.count,
-            items: &[],
-        },
-    );
-    let opening = bare.as_str().strip_suffix("</feed>\n").expect(rt, "an end");
-    let mut text = String::from_str(alloc, opening).expect(rt, "memory");
-    for item in fold.items.iter().rev() {
-        let line = item_text(rt, alloc, item, first);
+    let updated = moment_of(rt, alloc, first, fold.count);
+    let heading = Heading {
+        archive: 0,
+        prev: fold.sealed,
+        title: title.as_str(),
+        updated: updated.as_str(),
+        first: fold.before.saturating_add(1),
+        last: fold.count,
+    };
+    let mut text = heading_text(rt, alloc, &heading);
+    for last in fold.items.iter().rev() {
+        let moment = moment_of(rt, alloc, first, last.line);
+        let line = if last.is_gone {
+            gone_line(rt, alloc, last.number, moment.as_str())
+        } else {
+            let title = format!(in alloc; "t{}", last.line).expect(rt, "memory");
+            entry_line(rt, alloc, last.number, title.as_str(), moment.as_str())
+        };
         text.push_str(line.as_str()).expect(rt, "memory");
     }
     text.push_str("</feed>\n").expect(rt, "memory");
     text
 }
 
-/// The next number of a sequence that looks random.
-fn next(seed: u64) -> u64 {
-    seed.wrapping_mul(6_364_136_223_846_793_005)
-        .wrapping_add(1_442_695_040_888_963_407)
+/// The moment of a line, where the first one had the moment `first`.
+fn moment_of(rt: &impl Abort, alloc: Global, first: u32, line: u32) -> String {
+    moment(rt, alloc, line.saturating_add(first).saturating_sub(1))
 }
 
-/// Appends this number of lines. Returns the next seed.
+/// Appends this number of lines. Returns the next seed of a sequence that looks random.
 pub fn push_lines(rt: &impl Abort, alloc: Global, fold: &mut Fold, seed: u64, count: u32) -> u64 {
     let mut seed = seed;
     for _ in 0..count {
-        seed = next(seed);
-        push_line(rt, alloc, fold, seed >> 33);
+        seed = seed
+            .wrapping_mul(6_364_136_223_846_793_005)
+            .wrapping_add(1_442_695_040_888_963_407);
+        count_line(fold);
+        let draw = seed >> 33;
+        let line = if draw % 16 == 1 {
+            setting_line(rt, alloc, fold, draw)
+        } else {
+            member_line(rt, alloc, fold, draw)
+        };
+        fold.lines.push_str(line.as_str()).expect(rt, "memory");
     }
     seed
 }
@@ -219,26 +172,25 @@ pub fn push_lines(rt: &impl Abort, alloc: Global, fold: &mut Fold, seed: u64, co
 #[test]
 fn lines_without_a_store_are_folded(rt: HostRuntime) {
     let alloc = rt.alloc();
+    let mut disk = fresh(&rt, alloc, 0);
     let mut fold = empty(alloc);
     let mut seed = 11;
     for _ in 0..LINES / 50 {
         seed = push_lines(&rt, alloc, &mut fold, seed, 50);
         let document = document_of(&rt, alloc, &fold, 0);
-        let given = Run {
-            input: fold.lines.as_bytes(),
-            ..APPLY
-        };
-        expect_end(&rt, alloc, &given, 0, document.as_bytes());
+        let end = ran(&rt, alloc, &mut disk, "apply 4", fold.lines.as_bytes());
+        assert!(rt; end.is(0, document.as_bytes()), "{}", fold.count);
     }
     // Enough happened for the comparison to mean something.
     assert!(rt; fold.sealed > 200 && fold.made > 70);
-    drop(fold);
+    drop((disk, fold));
 }
 
 #[test]
 fn lines_with_a_store_are_folded(rt: HostRuntime) {
     let alloc = rt.alloc();
-    let mut disk = made(&rt, alloc, &["--window", "4"], 0);
+    let mut disk = fresh(&rt, alloc, 0);
+    ran(&rt, alloc, &mut disk, "init * --window 4", b"");
     let mut fold = empty(alloc);
     let (mut seed, mut applied) = (12, 0);
     for _ in 0..LINES / 100 {
@@ -246,8 +198,8 @@ fn lines_with_a_store_are_folded(rt: HostRuntime) {
         // The store was made at the moment 0, so the first line has the next one.
         let document = document_of(&rt, alloc, &fold, 1);
         let lines = fold.lines.as_bytes().get(applied..).expect(&rt, "lines");
-        let end = (0, document.as_bytes());
-        expect_ran(&rt, alloc, &mut disk, (&["apply"], lines), end);
+        let end = ran(&rt, alloc, &mut disk, "apply", lines);
+        assert!(rt; end.is(0, document.as_bytes()), "{}", fold.count);
         applied = fold.lines.len();
     }
     assert!(rt; fold.sealed > 200 && fold.made > 70);

@@ -2,8 +2,11 @@
 //!
 //! They are in a crate of their own, so that these crates are proved once, without their tests.
 //!
-//! A test drops large values by `drop`: a value that goes out of scope is proved to be dropped field by field, in each
-//! function.
+//! Almost all are scripts of runs. `scripts` says how one is written, and `text` how its inputs and outputs are. A script is
+//! one text, since each text and each slice of a table counts in the proof of each function that reads the table.
+//!
+//! A function drops large values by `drop`: a value that goes out of scope is proved to be dropped field by field, in
+//! each function.
 #![tactic(auto)]
 
 #[cfg(test)]
@@ -16,8 +19,6 @@ mod certificates;
 mod covered;
 #[cfg(test)]
 mod discover;
-#[cfg(test)]
-mod documents;
 #[cfg(test)]
 mod drills;
 #[cfg(test)]
@@ -39,6 +40,8 @@ mod relays;
 #[cfg(test)]
 mod runs;
 #[cfg(test)]
+mod scripts;
+#[cfg(test)]
 mod scrubs;
 #[cfg(test)]
 mod serve;
@@ -46,5 +49,7 @@ mod serve;
 mod show;
 #[cfg(test)]
 mod store;
+#[cfg(test)]
+mod text;
 #[cfg(test)]
 mod words;

@@ -1,55 +1,61 @@
 //! Runs of the program with objects in memory.
 //!
-//! `whole_end` alone owns the words, the clock, the input and the output of a run. The functions that make a disk are
-//! few, and all others borrow it.
+//! `whole_end` alone owns the words, the clock, the input and the output of a run. All functions but `fresh` borrow the
+//! disk.
 
+ghost use Rattle.std.specs.Prelude.{◌≤◌, length};
+ghost use Rattle.doc_source.specs.Pile.{offer_limit};
+
+use crate::text::expanded;
+use crate::words::spelled;
 use atom_values::{Bytes, MAX_FAILING, Many};
-use doc_source::{Fetch, ListSink, ListSource, PileFetch};
+use doc_source::{Fetch, ListSink, ListSource, Offer, PileFetch};
 use document_server::{Door, ScriptDoor, SetClock};
 use feed_commands::{Ended, run};
 use feed_disk::{Disk, MemoryDisk};
+use http_face::ScriptConn;
 use std::alloc::Global;
 use std::process::Abort;
 
-/// The moment of the clock in most tests: 2023-11-14T22:13:20Z.
-pub const NOW: u64 = 1_700_000_000_000;
-
-/// A run of the program. The failing calls of the input and the output are numbered from 1; 0 means none.
+/// The clock of a run, and the calls of its objects that fail, one of each. They are numbered from 1; 0 means none.
 #[derive(Clone, Copy)]
-pub struct Run<'a> {
-    pub words: &'a [&'a str],
+pub struct Setting {
     /// The first moment of the clock, and all later ones.
     pub moments: (u64, u64),
-    pub input: &'a [u8],
-    pub failing_read: u64,
-    pub failing_write: u64,
+    pub input: u64,
+    pub output: u64,
+    /// The call of each client's connection.
+    pub client: u64,
+    pub door: u64,
+    pub source: u64,
 }
 
-/// `apply 4` of an empty input.
-pub const APPLY: Run<'static> = Run {
-    words: &["apply", "4"],
-    moments: (NOW, NOW),
-    input: b"",
-    failing_read: 0,
-    failing_write: 0,
+/// A clock that stands still at 2023-11-14T22:13:20Z, and no failing call.
+pub const SETTING: Setting = Setting {
+    moments: (1_700_000_000_000, 1_700_000_000_000),
+    input: 0,
+    output: 0,
+    client: 0,
+    door: 0,
+    source: 0,
 };
 
 /// How a run ends: the exit status, and all that is printed.
 #[derive(Drop)]
-pub struct End {
+pub struct Printed {
     pub status: u8,
-    pub printed: Vec<u8>,
+    pub text: Vec<u8>,
 }
 
-impl End {
+impl Printed {
     /// Whether a run ends with this status, and prints exactly these bytes.
-    pub fn is(&self, status: u8, printed: &[u8]) -> bool {
-        self.status == status && self.printed.as_slice() == printed
+    pub fn is(&self, status: u8, text: &[u8]) -> bool {
+        self.status == status && self.text.as_slice() == text
     }
 }
 
 /// A list of one failing call, or of none if `call` is 0.
-pub fn listed(rt: &impl Abort, alloc: Global, call: u64) -> Many<u64, MAX_FAILING> {
+fn listed(rt: &impl Abort, alloc: Global, call: u64) -> Many<u64, MAX_FAILING> {
     let mut calls = Many::new(alloc);
     if call != 0 {
         calls.push(call).expect(rt, "memory");
@@ -64,32 +70,12 @@ fn clock_of(rt: &impl Abort, alloc: Global, moments: (u64, u64)) -> SetClock {
     SetClock::new(list)
 }
 
-fn words_of(rt: &impl Abort, alloc: Global, words: &[&str]) -> Vec<String> {
-    let mut list = Vec::new(alloc);
-    for word in words {
-        let word = String::from_str(alloc, word).expect(rt, "memory");
-        list.push(word).expect(rt, "memory");
-    }
-    list
-}
-
 fn bytes_of(rt: &impl Abort, alloc: Global, bytes: &[u8]) -> Bytes {
     Bytes::of(alloc, bytes).expect(rt, "memory")
 }
 
-/// A disk whose mirror's area has these bytes.
-pub fn mirror_disk(rt: &impl Abort, alloc: Global, area: &[u8]) -> MemoryDisk {
-    MemoryDisk::new(
-        alloc,
-        bytes_of(rt, alloc, b""),
-        bytes_of(rt, alloc, b""),
-        bytes_of(rt, alloc, area),
-        Many::new(alloc),
-    )
-}
-
 /// An empty disk, one of whose calls fails. They are numbered from 1; 0 means none.
-pub fn empty_disk(rt: &impl Abort, alloc: Global, failing: u64) -> MemoryDisk {
+pub fn fresh(rt: &impl Abort, alloc: Global, failing: u64) -> MemoryDisk {
     MemoryDisk::new(
         alloc,
         bytes_of(rt, alloc, b""),
@@ -99,6 +85,44 @@ pub fn empty_disk(rt: &impl Abort, alloc: Global, failing: u64) -> MemoryDisk {
     )
 }
 
+/// A door at which the clients of a step come in.
+pub fn door_of(rt: &impl Abort, alloc: Global, step: &str, setting: &Setting) -> ScriptDoor {
+    let mut links = Many::new(alloc);
+    for line in step.split('\n') {
+        if let Some(client) = line.strip_prefix("@ ") {
+            let bytes = Bytes::from_vec(expanded(rt, alloc, client));
+            let link = ScriptConn::new(alloc, bytes, listed(rt, alloc, setting.client));
+            links.push(link).expect(rt, "memory");
+        }
+    }
+    ScriptDoor::new(alloc, links, listed(rt, alloc, setting.door)).expect(rt, "memory")
+}
+
+/// The offer of a text at an address.
+pub fn offer_of(rt: &impl Abort, alloc: Global, address: &str, text: Vec<u8>) -> Offer
+    ensures { length result.bytes ≤ offer_limit }
+{
+    assert!(rt; text.len() <= 67_108_864);
+    Offer {
+        address: bytes_of(rt, alloc, address.as_bytes()),
+        bytes: Bytes::from_vec(text),
+    }
+}
+
+/// A source of the documents of a step.
+pub fn source_of(rt: &impl Abort, alloc: Global, step: &str, setting: &Setting) -> PileFetch {
+    let mut offers = Many::new(alloc);
+    for line in step.split('\n') {
+        if let Some(document) = line.strip_prefix("+ ") {
+            let (address, part) = document.split_once(' ').expect(rt, "a document");
+            let text = expanded(rt, alloc, part);
+            let offer = offer_of(rt, alloc, address, text);
+            offers.push(offer).expect(rt, "memory");
+        }
+    }
+    PileFetch::new(alloc, offers, listed(rt, alloc, setting.source))
+}
+
 /// Runs the program at a door, with a source of documents. Returns what `run` returns, and all that is printed.
 pub fn whole_end<D: Disk, L: Door, F: Fetch>(
     rt: &impl Abort,
@@ -106,13 +130,14 @@ pub fn whole_end<D: Disk, L: Door, F: Fetch>(
     disk: &mut D,
     door: &mut L,
     fetch: &mut F,
-    given: &Run,
+    (words, bytes): (&str, &[u8]),
+    setting: &Setting,
 ) -> (Ended, Vec<u8>) {
-    let words = words_of(rt, alloc, given.words);
-    let mut clock = clock_of(rt, alloc, given.moments);
-    let bytes = bytes_of(rt, alloc, given.input);
-    let mut input = ListSource::new(bytes, listed(rt, alloc, given.failing_read));
-    let mut output = ListSink::new(alloc, listed(rt, alloc, given.failing_write));
+    let words = spelled(rt, alloc, words);
+    let mut clock = clock_of(rt, alloc, setting.moments);
+    let bytes = bytes_of(rt, alloc, bytes);
+    let mut input = ListSource::new(bytes, listed(rt, alloc, setting.input));
+    let mut output = ListSink::new(alloc, listed(rt, alloc, setting.output));
     let ended = run(
         alloc,
         words.as_slice(),
@@ -128,80 +153,31 @@ pub fn whole_end<D: Disk, L: Door, F: Fetch>(
     (ended, printed)
 }
 
-/// Runs the program at a door, with a source of documents.
-pub fn ended_at<D: Disk, L: Door, F: Fetch>(
-    rt: &impl Abort,
-    alloc: Global,
-    disk: &mut D,
-    door: &mut L,
-    fetch: &mut F,
-    given: &Run,
-) -> End {
-    let (ended, printed) = whole_end(rt, alloc, disk, door, fetch, given);
-    let status = ended.status;
-    drop(ended);
-    End { status, printed }
-}
-
-/// Runs the program at a door at which nobody comes in, with a source of documents.
+/// Runs a command of an input at a door at which nobody comes in, with a source of documents.
 pub fn fetched<D: Disk, F: Fetch>(
     rt: &impl Abort,
     alloc: Global,
     disk: &mut D,
     fetch: &mut F,
-    given: &Run,
-) -> End {
-    let mut door = ScriptDoor::new(alloc, Many::new(alloc), Many::new(alloc)).expect(rt, "memory");
-    let end = ended_at(rt, alloc, disk, &mut door, fetch, given);
-    drop(door);
-    end
+    command: (&str, &[u8]),
+) -> Printed {
+    let mut door = door_of(rt, alloc, "", &SETTING);
+    let (ended, text) = whole_end(rt, alloc, disk, &mut door, fetch, command, &SETTING);
+    let status = ended.status;
+    drop((ended, door));
+    Printed { status, text }
 }
 
-/// A source without documents.
-pub fn no_documents(alloc: Global) -> PileFetch {
-    PileFetch::new(alloc, Many::new(alloc), Many::new(alloc))
-}
-
-/// Runs the program at a door at which nobody comes in, with a source without documents.
-pub fn ended<D: Disk>(rt: &impl Abort, alloc: Global, disk: &mut D, given: &Run) -> End {
-    let mut fetch = no_documents(alloc);
-    let end = fetched(rt, alloc, disk, &mut fetch, given);
-    drop(fetch);
-    end
-}
-
-/// Runs a command with the clock at `NOW`.
+/// Runs a command of an input at a door at which nobody comes in, with a source without documents.
 pub fn ran<D: Disk>(
     rt: &impl Abort,
     alloc: Global,
     disk: &mut D,
-    words: &[&str],
+    words: &str,
     input: &[u8],
-) -> End {
-    let given = Run {
-        words,
-        input,
-        ..APPLY
-    };
-    ended(rt, alloc, disk, &given)
-}
-
-/// Runs a command with the clock at `NOW`, and compares how it ends.
-pub fn expect_ran<D: Disk>(
-    rt: &impl Abort,
-    alloc: Global,
-    disk: &mut D,
-    (words, input): (&[&str], &[u8]),
-    (status, printed): (u8, &[u8]),
-) {
-    let end = ran(rt, alloc, disk, words, input);
-    assert!(rt; end.is(status, printed), "{words:?}");
-}
-
-/// Runs the program on an empty disk, and compares how it ends.
-pub fn expect_end(rt: &impl Abort, alloc: Global, given: &Run, status: u8, printed: &[u8]) {
-    let mut disk = empty_disk(rt, alloc, 0);
-    let end = ended(rt, alloc, &mut disk, given);
-    assert!(rt; end.is(status, printed), "{:?}", given.words);
-    drop(disk);
+) -> Printed {
+    let mut fetch = source_of(rt, alloc, "", &SETTING);
+    let printed = fetched(rt, alloc, disk, &mut fetch, (words, input));
+    drop(fetch);
+    printed
 }

@@ -1,6 +1,0 @@
-use Rattle.std.specs.Prelude.{◌≤◌, All, length}
-use Rattle.doc_source.specs.Pile.{offer_limit}
-use Rattle.program_tests.proofs.foreign.foreign_source.Given as goal
-
-abbrev pub invariant-loop-document : goal.invariant-loop-document
-invariant-loop-document g l = All (λ offer. length offer.bytes ≤ offer_limit) l.offers.items
