@@ -16,8 +16,8 @@
 //! and the mark of a reply, and nothing of the content. That the system does what it is asked is trusted.
 //!
 //! Stands on `document_server` for the clock and the door, on `doc_source` for the input and the output, on `http_face`
-//! for connections, on `httparse` for a look at heads that are arriving, on `mio` for waiting, and on `arrayvec` and `itoa`
-//! for the lines of the log and of the progress.
+//! for connections, on `httparse` for a look at heads that are arriving, on `mio` for waiting, on `arrayvec` and `itoa`
+//! for the lines of the log and of the progress, and on `os` for the number of the system's last error.
 #![tactic(auto)]
 
 mod log;

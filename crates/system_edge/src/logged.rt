@@ -94,12 +94,14 @@ pub struct LoggedDisk<'a, D: Disk + Drop, R: rt::Clock + Eprint> {
 }
 
 impl<D: Disk + Drop, R: rt::Clock + Eprint> LoggedDisk<'_, D, R> {
-    /// Logs a call that failed.
+    /// Logs a call that has just failed, with the number of the system's last error.
     fn log_fault(&self, call: &str, area: Area) {
         if self.log.is_on() {
+            let error = os::errno();
             let mut line = Line::new("disk-fault");
             line.word("call", call);
             line.word("area", area_name(area));
+            line.number("error", u64::try_from(error).unwrap_or(0));
             self.log.write(line);
         }
     }
@@ -152,11 +154,11 @@ impl<D: Disk + Drop, R: rt::Clock + Eprint> Disk for LoggedDisk<'_, D, R> {
     fn sync(&mut self, area: Area) -> Result<(), Failed> {
         let began = began(self.runtime, self.log);
         let synced = self.disk.sync(area);
-        if let Some(began) = began {
-            self.log_sync(area, began);
-        }
         if synced.is_err() {
             self.log_fault("sync", area);
+        }
+        if let Some(began) = began {
+            self.log_sync(area, began);
         }
         self.progress.tick();
         synced
