@@ -136,7 +136,7 @@ done
 # The server has the files locked: a failed call is logged with the system's number for that.
 FEED_LOG=stderr "$tool" show feed >/dev/null 2>../locked.err
 same 'a locked store' 4 "$?"
-same 'the line of a failed call' 'event=disk-fault call=size area=journal error=11' "$(cat ../locked.err)"
+same 'the line of a failed call' 'event=disk-fault call=sync area=journal error=11' "$(cat ../locked.err)"
 sleep 1
 same 'the line of a server that waits' "$(line GET /n0 404)" "$(mask "$work/with/many.err" | grep '^event=connection ')"
 ask -o /dev/null "${base}n[1-200]"
