@@ -2,10 +2,9 @@
 # Runs ./feed_tool and ./prove in fresh clones of this checkout's HEAD, each before and after the program is proved:
 # unproved runs, a run without `rt`, a proof that is stopped and started again, two at once, a symbolic link, and a
 # source that changed. It compares exit statuses and texts with those that are expected.
-# Usage: checks/launcher.sh. It needs git and rt, and 1 GB of disk, or 10 GB where
-# the folder for temporary files is on another file system. It ends with 0 if all agree. The clones take the
-# libraries that ./prove built here. With all of them it proves the program's own crate four times, and makes three
-# unproved runs; without them it proves all crates, twice.
+# Usage: checks/launcher.sh. It needs git and rt, and 3 GB of disk. It ends with 0 if all agree. What `rt ci` or ./prove
+# proved on this machine isn't proved again: after either it proves the program's own crate once, and makes three
+# unproved runs. Without that it proves all crates first.
 top=$(CDPATH='' cd -- "$(dirname -- "$0")/.." && pwd) || exit 1
 work=$(mktemp -d) || exit 1
 trap 'rm -rf "$work"' EXIT
@@ -26,17 +25,8 @@ right() {
     fi
 }
 
-# makes a fresh clone in the folder $1 of $work, with the libraries that are built here
-cloned() {
-    git clone -q "$top" "$work/$1" || exit 1
-    for built in "$top"/crates/*/out/rlib; do
-        [ -d "$built" ] || continue
-        crate=$(basename -- "$(dirname -- "$(dirname -- "$built")")")
-        mkdir -p "$work/$1/crates/$crate/out" || exit 1
-        # links take no room, where the file system allows them
-        cp -Rl "$built" "$work/$1/crates/$crate/out/" 2>/dev/null || cp -R "$built" "$work/$1/crates/$crate/out/" || exit 1
-    done
-}
+# makes a fresh clone in the folder $1 of $work
+cloned() { git clone -q "$top" "$work/$1" || exit 1; }
 
 # runs a command, with its status, output and errors in $work
 ran() {
