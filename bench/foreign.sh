@@ -25,6 +25,7 @@ trap 'exit 1' HUP INT TERM
 python3 - "$runs" "$tool" "$work" <<'PYTHON'
 import importlib.util
 import os
+import random
 import re
 import shutil
 import socket
@@ -198,14 +199,20 @@ def measure_entries():
 # The slow documents
 
 
-def filled(front, part, back, filling=" ", room=SLOW_BYTES):
-    """Returns a document of that many bytes: copies of a part, and filling. An `@` in the part is the number of the copy."""
+def filled(front, part, back, filling=" ", room=SLOW_BYTES, shuffled=False):
+    """Returns a document of that many bytes: copies of a part, and filling.
+
+    An `@` in the part is the number of the copy. The copies are in the order of their numbers, or in one that looks
+    like chance and is the same in each run.
+    """
     left = room - len(front) - len(back)
     copies = []
     numbers = "@" in part
     while part and left >= len(part.encode()) + 8:
         copies.append(part.replace("@", f"{len(copies):06}") if numbers else part)
         left -= len(copies[-1].encode())
+    if shuffled:
+        random.Random(1).shuffle(copies)
     return front + "".join(copies) + filling * left + back
 
 
@@ -231,8 +238,12 @@ SLOW = {
     "elements with a prefix, 250 depths of 20 prefixes": (deep_names(), 0),
     "nesting up to depth 256": (inside("<a>" * 253 + "</a>" * 253), 0),
     "attributes of one element": (inside("", " ", front=filled("<a", ' a@=""', "/>", room=SLOW_BYTES - 300)), 0),
+    "attributes of one element, shuffled": (
+        inside("", " ", front=filled("<a", ' a@=""', "/>", room=SLOW_BYTES - 300, shuffled=True)), 0),
     "an attribute in each element": (inside('<a b=""/>'), 0),
     "namespaces of one element": (inside("", " ", front=filled("<a", ' xmlns:a@="u"', "/>", room=SLOW_BYTES - 300)), 0),
+    "namespaces of one element, shuffled": (
+        inside("", " ", front=filled("<a", ' xmlns:a@="u"', "/>", room=SLOW_BYTES - 300, shuffled=True)), 0),
     "a namespace in each element": (inside('<a xmlns="u"/>'), 0),
     "one long attribute": (inside("", " ", front=filled('<a b="', "", '"/>', "v", room=SLOW_BYTES - 300)), 0),
     "references in an attribute": (inside("", " ", front=filled('<a b="', "&#9;", '"/>', "v", room=SLOW_BYTES - 300)), 0),

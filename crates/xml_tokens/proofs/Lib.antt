@@ -44,7 +44,9 @@ pub mod XmlLemmas
 pub mod AttributeCutLemmas
 -- Cursor::attributes: the attributes of a tag and its end
 pub mod BehindNameLemmas
--- has_same_names: the set of names that were seen
+-- has_same_names: names behind numbers, in their order
+pub mod KeyLemmas
+-- has_same_pair: names that are the same
 pub mod SameNameLemmas
 -- Cursor::tag: tags, and the attributes that their texts are read as
 pub mod TagLemmas
@@ -68,7 +70,7 @@ pub mod InstructionNameLemmas
 pub mod InstructionCutLemmas
 -- Cursor::instructed: instructions and declarations as tokens
 pub mod InstructedLemmas
--- Scopes, add_declaration: the levels in which scopes are kept
+-- Scopes: the declarations of the open elements
 pub mod ScopeLemmas
 -- first_suspect: the first suspect byte after blocks that have none
 pub mod SuspectLemmas

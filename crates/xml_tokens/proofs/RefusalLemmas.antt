@@ -9,8 +9,9 @@ use Rattle.std.specs.List.{AllZip}
 use Rattle.std.specs.Borrow.{Bor}
 use Rattle.xml_tokens.specs.Stages.{Lexeme, Scope, declared, inner_scope, namespace_of, outer_scope}
 use Rattle.xml_tokens.specs.Reading.{AreRead, Continues, IsTagRead, own_tag}
-use Rattle.xml_tokens.specs.Scopes.{AreLevelsOf, AreScopesOf, OpensScope, scope_of}
-use Rattle.xml_tokens.specs.declared.scopes.Declaring.{Declaring}
+use Rattle.std.specs.Option.{option_or}
+use Rattle.xml_tokens.specs.Scopes.{AreScopesOf, OpensScope, found_in, scope_of}
+use Rattle.xml_tokens.proofs.ScopeLemmas.{found_of}
 use Rattle.xml_tokens.specs.declared.scopes.Scopes.{Scopes}
 use Rattle.xml_tokens.specs.Reading.{IsCutAtSlash, IsTagOf, kind_of}
 use Rattle.xml_tokens.specs.Progress.{emptiness}
@@ -338,23 +339,22 @@ some_append (b ∷ own) s t p more = elim (bytes_eq b.prefix p) as (λ c.
     is_some (cond c (Some b.namespace) (namespace_of (own ++ t) p)) ≡ true)
     [ true ↦ λ e. e | false ↦ some_append own s t p more ]
 
-some_behind : (own t : Scope) (p : List ℕ) → is_some (namespace_of t p) ≡ true →
-    is_some (namespace_of (own ++ t) p) ≡ true
-some_behind [] t p some = some
-some_behind (b ∷ own) t p some = elim (bytes_eq b.prefix p) as (λ c.
-    is_some (cond c (Some b.namespace) (namespace_of (own ++ t) p)) ≡ true)
-    [ true ↦ refl | false ↦ some_behind own t p some ]
+some_kind : (x : Option (List ℕ)) → is_some (option_map kind_of x) ≡ is_some x
+some_kind None = refl
+some_kind (Some x) = refl
+
+some_or : (x y : Option Namespace) → is_some y ≡ true → is_some (option_or x y) ≡ true
+some_or None y some = some
+some_or (Some x) y some = refl
 
 -- a namespace that is set outside the root is set in each element
-outer_some : (opened : List Open) (levels : List Declaring) (p : List ℕ) → AreLevelsOf opened levels →
+outer_some : (opened : List Open) (scopes : Scopes) (p : List ℕ) → AreScopesOf opened scopes →
     is_some (namespace_of outer_scope p) ≡ true → is_some (namespace_of (scope_of opened) p) ≡ true
-outer_some [] levels p are some = some
-outer_some (e ∷ opened) levels p (own, scope, inl (none, more)) some =
-    ap (λ s. is_some (namespace_of s p)) scope
-    ∙ some_behind own (scope_of opened) p (outer_some opened levels p more some)
-outer_some (e ∷ opened) levels p (own, scope, inr (level, rest, split, at, is, more)) some =
-    ap (λ s. is_some (namespace_of s p)) scope
-    ∙ some_behind own (scope_of opened) p (outer_some opened rest p more some)
+outer_some opened scopes p are some =
+    let found = found_of opened (reverse scopes.declared.items) (found_in scopes) are.1 p in
+    let outside = namespace_of outer_scope p in
+    sym (some_kind (namespace_of (scope_of opened) p)) ∙ ap is_some (sym found)
+    ∙ some_or (found_in scopes p) (option_map kind_of outside) (some_kind outside ∙ some)
 
 -- a tag with this end whose text goes on
 deep_tag : (from : Point) (old : Elements) (before : List ℕ) (x : IsAtText old before from) (end : TagEnd)
@@ -406,7 +406,7 @@ cut_goes from old before x told inside shallow tail c =
     let k = kept_open old.stage x.opened from.stage kept in
     let set : is_some (namespace_of (filter_map declared tag.attributes ++ scope_of x.opened) tag.name.prefix) ≡ true =
     some_append (filter_map declared tag.attributes) outer_scope (scope_of x.opened) tag.name.prefix
-    (outer_some x.opened (reverse old.scopes.levels.items) tag.name.prefix x.scopes.1) found.spelled.1 in
+    (outer_some x.opened old.scopes tag.name.prefix x.scopes) found.spelled.1 in
     let same : from.text ≡ before = x.text ∙ ap (λ t. before ++ t) tail ∙ append-nil before in (
       c.0,
       record {

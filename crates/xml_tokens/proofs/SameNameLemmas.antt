@@ -1,17 +1,15 @@
--- Names that are the same, and the set of those that were seen.
-use Rattle.std.proofs.Common.{◌≡◌, ℕ, Bool, true, false, cond, ◌||◌, List, [], ◌∷◌, ◌++◌, refl, sym, ap, ◌∙◌, ⊎_elim}
-use Rattle.std.proofs.Common.{Ordering, suc, length, ◌<◌, arith}
+-- Names that are the same.
+use Rattle.std.proofs.Common.{◌≡◌, ℕ, true, false, ◌||◌, List, [], ◌∷◌, ◌++◌, refl, sym, ap, ◌∙◌, ⊎_elim}
+use Rattle.std.proofs.Common.{suc}
+use Rattle.std.proofs.Common.{◌+◌, add-one, append_assoc, drop, take}
+use Rattle.std.proofs.lemmas.List.{map-append, take-append-drop}
 use Rattle.std.specs.Prelude.{bytes_eq}
 use Rattle.std.specs.List.{IsDistinct, AllByRecursion, list_any}
-use Rattle.std.specs.Borrow.{Bor}
-use Rattle.std.specs.BTreeSet.{BTreeSet, contains, Updates}
-use Rattle.std.specs.Cmp.Lexicographic.{slice_cmp}
-use Rattle.std.specs.Ordering.{nat_cmp, is_eq}
-use Rattle.std.proofs.lemmas.Bool.{both_ways, cases_Bool, cond-true, cond-false, or_parts, or_cases, or_left, or_right}
+use Rattle.std.proofs.lemmas.Bool.{both_ways, or_parts, or_cases}
 use Rattle.std.proofs.lemmas.Bool.{false_from_ne_true}
-use Rattle.std.proofs.lemmas.List.Folds.{list_any-append}
-use Rattle.std.proofs.lemmas.Map.Text.{is_eq-slice_cmp}
 use Rattle.std.proofs.lemmas.Slice.Eq.{bytes_eq-Decides}
+use Rattle.xml_tokens.specs.declared.tag.Attribute.{Attribute as Raw}
+use Rattle.xml_tokens.specs.Reading.{TellsSame, names}
 
 swapped : (x y : List ℕ) → bytes_eq y x ≡ false → bytes_eq x y ≡ false
 swapped x y e = false_from_ne_true (bytes_eq x y)
@@ -21,16 +19,6 @@ differs_last : (x y : List ℕ) (xs : List (List ℕ)) → AllByRecursion (λ z.
     bytes_eq x y ≡ false → AllByRecursion (λ z. bytes_eq x z ≡ false) (xs ++ y ∷ [])
 differs_last x y [] all last = (last, tt)
 differs_last x y (z ∷ xs) all last = (all.0, differs_last x y xs all.1 last)
-
-few_more : (n : ℕ) → suc (suc n) < 2 → ⊥
-few_more n few = omega (arith, few)
-
--- fewer than two names
-pub distinct_few : (xs : List (List ℕ)) → length xs < 2 → IsDistinct bytes_eq xs
-unfolding IsDistinct
-distinct_few [] few = tt
-distinct_few (x ∷ []) few = (tt, tt)
-distinct_few (x ∷ y ∷ xs) few = absurd (few_more (length xs) few)
 
 -- one more name, which isn't among the others
 pub distinct_more : (xs : List (List ℕ)) (y : List ℕ) → IsDistinct bytes_eq xs → list_any (bytes_eq y) xs ≡ false →
@@ -62,30 +50,37 @@ pub no_names : IsDistinct bytes_eq []
 unfolding IsDistinct
 no_names = tt
 
-or_false : (b : Bool) → (b || false) ≡ b
-or_false true = refl
-or_false false = refl
+-- a name that stands before is the same
+pub tells_same : (xs : List (List ℕ)) (y : List ℕ) (zs : List (List ℕ)) → list_any (bytes_eq y) xs ≡ true →
+    TellsSame (xs ++ y ∷ zs) true
+tells_same xs y zs some = (λ _ distinct. not_distinct xs y zs some distinct, λ never. absurd (both_ways true never refl))
 
--- names in the order in which a set keeps them
-abbrev pub in_order : Bor (List ℕ) → Bor (List ℕ) → Ordering
-in_order x y = slice_cmp nat_cmp x.now y.now
+-- no names are the same
+pub tells_none : (xs : List (List ℕ)) → IsDistinct bytes_eq xs → TellsSame xs false
+tells_none xs distinct = (λ never. absurd (both_ways false refl never), λ _. distinct)
 
--- the set has these names
-abbrev pub HasNames : List (List ℕ) → BTreeSet (Bor (List ℕ)) → Type 0
-HasNames xs seen = (k : Bor (List ℕ)) → contains in_order seen k ≡ list_any (bytes_eq k.now) xs
+abbrev pub no_attribute : Raw
+no_attribute = record {
+  name = record { ref_ptr = (0, 0); now = [] };
+  written = record { ref_ptr = (0, 0); now = [] };
+}
 
-pub names_more : (xs : List (List ℕ)) (y : Bor (List ℕ)) (seen after : BTreeSet (Bor (List ℕ))) → HasNames xs seen →
-    Updates in_order seen after y true → HasNames (xs ++ y.now ∷ []) after
-names_more xs y seen after has updates = λ k.
-    let at : is_eq (slice_cmp nat_cmp y.now k.now) ≡ bytes_eq y.now k.now = is_eq-slice_cmp y.now k.now in
-    let last = list_any-append (bytes_eq k.now) xs (y.now ∷ []) in
-    updates.0 k ∙ ap (λ b. cond b true (contains in_order seen k)) at
-    ∙ ⊎_elim
-    (λ same. cond-true (bytes_eq y.now k.now) _ _ same
-    ∙ sym (last ∙ or_right (list_any (bytes_eq k.now) xs) (bytes_eq k.now y.now || false)
-    (or_left (bytes_eq k.now y.now) false
-    ((bytes_eq-Decides k.now y.now).1 (sym ((bytes_eq-Decides y.now k.now).0 same))))))
-    (λ other. cond-false (bytes_eq y.now k.now) _ _ other ∙ has k
-    ∙ sym (last ∙ ap (λ b. list_any (bytes_eq k.now) xs || (b || false)) (swapped k.now y.now other)
-    ∙ or_false (list_any (bytes_eq k.now) xs)))
-    (cases_Bool (bytes_eq y.now k.now))
+-- one more name
+pub names_next : (raws : List Raw) (i : ℕ) (a : Raw) → take (suc i) raws ≡ take i raws ++ a ∷ [] →
+    names (take (i + 1) raws) ≡ names (take i raws) ++ a.name.now ∷ []
+names_next raws i a is =
+    ap (λ n. names (take n raws)) (add-one i) ∙ ap names is
+    ∙ map-append (λ (x : Raw). x.name.now) (take i raws) (a ∷ [])
+
+-- the names before one, and those behind it
+pub names_all : (raws : List Raw) (i : ℕ) (a : Raw) → take (suc i) raws ≡ take i raws ++ a ∷ [] →
+    names raws ≡ names (take i raws) ++ a.name.now ∷ names (drop (suc i) raws)
+names_all raws i a is =
+    ap names (sym (take-append-drop (suc i) raws) ∙ ap (λ xs. xs ++ drop (suc i) raws) is
+    ∙ append_assoc (take i raws) (a ∷ []) (drop (suc i) raws))
+    ∙ map-append (λ (x : Raw). x.name.now) (take i raws) (a ∷ drop (suc i) raws)
+
+pub any_name : (name : List ℕ) (raws : List Raw) →
+    list_any (λ a. bytes_eq name a.name.now) raws ≡ list_any (bytes_eq name) (names raws)
+any_name name [] = refl
+any_name name (a ∷ raws) = ap (λ b. bytes_eq name a.name.now || b) (any_name name raws)

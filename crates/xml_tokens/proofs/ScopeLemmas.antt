@@ -1,63 +1,32 @@
--- The scopes of prefixes, and the levels in which a reader keeps them.
+-- The scopes of prefixes, and the declarations of the open elements.
 use Rattle.std.proofs.Common.{◌≡◌, ℕ, List, [], ◌∷◌, ◌++◌, reverse, Bool, true, false, cond, Option, Some, None}
 use Rattle.std.proofs.Common.{option_map}
-use Rattle.std.proofs.Common.{refl, sym, ap, subst, ◌∙◌, bytes_eq, ◌+◌, ◌<◌, ◌==◌, ◌-◌, length, inl, inr, arith}
-use Rattle.std.proofs.lemmas.Bool.{eqb-false, eqb-true}
-use Rattle.std.specs.Prelude.{option_to_list}
-use Rattle.std.specs.BTreeMap.{is_at}
-use Rattle.std.specs.Cmp.Lexicographic.{slice_cmp}
-use Rattle.std.specs.Map.{lookup}
-use Rattle.std.specs.Ordering.{nat_cmp}
-use Rattle.std.specs.Prelude.{filter_map, is_some}
+use Rattle.std.proofs.Common.{refl, sym, ap, subst, ◌∙◌, bytes_eq, ◌+◌, ◌-◌, ◌<◌, ◌==◌, length, arith, Ok, Err}
+use Rattle.std.proofs.Common.{add-one, get_or, take}
+use Rattle.std.proofs.Math.Path.{fun_ext}
+use Rattle.std.proofs.lemmas.Bool.{eqb-false, eqb-true, both_ways}
+use Rattle.std.specs.Prelude.{option_to_list, filter_map, is_some, IsSome, OnErr, OnOk, Result}
 use Rattle.std.specs.List.{AllZip, cons_option}
 use Rattle.std.specs.Option.{option_or}
-use Rattle.std.proofs.lemmas.List.{reverse-append}
-use Rattle.std.proofs.lemmas.List.Elements.{filter_map-append}
+use Rattle.std.proofs.lemmas.List.{reverse-append, reverse-reverse, take_all}
+use Rattle.std.proofs.Math.Seq.{take-suc}
 use Rattle.std.proofs.lemmas.Slice.Eq.{bytes_eq-Decides}
 use Rattle.xml_tokens.specs.declared.scopes.Namespace.{Namespace}
+use Rattle.xml_tokens.specs.declared.scopes.Declaration.{Declaration}
+use Rattle.xml_tokens.specs.declared.scopes.Scopes.{Scopes}
 use Rattle.xml_tokens.specs.declared.tag.Attribute.{Attribute as Raw}
 use Rattle.xml_tokens.specs.Tokens.{Attribute}
 use Rattle.xml_tokens.specs.Stages.{Binding, Open, Scope, declared, namespace_of, outer_scope}
 use Rattle.xml_tokens.specs.Reading.{kind_of}
-use Rattle.xml_tokens.specs.Scopes.{Level, IsLawfulOf, IsLevelOf, AreLevelsOf, AreDeclarations, AddsDeclaration}
-use Rattle.xml_tokens.specs.Scopes.{AreScopesOf, OpensScope, is_first, scope_of}
-use Rattle.xml_tokens.specs.declared.scopes.Declaring.{Declaring}
-use Rattle.xml_tokens.specs.declared.scopes.Scopes.{Scopes}
+use Rattle.xml_tokens.specs.Scopes.{Found, AreFoundOf, AreDeclaredIn, AreDeclarationsOf, AreScopesOf, Declares}
+use Rattle.xml_tokens.specs.Scopes.{IsDeclaring, IsLawfulOf, IsTakenOut, IsWithin, OpensScope, before_declaration, found_in}
+use Rattle.xml_tokens.specs.Scopes.{is_first, scope_of}
 
-few_less : (m n : ℕ) → m < n → m ≡ n → ⊥
-few_less m n below same = omega (arith, below, same)
-
--- a prefix that is declared has its own namespace
-namespace_found : (own s : Scope) (p v : List ℕ) → namespace_of own p ≡ Some v → namespace_of (own ++ s) p ≡ Some v
-namespace_found [] s p v = λ e. cc
-namespace_found (b ∷ own) s p v = elim (bytes_eq b.prefix p) as (λ t.
-    cond t (Some b.namespace) (namespace_of own p) ≡ Some v →
-    cond t (Some b.namespace) (namespace_of (own ++ s) p) ≡ Some v)
-    [ true ↦ λ e. e | false ↦ λ e. namespace_found own s p v e ]
-
--- any other has that of the scope around it
-namespace_missed : (own s : Scope) (p : List ℕ) → namespace_of own p ≡ None →
-    namespace_of (own ++ s) p ≡ namespace_of s p
-namespace_missed [] s p = λ e. refl
-namespace_missed (b ∷ own) s p = elim (bytes_eq b.prefix p) as (λ t.
-    cond t (Some b.namespace) (namespace_of own p) ≡ None →
-    cond t (Some b.namespace) (namespace_of (own ++ s) p) ≡ namespace_of s p)
-    [ true ↦ λ e. cc | false ↦ λ e. namespace_missed own s p e ]
-
--- the namespaces of a scope in another
-pub scope_append : (own s : Scope) (p : List ℕ) →
-    option_or (option_map kind_of (namespace_of own p)) (option_map kind_of (namespace_of s p))
-    ≡ option_map kind_of (namespace_of (own ++ s) p)
-scope_append own s p =
-    let G : Type 0 = option_or (option_map kind_of (namespace_of own p)) (option_map kind_of (namespace_of s p))
-    ≡ option_map kind_of (namespace_of (own ++ s) p) in
-    let at : (o : Option (List ℕ)) → namespace_of own p ≡ o → G = λ o.
-    elim o as (λ v. namespace_of own p ≡ v → G) [
-      | None ↦ λ e. ap (λ x. option_or (option_map kind_of x) (option_map kind_of (namespace_of s p))) e
-          ∙ ap (option_map kind_of) (sym (namespace_missed own s p e))
-      | Some v ↦ λ e. ap (λ x. option_or (option_map kind_of x) (option_map kind_of (namespace_of s p))) e
-          ∙ ap (option_map kind_of) (sym (namespace_found own s p v e))
-    ] in at (namespace_of own p) refl
+-- the namespaces in the innermost of some elements
+pub found_of : (opened : List Open) (declarations : List Declaration) (found : Found) →
+    AreDeclarationsOf opened declarations found → AreFoundOf (scope_of opened) found
+found_of [] declarations found are = are.1
+found_of (element ∷ opened) declarations found are = are.0
 
 declared_value : (a : Attribute) (b : Binding) → declared a ≡ Some b → b.namespace ≡ a.value
 declared_value a b = elim (bytes_eq a.name.prefix (120 ∷ 109 ∷ 108 ∷ 110 ∷ 115 ∷ [])) as (λ t.
@@ -91,251 +60,241 @@ binding_of a prefix e =
           (b, some, cc, declared_value a b some)
     ] in at (declared a) refl
 
-one_declared : (own : Scope) (a : Attribute) (b : Binding) → declared a ≡ Some b →
-    own ++ filter_map declared (a ∷ []) ≡ own ++ b ∷ []
-one_declared own a b e = ap (λ o. own ++ cons_option o []) e
+-- an attribute that declares no prefix
+none_declared : (a : Attribute) → None ≡ option_map (λ b. b.prefix) (declared a) → declared a ≡ None
+none_declared a e =
+    let at : (o : Option Binding) → declared a ≡ o → declared a ≡ None = λ o. elim o as (λ v. declared a ≡ v → declared a ≡ None) [
+      | None ↦ λ none. none
+      | Some b ↦ λ some. let bad : None ≡ Some b.prefix = e ∙ ap (option_map (λ b. b.prefix)) some in absurd cc
+    ] in at (declared a) refl
 
-one_kind : (b : Binding) (p : List ℕ) →
-    option_map kind_of (namespace_of (b ∷ []) p) ≡ cond (bytes_eq b.prefix p) (Some (kind_of b.namespace)) None
-one_kind b p = elim (bytes_eq b.prefix p) as (λ t.
-    option_map kind_of (cond t (Some b.namespace) None) ≡ cond t (Some (kind_of b.namespace)) None)
-    [ true ↦ refl | false ↦ refl ]
+itself : (p : List ℕ) → bytes_eq p p ≡ true
+itself p = (bytes_eq-Decides p p).1 refl
 
-none_left : (x : Option Namespace) → option_or x None ≡ x
-none_left None = refl
-none_left (Some x) = refl
+-- the namespaces before a declaration are those before it was made
+undone : (d : Declaration) (kind : Namespace) (before after : Found) → d.before ≡ before d.prefix.now →
+    ((p : List ℕ) → after p ≡ cond (bytes_eq d.prefix.now p) (Some kind) (before p)) →
+    before ≡ before_declaration d after
+undone d kind before after had set = fun_ext (λ p.
+    let both : (t : Bool) → bytes_eq d.prefix.now p ≡ t → after p ≡ cond t (Some kind) (before p) →
+    before p ≡ cond t d.before (after p) = λ t.
+    elim t as (λ t. bytes_eq d.prefix.now p ≡ t → after p ≡ cond t (Some kind) (before p) →
+    before p ≡ cond t d.before (after p)) [
+      | true ↦ λ e is. ap before (sym ((bytes_eq-Decides d.prefix.now p).0 e)) ∙ sym had
+      | false ↦ λ e is. sym is
+    ] in both (bytes_eq d.prefix.now p) refl (set p))
 
-is_none : {A : Type 0} (o : Option A) → is_some o ≡ false → o ≡ None
-is_none None e = refl
-is_none (Some x) e = cc
+-- the prefix that is declared has its new namespace
+is_set : (d : Declaration) (kind : Namespace) (before after : Found) →
+    ((p : List ℕ) → after p ≡ cond (bytes_eq d.prefix.now p) (Some kind) (before p)) → IsSome (after d.prefix.now)
+is_set d kind before after set =
+    ap is_some (set d.prefix.now) ∙ ap (λ t. is_some (cond t (Some kind) (before d.prefix.now))) (itself d.prefix.now)
 
--- a declaration of a prefix that is new is added
-pub adds_new : (own : Scope) (a : Attribute) (prefix : List ℕ) (kind : Namespace)
-    (old new : List ℕ → Option Namespace) →
-    Some prefix ≡ option_map (λ b. b.prefix) (declared a) → kind ≡ kind_of a.value →
-    ((p : List ℕ) → old p ≡ option_map kind_of (namespace_of own p)) → is_some (old prefix) ≡ false →
-    ((p : List ℕ) → new p ≡ cond (bytes_eq prefix p) (Some kind) (old p)) →
-    (p : List ℕ) → new p ≡ option_map kind_of (namespace_of (own ++ filter_map declared (a ∷ [])) p)
-adds_new own a prefix kind old new is value has absent set p =
-    let b = binding_of a prefix is in
-    let none : old prefix ≡ None = is_none (old prefix) absent in
-    let whole : option_map kind_of (namespace_of (own ++ filter_map declared (a ∷ [])) p)
-    ≡ option_or (old p) (cond (bytes_eq prefix p) (Some kind) None) =
-    ap (λ s. option_map kind_of (namespace_of s p)) (one_declared own a b.0 b.1)
-    ∙ sym (scope_append own (b.0 ∷ []) p)
-    ∙ ap (λ x. option_or x (option_map kind_of (namespace_of (b.0 ∷ []) p))) (sym (has p))
-    ∙ ap (option_or (old p)) (one_kind b.0 p)
-    ∙ ap (λ x. option_or (old p) (cond (bytes_eq x p) (Some (kind_of b.0.namespace)) None)) b.2
-    ∙ ap (λ x. option_or (old p) (cond (bytes_eq prefix p) (Some x) None)) (ap kind_of b.3 ∙ sym value) in
-    let same : (t : Bool) → bytes_eq prefix p ≡ t →
-    cond t (Some kind) (old p) ≡ option_or (old p) (cond t (Some kind) None) = λ t.
-    elim t as (λ t. bytes_eq prefix p ≡ t → cond t (Some kind) (old p) ≡ option_or (old p) (cond t (Some kind) None)) [
-      | true ↦ λ e.
-          let equal : prefix ≡ p = (bytes_eq-Decides prefix p).0 e in
-          let gone : old p ≡ None = ap old (sym equal) ∙ none in
-          ap (λ x. option_or x (Some kind)) (sym gone)
-      | false ↦ λ e. sym (none_left (old p))
-    ] in
-    set p ∙ same (bytes_eq prefix p) refl ∙ sym whole
+found_more : (b : Binding) (scope : Scope) (kind : Namespace) (before after : Found) → kind ≡ kind_of b.namespace →
+    ((p : List ℕ) → after p ≡ cond (bytes_eq b.prefix p) (Some kind) (before p)) →
+    AreFoundOf scope before → AreFoundOf (b ∷ scope) after
+found_more b scope kind before after named set are p =
+    let outside : Option Namespace = option_map kind_of (namespace_of outer_scope p) in
+    let both : (t : Bool) → option_or (cond t (Some kind) (before p)) outside
+    ≡ option_map kind_of (cond t (Some b.namespace) (namespace_of scope p)) = λ t.
+    elim t as (λ t. option_or (cond t (Some kind) (before p)) outside
+    ≡ option_map kind_of (cond t (Some b.namespace) (namespace_of scope p)))
+    [ true ↦ ap Some named | false ↦ are p ] in
+    ap (λ x. option_or x outside) (set p) ∙ both (bytes_eq b.prefix p)
 
--- a declaration of a prefix that is there adds nothing
-pub adds_known : (own : Scope) (a : Attribute) (prefix : List ℕ) (old : List ℕ → Option Namespace) →
-    Some prefix ≡ option_map (λ b. b.prefix) (declared a) →
-    ((p : List ℕ) → old p ≡ option_map kind_of (namespace_of own p)) → is_some (old prefix) ≡ true →
-    (p : List ℕ) → old p ≡ option_map kind_of (namespace_of (own ++ filter_map declared (a ∷ [])) p)
-adds_known own a prefix old is has there p =
-    let b = binding_of a prefix is in
-    let whole : option_map kind_of (namespace_of (own ++ filter_map declared (a ∷ [])) p)
-    ≡ option_or (old p) (cond (bytes_eq prefix p) (Some (kind_of b.0.namespace)) None) =
-    ap (λ s. option_map kind_of (namespace_of s p)) (one_declared own a b.0 b.1)
-    ∙ sym (scope_append own (b.0 ∷ []) p)
-    ∙ ap (λ x. option_or x (option_map kind_of (namespace_of (b.0 ∷ []) p))) (sym (has p))
-    ∙ ap (option_or (old p)) (one_kind b.0 p)
-    ∙ ap (λ x. option_or (old p) (cond (bytes_eq x p) (Some (kind_of b.0.namespace)) None)) b.2 in
-    let kept : (x : Option Namespace) (y : Option Namespace) → is_some x ≡ true → x ≡ option_or x y =
-    λ x y. elim x as (λ v. is_some v ≡ true → v ≡ option_or v y) [ None ↦ λ e. absurd cc | Some v ↦ λ e. refl ] in
-    let same : (t : Bool) → bytes_eq prefix p ≡ t →
-    old p ≡ option_or (old p) (cond t (Some (kind_of b.0.namespace)) None) = λ t.
-    elim t as (λ t. bytes_eq prefix p ≡ t →
-    old p ≡ option_or (old p) (cond t (Some (kind_of b.0.namespace)) None)) [
-      | true ↦ λ e.
-          let equal : prefix ≡ p = (bytes_eq-Decides prefix p).0 e in
-          kept (old p) (Some (kind_of b.0.namespace)) (ap (λ x. is_some (old x)) (sym equal) ∙ there)
-      | false ↦ λ e. sym (none_left (old p))
-    ] in
-    same (bytes_eq prefix p) refl ∙ sym whole
+-- a prefix is declared
+declares_one : (opened : List Open) (own : Scope) (b : Binding) (d : Declaration) (kind : Namespace)
+    (before after : Scopes) → d.prefix.now ≡ b.prefix → d.outer ≡ before.depth → d.before ≡ found_in before d.prefix.now →
+    kind ≡ kind_of b.namespace →
+    ((p : List ℕ) → found_in after p ≡ cond (bytes_eq d.prefix.now p) (Some kind) (found_in before p)) →
+    after.depth ≡ before.depth → after.declared.items ≡ before.declared.items ++ d ∷ [] →
+    IsDeclaring opened own before → IsDeclaring opened (b ∷ own) after
+declares_one opened own b d kind before after prefix outer had named set depth items
+    ((at, mine, others, around, split, made, are), found) = (
+      (
+        depth ∙ at,
+        d ∷ mine,
+        others,
+        around,
+        ap reverse items ∙ reverse-append before.declared.items (d ∷ []) ∙ ap (λ ds. d ∷ ds) split,
+        (
+          outer ∙ at,
+          is_set d kind (found_in before) (found_in after) set,
+          subst (AreDeclaredIn (length opened) mine around) (undone d kind (found_in before) (found_in after) had set) made,
+        ),
+        are,
+      ),
+      found_more b (own ++ scope_of opened) kind (found_in before) (found_in after) named
+          (λ p. set p ∙ ap (λ x. cond (bytes_eq x p) (Some kind) (found_in before p)) prefix) found,
+    )
 
--- an element that declares nothing
-none_adds : (own s : Scope) (p : List ℕ) → None ≡ option_map kind_of (namespace_of own p) →
-    option_map kind_of (namespace_of (own ++ s) p) ≡ option_map kind_of (namespace_of s p)
-none_adds own s p none =
-    sym (scope_append own s p) ∙ ap (λ x. option_or x (option_map kind_of (namespace_of s p))) (sym none)
+-- the attribute declares a prefix
+pub adds_declaration : (raw : Raw) (prefix : List ℕ) (d : Declaration) (kind : Namespace) (before after : Scopes) →
+    ((a : Attribute) → IsLawfulOf a raw →
+    (Some prefix ≡ option_map (λ b. b.prefix) (declared a)) × (kind ≡ kind_of a.value)) →
+    d.prefix.now ≡ prefix → d.outer ≡ before.depth → d.before ≡ found_in before d.prefix.now →
+    ((p : List ℕ) → found_in after p ≡ cond (bytes_eq d.prefix.now p) (Some kind) (found_in before p)) →
+    after.depth ≡ before.depth → after.declared.items ≡ before.declared.items ++ d ∷ [] → Declares raw before after
+adds_declaration raw prefix d kind before after says same outer had set depth items opened own a lawful declaring =
+    let said = says a lawful in
+    let b = binding_of a prefix said.0 in
+    subst (λ o. IsDeclaring opened (cons_option o own) after) (sym b.1)
+    (declares_one opened own b.0 d kind before after (same ∙ sym b.2) outer had (said.1 ∙ ap kind_of (sym b.3)) set depth
+    items declaring)
 
--- the scope where no element declares a prefix
-pub no_levels : (opened : List Open) (p : List ℕ) → AreLevelsOf opened [] →
-    option_map kind_of (namespace_of outer_scope p) ≡ option_map kind_of (namespace_of (scope_of opened) p)
-no_levels [] p are = refl
-no_levels (element ∷ opened) p (own, scope, inl (none, outer)) =
-    no_levels opened p outer ∙ sym (none_adds own (scope_of opened) p (none p))
-    ∙ ap (λ s. option_map kind_of (namespace_of s p)) (sym scope)
-no_levels (element ∷ opened) p (own, scope, inr (level, rest, split, at, is, outer)) = absurd cc
+-- the attribute declares no prefix
+pub adds_nothing : (raw : Raw) (scopes : Scopes) →
+    ((a : Attribute) → IsLawfulOf a raw → None ≡ option_map (λ b. b.prefix) (declared a)) →
+    Declares raw scopes scopes
+adds_nothing raw scopes says opened own a lawful declaring =
+    subst (λ o. IsDeclaring opened (cons_option o own) scopes) (sym (none_declared a (says a lawful))) declaring
 
-front_step : (opened : List Open) (levels : List Declaring) (level : Declaring) (p : List ℕ)
-    (found here : Option Namespace) →
-    ((opened : List Open) → AreLevelsOf opened levels → found ≡ option_map kind_of (namespace_of (scope_of opened) p)) →
-    ((own : Scope) → IsLevelOf own level.declared → here ≡ option_map kind_of (namespace_of own p)) →
-    AreLevelsOf opened (level ∷ levels) →
-    option_or here found ≡ option_map kind_of (namespace_of (scope_of opened) p)
-front_step [] levels level p found here outer own are = absurd cc
-front_step (element ∷ opened) levels level p found here outer own (mine, scope, inl (none, more)) =
-    front_step opened levels level p found here outer own more ∙ sym (none_adds mine (scope_of opened) p (none p))
-    ∙ ap (λ s. option_map kind_of (namespace_of s p)) (sym scope)
-front_step (element ∷ opened) levels level p found here outer own (mine, scope, inr (first, rest, split, at, is, more)) =
-    let one : level ≡ first = cc in
-    let others : levels ≡ rest = cc in
-    ap (λ x. option_or x found) (own mine (subst (λ l. IsLevelOf mine l.declared) (sym one) is))
-    ∙ ap (option_or (option_map kind_of (namespace_of mine p)))
-    (outer opened (subst (AreLevelsOf opened) (sym others) more))
-    ∙ scope_append mine (scope_of opened) p
-    ∙ ap (λ s. option_map kind_of (namespace_of s p)) (sym scope)
+-- the attributes at the end of a tag are declared
+abbrev pub IsDeclaredFrom : List Raw → Scopes → Scopes → Type 0
+IsDeclaredFrom raws before after =
+    (opened : List Open) (read : List Attribute) → AllZip IsLawfulOf read raws → AreScopesOf opened before →
+    IsDeclaring opened (filter_map declared read) after
 
--- one more level, and the prefixes that it declares
-pub level_step : (opened : List Open) (levels : List Declaring) (level : Declaring) (p : List ℕ)
-    (found here : Option Namespace) →
-    ((opened : List Open) → AreLevelsOf opened (reverse levels) →
-    found ≡ option_map kind_of (namespace_of (scope_of opened) p)) →
-    ((own : Scope) → IsLevelOf own level.declared → here ≡ option_map kind_of (namespace_of own p)) →
-    AreLevelsOf opened (reverse (levels ++ level ∷ [])) →
-    option_or here found ≡ option_map kind_of (namespace_of (scope_of opened) p)
-level_step opened levels level p found here outer own are =
-    front_step opened (reverse levels) level p found here outer own
-    (subst (AreLevelsOf opened) (reverse-append levels (level ∷ [])) are)
-
--- the elements that declare prefixes are inside fewer elements than are open
-outer_below : (opened : List Open) (level : Declaring) (levels : List Declaring) → AreLevelsOf opened (level ∷ levels) →
-    level.outer < length opened
-outer_below [] level levels are = absurd cc
-outer_below (element ∷ opened) level levels (own, scope, inl (none, more)) =
-    let below = outer_below opened level levels more in omega arith
-outer_below (element ∷ opened) level levels (own, scope, inr (first, rest, split, at, is, more)) =
-    let one : level.outer ≡ first.outer = cc in omega (arith, one, at)
-
--- the innermost element is closed, and its declarations are dropped
-pub left_declaring : (element : Open) (opened : List Open) (level : Declaring) (levels : List Declaring) →
-    AreLevelsOf (element ∷ opened) (level ∷ levels) → level.outer ≡ length opened → AreLevelsOf opened levels
-left_declaring element opened level levels (own, scope, inl (none, more)) at =
-    let below = outer_below opened level levels more in absurd (few_less level.outer (length opened) below at)
-left_declaring element opened level levels (own, scope, inr (first, rest, split, at', is, more)) at =
-    let others : levels ≡ rest = cc in subst (AreLevelsOf opened) (sym others) more
-
--- it declares nothing
-pub left_silent : (element : Open) (opened : List Open) (levels : List Declaring) →
-    AreLevelsOf (element ∷ opened) levels → is_first (length opened) levels ≡ false → AreLevelsOf opened levels
-left_silent element opened levels (own, scope, inl (none, more)) other = more
-left_silent element opened levels (own, scope, inr (first, rest, split, at, is, more)) other =
-    let first_is : is_first (length opened) levels ≡ (first.outer == length opened) = ap (is_first (length opened)) split in
-    absurd (eqb-false first.outer (length opened) (sym first_is ∙ other) at)
-
--- an element with declarations is opened
-pub opens_declaring : (raws : List Raw) (before : Scopes) (level : Level) (after : Scopes) → AreDeclarations raws level →
-    after.depth ≡ before.depth + 1 →
-    after.levels.items ≡ before.levels.items ++ record { outer = before.depth; declared = level } ∷ [] →
-    OpensScope raws before after
-opens_declaring raws before level after are depth items opened name read all (at, levels) = (
-  omega (arith, depth, at),
-  (
-    filter_map declared read,
-    refl,
-    inr (
-      record { outer = before.depth; declared = level },
-      reverse before.levels.items,
-      ap reverse items ∙ reverse-append before.levels.items (record { outer = before.depth; declared = level } ∷ []),
-      at,
-      are read all,
-      levels,
-    ),
-  ),
+pub none_yet : (scopes : Scopes) → IsDeclaredFrom [] scopes scopes
+none_yet scopes opened [] all (at, are) = (
+  (at, [], reverse scopes.declared.items, found_in scopes, refl, refl, are),
+  found_of opened (reverse scopes.declared.items) (found_in scopes) are,
 )
+none_yet scopes opened (a ∷ read) all are = absurd all
 
--- one without declarations
-pub opens_silent : (raws : List Raw) (before : Scopes) (level : Level) (after : Scopes) → AreDeclarations raws level →
-    level.entries ≡ [] → after.depth ≡ before.depth + 1 → after.levels.items ≡ before.levels.items →
-    OpensScope raws before after
-opens_silent raws before level after are empty depth items opened name read all (at, levels) = (
-  omega (arith, depth, at),
-  (
-    filter_map declared read,
-    refl,
-    inl (
-      (λ p. sym (ap (lookup (is_at (λ k. slice_cmp nat_cmp p k.now))) empty) ∙ are read all p),
-      subst (λ xs. AreLevelsOf opened (reverse xs)) (sym items) levels,
-    ),
-  ),
-)
+declared_more : (raw : Raw) (raws : List Raw) (before middle after : Scopes) → IsDeclaredFrom raws before middle →
+    Declares raw middle after → IsDeclaredFrom (raw ∷ raws) before after
+declared_more raw raws before middle after so_far declares opened [] all are = absurd all
+declared_more raw raws before middle after so_far declares opened (a ∷ read) all are =
+    declares opened (filter_map declared read) a all.0 (so_far opened read all.1 are)
 
-first_some : (depth : ℕ) (levels : List Declaring) → is_first depth (reverse levels) ≡ true → 0 < length levels
+-- the last n attributes
+abbrev pub last_of : ℕ → List Raw → List Raw
+last_of n raws = reverse (take n (reverse raws))
+
+pub one_more : (raws : List Raw) (n : ℕ) (raw : Raw) (before middle after : Scopes) → n < length (reverse raws) →
+    raw ≡ get_or (reverse raws) n raw → IsDeclaredFrom (last_of n raws) before middle → Declares raw middle after →
+    IsDeclaredFrom (last_of (n + 1) raws) before after
+one_more raws n raw before middle after short at so_far declares =
+    let xs = reverse raws in
+    let grown : take (n + 1) xs ≡ take n xs ++ raw ∷ [] =
+    ap (λ k. take k xs) (add-one n) ∙ take-suc xs n raw short ∙ ap (λ r. take n xs ++ r ∷ []) (sym at) in
+    subst (λ rs. IsDeclaredFrom rs before after) (sym (ap reverse grown ∙ reverse-append (take n xs) (raw ∷ [])))
+    (declared_more raw (last_of n raws) before middle after so_far declares)
+
+pub opens : (raws : List Raw) (n : ℕ) (before middle after : Scopes) → n ≡ length (reverse raws) →
+    IsDeclaredFrom (last_of n raws) before middle → after ≡ record middle { depth = after.depth } →
+    after.depth ≡ middle.depth + 1 → OpensScope raws before after
+opens raws n before middle after all are same depth opened name read lawful scopes =
+    let whole : last_of n raws ≡ raws = ap reverse (take_all n (reverse raws) (omega (arith, all))) ∙ reverse-reverse raws in
+    let declaring : IsDeclaring opened (filter_map declared read) middle =
+    are opened read (subst (λ rs. AllZip IsLawfulOf read rs) (sym whole) lawful) scopes in
+    let within = declaring.0 in (
+      omega (arith, depth, within.0),
+      subst (λ s. AreDeclarationsOf (record { name = name; scope = filter_map declared read ++ scope_of opened } ∷ opened)
+          (reverse s.declared.items) (found_in s)) (sym same)
+          (declaring.1, within.1, within.2, within.3, within.4, within.5, within.6),
+    )
+
+few_less : (m n : ℕ) → m < n → m ≡ n → ⊥
+few_less m n below same = omega (arith, below, same)
+
+-- a declaration of an open element is inside fewer elements than are open
+outer_below : (opened : List Open) (d : Declaration) (ds : List Declaration) (found : Found) →
+    AreDeclarationsOf opened (d ∷ ds) found → d.outer < length opened
+outer_below [] d ds found are = absurd cc
+outer_below (element ∷ opened) d ds found (of, [], others, outer, split, made, are) =
+    let below = outer_below opened d ds outer (subst (λ xs. AreDeclarationsOf opened xs outer) (sym split) are) in
+    omega arith
+outer_below (element ∷ opened) d ds found (of, e ∷ own, others, outer, split, made, are) =
+    let one : d.outer ≡ e.outer = cc in
+    let at = made.0 in omega (arith, one, at)
+
+first_some : (depth : ℕ) (declarations : List Declaration) → is_first depth (reverse declarations) ≡ true → 0 < length declarations
 first_some depth [] is = absurd cc
-first_some depth (level ∷ levels) is = omega arith
+first_some depth (declaration ∷ declarations) is = omega arith
 
--- the innermost element is closed, and its level is taken away
-pub leaves_declaring : (element : Open) (opened : List Open) (before after : Scopes) (popped : Option Declaring) →
-    AreScopesOf (element ∷ opened) before → after.depth ≡ before.depth - 1 →
-    is_first after.depth (reverse before.levels.items) ≡ true →
-    before.levels.items ≡ after.levels.items ++ option_to_list popped →
-    (0 < length before.levels.items → is_some popped ≡ true) → AreScopesOf opened after
-leaves_declaring element opened before after None (at, levels) depth is items some =
-    let none : false ≡ true = some (first_some after.depth before.levels.items is) in absurd cc
-leaves_declaring element opened before after (Some level) (at, levels) depth is items some =
-    let inside : after.depth ≡ length opened = omega (arith, depth, at) in
-    let split : reverse before.levels.items ≡ level ∷ reverse after.levels.items =
-    ap reverse items ∙ reverse-append after.levels.items (level ∷ []) in
-    let first : level.outer ≡ after.depth =
-    eqb-true level.outer after.depth (sym (ap (is_first after.depth) split) ∙ is) in (
-      inside,
-      left_declaring element opened level (reverse after.levels.items) (subst (AreLevelsOf (element ∷ opened)) split levels)
-          (first ∙ inside),
+-- the last declaration of an element is taken out
+pub taken_out : (before after : Scopes) (popped : Option Declaration) →
+    after ≡ record before { declared = after.declared } →
+    is_first before.depth (reverse before.declared.items) ≡ true →
+    before.declared.items ≡ after.declared.items ++ option_to_list popped →
+    (0 < length before.declared.items → is_some popped ≡ true) → IsTakenOut before popped after
+taken_out before after None same is items some =
+    let none : false ≡ true = some (first_some before.depth before.declared.items is) in absurd cc
+taken_out before after (Some d) same is items some =
+    let split : reverse before.declared.items ≡ d ∷ reverse after.declared.items =
+    ap reverse items ∙ reverse-append after.declared.items (d ∷ []) in
+    (same, eqb-true d.outer before.depth (sym (ap (is_first before.depth) split) ∙ is), items)
+
+-- the innermost element begins to be closed
+pub leaving : (element : Open) (opened : List Open) (before after : Scopes) → after ≡ record before { depth = after.depth } →
+    after.depth ≡ before.depth - 1 → AreScopesOf (element ∷ opened) before → IsWithin opened after
+leaving element opened before after same depth (at, are) =
+    let here : after.depth ≡ length opened = omega (arith, depth, at) in
+    let within : IsWithin opened (record before { depth = after.depth }) =
+    (here, are.1, are.2, are.3, are.4, are.5, are.6) in
+    subst (IsWithin opened) (sym same) within
+
+-- the last declaration is undone
+pub undoes : (opened : List Open) (d : Declaration) (before middle after : Scopes) → IsTakenOut before (Some d) middle →
+    after ≡ record middle { namespaces = after.namespaces } →
+    (IsSome (found_in middle d.prefix.now) →
+    (p : List ℕ) → found_in after p ≡ before_declaration d (found_in middle) p) →
+    IsWithin opened before → IsWithin opened after
+undoes opened d before middle after (same, inside, items) kept back (at, [], others, outer, split, made, are) =
+    let first : reverse before.declared.items ≡ d ∷ reverse middle.declared.items =
+    ap reverse items ∙ reverse-append middle.declared.items (d ∷ []) in
+    let below = outer_below opened d (reverse middle.declared.items) outer
+    (subst (λ xs. AreDeclarationsOf opened xs outer) (sym split ∙ first) are) in
+    absurd (few_less d.outer (length opened) below (inside ∙ at))
+undoes opened d before middle after (same, inside, items) kept back (at, e ∷ own, others, outer, split, made, are) =
+    let first : reverse before.declared.items ≡ d ∷ reverse middle.declared.items =
+    ap reverse items ∙ reverse-append middle.declared.items (d ∷ []) in
+    let both : d ∷ reverse middle.declared.items ≡ e ∷ (own ++ others) = sym first ∙ split in
+    let one : d ≡ e = cc both in
+    let rest : reverse middle.declared.items ≡ own ++ others = cc both in
+    let found : found_in middle ≡ found_in before = ap found_in same in
+    let some : IsSome (found_in middle d.prefix.now) = ap (λ f. is_some (f d.prefix.now)) found
+    ∙ subst (λ x. IsSome (found_in before x.prefix.now)) (sym one) made.1 in
+    let now : before_declaration e (found_in before) ≡ found_in after =
+    ap (λ x. before_declaration x (found_in before)) (sym one)
+    ∙ fun_ext (λ p. sym (back some p ∙ ap (λ f. before_declaration d f p) found)) in (
+      ap (λ s. s.depth) kept ∙ ap (λ s. s.depth) same ∙ at,
+      own,
+      others,
+      outer,
+      ap (λ s. reverse s.declared.items) kept ∙ rest,
+      subst (AreDeclaredIn (length opened) own outer) now made.2,
+      are,
     )
 
--- the innermost element is closed, which declares nothing
-pub leaves_silent : (element : Open) (opened : List Open) (before after : Scopes) → AreScopesOf (element ∷ opened) before →
-    after.depth ≡ before.depth - 1 → is_first after.depth (reverse before.levels.items) ≡ false →
-    after.levels.items ≡ before.levels.items → AreScopesOf opened after
-leaves_silent element opened before after (at, levels) depth is items =
-    let inside : after.depth ≡ length opened = omega (arith, depth, at) in (
-      inside,
-      subst (λ xs. AreLevelsOf opened (reverse xs)) (sym items)
-          (left_silent element opened (reverse before.levels.items) levels
-          (subst (λ n. is_first n (reverse before.levels.items) ≡ false) inside is)),
-    )
+all_undone : (opened : List Open) (scopes : Scopes) → is_first scopes.depth (reverse scopes.declared.items) ≡ false →
+    IsWithin opened scopes → AreScopesOf opened scopes
+all_undone opened scopes other (at, [], others, outer, split, made, are) = (
+  at,
+  subst (AreDeclarationsOf opened (reverse scopes.declared.items)) made
+      (subst (λ xs. AreDeclarationsOf opened xs outer) (sym split) are),
+)
+all_undone opened scopes other (at, e ∷ own, others, outer, split, made, are) =
+    let first : is_first scopes.depth (reverse scopes.declared.items) ≡ (e.outer == scopes.depth) =
+    ap (is_first scopes.depth) split in
+    absurd (eqb-false e.outer scopes.depth (sym first ∙ other) (made.0 ∙ sym at))
 
--- the last level is the first one of the reversed levels
-pub first_of_last : (levels : List Declaring) (last : Declaring) (rest : List Declaring) (depth : ℕ) →
-    levels ≡ rest ++ last ∷ [] → (last.outer == depth) ≡ is_first depth (reverse levels)
-first_of_last levels last rest depth split =
+-- all declarations of the innermost element are undone
+pub leaves : (opened : List Open) (before after : Scopes) → IsTakenOut before None after → IsWithin opened before →
+    AreScopesOf opened after
+leaves opened before after (same, other) within =
+    subst (AreScopesOf opened) (sym same) (all_undone opened before other within)
+
+-- an entry that is there is changed without new memory
+pub changed : {A E : Type 0} (r : Result A E) (U : Type 0) (x : Option Namespace) → OnOk r U → OnErr r (x ≡ None) →
+    IsSome x → U
+changed (Ok v) U x new none some = new
+changed (Err e) U x new none some = absurd (both_ways (is_some x) (ap is_some none) some)
+
+-- the last declaration is the first one of the reversed declarations
+pub first_of_last : (declarations : List Declaration) (last : Declaration) (rest : List Declaration) (depth : ℕ) →
+    declarations ≡ rest ++ last ∷ [] → (last.outer == depth) ≡ is_first depth (reverse declarations)
+first_of_last declarations last rest depth split =
     sym (ap (λ xs. is_first depth (reverse xs)) split ∙ ap (is_first depth) (reverse-append rest (last ∷ [])))
-
--- the last of some attributes as they are written
-last_read : (read : List Attribute) (raws : List Raw) (raw : Raw) → AllZip IsLawfulOf read (raws ++ raw ∷ []) →
-    (before : List Attribute) × (a : Attribute) × (read ≡ before ++ a ∷ []) × AllZip IsLawfulOf before raws
-    × IsLawfulOf a raw
-last_read [] [] raw all = absurd all
-last_read [] (r ∷ raws) raw all = absurd all
-last_read (a ∷ []) [] raw all = ([], a, refl, tt, all.0)
-last_read (a ∷ b ∷ read) [] raw all = absurd all.1
-last_read (a ∷ read) (r ∷ raws) raw all =
-    let behind = last_read read raws raw all.1 in
-    (a ∷ behind.0, behind.1, ap (λ xs. a ∷ xs) behind.2, (all.0, behind.3), behind.4)
-
--- one more attribute
-pub declarations_step : (raws : List Raw) (raw : Raw) (before after : Level) → AreDeclarations raws before →
-    AddsDeclaration raw before after → AreDeclarations (raws ++ raw ∷ []) after
-declarations_step raws raw before after are adds read all =
-    let parts = last_read read raws raw all in
-    subst (λ own. IsLevelOf own after)
-    (sym (filter_map-append declared parts.0 (parts.1 ∷ [])) ∙ ap (filter_map declared) (sym parts.2))
-    (adds (filter_map declared parts.0) parts.1 parts.4 (are parts.0 parts.3))
-
--- no attributes
-pub no_declarations : (level : Level) → ((p : List ℕ) → IsLevelOf [] level) → AreDeclarations [] level
-no_declarations level none [] all = none []
-no_declarations level none (a ∷ read) all = absurd all

@@ -7,6 +7,7 @@ pub mod Children
 pub mod Order
 pub mod Refusal
 pub mod Reading
+pub mod Keys
 pub mod Scopes
 pub mod Progress
 pub mod Laws

@@ -4,7 +4,7 @@ use Rattle.std.specs.Prelude.{◌≡◌, ◌⊎◌, ℕ, ◌-◌, List, [], ◌�
 use Rattle.std.specs.Prelude.{◌&&◌, ◌==◌, drop}
 use Rattle.std.specs.Prelude.{Result, Ok, Err, codes, nat_eq}
 use Rattle.std.specs.Prelude.{Option, Some, is_some, nat_lt, bytes_eq, if◌then◌else◌, All, map, ◌≢◌, ◌<◌, ◌≤◌}
-use Rattle.std.specs.List.{list_all, AllZip}
+use Rattle.std.specs.List.{list_all, AllZip, IsDistinct}
 use Rattle.std.specs.Str.Parse.{IsNumeral, digits_value}
 use Rattle.atom_values.specs.Ascii.{ampersand, colon, less_than}
 use Rattle.atom_values.specs.XmlText.{is_xml_char, IsXmlText}
@@ -375,6 +375,10 @@ pairs raws = map (λ (a : Raw). (a.name.now, a.written.now)) raws
 
 abbrev pub names : List Raw → List (List ℕ)
 names raws = map (λ (a : Raw). a.name.now) raws
+
+-- whether two of some names are the same
+abbrev pub TellsSame : List (List ℕ) → Bool → Type 0
+TellsSame all same = (same ≡ true → ¬ IsDistinct bytes_eq all) × (same ≡ false → IsDistinct bytes_eq all)
 
 -- an attribute was read, and is kept as the last one
 abbrev pub IsAttributeRead : List ℕ → List Raw → List Raw → List ℕ → Type 0

@@ -1,13 +1,14 @@
 -- The scopes of prefixes as a reader keeps them.
-use Rattle.std.specs.Prelude.{◌≡◌, ◌⊎◌, ℕ, List, [], ◌∷◌, ◌++◌, length, reverse, filter_map, option_map, Option, None}
-use Rattle.std.specs.Prelude.{Bool, false, ◌==◌}
-use Rattle.std.specs.List.{AllZip}
-use Rattle.std.specs.Borrow.{Bor}
-use Rattle.std.specs.BTreeMap.{BTreeMap, get_by}
+use Rattle.std.specs.Prelude.{◌≡◌, ℕ, List, [], ◌∷◌, ◌++◌, length, reverse, filter_map, option_map, Option, None, Some}
+use Rattle.std.specs.Prelude.{Bool, false, ◌==◌, bytes_eq, if◌then◌else◌, IsSome}
+use Rattle.std.specs.List.{AllZip, cons_option}
+use Rattle.std.specs.Option.{option_or}
+use Rattle.std.specs.BTreeMap.{get_by}
 use Rattle.std.specs.Cmp.Lexicographic.{slice_cmp}
-use Rattle.std.specs.Ordering.{nat_cmp}
+use Rattle.std.specs.Ordering.{nat_cmp, ordering_then}
+use Rattle.xml_tokens.specs.Keys.{number_of}
 use Rattle.xml_tokens.specs.declared.scopes.Namespace.{Namespace}
-use Rattle.xml_tokens.specs.declared.scopes.Declaring.{Declaring}
+use Rattle.xml_tokens.specs.declared.scopes.Declaration.{Declaration}
 use Rattle.xml_tokens.specs.declared.scopes.Scopes.{Scopes}
 use Rattle.xml_tokens.specs.declared.tag.Attribute.{Attribute as Raw}
 use Rattle.xml_tokens.specs.Characters.{QName, IsQName, name_text}
@@ -19,57 +20,82 @@ use Rattle.xml_tokens.specs.Reading.{IsAttributeOf, kind_of}
 abbrev pub IsLawfulOf : Attribute → Raw → Type 0
 IsLawfulOf a raw = IsQName a.name × IsAttributeOf a raw
 
--- the declarations of an element by their prefixes
-abbrev pub Level : Type 0
-Level = BTreeMap (Bor (List ℕ)) Namespace
+-- the namespaces of the prefixes that are declared
+abbrev pub Found : Type 0
+Found = List ℕ → Option Namespace
 
--- the level has the namespaces of these bindings
-abbrev pub IsLevelOf : Scope → Level → Type 0
-IsLevelOf own level =
-    (prefix : List ℕ) → get_by (λ k. slice_cmp nat_cmp prefix k.now) level
-    ≡ option_map kind_of (namespace_of own prefix)
+abbrev pub found_in : Scopes → Found
+found_in scopes prefix =
+    get_by (λ k. ordering_then (nat_cmp (number_of prefix) k.0) (slice_cmp nat_cmp prefix k.1.now)) scopes.namespaces
+
+-- the namespaces of a scope, where a prefix that isn't declared has the one outside the root
+abbrev pub AreFoundOf : Scope → Found → Type 0
+AreFoundOf scope found =
+    (prefix : List ℕ) → option_or (found prefix) (option_map kind_of (namespace_of outer_scope prefix))
+    ≡ option_map kind_of (namespace_of scope prefix)
+
+-- the namespaces before a declaration
+abbrev pub before_declaration : Declaration → Found → Found
+before_declaration declaration found prefix =
+    if bytes_eq declaration.prefix.now prefix then declaration.before else found prefix
+
+-- the declarations of the element inside this many, the last one first, changed `outer` to `found`
+abbrev pub AreDeclaredIn : ℕ → List Declaration → Found → Found → Type 0
+AreDeclaredIn depth [] outer found = outer ≡ found
+AreDeclaredIn depth (declaration ∷ declarations) outer found =
+    (declaration.outer ≡ depth) × IsSome (found declaration.prefix.now)
+    × AreDeclaredIn depth declarations outer (before_declaration declaration found)
 
 -- the scope in the innermost of these elements
 abbrev pub scope_of : List Open → Scope
 scope_of [] = outer_scope
 scope_of (element ∷ opened) = element.scope
 
--- the element whose declarations these are: no prefix is declared
-abbrev pub DeclaresNone : Scope → Type 0
-DeclaresNone own = (prefix : List ℕ) → None ≡ option_map kind_of (namespace_of own prefix)
-
--- the levels are those of the elements that declare prefixes, the innermost first
-abbrev pub AreLevelsOf : List Open → List Declaring → Type 0
-AreLevelsOf [] levels = levels ≡ []
-AreLevelsOf (element ∷ opened) levels =
-    (own : Scope) × (element.scope ≡ own ++ scope_of opened)
-    × ((DeclaresNone own × AreLevelsOf opened levels)
-    ⊎ ((level : Declaring) × (outer : List Declaring) × (levels ≡ level ∷ outer) × (level.outer ≡ length opened)
-    × IsLevelOf own level.declared × AreLevelsOf opened outer))
+-- the declarations of these elements, the last one first, and the namespaces in the innermost of them
+abbrev pub AreDeclarationsOf : List Open → List Declaration → Found → Type 0
+AreDeclarationsOf [] declarations found = (declarations ≡ []) × AreFoundOf outer_scope found
+AreDeclarationsOf (element ∷ opened) declarations found =
+    AreFoundOf element.scope found
+    × (own : List Declaration) × (others : List Declaration) × (outer : Found) × (declarations ≡ own ++ others)
+    × AreDeclaredIn (length opened) own outer found × AreDeclarationsOf opened others outer
 
 abbrev pub AreScopesOf : List Open → Scopes → Type 0
-AreScopesOf opened scopes = (scopes.depth ≡ length opened) × AreLevelsOf opened (reverse scopes.levels.items)
+AreScopesOf opened scopes =
+    (scopes.depth ≡ length opened) × AreDeclarationsOf opened (reverse scopes.declared.items) (found_in scopes)
 
--- the innermost element that declares prefixes is the one inside this many; the levels are the innermost first
-abbrev pub is_first : ℕ → List Declaring → Bool
+-- some declarations of an element in these elements are there, too
+abbrev pub IsWithin : List Open → Scopes → Type 0
+IsWithin opened scopes =
+    (scopes.depth ≡ length opened) × (own : List Declaration) × (others : List Declaration) × (outer : Found)
+    × (reverse scopes.declared.items ≡ own ++ others) × AreDeclaredIn (length opened) own outer (found_in scopes)
+    × AreDeclarationsOf opened others outer
+
+-- the last declaration is one of the element inside this many; the declarations are the last one first
+abbrev pub is_first : ℕ → List Declaration → Bool
 is_first depth [] = false
-is_first depth (level ∷ levels) = level.outer == depth
+is_first depth (declaration ∷ declarations) = declaration.outer == depth
+
+-- the last declaration of the element inside `depth` elements is taken out, if there is one
+abbrev pub IsTakenOut : Scopes → Option Declaration → Scopes → Type 0
+IsTakenOut before None after = (after ≡ before) × (is_first before.depth (reverse before.declared.items) ≡ false)
+IsTakenOut before (Some declaration) after =
+    (after ≡ record before { declared = after.declared }) × (declaration.outer ≡ before.depth)
+    × (before.declared.items ≡ after.declared.items ++ declaration ∷ [])
 
 -- the prefix that an attribute of this name declares, if it does
 abbrev pub IsDeclaredPrefix : List ℕ → Option (List ℕ) → Type 0
 IsDeclaredPrefix name prefix =
     (a : Attribute) → IsQName a.name → name_text a.name ≡ name → prefix ≡ option_map (λ b. b.prefix) (declared a)
 
--- the declaration that an attribute is, if it is one, stands after those of the level before
-abbrev pub AddsDeclaration : Raw → Level → Level → Type 0
-AddsDeclaration raw before after =
-    (own : Scope) (a : Attribute) → IsLawfulOf a raw → IsLevelOf own before
-    → IsLevelOf (own ++ filter_map declared (a ∷ [])) after
+-- an element in these elements has these declarations
+abbrev pub IsDeclaring : List Open → Scope → Scopes → Type 0
+IsDeclaring opened own scopes = IsWithin opened scopes × AreFoundOf (own ++ scope_of opened) (found_in scopes)
 
--- the level has the declarations of an element
-abbrev pub AreDeclarations : List Raw → Level → Type 0
-AreDeclarations raws level =
-    (read : List Attribute) → AllZip IsLawfulOf read raws → IsLevelOf (filter_map declared read) level
+-- the declaration that an attribute is, if it is one, stands before the others
+abbrev pub Declares : Raw → Scopes → Scopes → Type 0
+Declares raw before after =
+    (opened : List Open) (own : Scope) (a : Attribute) → IsLawfulOf a raw → IsDeclaring opened own before
+    → IsDeclaring opened (cons_option (declared a) own) after
 
 -- an element with these attributes is opened
 abbrev pub OpensScope : List Raw → Scopes → Scopes → Type 0

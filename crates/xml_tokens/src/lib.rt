@@ -29,6 +29,7 @@ mod cursor;
 mod declaration;
 mod elements;
 mod fault;
+mod key;
 mod laws;
 mod reference;
 mod scopes;

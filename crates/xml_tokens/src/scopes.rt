@@ -1,10 +1,11 @@
-ghost use Rattle.std.specs.Prelude.{◌≡◌, List, [], ◌∷◌, option_map, reverse, OnOk, IfOk};
+ghost use Rattle.std.specs.Prelude.{◌≡◌, ℕ, List, [], ◌∷◌, option_map, reverse, IsSome, OnOk};
 ghost use Rattle.xml_tokens.specs.Characters.{QName, IsQName, name_text};
 ghost use Rattle.xml_tokens.specs.Stages.{Open, namespace_of, outer_scope};
 ghost use Rattle.xml_tokens.specs.Reading.{kind_of};
-ghost use Rattle.xml_tokens.specs.Scopes.{AddsDeclaration, AreDeclarations, AreScopesOf, IsDeclaredPrefix, OpensScope, is_first, scope_of};
+ghost use Rattle.xml_tokens.specs.Scopes.{AreScopesOf, Declares, IsDeclaredPrefix, IsTakenOut, OpensScope, before_declaration, found_in, is_first, scope_of};
 
 use crate::cursor::first;
+use crate::key::{Key, key};
 use crate::tag::Attribute;
 use crate::value::value;
 use atom_values::NoMemory;
@@ -43,19 +44,22 @@ pub enum Namespace {
 /// The namespaces in scope (Namespaces in XML 1.0, section 6). The empty prefix stands for the default namespace.
 #[derive(Drop)]
 pub(crate) struct Scopes<'a> {
-    /// The open elements that declare prefixes, the innermost last.
-    levels: Vec<Declaring<'a>>,
+    /// The namespaces of the prefixes that open elements declare.
+    namespaces: BTreeMap<Key<'a>, Namespace>,
+    /// The declarations of the open elements, the last one last.
+    declared: Vec<Declaration<'a>>,
     /// The number of open elements.
     depth: usize,
 }
 
-/// An open element that declares prefixes.
-#[derive(Drop)]
-struct Declaring<'a> {
-    /// The number of elements around it.
+/// A declaration of an open element, and what it replaced.
+#[derive(Clone, Copy)]
+struct Declaration<'a> {
+    /// The number of elements around the element.
     outer: usize,
-    /// Its declarations by their prefixes, so that a look-up stays short if there are thousands.
-    declared: BTreeMap<&'a [u8], Namespace>,
+    prefix: &'a [u8],
+    /// The namespace that the prefix had before. `None` if no open element declared it.
+    before: Option<Namespace>,
 }
 
 /// The prefix of a qualified name, which may be empty, and its local part.
@@ -110,46 +114,14 @@ fn outer_namespace(prefix: &[u8]) -> Option<Namespace>
     }
 }
 
-/// Adds the attribute to the declarations, if it declares a prefix that they don't have.
-fn add_declaration<'a>(
-    alloc: Global,
-    level: &mut BTreeMap<&'a [u8], Namespace>,
-    attribute: &Attribute<'a>,
-) -> Result<(), NoMemory>
-    ensures { OnOk result (AddsDeclaration attribute.now level.old level.new) }
-{
-    let Some(prefix) = declared_prefix(attribute.name) else {
-        return Ok(());
-    };
-    if level.contains_key(&prefix) {
-        return Ok(());
-    }
-    let name = value(alloc, attribute.written)?;
-    level.insert(prefix, namespace_of(name.as_slice()))?;
-    Ok(())
-}
-
-/// The declarations of an element by their prefixes.
-fn declarations<'a>(
-    alloc: Global,
-    attributes: &[Attribute<'a>],
-) -> Result<BTreeMap<&'a [u8], Namespace>, NoMemory>
-    ensures { IfOk result (AreDeclarations attributes.now) }
-{
-    let mut level = BTreeMap::new(alloc);
-    for attribute in attributes {
-        add_declaration(alloc, &mut level, attribute)?;
-    }
-    Ok(level)
-}
-
 impl<'a> Scopes<'a> {
     /// The scopes outside the root.
     pub(crate) fn new(alloc: Global) -> Scopes<'a>
         ensures { AreScopesOf [] result }
     {
         Scopes {
-            levels: Vec::new(alloc),
+            namespaces: BTreeMap::new(alloc),
+            declared: Vec::new(alloc),
             depth: 0,
         }
     }
@@ -162,42 +134,83 @@ impl<'a> Scopes<'a> {
     ) -> Result<(), NoMemory>
         ensures { OnOk result (OpensScope attributes.now self.old self.new) }
     {
-        let declared = declarations(alloc, attributes)?;
+        // The last one first, so that the first of two declarations of a prefix counts.
+        for attribute in attributes.iter().rev() {
+            self.add(alloc, attribute)?;
+        }
         // No memory holds so many open elements.
         let Some(depth) = self.depth.checked_add(1) else {
             return Err(NoMemory);
         };
-        if declared.is_empty() {
-            self.depth = depth;
-            return Ok(());
-        }
-        self.levels.push(Declaring {
-            outer: self.depth,
-            declared,
-        })?;
         self.depth = depth;
         Ok(())
     }
 
-    /// Drops the declarations of the innermost element.
+    /// Adds the declaration that the attribute is, if it is one.
+    fn add(&mut self, alloc: Global, attribute: &Attribute<'a>) -> Result<(), NoMemory>
+        ensures { OnOk result (Declares attribute.now self.old self.new) }
+    {
+        let Some(prefix) = declared_prefix(attribute.name) else {
+            return Ok(());
+        };
+        let name = value(alloc, attribute.written)?;
+        let namespace = namespace_of(name.as_slice());
+        let before = self.namespaces.insert(key(prefix), namespace)?;
+        self.declared.push(Declaration {
+            outer: self.depth,
+            prefix,
+            before,
+        })?;
+        Ok(())
+    }
+
+    /// Undoes the declarations of the innermost element, which is closed.
     pub(crate) fn leave(&mut self)
         ensures { (element : Open) (opened : List Open) → AreScopesOf (element ∷ opened) self.old
             → AreScopesOf opened self.new }
     {
         self.depth = self.depth.saturating_sub(1);
-        if self.declares() {
-            // Nobody reads the declarations of a closed element.
-            let _ = self.levels.pop();
+        while let Some(declaration) = self.take_out() {
+            self.undo(declaration);
         }
     }
 
-    /// Whether the last element that declares prefixes is the one inside `depth` elements.
-    fn declares(&self) -> bool
-        ensures { result ≡ is_first self.now.depth (reverse self.now.levels.items) }
+    /// Takes out the last declaration of the element inside `depth` elements. `None` if no more of them are left.
+    fn take_out(&mut self) -> Option<Declaration<'a>>
+        ensures { IsTakenOut self.old result self.new }
     {
-        match self.levels.as_slice().split_last() {
+        if self.declares() {
+            self.declared.pop()
+        } else {
+            None
+        }
+    }
+
+    /// Whether the last declaration is one of the element inside `depth` elements.
+    fn declares(&self) -> bool
+        ensures { result ≡ is_first self.now.depth (reverse self.now.declared.items) }
+    {
+        match self.declared.as_slice().split_last() {
             Some((last, _)) => last.outer == self.depth,
             None => false,
+        }
+    }
+
+    /// Gives the prefix of a declaration the namespace that it had before.
+    fn undo(&mut self, declaration: Declaration<'a>)
+        ensures kept { self.new ≡ record self.old { namespaces = self.new.namespaces } }
+        ensures undone { IsSome (found_in self.old declaration.entry.prefix.now)
+            → (prefix : List ℕ)
+            → found_in self.new prefix ≡ before_declaration declaration.entry (found_in self.old) prefix }
+    {
+        match declaration.before {
+            // The prefix has an entry, so the map needs no memory for it.
+            Some(namespace) => {
+                let _ = self.namespaces.insert(key(declaration.prefix), namespace);
+            }
+            None => {
+                let _ = self.namespaces.remove(&key(declaration.prefix));
+            }
         }
     }
 
@@ -206,10 +219,7 @@ impl<'a> Scopes<'a> {
         ensures { (opened : List Open) → AreScopesOf opened self.now
             → result ≡ option_map kind_of (namespace_of (scope_of opened) prefix.now) }
     {
-        let mut found = outer_namespace(prefix);
-        for level in &self.levels {
-            found = level.declared.get(&prefix).copied().or(found);
-        }
-        found
+        let declared = self.namespaces.get(&key(prefix)).copied();
+        declared.or(outer_namespace(prefix))
     }
 }

@@ -1,15 +1,19 @@
 ghost use Rattle.std.specs.Prelude.{◌≡◌, ◌≢◌, [], MatchResult, Ok, Err, IfOk, IsTrue, true, false, codes, bytes_eq};
-ghost use Rattle.std.specs.List.{IsDistinct};
+ghost use Rattle.std.specs.List.{list_any};
 ghost use Rattle.xml_tokens.specs.declared.cursor.Lapse.TheVariants.{Broken, Cut};
 ghost use Rattle.xml_tokens.specs.Characters.{begins};
 ghost use Rattle.xml_tokens.specs.Reading.{Reads, ReadsTag, IsAttributeRead, attribute_parts, value_behind};
-ghost use Rattle.xml_tokens.specs.Reading.{IsAttributeCut, ReadsBehindName, ReadsEmptyEnd, is_cut, names};
+ghost use Rattle.xml_tokens.specs.Reading.{IsAttributeCut, ReadsBehindName, ReadsEmptyEnd, TellsSame, is_cut, names};
+ghost use Rattle.xml_tokens.specs.Keys.{AreApart, HasNeighbors};
 ghost use Rattle.xml_tokens.specs.Tokens.{IsQuote};
 
 use crate::cursor::{Cursor, Lapse};
+use crate::key::{Key, key};
 use atom_values::NoMemory;
 use std::alloc::Global;
-use std::collections::BTreeSet;
+
+/// At most this many names are compared in pairs.
+const FEW: usize = 8;
 
 /// An attribute of a tag. Its value is as it is written between the quotes, and its references are checked.
 #[derive(Clone, Copy)]
@@ -48,23 +52,51 @@ impl Tag<'_> {
     }
 }
 
-/// Whether two attributes have the same name. A set of the names saves comparing all pairs.
+/// Whether two attributes have the same name.
 fn has_same_names(alloc: Global, attributes: &[Attribute<'_>]) -> Result<bool, NoMemory>
-    ensures { IfOk result (λ same.
-        (same ≡ true → ¬ IsDistinct bytes_eq (names attributes.now))
-        × (same ≡ false → IsDistinct bytes_eq (names attributes.now))) }
+    ensures { IfOk result (TellsSame (names attributes.now)) }
 {
-    // Most tags have one attribute at most, and a set of one name takes memory.
-    if attributes.len() < 2 {
-        return Ok(false);
+    if attributes.len() <= FEW {
+        return Ok(has_same_pair(attributes));
     }
-    let mut seen = BTreeSet::new(alloc);
+    let mut keys = Vec::with_capacity(alloc, attributes.len())?;
     for attribute in attributes {
-        if !seen.insert(attribute.name)? {
-            return Ok(true);
+        keys.push(key(attribute.name))?;
+    }
+    keys.sort_unstable();
+    Ok(has_same_neighbors(keys.as_slice()))
+}
+
+/// Whether two attributes have the same name. Compares each name with those before it.
+fn has_same_pair(attributes: &[Attribute<'_>]) -> bool
+    ensures { TellsSame (names attributes.now) result }
+{
+    for (index, attribute) in attributes.iter().enumerate() {
+        if has_name(&attributes[..index], attribute.name) {
+            return true;
         }
     }
-    Ok(false)
+    false
+}
+
+/// Whether an attribute has this name.
+fn has_name(attributes: &[Attribute<'_>], name: &[u8]) -> bool
+    ensures { result ≡ list_any (λ a. bytes_eq name.now a.name.now) attributes.now }
+{
+    attributes.iter().any(|attribute| name == attribute.name)
+}
+
+/// Whether a key equals the next one.
+fn has_same_neighbors(keys: &[Key<'_>]) -> bool
+    ensures some { result ≡ true → HasNeighbors keys.now }
+    ensures none { result ≡ false → AreApart keys.now }
+{
+    for next in 1..keys.len() {
+        if keys[next - 1] == keys[next] {
+            return true;
+        }
+    }
+    false
 }
 
 /// The lapse of a reference that ends at the end of its value: the text goes on, with a byte that isn't allowed in

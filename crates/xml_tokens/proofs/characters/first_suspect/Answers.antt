@@ -1,4 +1,4 @@
-use Rattle.std.proofs.Common.{◌+◌, ◌-◌, length, arith}
+use Rattle.std.proofs.Common.{◌-◌, length, arith}
 use Rattle.xml_tokens.proofs.SuspectLemmas.{suspect_found, suspect_nowhere}
 use Rattle.xml_tokens.proofs.characters.first_suspect.Goals as goal
 

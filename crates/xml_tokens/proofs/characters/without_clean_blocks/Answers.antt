@@ -1,4 +1,4 @@
-use Rattle.std.proofs.Common.{◌++◌, sym, ap, ◌∙◌, arith, take, drop}
+use Rattle.std.proofs.Common.{◌++◌, sym, ap, ◌∙◌, arith, drop}
 use Rattle.std.proofs.lemmas.List.{take-append-drop}
 use Rattle.xml_tokens.proofs.SuspectLemmas.{clean_start, clean_more}
 use Rattle.xml_tokens.proofs.characters.without_clean_blocks.Goals as goal

@@ -1,16 +1,25 @@
-use Rattle.std.proofs.Common.{refl, sym, ◌∙◌, arith}
-use Rattle.xml_tokens.proofs.ScopeLemmas.{leaves_declaring, leaves_silent}
+use Rattle.std.proofs.Common.{[], ◌∷◌, refl, ap, length, arith}
+use Rattle.std.proofs.lemmas.List.{length-append}
+use Rattle.xml_tokens.proofs.ScopeLemmas.{leaves, leaving, undoes}
 use Rattle.xml_tokens.proofs.scopes.Scopes.leave.Goals as goal
 
-pub returns-then-declares : goal.returns-then-declares
-returns-then-declares c = λ element opened are.
-    leaves_declaring element opened c.args.self.now
-    (record { levels = c.pop.new.self; depth = c.saturating_sub-self.result }) c.pop.result are
-    c.saturating_sub-self.ensures (sym c.declares.ensures ∙ c.if-declares.true) c.pop.ensures.items
-    (λ some. c.pop.ensures.variant.1 (omega (arith, c.args.self.now.levels.ok.0, some)))
+pub loop-declaration-init : goal.loop-declaration-init
+loop-declaration-init c = λ element opened are.
+    leaving element opened c.args.self.now (record c.args.self.now { depth = c.saturating_sub-self.result }) refl
+    c.saturating_sub-self.ensures are
 
-pub returns-else-declares : goal.returns-else-declares
-returns-else-declares c = λ element opened are.
-    leaves_silent element opened c.args.self.now
-    (record { levels = c.args.self.now.levels; depth = c.saturating_sub-self.result }) are
-    c.saturating_sub-self.ensures (sym c.declares.ensures ∙ c.if-declares.false) refl
+pub loop-declaration-smaller : goal.loop-declaration-smaller
+loop-declaration-smaller c =
+    let middle = c.take_out.new.self.declared.items in
+    let kept = ap (λ s. length s.declared.items) c.undo.ensures.kept in
+    omega (arith, ap length c.in-Some.ensures.2, length-append middle (c.in-Some.declaration ∷ []), kept)
+
+pub loop-declaration-preserved : goal.loop-declaration-preserved
+loop-declaration-preserved c = λ element opened are.
+    undoes opened c.in-Some.declaration c.loop-declaration.self c.take_out.new.self c.undo.new.self c.in-Some.ensures
+    c.undo.ensures.kept c.undo.ensures.undone (c.loop-declaration.invariant element opened are)
+
+pub returns : goal.returns
+returns c = λ element opened are.
+    leaves opened c.loop-declaration.self c.take_out.new.self c.in_default.ensures
+    (c.loop-declaration.invariant element opened are)
