@@ -1,37 +1,36 @@
 -- A child of an entry: its own refusals, and those of the elements in it.
 use Rattle.std.proofs.Common.{◌≡◌, ◌⊎◌, ◌≤◌, ◌<◌, ℕ, List, [], ◌∷◌, ◌++◌, Bool, true, false, cond, not, Option, Some}
 use Rattle.std.proofs.Common.{None}
-use Rattle.std.proofs.Common.{option_map, refl, sym, ap, subst, ◌∙◌, arith, inl, ⊎_elim, codes, IsTrue, All}
-use Rattle.std.specs.Prelude.{is_some, ℤ}
+use Rattle.std.proofs.Common.{option_map, refl, sym, ap, subst, ◌∙◌, arith, inl, ⊎_elim, codes, IsTrue}
+use Rattle.std.specs.Prelude.{is_some, ℤ, Result, Err, Ok}
 use Rattle.std.specs.List.{list_all}
 use Rattle.std.proofs.lemmas.Bool.{and_parts, both_ways, cond-false, cond-true, not-true, or_cases}
-use Rattle.std.proofs.lemmas.List.Elements.{All-append, All-cons, All-nil}
+use Rattle.std.proofs.lemmas.List.Elements.{All-head}
 use Rattle.atom_values.specs.DateText.{States}
 use Rattle.atom_values.specs.Space.{trimmed}
 use Rattle.entry_reader.specs.declared.fault.Why.{Why}
 use Rattle.entry_reader.specs.declared.fault.Why.TheVariants.{NotUtf8, Doctype, NotWellFormed, TooDeep, NotAnEntry}
 use Rattle.entry_reader.specs.declared.fault.Why.TheVariants.{Xhtml, OutOfLine, Draft, Missing, Twice, BadDate, TooMany}
 use Rattle.xml_tokens.specs.Tree.{Name, Element, Content, Event, contents}
-use Rattle.xml_tokens.specs.Tree.Content.{element}
+use Rattle.xml_tokens.specs.Tree.Content.{nothing, element}
 use Rattle.xml_tokens.specs.Children.{attribute, same_name, text_of}
 use Rattle.xml_tokens.specs.Names.{app, atom}
-use Rattle.entry_reader.specs.Faults.{HasFault, HasOtherType, Is, IsFaultless, IsFirstFault, IsPastLimit, LacksPart}
-use Rattle.entry_reader.specs.Faults.{SaysDraft, Seen, all_seen}
-use Rattle.entry_reader.specs.Faults.{constructs, count_before, dates, inline_texts, inside_of, is_one_of, persons}
-use Rattle.entry_reader.specs.Faults.{rank, single_parts, type_of}
+use Rattle.xml_tokens.specs.Order.{Placed, IsFaultless, all_placed, count_before}
+use Rattle.entry_reader.specs.Faults.{Within, HasFault, HasOtherType, Is, IsPastLimit, IsRefusalIn, LacksPart}
+use Rattle.entry_reader.specs.Faults.{SaysDraft, constructs, dates, entry_rules, inline_texts, inside_of, is_one_of}
+use Rattle.entry_reader.specs.Faults.{persons, rank, single_parts, type_of}
 use Rattle.entry_reader.specs.Faults.Within.{in_entry, in_person, in_text, in_skipped}
-use Rattle.std.specs.Prelude.{Result}
 use Rattle.std.specs.Result.{IsErrAnd}
 use Rattle.xml_tokens.specs.declared.elements.Elements.{Elements}
 use Rattle.xml_tokens.specs.declared.elements.Element.{Element as RawElement}
 use Rattle.entry_reader.specs.declared.fault.EarlyEnd.{EarlyEnd}
 use Rattle.entry_reader.specs.declared.fault.EarlyEnd.TheVariants.{Refused}
 use Rattle.xml_tokens.specs.Progress.{AreInner, IsAt, IsElementOf, IsLed, Point, first_place, pending}
-use Rattle.entry_reader.specs.Parts.{IsFaultlessIn, IsFirstRefusal, IsPartRead, IsStopped, Refuses}
+use Rattle.entry_reader.specs.Parts.{IsFaultlessIn, IsPartRead, IsStopped, Refuses}
 use Rattle.entry_reader.proofs.FieldLemmas.{name_is}
-use Rattle.entry_reader.proofs.PersonLemmas.{stop_is}
+use Rattle.entry_reader.proofs.PlacedLemmas.{before_rest, earlier, skipped_faultless, text_refusal}
+use Rattle.xml_tokens.proofs.OrderLemmas.{first_of_element, first_own, placed}
 use Rattle.xml_tokens.proofs.ProgressLemmas.{led_nowhere}
-use Rattle.entry_reader.proofs.SeenLemmas.{fault_before, fault_behind, skipped_faultless, text_refusal}
 
 -- a test that each of these names of Atom passes
 pub all_of : (f : Name → Bool) (locals : List (List ℕ)) (name : Name) → is_one_of locals name ≡ true →
@@ -59,13 +58,13 @@ entry_text e = cc
 entry_person : in_entry ≡ in_person → ⊥
 entry_person e = cc
 
--- a reason that is tried earlier isn't one that is tried later
-pub earlier : (why other later : Why) → rank other < rank why → rank why ≤ rank later → other ≡ later → ⊥
-earlier why other later low high same = let place : rank other ≡ rank later = ap rank same in omega arith
+module _ (before : List Element) (e : Element) (inner : Content) where
+  abbrev pub a_child : Placed Within
+  a_child = placed entry_rules in_entry before e inner
 
-module _ (before : List Name) (e : Element) (inner : Content) where
-  abbrev pub a_child : Seen
-  a_child = record { within = in_entry; before = before; child = record { element = e; content = inner } }
+  -- the first refusal of the child and the elements in it, if there is one
+  abbrev pub IsChildRefusal : Option (ℕ × Why) → Type 0
+  IsChildRefusal refusal = IsRefusalIn in_entry before (element e inner nothing) refusal
 
   -- a child is refused for one of these reasons
   pub child_reason : (other : Why) →
@@ -94,36 +93,34 @@ module _ (before : List Name) (e : Element) (inner : Content) where
 
   -- the child is refused itself
   pub child_fault : (why : Why) → HasFault why a_child →
-      ((other : Why) → rank other < rank why → HasFault other a_child → ⊥) → (rest : Content) →
-      IsFirstFault (all_seen in_entry before (element e inner rest)) e.place why
-  child_fault why fault first rest = record {
-    before = [];
-    first = a_child;
-    later = all_seen (inside_of in_entry e.name) [] inner ++ all_seen in_entry (before ++ e.name ∷ []) rest;
-    split = refl;
-    faultless = All-nil IsFaultless;
-    fault = (fault, first);
-    place = refl;
-  }
+      ((other : Why) → rank other < rank why → HasFault other a_child → ⊥) → IsChildRefusal (Some (e.place, why))
+  child_fault why fault first = first_own entry_rules in_entry before e inner why (fault, first)
 
-  child_faultless : IsFaultless a_child → All IsFaultless (all_seen (inside_of in_entry e.name) [] inner) →
-      IsFaultlessIn in_entry before e inner
-  child_faultless own all =
-      All-cons IsFaultless a_child (all_seen (inside_of in_entry e.name) [] inner ++ []) own
-      (All-append IsFaultless (all_seen (inside_of in_entry e.name) [] inner) [] all (All-nil IsFaultless))
+  -- the child isn't refused itself
+  pub child_inside : IsFaultless entry_rules a_child → (refusal : Option (ℕ × Why)) →
+      IsRefusalIn (inside_of in_entry e.name) [] inner refusal → IsChildRefusal refusal
+  child_inside own refusal inside = first_of_element entry_rules in_entry before e inner None refusal own inside
 
-  -- neither a person, nor a link or a category
+  pub own_faultless : IsFaultlessIn in_entry before e inner → IsFaultless entry_rules a_child
+  own_faultless all =
+      All-head (IsFaultless entry_rules) a_child (all_placed entry_rules (inside_of in_entry e.name) [] inner ++ []) all
+
+  -- a person, a link or a category
+  pub listed : {A B C : Type 0} → (Is in_entry persons a_child × A) ⊎ (Is in_entry (codes "link" ∷ []) a_child × B)
+      ⊎ (Is in_entry (codes "category" ∷ []) a_child × C) → (is_one_of persons e.name ≡ true → A → ⊥) →
+      (is_one_of (codes "link" ∷ []) e.name ≡ true → B → ⊥) →
+      (is_one_of (codes "category" ∷ []) e.name ≡ true → C → ⊥) → ⊥
+  listed h person link category =
+      ⊎_elim (λ p. person p.0.1 p.1) (λ q. ⊎_elim (λ p. link p.0.1 p.1) (λ p. category p.0.1 p.1) q) h
+
+  -- none of these
   pub no_list : {A B C : Type 0} → is_one_of persons e.name ≡ false → is_one_of (codes "link" ∷ []) e.name ≡ false →
       is_one_of (codes "category" ∷ []) e.name ≡ false → (Is in_entry persons a_child × A)
       ⊎ (Is in_entry (codes "link" ∷ []) a_child × B) ⊎ (Is in_entry (codes "category" ∷ []) a_child × C) → ⊥
   no_list person link category h =
-      ⊎_elim
-      (λ p. both_ways (is_one_of persons e.name) person p.0.1)
-      (λ q. ⊎_elim
-      (λ p. both_ways (is_one_of (codes "link" ∷ []) e.name) link p.0.1)
-      (λ p. both_ways (is_one_of (codes "category" ∷ []) e.name) category p.0.1)
-      q)
-      h
+      listed h (λ p a. both_ways (is_one_of persons e.name) person p)
+      (λ p b. both_ways (is_one_of (codes "link" ∷ []) e.name) link p)
+      (λ p c. both_ways (is_one_of (codes "category" ∷ []) e.name) category p)
 
   -- its attributes are no reason to refuse it
   pub record IsTyped : Type 0 where
@@ -163,8 +160,8 @@ module _ (before : List Name) (e : Element) (inner : Content) where
       (λ p same. no_list person link category p) (λ single. twice) date (λ p same. no_list person link category p)
 
   -- a second one
-  pub single_twice : is_one_of single_parts e.name ≡ true → IsTyped → 1 ≤ count_before a_child → (rest : Content) →
-      IsFirstFault (all_seen in_entry before (element e inner rest)) e.place Twice
+  pub single_twice : is_one_of single_parts e.name ≡ true → IsTyped → 1 ≤ count_before a_child →
+      IsChildRefusal (Some (e.place, Twice))
   single_twice is typed more =
       child_fault Twice (inl (refl, is), more)
       (λ other low. single_reason is other (λ p q same. typed.inline p q) (λ p q same. typed.xhtml p q)
@@ -173,57 +170,39 @@ module _ (before : List Name) (e : Element) (inner : Content) where
 
   -- a first one
   pub single_own : is_one_of single_parts e.name ≡ true → IsTyped → count_before a_child ≡ 0 →
-      (is_one_of dates e.name ≡ true → ((z : ℤ) → States (trimmed (text_of inner)) z → ⊥) → ⊥) → IsFaultless a_child
+      (is_one_of dates e.name ≡ true → ((z : ℤ) → States (trimmed (text_of inner)) z → ⊥) → ⊥) →
+      IsFaultless entry_rules a_child
   single_own is typed none date why =
       single_reason is why (λ p q same. typed.inline p q) (λ p q same. typed.xhtml p q)
       (λ p q same. typed.outside p q) (λ p same. let zero = none in omega arith) (λ p q same. date p q)
 
   -- a date whose text states none
   pub date_bad : is_one_of dates e.name ≡ true → IsTyped → count_before a_child ≡ 0 →
-      ((z : ℤ) → States (trimmed (text_of inner)) z → ⊥) → (rest : Content) →
-      IsFirstFault (all_seen in_entry before (element e inner rest)) e.place BadDate
+      ((z : ℤ) → States (trimmed (text_of inner)) z → ⊥) → IsChildRefusal (Some (e.place, BadDate))
   date_bad is typed none bad =
       child_fault BadDate ((refl, is), bad)
       (λ other low. single_reason (all_of (is_one_of single_parts) dates e.name is refl) other
       (λ p q same. typed.inline p q) (λ p q same. typed.xhtml p q) (λ p q same. typed.outside p q)
       (λ p same. let zero = none in omega arith) (λ p q. earlier BadDate other BadDate low (omega arith)))
 
-  inside_text : is_one_of single_parts e.name ≡ true →
-      all_seen (inside_of in_entry e.name) [] inner ≡ all_seen in_text [] inner
-  inside_text is =
-      ap (λ w. all_seen w [] inner)
-      (cond-true (is_one_of single_parts e.name) in_text (cond (is_one_of persons e.name) in_person in_skipped) is)
-
-  -- an element in it
-  pub single_inner : is_one_of single_parts e.name ≡ true → IsFaultless a_child → (at : ℕ) (why : Why) →
-      option_map refused_at (first_place inner) ≡ Some (at, why) → (rest : Content) →
-      IsFirstFault (all_seen in_entry before (element e inner rest)) at why
-  single_inner is own at why some rest =
-      let later = all_seen in_entry (before ++ e.name ∷ []) rest in
-      let fault : IsFirstRefusal (all_seen in_text [] inner) (Some (at, why)) =
-      subst (IsFirstRefusal (all_seen in_text [] inner)) some (text_refusal [] inner) in
-      subst (λ xs. IsFirstFault (a_child ∷ xs ++ later) at why) (sym (inside_text is))
-      (fault_behind (a_child ∷ []) (all_seen in_text [] inner ++ later) at why
-      (All-cons IsFaultless a_child [] own (All-nil IsFaultless))
-      (fault_before (all_seen in_text [] inner) later at why fault))
-
-  -- no element in it
-  pub single_faultless : is_one_of single_parts e.name ≡ true → IsFaultless a_child →
-      option_map refused_at (first_place inner) ≡ None → IsFaultlessIn in_entry before e inner
-  single_faultless is own none =
-      let all : IsFirstRefusal (all_seen in_text [] inner) None =
-      subst (IsFirstRefusal (all_seen in_text [] inner)) none (text_refusal [] inner) in
-      child_faultless own (subst (All IsFaultless) (sym (inside_text is)) all)
+  -- the elements in it
+  pub single_inside : is_one_of single_parts e.name ≡ true → IsFaultless entry_rules a_child →
+      (refusal : Option (ℕ × Why)) → option_map refused_at (first_place inner) ≡ refusal → IsChildRefusal refusal
+  single_inside is own refusal same =
+      child_inside own refusal
+      (subst (λ w. IsRefusalIn w [] inner refusal)
+      (sym (cond-true (is_one_of single_parts e.name) in_text (cond (is_one_of persons e.name) in_person in_skipped)
+      is))
+      (subst (IsRefusalIn in_text [] inner) same (text_refusal [] inner)))
 
   -- a child whose elements are read over
   pub skipped_child : is_one_of single_parts e.name ≡ false → is_one_of persons e.name ≡ false →
-      IsFaultless a_child → IsFaultlessIn in_entry before e inner
+      IsFaultless entry_rules a_child → IsChildRefusal None
   skipped_child single person own =
       let inside : inside_of in_entry e.name ≡ in_skipped =
       cond-false (is_one_of single_parts e.name) in_text (cond (is_one_of persons e.name) in_person in_skipped) single
       ∙ cond-false (is_one_of persons e.name) in_person in_skipped person in
-      child_faultless own
-      (subst (λ w. All IsFaultless (all_seen w [] inner)) (sym inside) (skipped_faultless [] inner))
+      child_inside own None (subst (λ w. IsRefusalIn w [] inner None) (sym inside) (skipped_faultless [] inner))
 
   -- a child that an entry may have more than once, or that is no part of it
   pub beside_reason : is_one_of single_parts e.name ≡ false → (other : Why) → (SaysDraft a_child → other ≡ Draft → ⊥) →
@@ -238,39 +217,47 @@ module _ (before : List Name) (e : Element) (inner : Content) where
       (λ p q same. none dates refl p) room
 
 -- a child that is refused when its content is read
-pub refuses_read : (before : List Name) (e : Element) (inner : Content) (told : List Event) → AreInner inner told →
-    (at : ℕ) (why : Why) → ((rest : Content) → IsFirstFault (all_seen in_entry before (element e inner rest)) at why) →
-    Refuses in_entry before e told at why
+pub refuses_read : (before : List Element) (e : Element) (inner : Content) (told : List Event) → AreInner inner told →
+    (at : ℕ) (why : Why) → IsChildRefusal before e inner (Some (at, why)) → Refuses in_entry before e told at why
 refuses_read before e inner told are at why fault later content rest outer same =
     let whole : inner ∷ contents later ≡ content ∷ (rest ∷ outer) = sym (are later) ∙ same in
     let one : inner ≡ content = cc in
-    subst (λ k. IsFirstFault (all_seen in_entry before (element e k rest)) at why) one (fault rest)
+    before_rest in_entry before e content rest (at, why)
+    (subst (λ k. IsChildRefusal before e k (Some (at, why))) one fault)
+
+-- a part that is stopped
+pub stop_is : {A : Type 0} (P : Result A EarlyEnd → Type 0) (stop : EarlyEnd) (r : Result A EarlyEnd) →
+    IsErrAnd r (λ s. s ≡ stop) → P (Err stop) → P r
+stop_is P stop (Ok v) same none = absurd same
+stop_is {A} P stop (Err x) same none =
+    let F : EarlyEnd → Type 0 = λ s. P (Err s) in
+    subst F (sym same) none
 
 -- a part that ends early
-pub part_stopped : {A : Type 0} (total : ℕ) (first : List Event) (from : Point) (before : List Name) (e : Element)
+pub part_stopped : {A : Type 0} (total : ℕ) (first : List Event) (from : Point) (before : List Element) (e : Element)
     (R : Content → A → Type 0) (stop : EarlyEnd) (r : Result A EarlyEnd) (new : Elements) → IsErrAnd r (λ s. s ≡ stop) →
     IsStopped total first from in_entry before e stop new → IsPartRead total first from in_entry before e R r new
 part_stopped total first from before e R stop r new same stopped =
     stop_is (λ r. IsPartRead total first from in_entry before e R r new) stop r same stopped
 
 -- a child that is refused itself before its content is read
-pub stopped_here : (old : Elements) (from : Point) (before : List Name) (e : Element) (raw : RawElement)
-    (stop : EarlyEnd)
-    (why : Why) → IsAt old from → IsElementOf e raw → stop ≡ Refused raw.at why →
-    ((inner rest : Content) → IsFirstFault (all_seen in_entry before (element e inner rest)) e.place why) →
+pub stopped_here : (old : Elements) (from : Point) (before : List Element) (e : Element) (raw : RawElement)
+    (stop : EarlyEnd) (why : Why) → IsAt old from → IsElementOf e raw → stop ≡ Refused raw.at why →
+    ((inner : Content) → IsChildRefusal before e inner (Some (e.place, why))) →
     IsStopped old.length (pending old) from in_entry before e stop old
 stopped_here old from before e raw stop why at of same fault =
     subst (λ s. IsStopped old.length (pending old) from in_entry before e s old)
-    (ap (λ place. Refused place why) of.place ∙ sym same)
-    ([], led_nowhere old from at, λ later inner rest outer whole. fault inner rest)
+    (ap (λ place. Refused place why) of.place ∙ sym same) (
+      [],
+      led_nowhere old from at,
+      λ later inner rest outer whole. before_rest in_entry before e inner rest (e.place, why) (fault inner),
+    )
 
 -- a child that is refused itself when its content is read
-pub stopped_read : (total : ℕ) (first : List Event) (from : Point) (before : List Name) (e : Element) (raw : RawElement)
-    (stop : EarlyEnd) (why : Why) (inner : Content) (told : List Event) (new : Elements) →
-    IsLed total first from told new →
-    AreInner inner told → IsElementOf e raw → stop ≡ Refused raw.at why →
-    ((rest : Content) → IsFirstFault (all_seen in_entry before (element e inner rest)) e.place why) →
-    IsStopped total first from in_entry before e stop new
+pub stopped_read : (total : ℕ) (first : List Event) (from : Point) (before : List Element) (e : Element)
+    (raw : RawElement) (stop : EarlyEnd) (why : Why) (inner : Content) (told : List Event) (new : Elements) →
+    IsLed total first from told new → AreInner inner told → IsElementOf e raw → stop ≡ Refused raw.at why →
+    IsChildRefusal before e inner (Some (e.place, why)) → IsStopped total first from in_entry before e stop new
 stopped_read total first from before e raw stop why inner told new led are of same fault =
     subst (λ s. IsStopped total first from in_entry before e s new)
     (ap (λ place. Refused place why) of.place ∙ sym same)

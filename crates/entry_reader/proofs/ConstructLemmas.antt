@@ -8,15 +8,15 @@ use Rattle.atom_values.specs.declared.text.TextKind.{TextKind}
 use Rattle.atom_values.specs.declared.text.TextKind.TheVariants.{Plain, Html}
 use Rattle.entry_reader.specs.declared.fault.Why.{Why}
 use Rattle.entry_reader.specs.declared.fault.Why.TheVariants.{NotAnEntry, Xhtml, OutOfLine, Twice, BadDate}
-use Rattle.xml_tokens.specs.Tree.{Name, Element, Content}
-use Rattle.xml_tokens.specs.Tree.Content.{element}
+use Rattle.xml_tokens.specs.Tree.{Element, Content}
 use Rattle.xml_tokens.specs.Children.{attribute, same_name}
 use Rattle.xml_tokens.specs.Names.{atom}
-use Rattle.entry_reader.specs.Faults.{HasFault, HasOtherType, IsFirstFault, all_seen, constructs, dates, inline_texts}
-use Rattle.entry_reader.specs.Faults.{is_one_of, rank, single_parts, type_of}
-use Rattle.entry_reader.specs.Faults.Within.{in_entry}
+use Rattle.entry_reader.specs.Faults.{HasFault, HasOtherType, constructs, dates, inline_texts, is_one_of, rank}
+use Rattle.entry_reader.specs.Faults.{single_parts, type_of}
 use Rattle.entry_reader.specs.Parts.{IsConstructKind, IsKindRead}
-use Rattle.entry_reader.proofs.ChildLemmas.{IsTyped, a_child, all_of, child_fault, earlier, none_of, single_reason}
+use Rattle.entry_reader.proofs.ChildLemmas.{IsChildRefusal, IsTyped, a_child, all_of, child_fault, none_of}
+use Rattle.entry_reader.proofs.ChildLemmas.{single_reason}
+use Rattle.entry_reader.proofs.PlacedLemmas.{earlier}
 
 -- no other type is one that is read
 pub kind_known : (type : Option (List ℕ)) (unknown : Why) (k : TextKind) → IsKindRead type unknown (Ok k) →
@@ -47,7 +47,7 @@ kind_value type unknown Html read =
     Html ≡ cond (bytes_eq (unwrap_or t (codes "text")) (codes "html")) Html Plain in
     subst P (sym read) refl
 
-module _ (before : List Name) (e : Element) (inner : Content) (is : is_one_of constructs e.name ≡ true) where
+module _ (before : List Element) (e : Element) (inner : Content) (is : is_one_of constructs e.name ≡ true) where
   -- a reason that is tried before a second element
   early : (other : Why) →
       (is_one_of inline_texts e.name ≡ true → HasOtherType (a_child before e inner) → other ≡ NotAnEntry → ⊥) →
@@ -61,16 +61,15 @@ module _ (before : List Name) (e : Element) (inner : Content) (is : is_one_of co
   -- a construct with an unknown type or with xhtml
   construct_kind : (is_content : Bool) (why : Why) → is_content ≡ same_name e.name (atom (codes "content")) →
       IsKindRead (type_of (a_child before e inner)) (cond is_content OutOfLine NotAnEntry) (Err why) →
-      (rest : Content) → IsFirstFault (all_seen in_entry before (element e inner rest)) e.place why
-  construct_kind is_content why content read rest =
-      let G : Why → Type 0 = λ w. IsFirstFault (all_seen in_entry before (element e inner rest)) e.place w in
+      IsChildRefusal before e inner (Some (e.place, why))
+  construct_kind is_content why content read =
+      let G : Why → Type 0 = λ w. IsChildRefusal before e inner (Some (e.place, w)) in
       let type : Option (List ℕ) = type_of (a_child before e inner) in
       ⊎_elim
       (λ x. subst G (sym x.1)
       (child_fault before e inner Xhtml ((refl, is), x.0)
       (λ other low. early other (λ p o same. let one : Some o.0 ≡ Some (codes "xhtml") = sym o.1 ∙ x.0 in
-      let two : o.0 ≡ codes "xhtml" = cc in o.4 two) (λ p. earlier Xhtml other Xhtml low (omega arith)) (omega arith))
-      rest))
+      let two : o.0 ≡ codes "xhtml" = cc in o.4 two) (λ p. earlier Xhtml other Xhtml low (omega arith)) (omega arith))))
       (λ y.
       let other_type : HasOtherType (a_child before e inner) = y.0 in
       let no_xhtml : type ≡ Some (codes "xhtml") → ⊥ = λ x.
@@ -85,21 +84,21 @@ module _ (before : List Name) (e : Element) (inner : Content) (is : is_one_of co
             (λ other low. early other
             (λ p o same. both_ways (is_one_of inline_texts e.name)
             (none_of (is_one_of inline_texts) (codes "content" ∷ []) e.name one refl) p)
-            (λ x same. no_xhtml x) low) rest
+            (λ x same. no_xhtml x) low)
         | false ↦ λ named.
             let inline : is_one_of inline_texts e.name ≡ true =
             ap (λ t. t || is_one_of inline_texts e.name) named ∙ is in
             child_fault before e inner NotAnEntry (inr ((refl, inline), other_type))
             (λ other low. early other (λ p o. earlier NotAnEntry other NotAnEntry low (omega arith))
-            (λ x. earlier NotAnEntry other Xhtml low (omega arith)) (omega arith)) rest
+            (λ x. earlier NotAnEntry other Xhtml low (omega arith)) (omega arith))
       ] in subst G (sym y.1) (at is_content content))
       read
 
   -- content that is elsewhere
   construct_src : (unknown : Why) (k : TextKind) → IsKindRead (type_of (a_child before e inner)) unknown (Ok k) →
       same_name e.name (atom (codes "content")) ≡ true →
-      is_some (attribute (codes "src") (a_child before e inner).child) ≡ true → (rest : Content) →
-      IsFirstFault (all_seen in_entry before (element e inner rest)) e.place OutOfLine
+      is_some (attribute (codes "src") (a_child before e inner).child) ≡ true →
+      IsChildRefusal before e inner (Some (e.place, OutOfLine))
   construct_src unknown k read content src =
       let type : Option (List ℕ) = type_of (a_child before e inner) in
       child_fault before e inner OutOfLine ((refl, ap (λ t. t || false) content), inl src)
@@ -124,16 +123,16 @@ module _ (before : List Name) (e : Element) (inner : Content) (is : is_one_of co
       }
 
   -- why a construct is refused for its attributes
-  pub construct_refused : (why : Why) → IsConstructKind e (Err why) → (rest : Content) →
-      IsFirstFault (all_seen in_entry before (element e inner rest)) e.place why
-  construct_refused why read rest =
+  pub construct_refused : (why : Why) → IsConstructKind e (Err why) →
+      IsChildRefusal before e inner (Some (e.place, why))
+  construct_refused why read =
       ⊎_elim
       (λ content. ⊎_elim
-      (λ type. construct_kind true why (sym content) type rest)
-      (λ src. subst (λ w. IsFirstFault (all_seen in_entry before (element e inner rest)) e.place w) (sym src.3)
-      (construct_src OutOfLine src.0 src.1 content src.2 rest))
+      (λ type. construct_kind true why (sym content) type)
+      (λ src. subst (λ w. IsChildRefusal before e inner (Some (e.place, w))) (sym src.3)
+      (construct_src OutOfLine src.0 src.1 content src.2))
       (read.0 content))
-      (λ other. construct_kind false why (sym other) (read.1 other) rest)
+      (λ other. construct_kind false why (sym other) (read.1 other))
       (cases_Bool (same_name e.name (atom (codes "content"))))
 
   -- a construct that isn't refused for its attributes

@@ -15,7 +15,7 @@ use Rattle.xml_tokens.specs.Children.{joined, with_child}
 use Rattle.entry_reader.proofs.ChildLemmas.{a_child}
 use Rattle.xml_tokens.proofs.ContentLemmas.{says}
 use Rattle.entry_reader.proofs.FieldLemmas.{said_named}
-use Rattle.entry_reader.proofs.SeenLemmas.{named_more, named_other}
+use Rattle.entry_reader.proofs.PlacedLemmas.{named_more, named_other}
 
 abbrev draft : Name
 draft = app (codes "draft")
@@ -46,7 +46,7 @@ drafts_more b e inner =
     ∙ ap (λ t. has_draft b || (t && is_other c)) (sym other))
     (cases_Bool (same_name e.name draft))
 
-module _ (before : List Name) (e : Element) (inner : Content) (is : e.name ≡ app (codes "control")) where
+module _ (before : List Element) (e : Element) (inner : Content) (is : e.name ≡ app (codes "control")) where
   pub says_draft : has_draft inner ≡ true → SaysDraft (a_child before e inner)
   says_draft has =
       let some = Any-from_list_any is_other (named draft inner) has in (

@@ -1,9 +1,8 @@
 -- The one draft that a document spells, and what a refusal says of the document.
-use Rattle.std.proofs.Common.{◌≡◌, ℕ, List, [], ◌∷◌, ◌++◌, length, sym, ap, subst, ◌∙◌, ⊎_elim, inl, All, IsTrue}
+use Rattle.std.proofs.Common.{◌≡◌, ℕ, List, [], ◌∷◌, ◌++◌, length, sym, ap, subst, ◌∙◌, ⊎_elim, inl, IsTrue}
 use Rattle.std.proofs.Common.{Option, Some, None, option_map, ℤ, codes}
 use Rattle.std.specs.Prelude.{Ok, Err}
 use Rattle.std.specs.Str.{is_utf8}
-use Rattle.std.proofs.lemmas.List.Elements.{All-head, All-tail}
 use Rattle.atom_values.specs.DateText.{States}
 use Rattle.atom_values.specs.Entry.{DraftValue}
 use Rattle.atom_values.specs.Space.{trimmed}
@@ -20,7 +19,8 @@ use Rattle.xml_tokens.specs.Tree.Content.{nothing}
 use Rattle.xml_tokens.specs.Tree.Event.{begin}
 use Rattle.entry_reader.specs.Entry.{IsMoment, IsReadAs, construct}
 use Rattle.xml_tokens.specs.Children.{Child, child, child_text}
-use Rattle.entry_reader.specs.Faults.{IsFaultless, IsFirstFault, Seen, all_seen}
+use Rattle.xml_tokens.specs.Order.{all_placed}
+use Rattle.entry_reader.specs.Faults.{IsRefusalIn, entry_rules}
 use Rattle.entry_reader.specs.Faults.Within.{in_entry}
 use Rattle.entry_reader.specs.Spells.{Spells, depth_limit}
 use Rattle.entry_reader.specs.Refusal.{IsNoEntryAt, IsRefusedAt, entry_fault, why_of}
@@ -28,6 +28,7 @@ use Rattle.xml_tokens.specs.Progress.{IsDrainedFrom, IsFaultFrom, IsLed, IsOver,
 use Rattle.entry_reader.specs.Parts.{IsEntryFrom}
 use Rattle.xml_tokens.proofs.DocumentLemmas.{over_leads}
 use Rattle.xml_tokens.proofs.OneDocumentLemmas.{document_of, fault_only, one_document, token_refused}
+use Rattle.xml_tokens.proofs.OrderLemmas.{no_first}
 use Rattle.xml_tokens.proofs.ProgressLemmas.{fault_on, led_on}
 
 one_moment : (text : List ℕ) (a b : ℤ) → States text a → States text b → a ≡ b
@@ -75,15 +76,6 @@ one_draft bytes a b x y =
     let same = one_document depth_limit bytes x.root y.root x.content y.content x.document y.document in
     one_read y.content a b (subst (λ c. IsReadAs c a) same.1 x.read) y.read
 
-all_after : (xs ys : List Seen) → All IsFaultless (xs ++ ys) → All IsFaultless ys
-all_after [] ys all = all
-all_after (x ∷ xs) ys all = all_after xs ys (All-tail IsFaultless x (xs ++ ys) all)
-
-pub no_fault : (all : List Seen) (at : ℕ) (why : Why) → All IsFaultless all → IsFirstFault all at why → ⊥
-no_fault all at why none f =
-    All-head IsFaultless f.first f.later
-    (all_after f.before (f.first ∷ f.later) (subst (All IsFaultless) f.split none)) why f.fault.0
-
 no_title : (o : Option Child) (draft : DraftValue) → option_map construct o ≡ Some draft.title → o ≡ None → ⊥
 no_title o draft has none =
     let bad : None ≡ Some draft.title = sym (ap (option_map construct) none) ∙ has in cc
@@ -97,8 +89,8 @@ no_entry bytes root inner at why draft x cause s =
     (λ other. other.0 (ap (λ (r : Element). r.name) same.0 ∙ s.is_entry))
     (λ entry.
     ⊎_elim
-    (λ fault. no_fault (all_seen in_entry [] s.content) at why s.faultless
-    (subst (λ c. IsFirstFault (all_seen in_entry [] c) at why) same.1 fault))
+    (λ fault. no_first entry_rules (all_placed entry_rules in_entry [] s.content) at why s.faultless
+    (subst (λ c. IsRefusalIn in_entry [] c (Some (at, why))) same.1 fault))
     (λ untitled. no_title (child (codes "title") s.content) draft s.read.title
     (subst (λ c. child (codes "title") c ≡ None) same.1 untitled.1))
     entry.1)

@@ -1,9 +1,8 @@
 -- An entry, child by child.
 use Rattle.std.proofs.Common.{◌≡◌, ℕ, List, [], ◌∷◌, ◌++◌, map, refl, sym, ap, subst, ◌∙◌, append_assoc, inl}
-use Rattle.std.proofs.Common.{inr, All, None, option_map, codes, true, false}
+use Rattle.std.proofs.Common.{inr, Some, None, option_map, codes, true, false}
 use Rattle.std.specs.Prelude.{Ok, Err}
 use Rattle.std.proofs.lemmas.Bool.{both_ways}
-use Rattle.std.proofs.lemmas.List.{append-nil}
 use Rattle.atom_values.specs.Entry.{DraftValue}
 use Rattle.atom_values.specs.Space.{trimmed}
 use Rattle.xml_tokens.specs.declared.elements.Elements.{Elements}
@@ -21,15 +20,17 @@ use Rattle.xml_tokens.specs.Children.{Child, child, child_text, first_of}
 use Rattle.xml_tokens.specs.Names.{atom}
 use Rattle.entry_reader.specs.Entry.{link, person}
 use Rattle.xml_tokens.specs.Children.{named, same_name}
-use Rattle.entry_reader.specs.Faults.{IsFaultless, IsFirstFault, all_seen}
+use Rattle.xml_tokens.specs.Order.{IsFirst, IsFirstFault, all_placed}
+use Rattle.entry_reader.specs.Faults.{IsRefusalIn, entry_rules}
 use Rattle.entry_reader.specs.Faults.Within.{in_entry}
 use Rattle.xml_tokens.specs.Progress.{IsDrainedFrom, IsFaultFrom, IsLed, Point, pending}
-use Rattle.entry_reader.specs.Parts.{ArePartsFrom, IsEntryFrom, IsSoFar, IsStopped}
-use Rattle.xml_tokens.specs.Children.{joined, names_of}
+use Rattle.entry_reader.specs.Parts.{ArePartsFrom, IsEntryFrom, IsSoFar, IsStopped, elements_of}
+use Rattle.xml_tokens.specs.Children.{joined}
 use Rattle.xml_tokens.proofs.ContentLemmas.{ArePart, says, with_before}
-use Rattle.entry_reader.proofs.FieldLemmas.{name_is, said_named, says_seen}
+use Rattle.entry_reader.proofs.FieldLemmas.{name_is, said_named}
+use Rattle.entry_reader.proofs.PlacedLemmas.{said_placed}
+use Rattle.xml_tokens.proofs.OrderLemmas.{fault_behind, placed_joined}
 use Rattle.xml_tokens.proofs.ProgressLemmas.{fault_on, led_on}
-use Rattle.entry_reader.proofs.SeenLemmas.{fault_behind, seen_joined}
 
 -- characters between the children
 pub parts_said : (b : Content) (said : List (List ℕ)) (parts : Parts) → IsSoFar b parts →
@@ -39,10 +40,6 @@ parts_said b said parts are =
     λ name. sym (said_named name b said) in
     let first : (name : Name) → first_of (named name b) ≡ first_of (named name (joined b (says said))) =
     λ name. ap (λ xs. first_of xs) (same name) in
-    let seen : all_seen in_entry [] b ≡ all_seen in_entry [] (joined b (says said)) =
-    sym (seen_joined in_entry [] b (says said)
-    ∙ ap (λ k. all_seen in_entry [] b ++ k) (says_seen in_entry (names_of b) said)
-    ∙ append-nil (all_seen in_entry [] b)) in
     record {
       id = are.id ∙ ap (λ o. option_map (λ (c : Child). trimmed (child_text c)) o) (first (atom (codes "id")));
       title = are.title ∙ ap (λ o. option_map construct o) (first (atom (codes "title")));
@@ -55,7 +52,7 @@ parts_said b said parts are =
       rights = are.rights ∙ ap (λ o. option_map construct o) (first (atom (codes "rights")));
       summary = are.summary ∙ ap (λ o. option_map construct o) (first (atom (codes "summary")));
       content = are.content ∙ ap (λ o. option_map construct o) (first (atom (codes "content")));
-      faultless = subst (All IsFaultless) seen are.faultless;
+      faultless = subst (λ all. IsFirst entry_rules all None) (sym (said_placed in_entry b said)) are.faultless;
     }
 
 -- a child of which more is read, after a content
@@ -70,20 +67,21 @@ child_begun b e (c ∷ k ∷ later) inner rest outer same =
     (c, k, ap (λ xs. c ∷ k ∷ xs) more, whole)
 
 -- a child that is refused, after children that aren't
-child_fault : (b : Content) (e : Element) (c k inner : Content) (at : ℕ) (why : Why) →
-    All IsFaultless (all_seen in_entry [] b) → IsFirstFault (all_seen in_entry (names_of b) (element e c k)) at why →
-    joined b (element e c k) ≡ inner → IsFirstFault (all_seen in_entry [] inner) at why
+child_fault : (b : Content) (e : Element) (c k inner : Content) (at : ℕ) (why : Why) → IsRefusalIn in_entry [] b None →
+    IsRefusalIn in_entry (elements_of b) (element e c k) (Some (at, why)) → joined b (element e c k) ≡ inner →
+    IsRefusalIn in_entry [] inner (Some (at, why))
 child_fault b e c k inner at why none fault same =
-    let whole : IsFirstFault (all_seen in_entry [] (joined b (element e c k))) at why =
-    subst (λ all. IsFirstFault all at why) (sym (seen_joined in_entry [] b (element e c k)))
-    (fault_behind (all_seen in_entry [] b) (all_seen in_entry (names_of b) (element e c k)) at why none fault) in
-    subst (λ i. IsFirstFault (all_seen in_entry [] i) at why) same whole
+    let whole : IsRefusalIn in_entry [] (joined b (element e c k)) (Some (at, why)) =
+    subst (λ all. IsFirstFault entry_rules all at why) (sym (placed_joined entry_rules in_entry [] b (element e c k)))
+    (fault_behind entry_rules (all_placed entry_rules in_entry [] b)
+    (all_placed entry_rules in_entry (elements_of b) (element e c k)) at why none fault) in
+    subst (λ i. IsRefusalIn in_entry [] i (Some (at, why))) same whole
 
 module _ (total : ℕ) (first : List Event) (from : Point) (told : List Event) (b : Content) (mid new last : Elements)
     (e : Element) (x : IsLed total first from told mid) (part : ArePart b [] told)
-    (none : All IsFaultless (all_seen in_entry [] b)) (y : IsLed mid.length (pending mid) x.to (begin e ∷ []) new) where
+    (none : IsRefusalIn in_entry [] b None) (y : IsLed mid.length (pending mid) x.to (begin e ∷ []) new) where
   -- a child that ends the reading of an entry
-  pub child_stopped : (stop : EarlyEnd) → IsStopped new.length (pending new) y.to in_entry (names_of b) e stop last →
+  pub child_stopped : (stop : EarlyEnd) → IsStopped new.length (pending new) y.to in_entry (elements_of b) e stop last →
       ArePartsFrom total first from (Err stop) last
   child_stopped (Fault fault) s =
       fault_on total first from told mid x fault (fault_on mid.length (pending mid) x.to (begin e ∷ []) new y fault s)
@@ -152,7 +150,7 @@ module _ (total : ℕ) (first : List Event) (from : Point) (root : Element)
             inr (
               entry_name,
               inr (
-                subst (λ c. All IsFaultless (all_seen in_entry [] c)) one x.4.faultless,
+                subst (λ c. IsRefusalIn in_entry [] c None) one x.4.faultless,
                 subst (λ c. child (codes "title") c ≡ None) one none,
                 refl,
                 refl,

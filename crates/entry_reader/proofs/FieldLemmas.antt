@@ -1,11 +1,10 @@
 -- The fields of a person, child by child.
 use Rattle.std.proofs.Common.{◌≡◌, ◌≤◌, ℕ, List, [], ◌∷◌, ◌++◌, length, map, filter, Bool, true, false, cond, Option}
 use Rattle.std.proofs.Common.{Some, None}
-use Rattle.std.proofs.Common.{option_map, refl, sym, ap, subst, ◌∙◌, arith, ⊎_elim, bytes_eq, codes}
+use Rattle.std.proofs.Common.{option_map, refl, sym, ap, subst, ◌∙◌, arith, bytes_eq, codes}
 use Rattle.std.specs.Prelude.{if◌then◌else◌, is_some}
 use Rattle.std.specs.Option.{option_or}
-use Rattle.std.proofs.lemmas.Bool.{cases_Bool, cond-true, cond-false, and_parts, and_from, both_ways}
-use Rattle.std.proofs.lemmas.Bool.{false_from_ne_true}
+use Rattle.std.proofs.lemmas.Bool.{cond-true, and_parts, and_from, both_ways, false_from_ne_true}
 use Rattle.std.proofs.lemmas.Slice.Eq.{bytes_eq-Decides}
 use Rattle.entry_reader.specs.declared.fault.Why.{Why}
 use Rattle.entry_reader.specs.declared.fault.Why.TheVariants.{NotAnEntry, Twice}
@@ -16,23 +15,24 @@ use Rattle.xml_tokens.specs.Tree.{Name, Element, Content}
 use Rattle.xml_tokens.specs.Tree.Content.{nothing, element}
 use Rattle.xml_tokens.specs.Children.{Child, child_text, children, first_of, named, named_in, same_name, text_of}
 use Rattle.xml_tokens.specs.Names.{atom}
-use Rattle.entry_reader.specs.Faults.{Within, all_seen, is_one_of, person_parts}
+use Rattle.entry_reader.specs.Faults.{IsRefusalIn, entry_rules, is_one_of, person_parts}
 use Rattle.entry_reader.specs.Faults.Within.{in_person}
 use Rattle.std.specs.Prelude.{Result, Ok, Err}
 use Rattle.xml_tokens.specs.declared.elements.Elements.{Elements}
 use Rattle.xml_tokens.specs.declared.fault.TokenFault.{TokenFault}
 use Rattle.xml_tokens.specs.Tree.{Event}
 use Rattle.xml_tokens.specs.Progress.{IsSkippedFrom, Point, first_place}
-use Rattle.entry_reader.specs.Parts.{AreFieldsOf, IsFieldsChild, IsFirstRefusal, count_of, field_name}
-use Rattle.xml_tokens.specs.Children.{joined, names_of}
+use Rattle.entry_reader.specs.Parts.{AreFieldsOf, IsFieldsChild, count_of, elements_of, field_name}
+use Rattle.xml_tokens.specs.Children.{joined}
 use Rattle.entry_reader.specs.Parts.{slot_refusal, taken_fields}
 use Rattle.xml_tokens.specs.Children.{with_child}
 use Rattle.std.proofs.lemmas.List.{append-nil}
 use Rattle.std.proofs.lemmas.List.Elements.{All-nil}
-use Rattle.entry_reader.specs.Faults.{IsFaultless}
+use Rattle.xml_tokens.specs.Order.{IsFaultless, IsFirst}
 use Rattle.xml_tokens.proofs.ContentLemmas.{says}
-use Rattle.entry_reader.proofs.SeenLemmas.{named_joined, named_more, named_other, person_once, person_other}
-use Rattle.entry_reader.proofs.SeenLemmas.{person_twice, refusal_joined, seen_joined}
+use Rattle.xml_tokens.proofs.OrderLemmas.{first_with_child}
+use Rattle.entry_reader.proofs.PlacedLemmas.{named_joined, named_more, named_other, person_once, person_other}
+use Rattle.entry_reader.proofs.PlacedLemmas.{person_twice, said_placed}
 
 -- two names that are told to be the same are
 pub name_is : (a b : Name) → same_name a b ≡ true → a ≡ b
@@ -47,27 +47,14 @@ same_refl a =
     and_from (bytes_eq a.namespace a.namespace) (bytes_eq a.local a.local)
     ((bytes_eq-Decides a.namespace a.namespace).1 refl) ((bytes_eq-Decides a.local a.local).1 refl)
 
-same_back : (a b : Name) → same_name a b ≡ same_name b a
-same_back a b =
-    ⊎_elim
-    (λ t. t ∙ sym (subst (λ n. same_name n a ≡ true) (name_is a b t) (same_refl a)))
-    (λ f. f ∙ sym (false_from_ne_true (same_name b a) (λ t.
-    both_ways (same_name a b) f (subst (λ n. same_name n b ≡ true) (name_is b a t) (same_refl b)))))
-    (cases_Bool (same_name a b))
-
 -- the elements of a name, counted
-pub count_named : (n : Name) (cs : List Child) →
-    length (filter (same_name n) (map (λ (c : Child). c.element.name) cs)) ≡ length (named_in n cs)
+pub count_named : (n : Name) (cs : List Child) → count_of n (map (λ (c : Child). c.element) cs) ≡ length (named_in n cs)
 count_named n [] = refl
 count_named n (c ∷ cs) =
-    let rest = filter (same_name n) (map (λ (c : Child). c.element.name) cs) in
-    let one : (t : Bool) → length (cond t (c.element.name ∷ rest) rest)
-    ≡ length (cond t (c ∷ named_in n cs) (named_in n cs)) =
-    λ t. elim t as (λ t. length (cond t (c.element.name ∷ rest) rest)
+    let rest = filter (λ (e : Element). same_name e.name n) (map (λ (c : Child). c.element) cs) in
+    elim (same_name c.element.name n) as (λ t. length (cond t (c.element ∷ rest) rest)
     ≡ length (cond t (c ∷ named_in n cs) (named_in n cs)))
-    [ true ↦ (let more = count_named n cs in omega arith) | false ↦ count_named n cs ] in
-    ap (λ t. length (cond t (c.element.name ∷ rest) rest)) (same_back n c.element.name)
-    ∙ one (same_name c.element.name n)
+    [ true ↦ (let more = count_named n cs in omega arith) | false ↦ count_named n cs ]
 
 some_first : (xs : List Child) → is_some (first_of xs) ≡ true → 1 ≤ length xs
 some_first [] is = absurd (both_ways false refl is)
@@ -97,28 +84,24 @@ module _ (b : Content) (e : Element) (inner : Content) (n : Name) (same : same_n
     (field : is_one_of person_parts e.name ≡ true) where
   -- why a child with this name is refused
   field_refusal : (taken : Bool) (r : Option (ℕ × Why)) → taken ≡ is_some (first_of (named n b)) →
-      IsFirstRefusal (all_seen in_person [] b) r →
-      IsFirstRefusal (all_seen in_person [] (with_child b e inner))
-      (option_or r (slot_refusal taken e.place (first_place inner)))
+      IsRefusalIn in_person [] b r →
+      IsRefusalIn in_person [] (with_child b e inner) (option_or r (slot_refusal taken e.place (first_place inner)))
   field_refusal taken r is before =
-      let count : count_of e.name (names_of b) ≡ length (named n b) =
-      ap (λ m. length (filter (same_name m) (names_of b))) (name_is e.name n same) ∙ count_named n (children b) in
-      let own : IsFirstRefusal (all_seen in_person (names_of b) (element e inner nothing))
-      (slot_refusal taken e.place (first_place inner)) =
-      ⊎_elim
-      (λ t. subst (λ s. IsFirstRefusal (all_seen in_person (names_of b) (element e inner nothing)) s)
-      (sym (cond-true taken (Some (e.place, Twice)) (option_map (λ place. (place, NotAnEntry)) (first_place inner)) t))
-      (person_twice (names_of b) e inner field
-      (let some = some_first (named n b) (sym is ∙ t) in omega arith)))
-      (λ f. subst (λ s. IsFirstRefusal (all_seen in_person (names_of b) (element e inner nothing)) s)
-      (sym (cond-false taken (Some (e.place, Twice)) (option_map (λ place. (place, NotAnEntry)) (first_place inner)) f))
-      (person_once (names_of b) e inner field
-      (count ∙ ap length (none_first (named n b) (sym is ∙ f)))))
-      (cases_Bool taken) in
-      subst (λ xs. IsFirstRefusal xs (option_or r (slot_refusal taken e.place (first_place inner))))
-      (sym (seen_joined in_person [] b (element e inner nothing)))
-      (refusal_joined (all_seen in_person [] b) (all_seen in_person (names_of b) (element e inner nothing)) r
-      (slot_refusal taken e.place (first_place inner)) before own)
+      let count : count_of e.name (elements_of b) ≡ length (named n b) =
+      ap (λ m. count_of m (elements_of b)) (name_is e.name n same) ∙ count_named n (children b) in
+      let own : (t : Bool) → t ≡ is_some (first_of (named n b)) →
+      IsRefusalIn in_person (elements_of b) (element e inner nothing) (slot_refusal t e.place (first_place inner)) =
+      λ t.
+      elim t as (λ t. t ≡ is_some (first_of (named n b)) →
+      IsRefusalIn in_person (elements_of b) (element e inner nothing) (slot_refusal t e.place (first_place inner))) [
+        | true ↦ λ some.
+            let one = some_first (named n b) (sym some) in
+            person_twice (elements_of b) e inner field (omega (arith, count, one))
+        | false ↦ λ none.
+            person_once (elements_of b) e inner field (count ∙ ap length (none_first (named n b) (sym none)))
+      ] in
+      first_with_child entry_rules in_person b e inner r (slot_refusal taken e.place (first_place inner)) before
+      (own taken is)
 
   field_some : true ≡ is_some (first_of (named n (with_child b e inner)))
   field_some =
@@ -224,15 +207,12 @@ or_left_none : (r : Option (ℕ × Why)) → option_or r None ≡ r
 or_left_none None = refl
 or_left_none (Some p) = refl
 
-kept : (b : Content) (e : Element) (inner : Content) (r : Option (ℕ × Why)) →
-    IsFirstRefusal (all_seen in_person [] b) r →
-    IsFirstRefusal (all_seen in_person (names_of b) (element e inner nothing)) None →
-    IsFirstRefusal (all_seen in_person [] (with_child b e inner)) r
+kept : (b : Content) (e : Element) (inner : Content) (r : Option (ℕ × Why)) → IsRefusalIn in_person [] b r →
+    IsRefusalIn in_person (elements_of b) (element e inner nothing) None →
+    IsRefusalIn in_person [] (with_child b e inner) r
 kept b e inner r before own =
-    subst (λ s. IsFirstRefusal (all_seen in_person [] (with_child b e inner)) s) (or_left_none r)
-    (subst (λ xs. IsFirstRefusal xs (option_or r None)) (sym (seen_joined in_person [] b (element e inner nothing)))
-    (refusal_joined (all_seen in_person [] b) (all_seen in_person (names_of b) (element e inner nothing)) r
-    None before own))
+    subst (λ s. IsRefusalIn in_person [] (with_child b e inner) s) (or_left_none r)
+    (first_with_child entry_rules in_person b e inner r None before own)
 
 -- a child that is no field is read over
 pub fields_skipped : (b : Content) (e : Element) (inner : Content) (fields : Fields) → AreFieldsOf b fields →
@@ -248,7 +228,7 @@ fields_skipped b e inner fields are other =
       name = are.name ∙ ap (λ xs. is_some (first_of xs)) (sym name);
       uri = are.uri ∙ ap (λ xs. is_some (first_of xs)) (sym uri);
       email = are.email ∙ ap (λ xs. is_some (first_of xs)) (sym email);
-      refused = kept b e inner fields.refused are.refused (person_other (names_of b) e inner other);
+      refused = kept b e inner fields.refused are.refused (person_other (elements_of b) e inner other);
       read = λ none.
           let old = are.read none in (
             old.0 ∙ ap (λ xs. option_map child_text (first_of xs)) (sym name),
@@ -269,10 +249,6 @@ says_named : (n : Name) (parts : List (List ℕ)) → named n (says parts) ≡ [
 says_named n [] = refl
 says_named n (read ∷ more) = says_named n more
 
-pub says_seen : (w : Within) (before : List Name) (parts : List (List ℕ)) → all_seen w before (says parts) ≡ []
-says_seen w before [] = refl
-says_seen w before (read ∷ more) = says_seen w before more
-
 pub said_named : (n : Name) (b : Content) (parts : List (List ℕ)) → named n (joined b (says parts)) ≡ named n b
 said_named n b parts =
     named_joined n b (says parts) ∙ ap (λ k. named n b ++ k) (says_named n parts) ∙ append-nil (named n b)
@@ -284,15 +260,11 @@ fields_said b parts fields are =
     let name = said_named (atom (codes "name")) b parts in
     let uri = said_named (atom (codes "uri")) b parts in
     let email = said_named (atom (codes "email")) b parts in
-    let seen : all_seen in_person [] b ≡ all_seen in_person [] (joined b (says parts)) =
-    sym (seen_joined in_person [] b (says parts)
-    ∙ ap (λ k. all_seen in_person [] b ++ k) (says_seen in_person (names_of b) parts)
-    ∙ append-nil (all_seen in_person [] b)) in
     record {
       name = are.name ∙ ap (λ xs. is_some (first_of xs)) (sym name);
       uri = are.uri ∙ ap (λ xs. is_some (first_of xs)) (sym uri);
       email = are.email ∙ ap (λ xs. is_some (first_of xs)) (sym email);
-      refused = subst (λ xs. IsFirstRefusal xs fields.refused) seen are.refused;
+      refused = subst (λ all. IsFirst entry_rules all fields.refused) (sym (said_placed in_person b parts)) are.refused;
       read = λ none.
           let old = are.read none in (
             old.0 ∙ ap (λ xs. option_map child_text (first_of xs)) (sym name),
@@ -307,6 +279,6 @@ no_fields = record {
   name = refl;
   uri = refl;
   email = refl;
-  refused = All-nil IsFaultless;
+  refused = All-nil (IsFaultless entry_rules);
   read = λ none. (refl, refl, refl);
 }

@@ -1,5 +1,5 @@
--- the elements of a content, and those that are refused
-pub mod SeenLemmas
+-- the children of a name, and the elements that are refused in a person or a text
+pub mod PlacedLemmas
 -- Fields::child, read_fields: the fields of a person
 pub mod FieldLemmas
 -- person: its own refusals, and those of its children

@@ -1,38 +1,36 @@
 -- The parts of an entry that were read so far, child by child.
-use Rattle.std.proofs.Common.{◌≡◌, ◌≤◌, ℕ, List, [], ◌∷◌, ◌++◌, length, map, filter, Bool, true, false, Option, Some}
+use Rattle.std.proofs.Common.{◌≡◌, ◌≤◌, ℕ, List, [], ◌∷◌, ◌++◌, length, map, Bool, true, false, Option, Some}
 use Rattle.std.proofs.Common.{None}
-use Rattle.std.proofs.Common.{option_map, refl, sym, ap, subst, ◌∙◌, arith, inl, codes, All}
+use Rattle.std.proofs.Common.{option_map, refl, sym, ap, subst, ◌∙◌, arith, inl, codes}
 use Rattle.std.specs.Prelude.{is_some, ℤ, Result, Ok, Err}
 use Rattle.std.proofs.lemmas.Bool.{both_ways, false_from_ne_true}
 use Rattle.std.specs.List.{list_all}
 use Rattle.std.proofs.lemmas.List.{length-map, map-append}
-use Rattle.std.proofs.lemmas.List.Elements.{All-append, All-head}
 use Rattle.atom_values.specs.Space.{trimmed}
 use Rattle.xml_tokens.specs.declared.elements.Elements.{Elements}
 use Rattle.entry_reader.specs.declared.entry.Parts.{Parts}
 use Rattle.entry_reader.specs.declared.fault.EarlyEnd.{EarlyEnd}
 use Rattle.entry_reader.specs.declared.fault.Why.TheVariants.{Twice}
 use Rattle.xml_tokens.specs.Tree.{Name, Element, Content, Event}
-use Rattle.xml_tokens.specs.Tree.Content.{nothing, element}
 use Rattle.entry_reader.specs.Entry.{IsMoment, category, construct}
 use Rattle.xml_tokens.specs.Children.{Child, child, child_text, children}
 use Rattle.xml_tokens.specs.Names.{app, atom}
 use Rattle.entry_reader.specs.Entry.{link, person}
 use Rattle.xml_tokens.specs.Children.{first_of, named, same_name, text_of}
-use Rattle.entry_reader.specs.Faults.{Within, IsFaultless, all_seen, constructs, inside_of, is_one_of, persons}
-use Rattle.entry_reader.specs.Faults.{single_parts}
+use Rattle.entry_reader.specs.Faults.{Within, IsRefusalIn, constructs, entry_rules, is_one_of, persons, single_parts}
 use Rattle.entry_reader.specs.Faults.Within.{in_entry}
 use Rattle.xml_tokens.specs.Progress.{Point}
 use Rattle.entry_reader.specs.Parts.{IsConstructMade, IsDateMade, IsFaultlessIn, IsItemMade, IsPartRead, IsSlot}
-use Rattle.entry_reader.specs.Parts.{IsSoFar, count_of, other_names}
-use Rattle.xml_tokens.specs.Children.{names_of, with_child}
-use Rattle.entry_reader.proofs.ChildLemmas.{a_child, all_of, no_list}
+use Rattle.entry_reader.specs.Parts.{IsSoFar, count_of, elements_of, other_names}
+use Rattle.xml_tokens.specs.Children.{with_child}
+use Rattle.entry_reader.proofs.ChildLemmas.{all_of, no_list, own_faultless}
 use Rattle.entry_reader.proofs.FieldLemmas.{count_named, name_is, same_refl}
 use Rattle.entry_reader.proofs.ItemLemmas.{beside_faultless}
-use Rattle.entry_reader.proofs.SeenLemmas.{named_more, named_other, seen_joined}
+use Rattle.entry_reader.proofs.PlacedLemmas.{named_more, named_other}
+use Rattle.xml_tokens.proofs.OrderLemmas.{first_with_child}
 
 -- a part that is read, of which more can be said
-pub part_mapped : {A : Type 0} (total : ℕ) (first : List Event) (from : Point) (within : Within) (before : List Name)
+pub part_mapped : {A : Type 0} (total : ℕ) (first : List Event) (from : Point) (within : Within) (before : List Element)
     (e : Element) (R S : Content → A → Type 0) (r : Result A EarlyEnd) (new : Elements) →
     IsPartRead total first from within before e R r new → ((inner : Content) (v : A) → R inner v → S inner v) →
     IsPartRead total first from within before e S r new
@@ -45,13 +43,13 @@ part_names = constructs ++ other_names
 
 -- a slot and the children of its name
 slot_named : (n : Name) (b : Content) (taken : Bool) → taken ≡ is_some (first_of (named n b)) →
-    IsSlot n (names_of b) taken
+    IsSlot n (elements_of b) taken
 slot_named n b taken is =
-    let count : count_of n (names_of b) ≡ length (named n b) = count_named n (children b) in
-    let at : (xs : List Child) → length xs ≡ count_of n (names_of b) → taken ≡ is_some (first_of xs) →
-    IsSlot n (names_of b) taken = λ xs.
-    elim xs as (λ xs. length xs ≡ count_of n (names_of b) → taken ≡ is_some (first_of xs) →
-    IsSlot n (names_of b) taken) [
+    let count : count_of n (elements_of b) ≡ length (named n b) = count_named n (children b) in
+    let at : (xs : List Child) → length xs ≡ count_of n (elements_of b) → taken ≡ is_some (first_of xs) →
+    IsSlot n (elements_of b) taken = λ xs.
+    elim xs as (λ xs. length xs ≡ count_of n (elements_of b) → taken ≡ is_some (first_of xs) →
+    IsSlot n (elements_of b) taken) [
       | [] ↦ λ long same. ((λ t. absurd (both_ways taken same t)), (λ f. sym long))
       | x ∷ xs ↦ λ long same.
           let one : 1 ≤ length (x ∷ xs) = omega arith in
@@ -67,26 +65,26 @@ moment_some None moment none = ap is_some none
 moment_some (Some c) moment some = ap is_some some.1
 
 pub slot_mapped : {A : Type 0} (f : Child → A) (name n : Name) (b : Content) (o : Option A) → name ≡ n →
-    o ≡ option_map f (first_of (named n b)) → IsSlot name (names_of b) (is_some o)
+    o ≡ option_map f (first_of (named n b)) → IsSlot name (elements_of b) (is_some o)
 slot_mapped f name n b o same is =
-    subst (λ k. IsSlot k (names_of b) (is_some o)) (sym same)
+    subst (λ k. IsSlot k (elements_of b) (is_some o)) (sym same)
     (slot_named n b (is_some o) (ap is_some is ∙ mapped_some f (first_of (named n b))))
 
 pub slot_moment : (name n : Name) (b : Content) (o : Option ℤ) → name ≡ n → IsMoment (first_of (named n b)) o →
-    IsSlot name (names_of b) (is_some o)
+    IsSlot name (elements_of b) (is_some o)
 slot_moment name n b o same is =
-    subst (λ k. IsSlot k (names_of b) (is_some o)) (sym same)
+    subst (λ k. IsSlot k (elements_of b) (is_some o)) (sym same)
     (slot_named n b (is_some o) (moment_some (first_of (named n b)) o is))
 
 -- a list and the children of its name
 pub items_counted : {A : Type 0} (make : Child → A) (name n : Name) (b : Content) (items : List A) → name ≡ n →
-    items ≡ map make (named n b) → length items ≡ count_of name (names_of b)
+    items ≡ map make (named n b) → length items ≡ count_of name (elements_of b)
 items_counted make name n b items same is =
     ap length is ∙ length-map (named n b) make ∙ sym (count_named n (children b))
-    ∙ ap (λ k. count_of k (names_of b)) (sym same)
+    ∙ ap (λ k. count_of k (elements_of b)) (sym same)
 
 -- an element of another name than those of an entry's parts
-pub other_faultless : (before : List Name) (e : Element) (inner : Content) → is_one_of part_names e.name ≡ false →
+pub other_faultless : (before : List Element) (e : Element) (inner : Content) → is_one_of part_names e.name ≡ false →
     same_name e.name (app (codes "control")) ≡ false → IsFaultlessIn in_entry before e inner
 other_faultless before e inner none control =
     let other : (locals : List (List ℕ)) → list_all (λ l. is_one_of part_names (atom l)) locals ≡ true →
@@ -106,19 +104,20 @@ module _ (b : Content) (e : Element) (inner : Content) where
 
   -- a child that is no second one is the first of its name
   pub first_of_name : (n : Name) → e.name ≡ n → is_one_of single_parts n ≡ true →
-      IsFaultlessIn in_entry (names_of b) e inner → first_of (named n (with_child b e inner)) ≡ Some the_child
+      IsFaultlessIn in_entry (elements_of b) e inner → first_of (named n (with_child b e inner)) ≡ Some the_child
   first_of_name n is single all =
-      let own = All-head IsFaultless (a_child (names_of b) e inner)
-      (all_seen (inside_of in_entry e.name) [] inner ++ []) all in
-      let count : count_of e.name (names_of b) ≡ length (named n b) =
-      ap (λ m. length (filter (same_name m) (names_of b))) is ∙ count_named n (children b) in
+      let own = own_faultless (elements_of b) e inner all in
+      let count : count_of e.name (elements_of b) ≡ length (named n b) =
+      ap (λ m. count_of m (elements_of b)) is ∙ count_named n (children b) in
       let same : same_name e.name n ≡ true = ap (λ k. same_name k n) is ∙ same_refl n in
-      let at : (xs : List Child) → count_of e.name (names_of b) ≡ length xs →
+      let at : (xs : List Child) → count_of e.name (elements_of b) ≡ length xs →
       first_of (xs ++ the_child ∷ []) ≡ Some the_child = λ xs.
-      elim xs as (λ xs. count_of e.name (names_of b) ≡ length xs → first_of (xs ++ the_child ∷ []) ≡ Some the_child) [
+      elim xs as (λ xs. count_of e.name (elements_of b) ≡ length xs →
+      first_of (xs ++ the_child ∷ []) ≡ Some the_child) [
         | [] ↦ λ long. refl
         | x ∷ xs ↦ λ long.
-            let more : 1 ≤ count_of e.name (names_of b) = let some : 1 ≤ length (x ∷ xs) = omega arith in omega arith in
+            let some : 1 ≤ length (x ∷ xs) = omega arith in
+            let more : 1 ≤ count_of e.name (elements_of b) = omega arith in
             absurd (own Twice (inl (refl, ap (is_one_of single_parts) is ∙ single), more))
       ] in ap first_of (named_more n b e inner same) ∙ at (named n b) count
 
@@ -130,12 +129,9 @@ module _ (b : Content) (e : Element) (inner : Content) where
       are ∙ ap (λ xs. xs ++ make the_child ∷ []) were ∙ sym (map-append make (named n b) (the_child ∷ []))
       ∙ ap (map make) (sym (named_more n b e inner same))
 
-  faultless_more : All IsFaultless (all_seen in_entry [] b) → IsFaultlessIn in_entry (names_of b) e inner →
-      All IsFaultless (all_seen in_entry [] (with_child b e inner))
-  faultless_more before own =
-      subst (All IsFaultless) (sym (seen_joined in_entry [] b (element e inner nothing)))
-      (All-append IsFaultless (all_seen in_entry [] b) (all_seen in_entry (names_of b) (element e inner nothing))
-      before own)
+  faultless_more : IsRefusalIn in_entry [] b None → IsFaultlessIn in_entry (elements_of b) e inner →
+      IsRefusalIn in_entry [] (with_child b e inner) None
+  faultless_more before own = first_with_child entry_rules in_entry b e inner None None before own
 
   -- the parts that a child with this name leaves as they are
   record AreKept (n : Name) (parts : Parts) : Type 0 where
@@ -187,7 +183,7 @@ module _ (b : Content) (e : Element) (inner : Content) where
       }
 
   pub so_far_id : (old new : Parts) → e.name ≡ atom (codes "id") → IsSoFar b old →
-      new ≡ record old { id = Some (trimmed (text_of inner)) } → IsFaultlessIn in_entry (names_of b) e inner →
+      new ≡ record old { id = Some (trimmed (text_of inner)) } → IsFaultlessIn in_entry (elements_of b) e inner →
       IsSoFar (with_child b e inner) new
   so_far_id old new is so same own =
       let k = kept (atom (codes "id")) old is so in
@@ -207,7 +203,7 @@ module _ (b : Content) (e : Element) (inner : Content) where
       })
 
   pub so_far_title : (old new : Parts) → e.name ≡ atom (codes "title") → IsSoFar b old →
-      new ≡ record old { title = new.title } → IsConstructMade (names_of b) e new.title inner tt →
+      new ≡ record old { title = new.title } → IsConstructMade (elements_of b) e new.title inner tt →
       IsSoFar (with_child b e inner) new
   so_far_title old new is so same made =
       let k = kept (atom (codes "title")) old is so in
@@ -227,7 +223,7 @@ module _ (b : Content) (e : Element) (inner : Content) where
       })
 
   pub so_far_updated : (old new : Parts) → e.name ≡ atom (codes "updated") → IsSoFar b old →
-      new ≡ record old { updated = new.updated } → IsDateMade (names_of b) e new.updated inner tt →
+      new ≡ record old { updated = new.updated } → IsDateMade (elements_of b) e new.updated inner tt →
       IsSoFar (with_child b e inner) new
   so_far_updated old new is so same made =
       let k = kept (atom (codes "updated")) old is so in
@@ -248,7 +244,7 @@ module _ (b : Content) (e : Element) (inner : Content) where
       })
 
   pub so_far_published : (old new : Parts) → e.name ≡ atom (codes "published") → IsSoFar b old →
-      new ≡ record old { published = new.published } → IsDateMade (names_of b) e new.published inner tt →
+      new ≡ record old { published = new.published } → IsDateMade (elements_of b) e new.published inner tt →
       IsSoFar (with_child b e inner) new
   so_far_published old new is so same made =
       let k = kept (atom (codes "published")) old is so in
@@ -270,7 +266,7 @@ module _ (b : Content) (e : Element) (inner : Content) where
 
   pub so_far_authors : (old new : Parts) → e.name ≡ atom (codes "author") → IsSoFar b old →
       new ≡ record old { authors = new.authors } →
-      IsItemMade person (names_of b) e old.authors.items new.authors.items inner tt →
+      IsItemMade person (elements_of b) e old.authors.items new.authors.items inner tt →
       IsSoFar (with_child b e inner) new
   so_far_authors old new is so same made =
       let k = kept (atom (codes "author")) old is so in
@@ -291,7 +287,7 @@ module _ (b : Content) (e : Element) (inner : Content) where
 
   pub so_far_contributors : (old new : Parts) → e.name ≡ atom (codes "contributor") → IsSoFar b old →
       new ≡ record old { contributors = new.contributors } →
-      IsItemMade person (names_of b) e old.contributors.items new.contributors.items inner tt →
+      IsItemMade person (elements_of b) e old.contributors.items new.contributors.items inner tt →
       IsSoFar (with_child b e inner) new
   so_far_contributors old new is so same made =
       let k = kept (atom (codes "contributor")) old is so in
@@ -312,7 +308,8 @@ module _ (b : Content) (e : Element) (inner : Content) where
       })
 
   pub so_far_links : (old new : Parts) → e.name ≡ atom (codes "link") → IsSoFar b old →
-      new ≡ record old { links = new.links } → IsItemMade link (names_of b) e old.links.items new.links.items inner tt →
+      new ≡ record old { links = new.links } →
+      IsItemMade link (elements_of b) e old.links.items new.links.items inner tt →
       IsSoFar (with_child b e inner) new
   so_far_links old new is so same made =
       let k = kept (atom (codes "link")) old is so in
@@ -333,7 +330,7 @@ module _ (b : Content) (e : Element) (inner : Content) where
 
   pub so_far_categories : (old new : Parts) → e.name ≡ atom (codes "category") → IsSoFar b old →
       new ≡ record old { categories = new.categories } →
-      IsItemMade category (names_of b) e old.categories.items new.categories.items inner tt →
+      IsItemMade category (elements_of b) e old.categories.items new.categories.items inner tt →
       IsSoFar (with_child b e inner) new
   so_far_categories old new is so same made =
       let k = kept (atom (codes "category")) old is so in
@@ -354,7 +351,7 @@ module _ (b : Content) (e : Element) (inner : Content) where
       })
 
   pub so_far_rights : (old new : Parts) → e.name ≡ atom (codes "rights") → IsSoFar b old →
-      new ≡ record old { rights = new.rights } → IsConstructMade (names_of b) e new.rights inner tt →
+      new ≡ record old { rights = new.rights } → IsConstructMade (elements_of b) e new.rights inner tt →
       IsSoFar (with_child b e inner) new
   so_far_rights old new is so same made =
       let k = kept (atom (codes "rights")) old is so in
@@ -374,7 +371,7 @@ module _ (b : Content) (e : Element) (inner : Content) where
       })
 
   pub so_far_summary : (old new : Parts) → e.name ≡ atom (codes "summary") → IsSoFar b old →
-      new ≡ record old { summary = new.summary } → IsConstructMade (names_of b) e new.summary inner tt →
+      new ≡ record old { summary = new.summary } → IsConstructMade (elements_of b) e new.summary inner tt →
       IsSoFar (with_child b e inner) new
   so_far_summary old new is so same made =
       let k = kept (atom (codes "summary")) old is so in
@@ -394,7 +391,7 @@ module _ (b : Content) (e : Element) (inner : Content) where
       })
 
   pub so_far_content : (old new : Parts) → e.name ≡ atom (codes "content") → IsSoFar b old →
-      new ≡ record old { content = new.content } → IsConstructMade (names_of b) e new.content inner tt →
+      new ≡ record old { content = new.content } → IsConstructMade (elements_of b) e new.content inner tt →
       IsSoFar (with_child b e inner) new
   so_far_content old new is so same made =
       let k = kept (atom (codes "content")) old is so in
@@ -414,7 +411,7 @@ module _ (b : Content) (e : Element) (inner : Content) where
       })
 
   -- a child that is no part of the entry
-  pub so_far_beside : (parts : Parts) → IsSoFar b parts → IsFaultlessIn in_entry (names_of b) e inner →
+  pub so_far_beside : (parts : Parts) → IsSoFar b parts → IsFaultlessIn in_entry (elements_of b) e inner →
       is_one_of part_names e.name ≡ false → IsSoFar (with_child b e inner) parts
   so_far_beside parts so own none =
       let k = kept e.name parts refl so in

@@ -1,6 +1,5 @@
 -- The elements of an entry document that are refused.
-use Rattle.std.specs.Prelude.{◌≡◌, ◌≢◌, ◌⊎◌, ℕ, ◌<◌, ◌≤◌, List, [], ◌∷◌, ◌++◌, length, filter, All, Any, Bool, IsTrue}
-use Rattle.std.specs.Prelude.{ℤ}
+use Rattle.std.specs.Prelude.{◌≡◌, ◌≢◌, ◌⊎◌, ℕ, ℤ, ◌≤◌, List, [], ◌∷◌, ◌++◌, Any, Bool, IsTrue}
 use Rattle.std.specs.Prelude.{if◌then◌else◌, Option, Some, None, is_some, codes}
 use Rattle.std.specs.List.{list_any}
 use Rattle.atom_values.specs.DateText.{States}
@@ -9,10 +8,10 @@ use Rattle.atom_values.specs.Space.{trimmed}
 use Rattle.entry_reader.specs.declared.fault.Why.{Why}
 use Rattle.entry_reader.specs.declared.fault.Why.TheVariants.{NotUtf8, Doctype, NotWellFormed, TooDeep, NotAnEntry}
 use Rattle.entry_reader.specs.declared.fault.Why.TheVariants.{Xhtml, OutOfLine, Draft, Missing, Twice, BadDate, TooMany}
-use Rattle.xml_tokens.specs.Tree.{Name, Content}
-use Rattle.xml_tokens.specs.Tree.Content.{nothing, said, element}
-use Rattle.xml_tokens.specs.Children.{Child, same_name, attribute, child, child_text, named}
+use Rattle.xml_tokens.specs.Tree.{Name, Element, Content}
+use Rattle.xml_tokens.specs.Children.{same_name, attribute, child, child_text, named}
 use Rattle.xml_tokens.specs.Names.{atom, app}
+use Rattle.xml_tokens.specs.Order.{Placed, Rules, IsFirst, all_placed, count_before, name_of}
 
 -- where an element is: in the entry, a person, a text, or an element that is skipped
 pub data Within : Type 0 where
@@ -52,74 +51,53 @@ inside_of in_entry name =
 inside_of in_person name = if is_one_of person_parts name then in_text else in_skipped
 inside_of _ name = in_skipped
 
--- an element, where it is, and the names of the elements before it there
-pub record Seen : Type 0 where
-  pub within : Within
-  pub before : List Name
-  pub child : Child
-
--- all elements of a content, in document order
-abbrev pub all_seen : Within → List Name → Content → List Seen
-all_seen within before nothing = []
-all_seen within before (said read rest) = all_seen within before rest
-all_seen within before (element e content rest) =
-    record { within = within; before = before; child = record { element = e; content = content } }
-    ∷ all_seen (inside_of within e.name) [] content ++ all_seen within (before ++ e.name ∷ []) rest
-
-abbrev pub name_of : Seen → Name
-name_of s = s.child.element.name
-
 -- the element is in this kind of place, and has one of these names of Atom
-abbrev pub Is : Within → List (List ℕ) → Seen → Type 0
-Is within locals s = (s.within ≡ within) × IsTrue (is_one_of locals (name_of s))
+abbrev pub Is : Within → List (List ℕ) → Placed Within → Type 0
+Is within locals p = (p.within ≡ within) × IsTrue (is_one_of locals (name_of p))
 
--- how many elements of its name are before it
-abbrev pub count_before : Seen → ℕ
-count_before s = length (filter (same_name (name_of s)) s.before)
-
-abbrev pub type_of : Seen → Option (List ℕ)
-type_of s = attribute (codes "type") s.child
+abbrev pub type_of : Placed Within → Option (List ℕ)
+type_of p = attribute (codes "type") p.child
 
 -- its `type` is another than those of a text construct (RFC 4287 section 3.1.1)
-abbrev pub HasOtherType : Seen → Type 0
-HasOtherType s =
-    (kind : List ℕ) × (type_of s ≡ Some kind) × (kind ≢ codes "text") × (kind ≢ codes "html") × (kind ≢ codes "xhtml")
+abbrev pub HasOtherType : Placed Within → Type 0
+HasOtherType p =
+    (kind : List ℕ) × (type_of p ≡ Some kind) × (kind ≢ codes "text") × (kind ≢ codes "html") × (kind ≢ codes "xhtml")
 
 -- it says that the entry is a draft: not each of its `draft` elements has the text `no` (RFC 5023 section 13.1.1)
-abbrev pub SaysDraft : Seen → Type 0
-SaysDraft s =
-    (s.within ≡ in_entry) × IsTrue (same_name (name_of s) (app (codes "control")))
-    × Any (λ c. trimmed (child_text c) ≢ codes "no") (named (app (codes "draft")) s.child.content)
+abbrev pub SaysDraft : Placed Within → Type 0
+SaysDraft p =
+    (p.within ≡ in_entry) × IsTrue (same_name (name_of p) (app (codes "control")))
+    × Any (λ c. trimmed (child_text c) ≢ codes "no") (named (app (codes "draft")) p.child.content)
 
 -- it lacks the child or the attribute that it must have
-abbrev pub LacksPart : Seen → Type 0
-LacksPart s =
-    (Is in_entry persons s × (child (codes "name") s.child.content ≡ None))
-    ⊎ (Is in_entry (codes "link" ∷ []) s × (attribute (codes "href") s.child ≡ None))
-    ⊎ (Is in_entry (codes "category" ∷ []) s × (attribute (codes "term") s.child ≡ None))
+abbrev pub LacksPart : Placed Within → Type 0
+LacksPart p =
+    (Is in_entry persons p × (child (codes "name") p.child.content ≡ None))
+    ⊎ (Is in_entry (codes "link" ∷ []) p × (attribute (codes "href") p.child ≡ None))
+    ⊎ (Is in_entry (codes "category" ∷ []) p × (attribute (codes "term") p.child ≡ None))
 
 -- it is one more than an entry may have
-abbrev pub IsPastLimit : Seen → Type 0
-IsPastLimit s =
-    (Is in_entry persons s × (person_limit ≤ count_before s))
-    ⊎ (Is in_entry (codes "link" ∷ []) s × (link_limit ≤ count_before s))
-    ⊎ (Is in_entry (codes "category" ∷ []) s × (category_limit ≤ count_before s))
+abbrev pub IsPastLimit : Placed Within → Type 0
+IsPastLimit p =
+    (Is in_entry persons p × (person_limit ≤ count_before p))
+    ⊎ (Is in_entry (codes "link" ∷ []) p × (link_limit ≤ count_before p))
+    ⊎ (Is in_entry (codes "category" ∷ []) p × (category_limit ≤ count_before p))
 
 -- the reason holds of the element; the first four are of the text and not of elements
-abbrev pub HasFault : Why → Seen → Type 0
-HasFault NotUtf8 s = ⊥
-HasFault Doctype s = ⊥
-HasFault NotWellFormed s = ⊥
-HasFault TooDeep s = ⊥
-HasFault NotAnEntry s = (s.within ≡ in_text) ⊎ (Is in_entry inline_texts s × HasOtherType s)
-HasFault Xhtml s = Is in_entry constructs s × (type_of s ≡ Some (codes "xhtml"))
-HasFault OutOfLine s =
-    Is in_entry (codes "content" ∷ []) s × (IsTrue (is_some (attribute (codes "src") s.child)) ⊎ HasOtherType s)
-HasFault Draft s = SaysDraft s
-HasFault Missing s = LacksPart s
-HasFault Twice s = (Is in_entry single_parts s ⊎ Is in_person person_parts s) × (1 ≤ count_before s)
-HasFault BadDate s = Is in_entry dates s × ((z : ℤ) → ¬ States (trimmed (child_text s.child)) z)
-HasFault TooMany s = IsPastLimit s
+abbrev pub HasFault : Why → Placed Within → Type 0
+HasFault NotUtf8 p = ⊥
+HasFault Doctype p = ⊥
+HasFault NotWellFormed p = ⊥
+HasFault TooDeep p = ⊥
+HasFault NotAnEntry p = (p.within ≡ in_text) ⊎ (Is in_entry inline_texts p × HasOtherType p)
+HasFault Xhtml p = Is in_entry constructs p × (type_of p ≡ Some (codes "xhtml"))
+HasFault OutOfLine p =
+    Is in_entry (codes "content" ∷ []) p × (IsTrue (is_some (attribute (codes "src") p.child)) ⊎ HasOtherType p)
+HasFault Draft p = SaysDraft p
+HasFault Missing p = LacksPart p
+HasFault Twice p = (Is in_entry single_parts p ⊎ Is in_person person_parts p) × (1 ≤ count_before p)
+HasFault BadDate p = Is in_entry dates p × ((z : ℤ) → ¬ States (trimmed (child_text p.child)) z)
+HasFault TooMany p = IsPastLimit p
 
 -- the order in which the reasons of one element are tried
 abbrev pub rank : Why → ℕ
@@ -133,19 +111,15 @@ rank BadDate = 7
 rank TooMany = 8
 rank _ = 0
 
-abbrev pub IsFaultless : Seen → Type 0
-IsFaultless s = (why : Why) → ¬ HasFault why s
+-- the rules by which the elements of an entry document are refused
+abbrev pub entry_rules : Rules Within Why
+entry_rules = record {
+  inside = inside_of;
+  Has = HasFault;
+  rank = rank;
+}
 
--- the reason that an element is refused for
-abbrev pub IsFaultOf : Seen → Why → Type 0
-IsFaultOf s why = HasFault why s × ((other : Why) → rank other < rank why → ¬ HasFault other s)
-
--- the first element that is refused, its offset and the reason
-pub record IsFirstFault (all : List Seen) (at : ℕ) (why : Why) : Type 0 where
-  pub before : List Seen
-  pub first : Seen
-  pub later : List Seen
-  pub split : all ≡ before ++ first ∷ later
-  pub faultless : All IsFaultless before
-  pub fault : IsFaultOf first why
-  pub place : at ≡ first.child.element.place
+-- The first refusal of the elements of a content, if there is one. The content is in a place of this kind, after the
+-- elements `before`.
+abbrev pub IsRefusalIn : Within → List Element → Content → Option (ℕ × Why) → Type 0
+IsRefusalIn within before content refusal = IsFirst entry_rules (all_placed entry_rules within before content) refusal

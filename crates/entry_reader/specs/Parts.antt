@@ -1,5 +1,5 @@
 -- The parts that a reader has read of an entry so far, and of an element in it.
-use Rattle.std.specs.Prelude.{◌≡◌, ◌≢◌, ◌⊎◌, ℕ, ◌≤◌, List, [], ◌∷◌, ◌++◌, map, filter, length, All, Bool, true, false}
+use Rattle.std.specs.Prelude.{◌≡◌, ◌≢◌, ◌⊎◌, ℕ, ◌≤◌, List, [], ◌∷◌, ◌++◌, map, filter, length, Bool, true, false}
 use Rattle.std.specs.Prelude.{Option, Some, None}
 use Rattle.std.specs.Prelude.{if◌then◌else◌, option_map, is_some, IsTrue, ◌&&◌, not, bytes_eq, Result, Ok, Err, codes}
 use Rattle.std.specs.Prelude.{ℤ}
@@ -28,45 +28,49 @@ use Rattle.xml_tokens.specs.Tokens.{Attribute}
 use Rattle.xml_tokens.specs.Tree.{Name, Element, Content, Event, contents}
 use Rattle.xml_tokens.specs.Tree.Content.{nothing, element}
 use Rattle.entry_reader.specs.Entry.{IsMoment, IsReadAs, category}
-use Rattle.xml_tokens.specs.Children.{Child, attribute_in, child, child_text, with_child}
+use Rattle.xml_tokens.specs.Children.{Child, attribute_in, child, child_text, children, with_child}
 use Rattle.xml_tokens.specs.Names.{app, atom}
 use Rattle.entry_reader.specs.Entry.{construct, link, person}
 use Rattle.xml_tokens.specs.Children.{named, same_name, text_of}
-use Rattle.entry_reader.specs.Faults.{Within, IsFaultless, IsFirstFault, Seen, all_seen, is_one_of, person_parts}
+use Rattle.entry_reader.specs.Faults.{Within, IsRefusalIn, is_one_of, person_parts}
 use Rattle.entry_reader.specs.Faults.Within.{in_entry, in_person}
 use Rattle.entry_reader.specs.Refusal.{IsNoEntryAt}
 use Rattle.xml_tokens.specs.Progress.{Point, AreInner, IsFaultFrom, IsLed}
 
--- how many of these names are this one
-abbrev pub count_of : Name → List Name → ℕ
-count_of name names = length (filter (same_name name) names)
+-- the elements of a content, without those inside them
+abbrev pub elements_of : Content → List Element
+elements_of b = map (λ (c : Child). c.element) (children b)
+
+-- how many of the elements have this name
+abbrev pub count_of : Name → List Element → ℕ
+count_of name before = length (filter (λ (e : Element). same_name e.name name) before)
 
 -- neither the element nor one in it is refused
-abbrev pub IsFaultlessIn : Within → List Name → Element → Content → Type 0
-IsFaultlessIn within before e inner = All IsFaultless (all_seen within before (element e inner nothing))
+abbrev pub IsFaultlessIn : Within → List Element → Element → Content → Type 0
+IsFaultlessIn within before e inner = IsRefusalIn within before (element e inner nothing) None
 
 -- Behind the events that are read inside an element, whatever follows in it and after it, the first fault from the
 -- element on is this one.
-abbrev pub Refuses : Within → List Name → Element → List Event → ℕ → Why → Type 0
+abbrev pub Refuses : Within → List Element → Element → List Event → ℕ → Why → Type 0
 Refuses within before e told at why =
     (later : List Event) (inner rest : Content) (outer : List Content) → contents (told ++ later) ≡ inner ∷ rest ∷ outer
-    → IsFirstFault (all_seen within before (element e inner rest)) at why
+    → IsRefusalIn within before (element e inner rest) (Some (at, why))
 
 -- why the reading of an element ends early
-abbrev pub IsStopped : ℕ → List Event → Point → Within → List Name → Element → EarlyEnd → Elements → Type 0
+abbrev pub IsStopped : ℕ → List Event → Point → Within → List Element → Element → EarlyEnd → Elements → Type 0
 IsStopped total first from within before e (Fault fault) new = IsFaultFrom total from fault
 IsStopped total first from within before e (Refused at why) new =
     (told : List Event) × IsLed total first from told new × Refuses within before e told at why
 
 -- the rest of an element is read, of which R says what is made of its content
-abbrev pub IsPartRead : {A : Type 0} → ℕ → List Event → Point → Within → List Name → Element → (Content → A → Type 0) →
-    Result A EarlyEnd → Elements → Type 0
+abbrev pub IsPartRead : {A : Type 0} → ℕ → List Event → Point → Within → List Element → Element →
+    (Content → A → Type 0) → Result A EarlyEnd → Elements → Type 0
 IsPartRead total first from within before e R (Ok value) new =
     (inner : Content) × (told : List Event) × IsLed total first from told new × AreInner inner told × R inner value
 IsPartRead total first from within before e R (Err stop) new = IsStopped total first from within before e stop new
 
 -- a slot has something exactly if an element of the name is before
-abbrev pub IsSlot : Name → List Name → Bool → Type 0
+abbrev pub IsSlot : Name → List Element → Bool → Type 0
 IsSlot name before taken = (taken ≡ true → 1 ≤ count_of name before) × (taken ≡ false → count_of name before ≡ 0)
 
 -- the kind of a text construct, by its `type`
@@ -105,17 +109,12 @@ abbrev pub IsFieldOf : Name → Option Field → Type 0
 IsFieldOf name None = is_one_of person_parts name ≡ false
 IsFieldOf name (Some field) = IsTrue (same_name name (atom (field_name field)))
 
--- the first refusal in a person, if there is one
-abbrev pub IsFirstRefusal : List Seen → Option (ℕ × Why) → Type 0
-IsFirstRefusal all None = All IsFaultless all
-IsFirstRefusal all (Some (at, why)) = IsFirstFault all at why
-
 -- the fields of a person whose content is read so far; of two elements of a name the last one
 pub record AreFieldsOf (b : Content) (fields : Fields) : Type 0 where
   pub name : is_some fields.name ≡ is_some (child (codes "name") b)
   pub uri : is_some fields.uri ≡ is_some (child (codes "uri") b)
   pub email : is_some fields.email ≡ is_some (child (codes "email") b)
-  pub refused : IsFirstRefusal (all_seen in_person [] b) fields.refused
+  pub refused : IsRefusalIn in_person [] b fields.refused
   pub read : fields.refused ≡ None →
       (fields.name ≡ option_map child_text (child (codes "name") b))
       × (fields.uri ≡ option_map child_text (child (codes "uri") b))
@@ -182,7 +181,7 @@ pub record IsSoFar (b : Content) (parts : Parts) : Type 0 where
   pub rights : parts.rights ≡ option_map construct (child (codes "rights") b)
   pub summary : parts.summary ≡ option_map construct (child (codes "summary") b)
   pub content : parts.content ≡ option_map construct (child (codes "content") b)
-  pub faultless : All IsFaultless (all_seen in_entry [] b)
+  pub faultless : IsRefusalIn in_entry [] b None
 
 -- the rest of an entry is read, or why a child is refused, whatever follows
 abbrev pub ArePartsFrom : ℕ → List Event → Point → Result Parts EarlyEnd → Elements → Type 0
@@ -193,14 +192,13 @@ ArePartsFrom total first from (Err (Fault fault)) new = IsFaultFrom total from f
 ArePartsFrom total first from (Err (Refused at why)) new =
     (told : List Event) × IsLed total first from told new
     × ((later : List Event) (inner rest : Content) (outer : List Content) →
-    contents (told ++ later) ≡ inner ∷ rest ∷ outer
-    → IsFirstFault (all_seen in_entry [] inner) at why)
+    contents (told ++ later) ≡ inner ∷ rest ∷ outer → IsRefusalIn in_entry [] inner (Some (at, why)))
 
 -- the whole entry is read, or why not
 abbrev pub IsEntryFrom : ℕ → List Event → Point → Element → Result DraftValue EarlyEnd → Elements → Type 0
 IsEntryFrom total first from root (Ok draft) new =
     (inner : Content) × (told : List Event) × (more : List Event) × IsLed total first from (told ++ more) new
-    × AreInner inner told × (root.name ≡ atom (codes "entry")) × All IsFaultless (all_seen in_entry [] inner)
+    × AreInner inner told × (root.name ≡ atom (codes "entry")) × IsRefusalIn in_entry [] inner None
     × IsReadAs inner draft
 IsEntryFrom total first from root (Err (Fault fault)) new = IsFaultFrom total from fault
 IsEntryFrom total first from root (Err (Refused at why)) new =
@@ -210,17 +208,18 @@ IsEntryFrom total first from root (Err (Refused at why)) new =
     → IsNoEntryAt root inner at why)
 
 -- a date element sets its slot
-abbrev pub IsDateMade : List Name → Element → Option ℤ → Content → Unit {0} → Type 0
+abbrev pub IsDateMade : List Element → Element → Option ℤ → Content → Unit {0} → Type 0
 IsDateMade before e slot inner _ =
     ((z : ℤ) × (slot ≡ Some z) × States (trimmed (text_of inner)) z) × IsFaultlessIn in_entry before e inner
 
 -- a text construct sets its slot
-abbrev pub IsConstructMade : List Name → Element → Option Text → Content → Unit {0} → Type 0
+abbrev pub IsConstructMade : List Element → Element → Option Text → Content → Unit {0} → Type 0
 IsConstructMade before e slot inner _ =
     (slot ≡ Some (construct (record { element = e; content = inner }))) × IsFaultlessIn in_entry before e inner
 
 -- an element of a list is added at the end of its list
-abbrev pub IsItemMade : {A : Type 0} → (Child → A) → List Name → Element → List A → List A → Content → Unit {0} → Type 0
+abbrev pub IsItemMade : {A : Type 0} → (Child → A) → List Element → Element → List A → List A → Content → Unit {0} →
+    Type 0
 IsItemMade make before e old new inner _ =
     (new ≡ old ++ make (record { element = e; content = inner }) ∷ []) × IsFaultlessIn in_entry before e inner
 

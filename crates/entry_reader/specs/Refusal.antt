@@ -1,5 +1,5 @@
 -- Why bytes are no entry document that is read, and where: the first of five steps that finds a fault.
-use Rattle.std.specs.Prelude.{◌≡◌, ◌≢◌, ◌⊎◌, ℕ, List, [], All, None, codes}
+use Rattle.std.specs.Prelude.{◌≡◌, ◌≢◌, ◌⊎◌, ℕ, List, [], Some, None, codes}
 use Rattle.xml_tokens.specs.declared.fault.TokenFault.{TokenFault}
 use Rattle.xml_tokens.specs.declared.fault.TokenFault.TheVariants as token_fault
 use Rattle.xml_tokens.specs.declared.fault.TokenWhy.{TokenWhy}
@@ -14,7 +14,7 @@ use Rattle.entry_reader.specs.declared.fault.Why.{Why}
 use Rattle.entry_reader.specs.declared.fault.Why.TheVariants.{NotUtf8, Doctype, NotWellFormed, TooDeep, NotAnEntry}
 use Rattle.entry_reader.specs.declared.fault.Why.TheVariants.{Missing}
 use Rattle.entry_reader.specs.Spells.{depth_limit}
-use Rattle.entry_reader.specs.Faults.{all_seen, IsFaultless, IsFirstFault}
+use Rattle.entry_reader.specs.Faults.{IsRefusalIn}
 use Rattle.entry_reader.specs.Faults.Within.{in_entry}
 
 -- the reason of a token, as that of an entry document
@@ -36,15 +36,14 @@ IsOtherRoot root at why = (root.name ≢ atom (codes "entry")) × (at ≡ root.p
 -- step 5: no element is refused, and there is no title
 abbrev pub HasNoTitle : Element → Content → ℕ → Why → Type 0
 HasNoTitle root content at why =
-    All IsFaultless (all_seen in_entry [] content) × (child (codes "title") content ≡ None) × (at ≡ root.place)
-    × (why ≡ Missing)
+    IsRefusalIn in_entry [] content None × (child (codes "title") content ≡ None) × (at ≡ root.place) × (why ≡ Missing)
 
 -- steps 3 to 5, of which step 4 is the first element that is refused
 abbrev pub IsNoEntryAt : Element → Content → ℕ → Why → Type 0
 IsNoEntryAt root content at why =
     IsOtherRoot root at why
     ⊎ ((root.name ≡ atom (codes "entry"))
-    × (IsFirstFault (all_seen in_entry [] content) at why ⊎ HasNoTitle root content at why))
+    × (IsRefusalIn in_entry [] content (Some (at, why)) ⊎ HasNoTitle root content at why))
 
 -- the bytes are refused with this offset and reason; steps 1 and 2 are those of tokens
 abbrev pub IsRefusedAt : List ℕ → ℕ → Why → Type 0

@@ -1,10 +1,10 @@
 -- The bytes that are read as a draft.
-use Rattle.std.specs.Prelude.{◌≡◌, ℕ, List, [], All, codes}
+use Rattle.std.specs.Prelude.{◌≡◌, ℕ, List, [], None, codes}
 use Rattle.atom_values.specs.Entry.{DraftValue}
 use Rattle.xml_tokens.specs.Tree.{Element, Content, IsDocument}
 use Rattle.entry_reader.specs.Entry.{IsReadAs}
 use Rattle.xml_tokens.specs.Names.{atom}
-use Rattle.entry_reader.specs.Faults.{all_seen, IsFaultless}
+use Rattle.entry_reader.specs.Faults.{IsRefusalIn}
 use Rattle.entry_reader.specs.Faults.Within.{in_entry}
 
 -- the greatest length of an entry document
@@ -21,5 +21,5 @@ pub record Spells (bytes : List ℕ) (draft : DraftValue) : Type 0 where
   pub content : Content
   pub document : IsDocument depth_limit bytes root content
   pub is_entry : root.name ≡ atom (codes "entry")
-  pub faultless : All IsFaultless (all_seen in_entry [] content)
+  pub faultless : IsRefusalIn in_entry [] content None
   pub read : IsReadAs content draft

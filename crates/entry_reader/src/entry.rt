@@ -4,7 +4,7 @@ ghost use Rattle.entry_reader.specs.Spells.{Spells, entry_limit};
 ghost use Rattle.entry_reader.specs.Refusal.{IsRefusedAt};
 ghost use Rattle.atom_values.specs.Entry.{person_limit, link_limit, category_limit};
 ghost use Rattle.atom_values.specs.Space.{trimmed};
-ghost use Rattle.xml_tokens.specs.Tree.{Name, Element as TreeElement, Content as Inner};
+ghost use Rattle.xml_tokens.specs.Tree.{Element as TreeElement, Content as Inner};
 ghost use Rattle.xml_tokens.specs.Tree.Content.{nothing};
 ghost use Rattle.entry_reader.specs.Entry.{IsReadAs, category, link, person};
 ghost use Rattle.xml_tokens.specs.Children.{attribute_in, child, text_of};
@@ -15,8 +15,8 @@ ghost use Rattle.xml_tokens.specs.Progress.{Point, IsAt, IsElementOf, IsOver, Is
 ghost use Rattle.xml_tokens.specs.Progress.{total_of, depth_of, left_of, pending};
 ghost use Rattle.entry_reader.specs.Parts.{IsConstructMade, IsDateMade, IsEntryFrom, IsFaultlessIn, IsItemMade, IsPartRead};
 ghost use Rattle.entry_reader.specs.Parts.{ArePartsFrom, IsConstructKind, IsContentKind, IsControlRead, IsDraftRead, IsSlot, IsSoFar};
-ghost use Rattle.entry_reader.specs.Parts.{category_in, count_of, link_in, other_names};
-ghost use Rattle.xml_tokens.specs.Children.{names_of, with_child};
+ghost use Rattle.entry_reader.specs.Parts.{category_in, count_of, elements_of, link_in, other_names};
+ghost use Rattle.xml_tokens.specs.Children.{with_child};
 ghost use Rattle.std.specs.Prelude.{◌+◌, ◌<◌, OnOk, Some, None, is_some, true, false, codes, IfSome, List, MatchOption, unwrap_or};
 ghost use Rattle.entry_reader.specs.declared.fault.Why.{Why};
 
@@ -254,7 +254,7 @@ impl Parts {
         requires inside { 1 ≤ depth_of elements.old }
         ensures read { (from : Point) (b : Inner) (e : TreeElement) → IsAt elements.old from
             → IsElementOf e child.now → IsSoFar b self.old
-            → IsPartRead (total_of elements.old) (pending elements.old) from in_entry (names_of b) e
+            → IsPartRead (total_of elements.old) (pending elements.old) from in_entry (elements_of b) e
             (λ inner _. IsSoFar (with_child b e inner) self.new) result elements.new }
         ensures depth { OnOk result (depth_of elements.new + 1 ≡ depth_of elements.old) }
         ensures shorter { OnOk result (left_of elements.new < left_of elements.old) }
@@ -287,7 +287,7 @@ impl Parts {
     ) -> Result<(), EarlyEnd>
         requires reading { IsReading elements.old }
         requires inside { 1 ≤ depth_of elements.old }
-        ensures read { (from : Point) (before : List Name) (e : TreeElement) → IsAt elements.old from
+        ensures read { (from : Point) (before : List TreeElement) (e : TreeElement) → IsAt elements.old from
             → IsElementOf e child.now → e.name ≡ atom (codes "id")
             → IsSlot e.name before (is_some self.old.id)
             → IsPartRead (total_of elements.old) (pending elements.old) from in_entry before e
@@ -317,7 +317,7 @@ impl Parts {
         requires inside { 1 ≤ depth_of elements.old }
         ensures read { (from : Point) (b : Inner) (e : TreeElement) → IsAt elements.old from
             → IsElementOf e child.now → IsSoFar b self.old → is_one_of other_names e.name ≡ false
-            → IsPartRead (total_of elements.old) (pending elements.old) from in_entry (names_of b) e
+            → IsPartRead (total_of elements.old) (pending elements.old) from in_entry (elements_of b) e
             (λ inner _. IsSoFar (with_child b e inner) self.new) result elements.new }
         ensures depth { OnOk result (depth_of elements.new + 1 ≡ depth_of elements.old) }
         ensures shorter { OnOk result (left_of elements.new < left_of elements.old) }
@@ -346,7 +346,7 @@ impl Parts {
     ) -> Result<(), EarlyEnd>
         requires reading { IsReading elements.old }
         requires inside { 1 ≤ depth_of elements.old }
-        ensures read { (from : Point) (before : List Name) (e : TreeElement) → IsAt elements.old from
+        ensures read { (from : Point) (before : List TreeElement) (e : TreeElement) → IsAt elements.old from
             → IsElementOf e child.now → e.name ≡ atom (codes "link")
             → length self.old.links.items ≡ count_of e.name before
             → IsPartRead (total_of elements.old) (pending elements.old) from in_entry before e
@@ -378,7 +378,7 @@ impl Parts {
     ) -> Result<(), EarlyEnd>
         requires reading { IsReading elements.old }
         requires inside { 1 ≤ depth_of elements.old }
-        ensures read { (from : Point) (before : List Name) (e : TreeElement) → IsAt elements.old from
+        ensures read { (from : Point) (before : List TreeElement) (e : TreeElement) → IsAt elements.old from
             → IsElementOf e child.now → e.name ≡ atom (codes "category")
             → length self.old.categories.items ≡ count_of e.name before
             → IsPartRead (total_of elements.old) (pending elements.old) from in_entry before e
@@ -455,7 +455,7 @@ fn date<'a>(
 ) -> Result<(), EarlyEnd>
     requires reading { IsReading elements.old }
     requires inside { 1 ≤ depth_of elements.old }
-    ensures read { (from : Point) (before : List Name) (e : TreeElement) → IsAt elements.old from
+    ensures read { (from : Point) (before : List TreeElement) (e : TreeElement) → IsAt elements.old from
         → IsElementOf e child.now → is_one_of dates e.name ≡ true → IsSlot e.name before (is_some slot.old)
         → IsPartRead (total_of elements.old) (pending elements.old) from in_entry before e
         (IsDateMade before e slot.new) result elements.new }
@@ -483,7 +483,7 @@ fn author<'a>(
 ) -> Result<(), EarlyEnd>
     requires reading { IsReading elements.old }
     requires inside { 1 ≤ depth_of elements.old }
-    ensures read { (from : Point) (before : List Name) (e : TreeElement) → IsAt elements.old from
+    ensures read { (from : Point) (before : List TreeElement) (e : TreeElement) → IsAt elements.old from
         → IsElementOf e child.now → is_one_of person_names e.name ≡ true
         → length persons.old.items ≡ count_of e.name before
         → IsPartRead (total_of elements.old) (pending elements.old) from in_entry before e
@@ -534,7 +534,7 @@ fn construct<'a>(
 ) -> Result<(), EarlyEnd>
     requires reading { IsReading elements.old }
     requires inside { 1 ≤ depth_of elements.old }
-    ensures read { (from : Point) (before : List Name) (e : TreeElement) → IsAt elements.old from
+    ensures read { (from : Point) (before : List TreeElement) (e : TreeElement) → IsAt elements.old from
         → IsElementOf e child.now → is_one_of constructs e.name ≡ true
         → IsSlot e.name before (is_some slot.old)
         → IsPartRead (total_of elements.old) (pending elements.old) from in_entry before e
@@ -599,7 +599,7 @@ fn is_draft(elements: &mut Elements<'_>) -> Result<bool, TokenFault>
 fn control<'a>(elements: &mut Elements<'a>, control: &Element<'a>) -> Result<(), EarlyEnd>
     requires reading { IsReading elements.old }
     requires inside { 1 ≤ depth_of elements.old }
-    ensures read { (from : Point) (before : List Name) (e : TreeElement) → IsAt elements.old from
+    ensures read { (from : Point) (before : List TreeElement) (e : TreeElement) → IsAt elements.old from
         → IsElementOf e control.now → e.name ≡ app (codes "control")
         → IsPartRead (total_of elements.old) (pending elements.old) from in_entry before e
         (λ inner _. IsFaultlessIn in_entry before e inner) result elements.new }

@@ -1,6 +1,6 @@
 ghost use Rattle.std.specs.Prelude.{◌≡◌, ℕ, ◌+◌, ◌<◌, ◌≤◌, List, [], OnOk, Bool, true, false, Some, if◌then◌else◌};
 ghost use Rattle.atom_values.specs.Entry.{person_limit};
-ghost use Rattle.xml_tokens.specs.Tree.{Name, Element as TreeElement, Content as Inner, Event as Told};
+ghost use Rattle.xml_tokens.specs.Tree.{Element as TreeElement, Content as Inner, Event as Told};
 ghost use Rattle.entry_reader.specs.Entry.{person};
 ghost use Rattle.entry_reader.specs.Faults.{Within, persons, is_one_of};
 ghost use Rattle.entry_reader.specs.Faults.Within.{in_entry};
@@ -171,7 +171,7 @@ pub(crate) fn person<'a>(
 ) -> Result<Person, EarlyEnd>
     requires reading { IsReading elements.old }
     requires inside { 1 ≤ depth_of elements.old }
-    ensures read { (from : Point) (before : List Name) (e : TreeElement) → IsAt elements.old from
+    ensures read { (from : Point) (before : List TreeElement) (e : TreeElement) → IsAt elements.old from
         → IsElementOf e element.now → is_one_of persons e.name ≡ true
         → (full ≡ true → person_limit ≤ count_of e.name before)
         → (full ≡ false → count_of e.name before < person_limit)

@@ -2,12 +2,11 @@ use Rattle.std.proofs.Common.{◌≡◌, ◌≤◌, ◌<◌, ◌==◌, ◌++◌,
 use Rattle.std.proofs.Common.{eqb-true, inl, ⊎_elim, Err}
 use Rattle.std.proofs.lemmas.Bool.{eqb-false}
 use Rattle.atom_values.specs.Entry.{person_limit}
-use Rattle.std.proofs.lemmas.List.Elements.{All-head}
 use Rattle.entry_reader.specs.declared.fault.Why.TheVariants.{TooMany}
-use Rattle.entry_reader.specs.Faults.{IsFaultless, Seen, all_seen, inside_of}
 use Rattle.entry_reader.specs.Faults.Within.{in_entry}
 use Rattle.xml_tokens.specs.Progress.{pending}
 use Rattle.entry_reader.specs.Parts.{IsStopped, count_of}
+use Rattle.entry_reader.proofs.ChildLemmas.{own_faultless}
 use Rattle.entry_reader.proofs.entry.author.Goals as goal
 
 pub returns-in-Ok-clause-read : goal.returns-in-Ok-clause-read
@@ -33,13 +32,11 @@ returns-in-Err-clause-read c = λ from before e at of is count.
     let few : (c.len.result == 16) ≡ false → count_of e.name before < person_limit = λ room.
     let other = eqb-false c.len.result 16 room in omega arith in
     let x = c.in_ok-person.ensures.read from before e at of is many few in
-    let s : Seen = record { within = in_entry; before = before; child = record { element = e; content = x.0 } } in
     ⊎_elim
     (λ full.
     let sixteen = c.in-Err.ensures.full.0 (ap (λ f. Err f) full) in
     let limit : person_limit ≤ count_of e.name before = omega arith in
-    let own = All-head IsFaultless s (all_seen (inside_of in_entry e.name) [] x.0 ++ []) x.4.1 in
-    absurd (own TooMany (inl ((refl, is), limit))))
+    absurd (own_faultless before e x.0 x.4.1 TooMany (inl ((refl, is), limit))))
     (λ memory.
     subst (λ k. IsStopped old.length (pending old) from in_entry before e k new)
     (sym (c.list_end.ensures.memory memory)) tt)

@@ -1,11 +1,11 @@
-use Rattle.std.proofs.Common.{refl, sym, ap, subst, ◌∙◌, Some, option_map}
+use Rattle.std.proofs.Common.{refl, sym, ap, subst, ◌∙◌, Some, None, option_map}
 use Rattle.entry_reader.specs.declared.fault.EarlyEnd.TheVariants.{Fault}
 use Rattle.entry_reader.specs.declared.fault.Why.TheVariants.{Twice}
 use Rattle.entry_reader.specs.Faults.{constructs, is_one_of, single_parts}
 use Rattle.xml_tokens.specs.Progress.{pending}
 use Rattle.entry_reader.specs.Parts.{IsConstructKind}
-use Rattle.entry_reader.proofs.ChildLemmas.{all_of, no_some, part_stopped, refused_at, refuses_read, single_faultless}
-use Rattle.entry_reader.proofs.ChildLemmas.{single_inner, single_own, single_twice, stopped_here}
+use Rattle.entry_reader.proofs.ChildLemmas.{all_of, no_some, part_stopped, refused_at, refuses_read, single_inside}
+use Rattle.entry_reader.proofs.ChildLemmas.{single_own, single_twice, stopped_here}
 use Rattle.entry_reader.proofs.ConstructLemmas.{construct_date, construct_read, construct_refused}
 use Rattle.entry_reader.proofs.entry.construct.Goals as goal
 
@@ -46,7 +46,7 @@ returns-in-Some-clause-read c = λ from before e at of is slot.
       x.1,
       x.2,
       refuses_read before e x.0 x.1 x.3 c.in-Some.at c.in-Some.why
-          (single_inner before e x.0 single own c.in-Some.at c.in-Some.why fault),
+          (single_inside before e x.0 single own (Some (c.in-Some.at, c.in-Some.why)) fault),
     )
 
 pub returns-clause-read : goal.returns-clause-read
@@ -64,5 +64,5 @@ returns-clause-read c = λ from before e at of is slot.
       x.1,
       x.2,
       x.3,
-      (λ i. Some (record { kind = kind.1 i; value = text i }), single_faultless before e x.0 single own none),
+      (λ i. Some (record { kind = kind.1 i; value = text i }), single_inside before e x.0 single own None none),
     )

@@ -1,4 +1,4 @@
-use Rattle.std.proofs.Common.{option_map, refl, sym, ap, subst, ◌∙◌}
+use Rattle.std.proofs.Common.{Some, None, option_map, refl, sym, ap, subst, ◌∙◌}
 use Rattle.std.specs.Prelude.{ℤ}
 use Rattle.atom_values.specs.DateText.{States}
 use Rattle.atom_values.specs.Space.{trimmed}
@@ -8,8 +8,8 @@ use Rattle.xml_tokens.specs.Children.{text_of}
 use Rattle.entry_reader.specs.Faults.{constructs, dates, is_one_of, single_parts}
 use Rattle.xml_tokens.specs.Progress.{pending}
 use Rattle.entry_reader.proofs.ChildLemmas.{all_of, date_bad, no_some, none_of, part_stopped, refused_at, refuses_read}
-use Rattle.entry_reader.proofs.ChildLemmas.{single_faultless, single_inner, single_own, single_twice, stopped_here}
-use Rattle.entry_reader.proofs.ChildLemmas.{stopped_read, untyped}
+use Rattle.entry_reader.proofs.ChildLemmas.{single_inside, single_own, single_twice, stopped_here, stopped_read}
+use Rattle.entry_reader.proofs.ChildLemmas.{untyped}
 use Rattle.entry_reader.proofs.entry.date.Goals as goal
 
 pub returns-in_err-once-clause-read : goal.returns-in_err-once-clause-read
@@ -55,7 +55,7 @@ returns-in-Some-inner_fault-clause-read c = λ from before e at of is slot.
       x.1,
       x.2,
       refuses_read before e x.0 x.1 x.3 c.in-Some-inner_fault.at c.in-Some-inner_fault.why
-          (single_inner before e x.0 single own c.in-Some-inner_fault.at c.in-Some-inner_fault.why fault),
+          (single_inside before e x.0 single own (Some (c.in-Some-inner_fault.at, c.in-Some-inner_fault.why)) fault),
     )
 
 pub returns-clause-read : goal.returns-clause-read
@@ -74,5 +74,5 @@ returns-clause-read c = λ from before e at of is slot.
       x.1,
       x.2,
       x.3,
-      ((c.in-Some.moment, refl, states), single_faultless before e x.0 single own none),
+      ((c.in-Some.moment, refl, states), single_inside before e x.0 single own None none),
     )

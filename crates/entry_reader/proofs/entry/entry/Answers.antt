@@ -4,7 +4,7 @@ use Rattle.entry_reader.specs.declared.fault.Why.TheVariants.{Missing, NotAnEntr
 use Rattle.xml_tokens.specs.Progress.{pending}
 use Rattle.entry_reader.specs.Parts.{IsEntryFrom}
 use Rattle.entry_reader.proofs.EntryLemmas.{end_faulty, entry_read, other_root, parts_stopped, untitled}
-use Rattle.entry_reader.proofs.PersonLemmas.{stop_is}
+use Rattle.entry_reader.proofs.ChildLemmas.{stop_is}
 use Rattle.xml_tokens.proofs.ProgressLemmas.{led_nowhere}
 use Rattle.entry_reader.proofs.entry.entry.Goals as goal
 

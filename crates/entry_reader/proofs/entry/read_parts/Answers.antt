@@ -10,7 +10,7 @@ use Rattle.entry_reader.specs.Parts.{ArePartsFrom, IsSoFar}
 use Rattle.xml_tokens.specs.Children.{with_child}
 use Rattle.xml_tokens.proofs.ContentLemmas.{ArePart, part_last, part_none, part_said, part_whole}
 use Rattle.entry_reader.proofs.EntryLemmas.{child_stopped, parts_said}
-use Rattle.entry_reader.proofs.PersonLemmas.{stop_is}
+use Rattle.entry_reader.proofs.ChildLemmas.{stop_is}
 use Rattle.xml_tokens.proofs.ProgressLemmas.{fault_on, led_nowhere, led_on}
 use Rattle.entry_reader.proofs.entry.read_parts.Goals as goal
 

@@ -4,7 +4,8 @@ use Rattle.entry_reader.specs.Entry.{person}
 use Rattle.entry_reader.specs.Faults.Within.{in_entry}
 use Rattle.xml_tokens.specs.Progress.{pending}
 use Rattle.entry_reader.specs.Parts.{IsFaultlessIn, IsPartRead, person_of}
-use Rattle.entry_reader.proofs.PersonLemmas.{person_read, stop_is}
+use Rattle.entry_reader.proofs.ChildLemmas.{stop_is}
+use Rattle.entry_reader.proofs.PersonLemmas.{person_read}
 use Rattle.entry_reader.proofs.person.person.Goals as goal
 
 pub returns-clause-read : goal.returns-clause-read

@@ -1,12 +1,12 @@
-use Rattle.std.proofs.Common.{sym, ap, ◌∙◌, Some, option_map}
+use Rattle.std.proofs.Common.{sym, ap, ◌∙◌, Some, None, option_map}
 use Rattle.std.proofs.lemmas.Bool.{both_ways}
 use Rattle.atom_values.specs.Space.{trimmed}
 use Rattle.entry_reader.specs.declared.fault.EarlyEnd.TheVariants.{Fault}
 use Rattle.entry_reader.specs.declared.fault.Why.TheVariants.{Twice}
 use Rattle.entry_reader.specs.Faults.{constructs, dates, is_one_of, single_parts}
 use Rattle.xml_tokens.specs.Progress.{pending}
-use Rattle.entry_reader.proofs.ChildLemmas.{no_some, part_stopped, refused_at, refuses_read, single_faultless}
-use Rattle.entry_reader.proofs.ChildLemmas.{single_inner, single_own, single_twice, stopped_here, untyped}
+use Rattle.entry_reader.proofs.ChildLemmas.{no_some, part_stopped, refused_at, refuses_read, single_inside}
+use Rattle.entry_reader.proofs.ChildLemmas.{single_own, single_twice, stopped_here, untyped}
 use Rattle.entry_reader.proofs.entry.Parts.id.Goals as goal
 
 pub returns-in_err-once-clause-read : goal.returns-in_err-once-clause-read
@@ -36,7 +36,7 @@ returns-in-Some-clause-read c = λ from before e at of is slot.
       x.1,
       x.2,
       refuses_read before e x.0 x.1 x.3 c.in-Some.at c.in-Some.why
-          (single_inner before e x.0 (ap (is_one_of single_parts) is) own c.in-Some.at c.in-Some.why fault),
+          (single_inside before e x.0 (ap (is_one_of single_parts) is) own (Some (c.in-Some.at, c.in-Some.why)) fault),
     )
 
 pub returns-clause-read : goal.returns-clause-read
@@ -54,6 +54,6 @@ returns-clause-read c = λ from before e at of is slot.
       x.3,
       (
         λ i. record c.args.self.now { id = Some (text i) },
-        single_faultless before e x.0 (ap (is_one_of single_parts) is) own none,
+        single_inside before e x.0 (ap (is_one_of single_parts) is) own None none,
       ),
     )
