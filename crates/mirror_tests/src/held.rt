@@ -40,7 +40,7 @@ fn documents_without_a_disk_are_answered_as_a_mirror_answers(rt: HostRuntime) {
 
 /// A member, the index of the document that shows it in the order of `MIXED`, and that of its entry there. Each
 /// document has its newest item first.
-static PLACES: [(u32, usize, usize); 4] = [(1, 2, 3), (4, 2, 0), (5, 3, 3), (13, 0, 0)];
+static PLACES: [(u32, u32, u32); 4] = [(1, 2, 3), (4, 2, 0), (5, 3, 3), (13, 0, 0)];
 
 #[test]
 fn documents_without_a_disk_tell_where_entries_are(rt: HostRuntime) {

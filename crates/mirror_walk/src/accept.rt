@@ -177,9 +177,10 @@ impl Documents {
         ensures base { self.new.base ≡ self.old.base }
         ensures err { OnErr result (self.new ≡ self.old) }
     {
+        // No memory holds so many documents that this fails.
+        let at = u32::try_from(self.kept.len()).map_err(|_| NoMemory)?;
         self.kept.reserve(1)?;
         let Given { name, kept } = given;
-        let at = self.kept.len();
         let best = self.best_with(at, &kept);
         let feed = name.id;
         match kept.kind() {
@@ -202,7 +203,7 @@ impl Documents {
 
     /// The best subscription document once this new document is held. `at` will be the new document's index
     /// among those taken.
-    fn best_with(&self, at: usize, given: &Kept) -> Option<Best>
+    fn best_with(&self, at: u32, given: &Kept) -> Option<Best>
         requires new { IsNew self.now.kept given.now.document }
         requires end { at ≡ length self.now.kept }
         ensures { HasBestAfter self.now.kept given.now.document result }

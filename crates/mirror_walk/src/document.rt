@@ -68,6 +68,6 @@ impl Mirror {
         let Some(index) = self.documents.index(address) else {
             return Ok(None);
         };
-        Ok(Some(self.log.read(disk, index as u32)?))
+        Ok(Some(self.log.read(disk, index)?))
     }
 }

@@ -24,7 +24,7 @@ use std::marker::Model;
 /// needs and that isn't held, or 0.
 #[derive(Clone, Copy, Debug)]
 pub(crate) struct Best {
-    pub(crate) at: usize,
+    pub(crate) at: u32,
     pub(crate) missing: u32,
 }
 
@@ -32,9 +32,9 @@ pub(crate) struct Best {
 #[derive(Clone, Copy, Debug)]
 pub struct EntryPlace {
     /// The index of the entry's document among those taken, from 0.
-    pub document: usize,
+    pub document: u32,
     /// The index of the entry among the document's items, from 0.
-    pub item: usize,
+    pub item: u32,
 }
 
 /// The documents that a mirror took, and what finds them.
@@ -53,7 +53,7 @@ pub(crate) struct Documents {
     pub(crate) name: Option<FeedName>,
     pub(crate) kept: Vec<Kept>,
     /// The index among the documents taken of each archive, by its number.
-    pub(crate) archives: BTreeMap<u32, usize>,
+    pub(crate) archives: BTreeMap<u32, u32>,
     pub(crate) best: Option<Best>,
     /// The places of the live entries by the members' numbers, if they are listed. Else the map of the last
     /// list, from which the next one is made.
@@ -97,14 +97,14 @@ impl Documents {
     pub(crate) fn archive(&self, number: u32) -> Option<&Kept>
         ensures { option_copied result ≡ archive_at self.now.kept number }
     {
-        self.kept.get(*self.archives.get(&number)?)
+        self.kept.get(*self.archives.get(&number)? as usize)
     }
 
     /// The held subscription document with the greatest `last`.
     pub(crate) fn best_kept(&self) -> Option<&Kept>
         ensures { option_copied result ≡ best_of self.now.kept }
     {
-        self.kept.get(self.best?.at)
+        self.kept.get(self.best?.at as usize)
     }
 
     /// The place of the best subscription document in the chain. `None` if no subscription document is held.
@@ -138,7 +138,7 @@ impl Documents {
 
     /// The index among the documents taken of the one held at an address: for `Feed` the best subscription
     /// document. `None` if none is held there, and for a member. Takes no memory.
-    pub(crate) fn index(&self, address: Address) -> Option<usize>
+    pub(crate) fn index(&self, address: Address) -> Option<u32>
         ensures { HasPlace self.now.kept result (document_at self.now.kept address) }
     {
         match address {
@@ -154,7 +154,7 @@ impl Documents {
         ensures { (entry : EntryValue) (held : HasEntryAt self.now.kept at entry)
             → HasPiece (text held.document.document) held.document.document.name (KeptItem entry) result }
     {
-        self.kept[at.document].piece(at.item)
+        self.kept[at.document as usize].piece(at.item as usize)
     }
 
     /// The first missing document: the subscription document if none is held, else the greatest archive that

@@ -64,7 +64,7 @@ impl Mirror {
             (result ≡ Err LogFault.DiskFault) }
     {
         let place = self.documents.entry_place(number);
-        let index = place.document as u32;
+        let index = place.document;
         let piece_place = self.documents.piece_place(place);
         let piece = self
             .log

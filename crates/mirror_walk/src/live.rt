@@ -29,8 +29,8 @@ use std::ops::Bound;
 /// Lists an item over those of older documents: the place of its entry, and nothing if it is a tombstone.
 fn list_item(
     live: &mut BTreeMap<u32, EntryPlace>,
-    document: usize,
-    at: usize,
+    document: u32,
+    at: u32,
     item: ItemMark,
 ) -> Result<(), NoMemory>
     ensures updates { OnOk result
@@ -52,17 +52,18 @@ fn list_item(
 /// Lists the items of a document over those of older documents. `document` is its index among those taken.
 fn list_items(
     live: &mut BTreeMap<u32, EntryPlace>,
-    document: usize,
+    document: u32,
     items: &[ItemMark],
 ) -> Result<(), NoMemory>
     requires distinct { IsDistinct nat_eq (map marked_number items.now) }
     requires from_one { AreFromOne items.now }
+    requires few { length items.now < 2 ^ 32 }
     ensures items { OnOk result
         (LaysOver marked_number (entry_place document) items.now live.old live.new) }
     ensures members { OnOk result (AreMembers live.old → AreMembers live.new) }
 {
     for (at, item) in items.iter().enumerate() {
-        list_item(live, document, at, *item)?;
+        list_item(live, document, at as u32, *item)?;
     }
     Ok(())
 }
@@ -130,7 +131,7 @@ impl Documents {
     {
         // No document is missing, so there is a best subscription document.
         let best = self.best.unwrap();
-        let prev = self.kept[best.at].prev();
+        let prev = self.kept[best.at as usize].prev();
         let mut map = self.below_best(map, prev)?;
         self.lay_archives(&mut map, prev)?;
         self.lay_best(&mut map, best.at)?;
@@ -169,7 +170,7 @@ impl Documents {
     }
 
     /// Lays the subscription document of this index over the archives, and notes what its items replace.
-    fn lay_best(&self, map: &mut BaseMap, at: usize) -> Result<(), NoMemory>
+    fn lay_best(&self, map: &mut BaseMap, at: u32) -> Result<(), NoMemory>
         requires within { at < length self.now.kept }
         requires bare { IsBare self.now.kept map.old }
         ensures base { OnOk result (IsBaseMap self.now.kept map.new) }
@@ -178,18 +179,18 @@ impl Documents {
             map.new.entries) }
         ensures members { OnOk result (AreMembers map.new.entries) }
     {
-        map.replaced = replaced_by(self.alloc, &map.entries, self.kept[at].items())?;
+        map.replaced = replaced_by(self.alloc, &map.entries, self.kept[at as usize].items())?;
         self.list_document(at, &mut map.entries)
     }
 
     /// Lists the items of the document with this index over those of older documents.
-    fn list_document(&self, at: usize, live: &mut BTreeMap<u32, EntryPlace>) -> Result<(), NoMemory>
+    fn list_document(&self, at: u32, live: &mut BTreeMap<u32, EntryPlace>) -> Result<(), NoMemory>
         requires { at < length self.now.kept }
         ensures laid { OnOk result ((found : KeptValue) → slice_get self.now.kept at ≡ Some found
             → LaysOver marked_number (entry_place at) (marks_of found.document) live.old live.new) }
         ensures members { OnOk result (AreMembers live.old → AreMembers live.new) }
     {
-        list_items(live, at, self.kept[at].items())
+        list_items(live, at, self.kept[at as usize].items())
     }
 
     /// How many live entries are listed.

@@ -1,6 +1,7 @@
 use Rattle.std.proofs.Common.{◌≡◌, ℕ, List, [], ◌∷◌, ◌++◌, Option, Some, false, length, refl, ap, sym, subst}
 use Rattle.std.proofs.Common.{◌∙◌, arith, rules}
 use Rattle.std.specs.BTreeMap.{BTreeMap}
+use Rattle.std.proofs.lemmas.Grind.{common_steps}
 use Rattle.atom_writer.specs.declared.doc.FeedName.{FeedName}
 use Rattle.atom_writer.specs.declared.doc.Kind.TheVariants.{Subscription, Archive}
 use Rattle.mirror_walk.specs.Checks.{IsNew}
@@ -28,14 +29,18 @@ record IsFiled (kept : List KeptValue) (given : KeptValue) (was : Option (List �
 abbrev IsFiledIn : Joined-at-eq0 → Inside → Type 0
 IsFiledIn c i = IsFiled c.reserve.new.self.items c.args.given.kept c.self.inside.feed i.archives i.map i.feed i.name
 
+-- the new document's index is the number of those before it
+count : (c : Joined-at-eq0) → c.in_ok-at.at ≡ length c.reserve.new.self.items
+count c = grind (arith, common_steps)
+
 filed : (c : Joined-at-eq0) → IsFiledIn c c.match-kind.self-inside
 filed c = elim c.match-kind.branch [
   | in-Archive+in_ok-insert-in-Archive w ↦
       let kind : given.document.kind ≡ Archive w.in-Archive.number =
       sym c.kind.ensures.kind ∙ w.in-Archive.is in
       subst (IsFiledIn c) (sym w.self-inside-is) record {
-        places = places-own kept given c.self.inside.archives w.insert.new.self w.in-Archive.number c.len-at.result
-            there (new-free kept given.document w.in-Archive.number new kind) kind (search rules)
+        places = places-own kept given c.self.inside.archives w.insert.new.self w.in-Archive.number c.in_ok-at.at
+            there (new-free kept given.document w.in-Archive.number new kind) kind (count c)
             w.in_ok-insert-in-Archive.ensures.updates;
         based = stays;
         fed = refl;
@@ -86,7 +91,7 @@ invariant_of-self-3 c =
     let file = filed (goal.at.invariant_of-self-3 c).Joined-at-eq0 in
     let same : c.self.inside.feed ≡ feed_of kept =
     c.self.invariant.feed_there ∙ ap feed_of (sym c.reserve.ensures.items) in
-    let count : c.len-at.result ≡ length kept = search rules in
+    let long = count (goal.at.invariant_of-self-3 c).Joined-at-eq0 in
     let indexed = λ (feed : Option (List ℕ)) (fed : feed ≡ feed_of (kept ++ given ∷ [])).
     indexed-more kept c.push.new.self.items given c.match-kind.self-inside.archives c.best_with-best.result
     c.match-kind.self-inside.map feed c.match-kind.self-inside.name pushed file.places c.best_with-best.ensures
@@ -97,10 +102,10 @@ invariant_of-self-3 c =
           (sym w.self-inside-is)
           (indexed (Some c.args.given.name.id)
           (ap (λ (n : FeedName). Some n.id) c.requires.name
-          ∙ sym (feed-first kept given (omega (arith, count, w.if-at-eq0.true)))))
+          ∙ sym (feed-first kept given (omega (arith, long, w.if-at-eq0.true)))))
       | else-at-eq0 w ↦
           subst (λ (i : Inside). IsIndexed c.push.new.self.items i.archives i.best i.map false i.feed i.name)
           (sym w.self-inside-is)
           (indexed c.match-kind.self-inside.feed
-          (file.fed ∙ same ∙ sym (feed-stays kept given (λ none. w.if-at-eq0.false (count ∙ none)))))
+          (file.fed ∙ same ∙ sym (feed-stays kept given (λ none. w.if-at-eq0.false (long ∙ none)))))
     ]
