@@ -16,11 +16,11 @@ use Rattle.command_ends.specs.Fault.{refusal_answer}
 use Rattle.discover_command.specs.Answer.{DiscoverHasOneAnswer}
 use Rattle.foreign_command.specs.Answer.{ForeignHasOneAnswer}
 use Rattle.scrub_command.specs.Answer.{RepairsHaveOneEnd, SoundStoresHaveOneAnswer}
-use Rattle.feed_commands.specs.Show.{IsShown, IsPast, IsSummary, IsBadDocument}
+use Rattle.store_commands.specs.Show.{IsShown, IsPast, IsSummary, IsBadDocument}
 use Rattle.command_ends.specs.Summary.{summary}
 use Rattle.feed_commands.specs.Outside.{Outside}
 use Rattle.feed_commands.specs.Run.{IsOfStore, OneAnswer, stored_answer}
-use Rattle.feed_commands.specs.Stored.{IsInitAnswer}
+use Rattle.store_commands.specs.Stored.{IsInitAnswer}
 use Rattle.mirror_commands.proofs.MirrorEndLemmas.{pile-same, walk-same}
 use Rattle.mirror_commands.proofs.OneAuditedLemmas.{one-audited}
 use Rattle.mirror_commands.proofs.PlaceLemmas.{place_once}

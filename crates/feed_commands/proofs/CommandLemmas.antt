@@ -8,8 +8,8 @@ use Rattle.tool_words.specs.declared.command.Show.TheVariants.{Document}
 use Rattle.command_ends.specs.Answer.{Answer}
 use Rattle.feed_commands.specs.Outside.{Outside}
 use Rattle.feed_commands.specs.Run.{IsGiven}
-use Rattle.feed_commands.specs.Show.{IsShown}
-use Rattle.feed_commands.specs.Stored.{IsInitAnswer}
+use Rattle.store_commands.specs.Show.{IsShown}
+use Rattle.store_commands.specs.Stored.{IsInitAnswer}
 use Rattle.feed_commands.proofs.AnswerLemmas.{init_once, shown_once}
 
 -- the command of an arm that tests the flag

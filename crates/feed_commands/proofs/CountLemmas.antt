@@ -9,6 +9,7 @@ use Rattle.command_ends.specs.declared.fault.Fault.TheVariants.{BadStore, Disk, 
 use Rattle.command_ends.proofs.AnsweredLemmas.{done-sent}
 use Rattle.command_ends.proofs.EndLemmas.{input_end, no_done, no_output, refusal_code}
 use Rattle.feed_commands.specs.Run.{CountsShared}
+use Rattle.store_commands.proofs.CountLemmas.{counts-as}
 
 -- no call was made, and the fault wasn't returned
 pub counts-none : {count : ℕ} {Returned : Type 0} → (Returned → ⊥) → CountsFault count count Returned
@@ -16,31 +17,6 @@ counts-none none = record {
   later = omega arith;
   failed = λ is. absurd (none is);
   unfailed = λ _. refl;
-}
-
--- a call left the count as it was, and the next one failed, or left it too
-module _ {before mid after : ℕ} {Returned : Type 0} (same : mid ≡ before) where
-  pub counts-failed : mid ≤ after → HasRisen mid after → Returned → CountsFault before after Returned
-  counts-failed later rose is = subst (λ (n : ℕ). CountsFault n after Returned) same (record {
-    later = later;
-    failed = λ _. rose;
-    unfailed = λ none. absurd (none is);
-  })
-
-  pub counts-worked : after ≡ mid → (Returned → ⊥) → CountsFault before after Returned
-  counts-worked worked none = record {
-    later = omega arith;
-    failed = λ is. absurd (none is);
-    unfailed = λ _. worked ∙ same;
-  }
-
--- the same fault by another name
-pub counts-as : {before after : ℕ} {One Other : Type 0} → (One → Other) → (Other → One) → CountsFault before after One
-    → CountsFault before after Other
-counts-as to from counts = record {
-  later = counts.later;
-  failed = λ is. counts.failed (from is);
-  unfailed = λ none. counts.unfailed (λ is. none (to is));
 }
 
 -- the fault of the disk alone has its status

@@ -20,10 +20,10 @@ use Rattle.tool_words.specs.declared.command.Command.TheVariants.{Init, Apply, S
 use Rattle.tool_words.specs.declared.command.Command.TheVariants.{Discover, Relay, Scrub}
 use Rattle.tool_words.specs.declared.command.Show.TheVariants.{Document, Feed, Archive, Member, Pile}
 use Rattle.atom_writer.specs.declared.doc.FeedName.{FeedName}
-use Rattle.feed_commands.specs.Crash.{IsStatusAfterLoad}
+use Rattle.store_commands.specs.Crash.{IsStatusAfterLoad}
 use Rattle.feed_commands.specs.Ran.{EndsOf, Ran}
 use Rattle.feed_commands.specs.Run.{IsAtOnce, IsTextual}
-use Rattle.feed_commands.proofs.DiskLemmas.{applies-none, makes-none}
+use Rattle.store_commands.proofs.DiskLemmas.{applies-none, makes-none}
 use Rattle.feed_commands.proofs.LoadedFaultLemmas.{unloaded_five}
 use Rattle.feed_commands.proofs.PileEndLemmas.{cut-at-once}
 use Rattle.feed_commands.proofs.RelayEndLemmas.{relay-none}

@@ -4,7 +4,7 @@ use Rattle.command_ends.specs.declared.fault.Fault.{Fault}
 use Rattle.command_ends.specs.declared.fault.Fault.TheVariants.{NoMemory, Input, Disk, BadStore, Full, Refused}
 use Rattle.command_ends.specs.Fault.{fault_answer}
 use Rattle.command_ends.specs.Status.{code_of}
-use Rattle.feed_commands.specs.Crash.{ComesAfterLoad, IsStatusAfterLoad}
+use Rattle.store_commands.specs.Crash.{ComesAfterLoad, IsStatusAfterLoad}
 
 -- a status after the load of a store is one of six
 loaded_at : (P : ℕ → Type 0) → P 0 → P 8 → P 9 → P 10 → P 11 → P 12 → (n : ℕ) → IsStatusAfterLoad n → P n

@@ -16,11 +16,12 @@ use Rattle.feed_commands.specs.Outside.{Outside}
 use Rattle.feed_commands.specs.Run.{EndsWith}
 use Rattle.command_ends.specs.Ends.{IsDone, IsStatus}
 use Rattle.command_ends.specs.Status.{code_of}
-use Rattle.feed_commands.specs.Stored.{IsBadStore}
+use Rattle.store_commands.specs.Stored.{IsBadStore}
 use Rattle.tool_words.specs.declared.command.Command.TheVariants.{Show}
 use Rattle.tool_words.specs.declared.command.Show.TheVariants.{Pile}
 use Rattle.command_ends.proofs.EndLemmas.{no_done}
-use Rattle.feed_commands.proofs.CountLemmas.{counts-as, disk_end}
+use Rattle.feed_commands.proofs.CountLemmas.{disk_end}
+use Rattle.store_commands.proofs.CountLemmas.{counts-as}
 
 -- a fault under its own name
 pub failed-by : {result : Result (Unit {0}) PrintFault} {fault other : PrintFault} → result ≡ Err fault → fault ≡ other

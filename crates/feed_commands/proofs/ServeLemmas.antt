@@ -20,7 +20,7 @@ use Rattle.command_ends.specs.StoreFaults.{load_fault}
 use Rattle.command_ends.specs.declared.fault.Fault.TheVariants.{Disk, NoMemory}
 use Rattle.command_ends.proofs.AnsweredLemmas.{done-sent}
 use Rattle.command_ends.proofs.EndLemmas.{no_done, no_output}
-use Rattle.feed_commands.proofs.CountLemmas.{counts-as}
+use Rattle.store_commands.proofs.CountLemmas.{counts-as}
 use Rattle.doc_source.specs.Outside.{SinkState, TakesPrefix}
 use Rattle.feed_commands.specs.Serve.{IsOpened, end_fault, fault_status, fault_text, session_line, session_status, session_text}
 use Rattle.command_ends.specs.Status.{code_of}

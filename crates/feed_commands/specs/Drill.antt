@@ -2,7 +2,7 @@
 use Rattle.std.specs.Prelude.{◌≡◌, ◌≢◌, ◌⊎◌, ℕ, List, Option, Some, None}
 use Rattle.command_ends.specs.declared.status.Status.TheVariants as ends
 use Rattle.command_ends.specs.Answer.{Answer}
-use Rattle.feed_commands.specs.Apply.{test_head}
+use Rattle.store_commands.specs.Apply.{test_head}
 use Rattle.command_ends.specs.Status.{code_of}
 use Rattle.feed_drill.specs.Drilled.{IsDrilled, operations}
 use Rattle.feed_drill.specs.Summary.{summary_of, summary_text}

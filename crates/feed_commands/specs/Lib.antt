@@ -1,14 +1,6 @@
 pub mod Outside
-pub mod Line
-pub mod Lines
-pub mod Applied
-pub mod Apply
-pub mod Stored
 pub mod Pile
-pub mod Show
 pub mod Drill
 pub mod Run
-pub mod Crash
-pub mod Loaded
 pub mod Serve
 pub mod Ran

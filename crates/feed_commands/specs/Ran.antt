@@ -21,7 +21,7 @@ use Rattle.tool_words.specs.declared.command.Command.{Command}
 use Rattle.tool_words.specs.declared.command.Command.TheVariants.{Init, Apply, Serve, Show, Mirror, Audit, Drill, Foreign}
 use Rattle.tool_words.specs.declared.command.Command.TheVariants.{Discover, Relay, Scrub}
 use Rattle.tool_words.specs.declared.command.Show.TheVariants.{Pile}
-use Rattle.feed_commands.specs.Crash.{EndsApplying, IsStatusAfterLoad, MakesStoreAt}
+use Rattle.store_commands.specs.Crash.{EndsApplying, IsStatusAfterLoad, MakesStoreAt}
 use Rattle.feed_commands.specs.Drill.{EndsDrilling}
 use Rattle.feed_commands.specs.Pile.{EndsCut}
 use Rattle.feed_commands.specs.Serve.{EndsServing}

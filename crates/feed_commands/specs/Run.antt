@@ -14,8 +14,8 @@ use Rattle.doc_source.specs.Fetch.{FetchState}
 use Rattle.doc_source.specs.Outside.{SourceState, SinkState}
 use Rattle.command_ends.specs.Answer.{Answer}
 use Rattle.command_ends.specs.Ends.{CountsOutput, EndsAs}
-use Rattle.feed_commands.specs.Applied.{IsUnrefused}
-use Rattle.feed_commands.specs.Apply.{answer, history_step, test_head}
+use Rattle.store_commands.specs.Applied.{IsUnrefused}
+use Rattle.store_commands.specs.Apply.{answer, history_step, test_head}
 use Rattle.mirror_commands.specs.Audit.{IsAuditUnrefused, IsAudited, audit_limit}
 use Rattle.feed_commands.specs.Drill.{drill_answer}
 use Rattle.feed_life.specs.Life.{LifeValue}
@@ -25,13 +25,13 @@ use Rattle.scrub_command.specs.Answer.{IsRepairAnswer, IsRepairEnd, IsScrubAnswe
 use Rattle.foreign_mirror.specs.Walk.{IsStart}
 use Rattle.mirror_commands.specs.FetchEnds.{IsWalkAnswer, IsWalkEnd}
 use Rattle.mirror_commands.specs.MirrorEnds.{IsMirrorUnrefused, IsPileAnswer, IsPileEnd}
-use Rattle.feed_commands.specs.Lines.{input_limit}
+use Rattle.store_commands.specs.Lines.{input_limit}
 use Rattle.mirror_commands.specs.Mirror.{pile_limit}
 use Rattle.feed_commands.specs.Outside.{Outside}
 use Rattle.feed_commands.specs.Pile.{pile_answer}
-use Rattle.feed_commands.specs.Show.{IsShown, ReadsWithinLimit, document_limit}
+use Rattle.store_commands.specs.Show.{IsShown, ReadsWithinLimit, document_limit}
 use Rattle.command_ends.specs.Status.{code_of}
-use Rattle.feed_commands.specs.Stored.{IsBadStore, IsInitAnswer, apply_answer, archive_answer, feed_answer, member_answer, stored_step}
+use Rattle.store_commands.specs.Stored.{IsBadStore, IsInitAnswer, apply_answer, archive_answer, feed_answer, member_answer, stored_step}
 use Rattle.member_rules.specs.Head.{window_limit, capacity_floor, capacity_limit, title_limit}
 use Rattle.tool_words.specs.Words.{IsCommandOf, request_limit}
 use Rattle.tool_words.specs.declared.command.Command.{Command}

@@ -1,11 +1,5 @@
-//! The commands, each with its own module, and what they share.
+//! The commands whose end isn't a text alone, each with its own module.
 
-pub mod apply;
 pub mod drill;
-pub mod init;
-mod line;
-mod lines;
 pub mod pile;
 pub mod serve;
-pub mod show;
-pub mod store;

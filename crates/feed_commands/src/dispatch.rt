@@ -9,8 +9,8 @@ ghost use Rattle.command_ends.specs.declared.status.Status.TheVariants as status
 ghost use Rattle.command_ends.specs.Answer.{Answer, Prints};
 ghost use Rattle.doc_source.specs.Fetch.{FetchState};
 ghost use Rattle.feed_recovery.specs.Settled.{KeepsPayloads};
-ghost use Rattle.feed_commands.specs.Crash.{AddsNoOperation, AddsNothing, EndsAfterLoad, EndsApplying};
-ghost use Rattle.feed_commands.specs.Crash.{MakesStoreAt};
+ghost use Rattle.store_commands.specs.Crash.{AddsNoOperation, AddsNothing, EndsAfterLoad, EndsApplying};
+ghost use Rattle.store_commands.specs.Crash.{MakesStoreAt};
 ghost use Rattle.command_ends.specs.Fault.{fault_answer, HasAnswer, IsRefusal};
 ghost use Rattle.feed_commands.specs.Run.{HasRange, IsDueAnswer, IsGiven, IsSeen, IsUnrefusedBy};
 ghost use Rattle.command_ends.specs.Ends.{IsStatus, IsAnswered};
@@ -26,13 +26,9 @@ ghost use Rattle.tool_words.specs.declared.command.Command.{Command as CommandVa
 ghost use Rattle.scrub_command.specs.Answer.{EndsRepairing, EndsWithStatus};
 ghost use Rattle.tool_words.specs.declared.command.Command.TheVariants.{Init, Apply, Scrub};
 
-use crate::commands::apply::apply;
 use crate::commands::drill::drill;
-use crate::commands::init::init;
 use crate::commands::pile::show_pile;
 use crate::commands::serve::serve;
-use crate::commands::show::show;
-use crate::commands::store;
 use atom_values::{Failed, Many};
 use command_ends::{Fault, Status, print_fault};
 use discover_command::discover;
@@ -45,6 +41,10 @@ use mirror_commands::{audit, mirror, mirror_fetched};
 use relay_command::relay;
 use scrub_command::{repair, scrub};
 use std::alloc::Global;
+use store_commands::apply::apply;
+use store_commands::init::init;
+use store_commands::show::show;
+use store_commands::store;
 use tool_words::{Command, Show, WordsFault, read_words};
 
 /// How the program ends.

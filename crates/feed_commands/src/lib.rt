@@ -16,12 +16,12 @@
 //! assert_eq!(rt; ended.status, 0);
 //! ```
 //!
-//! The commands of the mirror and the auditor are in `mirror_commands`, and the others in `commands`. A command has one
+//! `serve`, `show pile` and `drill` are in `commands`, and each other command is in a crate below. A command has one
 //! answer to an input, and the law in `laws.rt` says so.
 //!
-//! Stands on `command_ends` for statuses and faults, on `mirror_commands`, on `document_server` for the server, on
-//! `feed_drill` for drills, on `doc_source` for the source, the input and the output, on `archive_sealer` and
-//! `atom_grammar` for the documents, and on the crates below them.
+//! Stands on `command_ends` for statuses and faults, on `store_commands`, `mirror_commands` and the other crates of
+//! commands, on `document_server` for the server, on `feed_drill` for drills, on `doc_source` for the source, the input
+//! and the output, and on the crates below them.
 #![tactic(auto)]
 
 mod commands;

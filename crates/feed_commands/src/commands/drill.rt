@@ -10,13 +10,13 @@ ghost use Rattle.command_ends.specs.Status.{code_of};
 ghost use Rattle.feed_drill.specs.Drilled.{IsDrilled};
 ghost use Rattle.tool_words.specs.declared.command.Command.TheVariants.{Drill as DrillOf};
 
-use crate::commands::apply::test_head;
 use crate::dispatch::Ended;
 use atom_values::{Failed, Many, NoMemory};
 use command_ends::{Fault, Status, print_fault};
 use doc_source::{Sink, write_all};
 use feed_life::Life;
 use std::alloc::Global;
+use store_commands::apply::test_head;
 
 /// How many operations a window of a drill's feed has.
 const DRILL_WINDOW: u32 = 16;

@@ -19,7 +19,7 @@ ghost use Rattle.feed_commands.specs.Pile.{EndsCut, IsFrontOf, MayEndPile, Takes
 ghost use Rattle.feed_commands.specs.Run.{EndsWith};
 ghost use Rattle.command_ends.specs.Ends.{CountsOutput, IsAnswered};
 ghost use Rattle.command_ends.specs.Status.{code_of};
-ghost use Rattle.feed_commands.specs.Stored.{IsBadStore};
+ghost use Rattle.store_commands.specs.Stored.{IsBadStore};
 ghost use Rattle.member_rules.specs.Documents.{archive, subscription};
 ghost use Rattle.tool_words.specs.declared.command.Command.TheVariants.{Show as ShowOf};
 ghost use Rattle.tool_words.specs.declared.command.Show.TheVariants.{Pile};

@@ -8,7 +8,7 @@ use Rattle.feed_recovery.proofs.LoadedLemmas.{alone-payloads}
 use Rattle.mirror_commands.specs.declared.report_fault.ReportFault.TheVariants.{Other}
 use Rattle.command_ends.specs.declared.fault.Fault.TheVariants.{Disk, Input, NoMemory}
 use Rattle.command_ends.specs.Answer.{Answer}
-use Rattle.feed_commands.specs.Crash.{IsStatusAfterLoad}
+use Rattle.store_commands.specs.Crash.{IsStatusAfterLoad}
 use Rattle.command_ends.specs.Fault.{fault_answer}
 use Rattle.feed_commands.specs.Outside.{outside_of}
 use Rattle.command_ends.specs.Ends.{IsAnswered}
@@ -16,7 +16,7 @@ use Rattle.command_ends.specs.Status.{code_of}
 use Rattle.command_ends.proofs.AnsweredLemmas.{done-sent}
 use Rattle.feed_commands.proofs.CountLemmas.{counts-none, counts-of_ok, disk-of_fault, disk_end, input-of_fault, no_usage}
 use Rattle.feed_commands.proofs.CountLemmas.{output-later, output-of_fault, shared-counts, shared-other}
-use Rattle.feed_commands.proofs.DiskLemmas.{applies-weaker, keeps-none, makes-weaker}
+use Rattle.store_commands.proofs.DiskLemmas.{applies-weaker, keeps-none, makes-weaker}
 use Rattle.feed_commands.proofs.EndsLemmas.{text-ends, unread-ends}
 use Rattle.command_ends.proofs.EndLemmas.{answered-refusal, input_end, no_door, no_end, no_output}
 use Rattle.feed_commands.proofs.LoadedFaultLemmas.{loaded_fault}

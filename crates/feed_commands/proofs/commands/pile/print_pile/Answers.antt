@@ -6,8 +6,8 @@ use Rattle.feed_recovery.specs.Stored.{stored_of}
 use Rattle.feed_recovery.proofs.LoadedLemmas.{payloads-then-alone}
 use Rattle.command_ends.specs.Fault.{IsRefusal}
 use Rattle.command_ends.specs.StoreFaults.{load_fault}
-use Rattle.feed_commands.proofs.AnswerOnLemmas.{not-refusal}
-use Rattle.feed_commands.proofs.StoreLemmas.{opens-same}
+use Rattle.store_commands.proofs.AnswerOnLemmas.{not-refusal}
+use Rattle.store_commands.proofs.StoreLemmas.{opens-same}
 use Rattle.feed_commands.proofs.commands.pile.print_pile.Goals as goal
 
 pub returns-in_err-store-clause-opened : goal.returns-in_err-store-clause-opened

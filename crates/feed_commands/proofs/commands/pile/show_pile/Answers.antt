@@ -6,7 +6,8 @@ use Rattle.command_ends.specs.Answer.{Prints}
 use Rattle.command_ends.specs.Fault.{fault_answer}
 use Rattle.command_ends.specs.Status.{code_of}
 use Rattle.command_ends.proofs.EndLemmas.{answered-refusal}
-use Rattle.feed_commands.proofs.CountLemmas.{counts-as, output-counts, output-of_fault}
+use Rattle.feed_commands.proofs.CountLemmas.{output-counts, output-of_fault}
+use Rattle.store_commands.proofs.CountLemmas.{counts-as}
 use Rattle.feed_commands.proofs.PileEndLemmas.{ends-piled, ends-unopened, ends-unpiled, failed-by, only-memory, pile-disk, pile-status}
 use Rattle.feed_commands.proofs.commands.pile.show_pile.Goals as goal
 
