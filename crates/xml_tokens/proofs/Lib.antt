@@ -70,7 +70,8 @@ pub mod InstructionNameLemmas
 pub mod InstructionCutLemmas
 -- Cursor::instructed: instructions and declarations as tokens
 pub mod InstructedLemmas
--- Scopes: the declarations of the open elements
+-- Scopes: the declarations of the open elements, and their places
+pub mod PlaceLemmas
 pub mod ScopeLemmas
 -- first_suspect: the first suspect byte after blocks that have none
 pub mod SuspectLemmas

@@ -351,10 +351,10 @@ some_or (Some x) y some = refl
 outer_some : (opened : List Open) (scopes : Scopes) (p : List ℕ) → AreScopesOf opened scopes →
     is_some (namespace_of outer_scope p) ≡ true → is_some (namespace_of (scope_of opened) p) ≡ true
 outer_some opened scopes p are some =
-    let found = found_of opened (reverse scopes.declared.items) (found_in scopes) are.1 p in
+    let found = found_of opened (reverse scopes.declared.items) are.2 p in
     let outside = namespace_of outer_scope p in
     sym (some_kind (namespace_of (scope_of opened) p)) ∙ ap is_some (sym found)
-    ∙ some_or (found_in scopes p) (option_map kind_of outside) (some_kind outside ∙ some)
+    ∙ some_or (found_in (reverse scopes.declared.items) p) (option_map kind_of outside) (some_kind outside ∙ some)
 
 -- a tag with this end whose text goes on
 deep_tag : (from : Point) (old : Elements) (before : List ℕ) (x : IsAtText old before from) (end : TagEnd)

@@ -1,11 +1,10 @@
 -- The scopes of prefixes, and the declarations of the open elements.
 use Rattle.std.proofs.Common.{◌≡◌, ℕ, List, [], ◌∷◌, ◌++◌, reverse, Bool, true, false, cond, Option, Some, None}
 use Rattle.std.proofs.Common.{option_map}
-use Rattle.std.proofs.Common.{refl, sym, ap, subst, ◌∙◌, bytes_eq, ◌+◌, ◌-◌, ◌<◌, ◌==◌, length, arith, Ok, Err}
+use Rattle.std.proofs.Common.{refl, sym, ap, subst, ◌∙◌, bytes_eq, ◌+◌, ◌-◌, ◌<◌, ◌==◌, length, arith}
 use Rattle.std.proofs.Common.{add-one, get_or, take}
-use Rattle.std.proofs.Math.Path.{fun_ext}
-use Rattle.std.proofs.lemmas.Bool.{eqb-false, eqb-true, both_ways}
-use Rattle.std.specs.Prelude.{option_to_list, filter_map, is_some, IsSome, OnErr, OnOk, Result}
+use Rattle.std.proofs.lemmas.Bool.{eqb-false, eqb-true}
+use Rattle.std.specs.Prelude.{option_to_list, filter_map, is_some, IsSome}
 use Rattle.std.specs.List.{AllZip, cons_option}
 use Rattle.std.specs.Option.{option_or}
 use Rattle.std.proofs.lemmas.List.{reverse-append, reverse-reverse, take_all}
@@ -18,15 +17,17 @@ use Rattle.xml_tokens.specs.declared.tag.Attribute.{Attribute as Raw}
 use Rattle.xml_tokens.specs.Tokens.{Attribute}
 use Rattle.xml_tokens.specs.Stages.{Binding, Open, Scope, declared, namespace_of, outer_scope}
 use Rattle.xml_tokens.specs.Reading.{kind_of}
-use Rattle.xml_tokens.specs.Scopes.{Found, AreFoundOf, AreDeclaredIn, AreDeclarationsOf, AreScopesOf, Declares}
-use Rattle.xml_tokens.specs.Scopes.{IsDeclaring, IsLawfulOf, IsTakenOut, IsWithin, OpensScope, before_declaration, found_in}
-use Rattle.xml_tokens.specs.Scopes.{is_first, scope_of}
+use Rattle.xml_tokens.specs.Scopes.{AreFoundOf, AreLinked, AreDeclarationsOf, AreOrdered, AreScopesOf, Declares}
+use Rattle.xml_tokens.specs.Scopes.{IsDeclaring, IsLawfulOf, IsTakenOut, IsWithin, OpensScope, checked_place, found_in}
+use Rattle.xml_tokens.specs.Scopes.{is_first, place_before, place_of, scope_of}
+use Rattle.xml_tokens.proofs.PlaceLemmas.{indexes_less, indexes_more, last_in_map}
 
 -- the namespaces in the innermost of some elements
-pub found_of : (opened : List Open) (declarations : List Declaration) (found : Found) →
-    AreDeclarationsOf opened declarations found → AreFoundOf (scope_of opened) found
-found_of [] declarations found are = are.1
-found_of (element ∷ opened) declarations found are = are.0
+pub found_of : (opened : List Open) (declarations : List Declaration) →
+    AreDeclarationsOf opened declarations → AreFoundOf (scope_of opened) (found_in declarations)
+found_of [] declarations are p =
+    ap (λ ds. option_or (found_in ds p) (option_map kind_of (namespace_of outer_scope p))) are
+found_of (element ∷ opened) declarations are p = are.0 p
 
 declared_value : (a : Attribute) (b : Binding) → declared a ≡ Some b → b.namespace ≡ a.value
 declared_value a b = elim (bytes_eq a.name.prefix (120 ∷ 109 ∷ 108 ∷ 110 ∷ 115 ∷ [])) as (λ t.
@@ -63,83 +64,65 @@ binding_of a prefix e =
 -- an attribute that declares no prefix
 none_declared : (a : Attribute) → None ≡ option_map (λ b. b.prefix) (declared a) → declared a ≡ None
 none_declared a e =
-    let at : (o : Option Binding) → declared a ≡ o → declared a ≡ None = λ o. elim o as (λ v. declared a ≡ v → declared a ≡ None) [
+    let at : (o : Option Binding) → declared a ≡ o → declared a ≡ None = λ o.
+    elim o as (λ v. declared a ≡ v → declared a ≡ None) [
       | None ↦ λ none. none
       | Some b ↦ λ some. let bad : None ≡ Some b.prefix = e ∙ ap (option_map (λ b. b.prefix)) some in absurd cc
     ] in at (declared a) refl
 
-itself : (p : List ℕ) → bytes_eq p p ≡ true
-itself p = (bytes_eq-Decides p p).1 refl
-
--- the namespaces before a declaration are those before it was made
-undone : (d : Declaration) (kind : Namespace) (before after : Found) → d.before ≡ before d.prefix.now →
-    ((p : List ℕ) → after p ≡ cond (bytes_eq d.prefix.now p) (Some kind) (before p)) →
-    before ≡ before_declaration d after
-undone d kind before after had set = fun_ext (λ p.
-    let both : (t : Bool) → bytes_eq d.prefix.now p ≡ t → after p ≡ cond t (Some kind) (before p) →
-    before p ≡ cond t d.before (after p) = λ t.
-    elim t as (λ t. bytes_eq d.prefix.now p ≡ t → after p ≡ cond t (Some kind) (before p) →
-    before p ≡ cond t d.before (after p)) [
-      | true ↦ λ e is. ap before (sym ((bytes_eq-Decides d.prefix.now p).0 e)) ∙ sym had
-      | false ↦ λ e is. sym is
-    ] in both (bytes_eq d.prefix.now p) refl (set p))
-
--- the prefix that is declared has its new namespace
-is_set : (d : Declaration) (kind : Namespace) (before after : Found) →
-    ((p : List ℕ) → after p ≡ cond (bytes_eq d.prefix.now p) (Some kind) (before p)) → IsSome (after d.prefix.now)
-is_set d kind before after set =
-    ap is_some (set d.prefix.now) ∙ ap (λ t. is_some (cond t (Some kind) (before d.prefix.now))) (itself d.prefix.now)
-
-found_more : (b : Binding) (scope : Scope) (kind : Namespace) (before after : Found) → kind ≡ kind_of b.namespace →
-    ((p : List ℕ) → after p ≡ cond (bytes_eq b.prefix p) (Some kind) (before p)) →
-    AreFoundOf scope before → AreFoundOf (b ∷ scope) after
-found_more b scope kind before after named set are p =
+found_more : (b : Binding) (scope : Scope) (d : Declaration) (ds : List Declaration) → d.prefix.now ≡ b.prefix →
+    d.namespace ≡ kind_of b.namespace → AreFoundOf scope (found_in ds) → AreFoundOf (b ∷ scope) (found_in (d ∷ ds))
+found_more b scope d ds prefix named are p =
     let outside : Option Namespace = option_map kind_of (namespace_of outer_scope p) in
-    let both : (t : Bool) → option_or (cond t (Some kind) (before p)) outside
+    let both : (t : Bool) → option_or (cond t (Some d.namespace) (found_in ds p)) outside
     ≡ option_map kind_of (cond t (Some b.namespace) (namespace_of scope p)) = λ t.
-    elim t as (λ t. option_or (cond t (Some kind) (before p)) outside
+    elim t as (λ t. option_or (cond t (Some d.namespace) (found_in ds p)) outside
     ≡ option_map kind_of (cond t (Some b.namespace) (namespace_of scope p)))
     [ true ↦ ap Some named | false ↦ are p ] in
-    ap (λ x. option_or x outside) (set p) ∙ both (bytes_eq b.prefix p)
+    ap (λ x. option_or (cond (bytes_eq x p) (Some d.namespace) (found_in ds p)) outside) prefix
+    ∙ both (bytes_eq b.prefix p)
 
 -- a prefix is declared
-declares_one : (opened : List Open) (own : Scope) (b : Binding) (d : Declaration) (kind : Namespace)
-    (before after : Scopes) → d.prefix.now ≡ b.prefix → d.outer ≡ before.depth → d.before ≡ found_in before d.prefix.now →
-    kind ≡ kind_of b.namespace →
-    ((p : List ℕ) → found_in after p ≡ cond (bytes_eq d.prefix.now p) (Some kind) (found_in before p)) →
+declares_one : (opened : List Open) (own : Scope) (b : Binding) (d : Declaration) (before after : Scopes) →
+    d.prefix.now ≡ b.prefix → d.outer ≡ before.depth →
+    d.before ≡ checked_place before.declared.items d.prefix.now (place_of before d.prefix.now) →
+    d.namespace ≡ kind_of b.namespace →
+    ((p : List ℕ) → place_of after p
+    ≡ cond (bytes_eq d.prefix.now p) (Some (length before.declared.items)) (place_of before p)) →
     after.depth ≡ before.depth → after.declared.items ≡ before.declared.items ++ d ∷ [] →
     IsDeclaring opened own before → IsDeclaring opened (b ∷ own) after
-declares_one opened own b d kind before after prefix outer had named set depth items
-    ((at, mine, others, around, split, made, are), found) = (
+declares_one opened own b d before after prefix outer had named set depth items
+    ((at, ordered, mine, others, split, inside, are), found) =
+    let turned : reverse after.declared.items ≡ d ∷ reverse before.declared.items =
+    ap reverse items ∙ reverse-append before.declared.items (d ∷ []) in
+    let linked : AreLinked (d ∷ reverse before.declared.items) = (had ∙ ordered.0 d.prefix.now, ordered.1) in (
       (
         depth ∙ at,
+        (indexes_more d before after items set ordered.0, subst AreLinked (sym turned) linked),
         d ∷ mine,
         others,
-        around,
-        ap reverse items ∙ reverse-append before.declared.items (d ∷ []) ∙ ap (λ ds. d ∷ ds) split,
-        (
-          outer ∙ at,
-          is_set d kind (found_in before) (found_in after) set,
-          subst (AreDeclaredIn (length opened) mine around) (undone d kind (found_in before) (found_in after) had set) made,
-        ),
+        turned ∙ ap (λ ds. d ∷ ds) split,
+        (outer ∙ at, inside),
         are,
       ),
-      found_more b (own ++ scope_of opened) kind (found_in before) (found_in after) named
-          (λ p. set p ∙ ap (λ x. cond (bytes_eq x p) (Some kind) (found_in before p)) prefix) found,
+      subst (λ ds. AreFoundOf (b ∷ own ++ scope_of opened) (found_in ds)) (sym turned)
+          (found_more b (own ++ scope_of opened) d (reverse before.declared.items) prefix named found),
     )
 
 -- the attribute declares a prefix
-pub adds_declaration : (raw : Raw) (prefix : List ℕ) (d : Declaration) (kind : Namespace) (before after : Scopes) →
+pub adds_declaration : (raw : Raw) (prefix : List ℕ) (d : Declaration) (before after : Scopes) →
     ((a : Attribute) → IsLawfulOf a raw →
-    (Some prefix ≡ option_map (λ b. b.prefix) (declared a)) × (kind ≡ kind_of a.value)) →
-    d.prefix.now ≡ prefix → d.outer ≡ before.depth → d.before ≡ found_in before d.prefix.now →
-    ((p : List ℕ) → found_in after p ≡ cond (bytes_eq d.prefix.now p) (Some kind) (found_in before p)) →
+    (Some prefix ≡ option_map (λ b. b.prefix) (declared a)) × (d.namespace ≡ kind_of a.value)) →
+    d.prefix.now ≡ prefix → d.outer ≡ before.depth →
+    d.before ≡ checked_place before.declared.items d.prefix.now (place_of before d.prefix.now) →
+    ((p : List ℕ) → place_of after p
+    ≡ cond (bytes_eq d.prefix.now p) (Some (length before.declared.items)) (place_of before p)) →
     after.depth ≡ before.depth → after.declared.items ≡ before.declared.items ++ d ∷ [] → Declares raw before after
-adds_declaration raw prefix d kind before after says same outer had set depth items opened own a lawful declaring =
+adds_declaration raw prefix d before after says same outer had set depth items opened own a lawful declaring =
     let said = says a lawful in
     let b = binding_of a prefix said.0 in
     subst (λ o. IsDeclaring opened (cons_option o own) after) (sym b.1)
-    (declares_one opened own b.0 d kind before after (same ∙ sym b.2) outer had (said.1 ∙ ap kind_of (sym b.3)) set depth
+    (declares_one opened own b.0 d before after (same ∙ sym b.2) outer had (said.1 ∙ ap kind_of (sym b.3)) set depth
     items declaring)
 
 -- the attribute declares no prefix
@@ -156,9 +139,9 @@ IsDeclaredFrom raws before after =
     IsDeclaring opened (filter_map declared read) after
 
 pub none_yet : (scopes : Scopes) → IsDeclaredFrom [] scopes scopes
-none_yet scopes opened [] all (at, are) = (
-  (at, [], reverse scopes.declared.items, found_in scopes, refl, refl, are),
-  found_of opened (reverse scopes.declared.items) (found_in scopes) are,
+none_yet scopes opened [] all (at, ordered, are) = (
+  (at, ordered, [], reverse scopes.declared.items, refl, tt, are),
+  found_of opened (reverse scopes.declared.items) are,
 )
 none_yet scopes opened (a ∷ read) all are = absurd all
 
@@ -186,31 +169,35 @@ pub opens : (raws : List Raw) (n : ℕ) (before middle after : Scopes) → n ≡
     IsDeclaredFrom (last_of n raws) before middle → after ≡ record middle { depth = after.depth } →
     after.depth ≡ middle.depth + 1 → OpensScope raws before after
 opens raws n before middle after all are same depth opened name read lawful scopes =
-    let whole : last_of n raws ≡ raws = ap reverse (take_all n (reverse raws) (omega (arith, all))) ∙ reverse-reverse raws in
+    let whole : last_of n raws ≡ raws =
+    ap reverse (take_all n (reverse raws) (omega (arith, all))) ∙ reverse-reverse raws in
     let declaring : IsDeclaring opened (filter_map declared read) middle =
     are opened read (subst (λ rs. AllZip IsLawfulOf read rs) (sym whole) lawful) scopes in
     let within = declaring.0 in (
       omega (arith, depth, within.0),
+      subst AreOrdered (sym same) within.1,
       subst (λ s. AreDeclarationsOf (record { name = name; scope = filter_map declared read ++ scope_of opened } ∷ opened)
-          (reverse s.declared.items) (found_in s)) (sym same)
-          (declaring.1, within.1, within.2, within.3, within.4, within.5, within.6),
+          (reverse s.declared.items)) (sym same) (declaring.1, within.2, within.3, within.4, within.5, within.6),
     )
+
+itself : (p : List ℕ) → bytes_eq p p ≡ true
+itself p = (bytes_eq-Decides p p).1 refl
 
 few_less : (m n : ℕ) → m < n → m ≡ n → ⊥
 few_less m n below same = omega (arith, below, same)
 
 -- a declaration of an open element is inside fewer elements than are open
-outer_below : (opened : List Open) (d : Declaration) (ds : List Declaration) (found : Found) →
-    AreDeclarationsOf opened (d ∷ ds) found → d.outer < length opened
-outer_below [] d ds found are = absurd cc
-outer_below (element ∷ opened) d ds found (of, [], others, outer, split, made, are) =
-    let below = outer_below opened d ds outer (subst (λ xs. AreDeclarationsOf opened xs outer) (sym split) are) in
-    omega arith
-outer_below (element ∷ opened) d ds found (of, e ∷ own, others, outer, split, made, are) =
+outer_below : (opened : List Open) (d : Declaration) (ds : List Declaration) → AreDeclarationsOf opened (d ∷ ds) →
+    d.outer < length opened
+outer_below [] d ds are = absurd cc
+outer_below (element ∷ opened) d ds (of, [], others, split, inside, are) =
+    let below = outer_below opened d ds (subst (AreDeclarationsOf opened) (sym split) are) in omega arith
+outer_below (element ∷ opened) d ds (of, e ∷ own, others, split, inside, are) =
     let one : d.outer ≡ e.outer = cc in
-    let at = made.0 in omega (arith, one, at)
+    let at = inside.0 in omega (arith, one, at)
 
-first_some : (depth : ℕ) (declarations : List Declaration) → is_first depth (reverse declarations) ≡ true → 0 < length declarations
+first_some : (depth : ℕ) (declarations : List Declaration) → is_first depth (reverse declarations) ≡ true →
+    0 < length declarations
 first_some depth [] is = absurd cc
 first_some depth (declaration ∷ declarations) is = omega arith
 
@@ -228,70 +215,64 @@ taken_out before after (Some d) same is items some =
     (same, eqb-true d.outer before.depth (sym (ap (is_first before.depth) split) ∙ is), items)
 
 -- the innermost element begins to be closed
-pub leaving : (element : Open) (opened : List Open) (before after : Scopes) → after ≡ record before { depth = after.depth } →
+pub leaving : (element : Open) (opened : List Open) (before after : Scopes) →
+    after ≡ record before { depth = after.depth } →
     after.depth ≡ before.depth - 1 → AreScopesOf (element ∷ opened) before → IsWithin opened after
-leaving element opened before after same depth (at, are) =
+leaving element opened before after same depth (at, ordered, are) =
     let here : after.depth ≡ length opened = omega (arith, depth, at) in
     let within : IsWithin opened (record before { depth = after.depth }) =
-    (here, are.1, are.2, are.3, are.4, are.5, are.6) in
+    (here, ordered, are.1, are.2, are.3, are.4, are.5) in
     subst (IsWithin opened) (sym same) within
 
--- the last declaration is undone
-pub undoes : (opened : List Open) (d : Declaration) (before middle after : Scopes) → IsTakenOut before (Some d) middle →
-    after ≡ record middle { namespaces = after.namespaces } →
-    (IsSome (found_in middle d.prefix.now) →
-    (p : List ℕ) → found_in after p ≡ before_declaration d (found_in middle) p) →
+-- the last declaration is taken out of the map
+pub restores : (opened : List Open) (d : Declaration) (before middle after : Scopes) →
+    IsTakenOut before (Some d) middle →
+    after ≡ record middle { places = after.places } →
+    (IsSome (place_of middle d.prefix.now) → (p : List ℕ) → place_of after p ≡ place_before d (place_of middle) p) →
     IsWithin opened before → IsWithin opened after
-undoes opened d before middle after (same, inside, items) kept back (at, [], others, outer, split, made, are) =
+restores opened d before middle after (same, inside, items) kept back (at, ordered, [], others, split, all, are) =
     let first : reverse before.declared.items ≡ d ∷ reverse middle.declared.items =
     ap reverse items ∙ reverse-append middle.declared.items (d ∷ []) in
-    let below = outer_below opened d (reverse middle.declared.items) outer
-    (subst (λ xs. AreDeclarationsOf opened xs outer) (sym split ∙ first) are) in
+    let below = outer_below opened d (reverse middle.declared.items)
+    (subst (AreDeclarationsOf opened) (sym split ∙ first) are) in
     absurd (few_less d.outer (length opened) below (inside ∙ at))
-undoes opened d before middle after (same, inside, items) kept back (at, e ∷ own, others, outer, split, made, are) =
+restores opened d before middle after (same, inside, items) kept back
+    (at, (indexed, linked), e ∷ own, others, split, all, are) =
     let first : reverse before.declared.items ≡ d ∷ reverse middle.declared.items =
     ap reverse items ∙ reverse-append middle.declared.items (d ∷ []) in
     let both : d ∷ reverse middle.declared.items ≡ e ∷ (own ++ others) = sym first ∙ split in
-    let one : d ≡ e = cc both in
     let rest : reverse middle.declared.items ≡ own ++ others = cc both in
-    let found : found_in middle ≡ found_in before = ap found_in same in
-    let some : IsSome (found_in middle d.prefix.now) = ap (λ f. is_some (f d.prefix.now)) found
-    ∙ subst (λ x. IsSome (found_in before x.prefix.now)) (sym one) made.1 in
-    let now : before_declaration e (found_in before) ≡ found_in after =
-    ap (λ x. before_declaration x (found_in before)) (sym one)
-    ∙ fun_ext (λ p. sym (back some p ∙ ap (λ f. before_declaration d f p) found)) in (
+    let links : AreLinked (d ∷ reverse middle.declared.items) = subst AreLinked first linked in
+    let map : place_of middle ≡ place_of before = ap place_of same in
+    let items_kept : after.declared.items ≡ middle.declared.items = ap (λ s. s.declared.items) kept in
+    let some : IsSome (place_of middle d.prefix.now) = ap (λ f. is_some (f d.prefix.now)) map
+    ∙ ap is_some (last_in_map d before middle items indexed d.prefix.now (itself d.prefix.now)) in (
       ap (λ s. s.depth) kept ∙ ap (λ s. s.depth) same ∙ at,
+      (
+        indexes_less d before middle after items map items_kept (back some) links.0 indexed,
+        subst (λ ds. AreLinked (reverse ds)) (sym items_kept) links.1,
+      ),
       own,
       others,
-      outer,
-      ap (λ s. reverse s.declared.items) kept ∙ rest,
-      subst (AreDeclaredIn (length opened) own outer) now made.2,
+      ap reverse items_kept ∙ rest,
+      all.1,
       are,
     )
 
-all_undone : (opened : List Open) (scopes : Scopes) → is_first scopes.depth (reverse scopes.declared.items) ≡ false →
+all_restored : (opened : List Open) (scopes : Scopes) → is_first scopes.depth (reverse scopes.declared.items) ≡ false →
     IsWithin opened scopes → AreScopesOf opened scopes
-all_undone opened scopes other (at, [], others, outer, split, made, are) = (
-  at,
-  subst (AreDeclarationsOf opened (reverse scopes.declared.items)) made
-      (subst (λ xs. AreDeclarationsOf opened xs outer) (sym split) are),
-)
-all_undone opened scopes other (at, e ∷ own, others, outer, split, made, are) =
+all_restored opened scopes other (at, ordered, [], others, split, all, are) =
+    (at, ordered, subst (AreDeclarationsOf opened) (sym split) are)
+all_restored opened scopes other (at, ordered, e ∷ own, others, split, all, are) =
     let first : is_first scopes.depth (reverse scopes.declared.items) ≡ (e.outer == scopes.depth) =
     ap (is_first scopes.depth) split in
-    absurd (eqb-false e.outer scopes.depth (sym first ∙ other) (made.0 ∙ sym at))
+    absurd (eqb-false e.outer scopes.depth (sym first ∙ other) (all.0 ∙ sym at))
 
--- all declarations of the innermost element are undone
+-- all declarations of the innermost element are taken out
 pub leaves : (opened : List Open) (before after : Scopes) → IsTakenOut before None after → IsWithin opened before →
     AreScopesOf opened after
 leaves opened before after (same, other) within =
-    subst (AreScopesOf opened) (sym same) (all_undone opened before other within)
-
--- an entry that is there is changed without new memory
-pub changed : {A E : Type 0} (r : Result A E) (U : Type 0) (x : Option Namespace) → OnOk r U → OnErr r (x ≡ None) →
-    IsSome x → U
-changed (Ok v) U x new none some = new
-changed (Err e) U x new none some = absurd (both_ways (is_some x) (ap is_some none) some)
+    subst (AreScopesOf opened) (sym same) (all_restored opened before other within)
 
 -- the last declaration is the first one of the reversed declarations
 pub first_of_last : (declarations : List Declaration) (last : Declaration) (rest : List Declaration) (depth : ℕ) →

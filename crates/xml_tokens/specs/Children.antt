@@ -1,5 +1,5 @@
 -- The elements and the characters in the content of an element.
-use Rattle.std.specs.Prelude.{ℕ, List, [], ◌∷◌, ◌++◌, map, Bool, ◌&&◌, if◌then◌else◌, Option, Some, None, bytes_eq}
+use Rattle.std.specs.Prelude.{ℕ, List, [], ◌∷◌, ◌++◌, Bool, ◌&&◌, if◌then◌else◌, Option, Some, None, bytes_eq}
 use Rattle.xml_tokens.specs.Names.{atom}
 use Rattle.xml_tokens.specs.Tokens.{Attribute}
 use Rattle.xml_tokens.specs.Tree.{Name, Element, Content}
@@ -27,10 +27,6 @@ abbrev pub children : Content → List Child
 children nothing = []
 children (said read rest) = children rest
 children (element e content rest) = record { element = e; content = content } ∷ children rest
-
--- the names of the elements of a content
-abbrev pub names_of : Content → List Name
-names_of b = map (λ (c : Child). c.element.name) (children b)
 
 -- the characters of a content, without those of elements inside it
 abbrev pub text_of : Content → List ℕ

@@ -2,7 +2,8 @@ ghost use Rattle.std.specs.Prelude.{◌≡◌, ℕ, List, [], ◌∷◌, option_
 ghost use Rattle.xml_tokens.specs.Characters.{QName, IsQName, name_text};
 ghost use Rattle.xml_tokens.specs.Stages.{Open, namespace_of, outer_scope};
 ghost use Rattle.xml_tokens.specs.Reading.{kind_of};
-ghost use Rattle.xml_tokens.specs.Scopes.{AreScopesOf, Declares, IsDeclaredPrefix, IsTakenOut, OpensScope, before_declaration, found_in, is_first, scope_of};
+ghost use Rattle.xml_tokens.specs.Scopes.{AreIndexed, AreScopesOf, Declares, IsDeclaredPrefix, IsTakenOut, OpensScope};
+ghost use Rattle.xml_tokens.specs.Scopes.{checked_place, found_in, is_first, place_before, place_of, scope_of};
 
 use crate::cursor::first;
 use crate::key::{Key, key};
@@ -44,22 +45,24 @@ pub enum Namespace {
 /// The namespaces in scope (Namespaces in XML 1.0, section 6). The empty prefix stands for the default namespace.
 #[derive(Drop)]
 pub(crate) struct Scopes<'a> {
-    /// The namespaces of the prefixes that open elements declare.
-    namespaces: BTreeMap<Key<'a>, Namespace>,
     /// The declarations of the open elements, the last one last.
     declared: Vec<Declaration<'a>>,
+    /// The place in `declared` of the last declaration of each prefix. A prefix that is declared no more keeps its
+    /// place, where there is no declaration then, or one of another prefix.
+    places: BTreeMap<Key<'a>, usize>,
     /// The number of open elements.
     depth: usize,
 }
 
-/// A declaration of an open element, and what it replaced.
+/// A declaration of an open element.
 #[derive(Clone, Copy)]
 struct Declaration<'a> {
     /// The number of elements around the element.
     outer: usize,
     prefix: &'a [u8],
-    /// The namespace that the prefix had before. `None` if no open element declared it.
-    before: Option<Namespace>,
+    namespace: Namespace,
+    /// The place of the declaration of this prefix before it. `None` if it is the first one.
+    before: Option<usize>,
 }
 
 /// The prefix of a qualified name, which may be empty, and its local part.
@@ -120,8 +123,8 @@ impl<'a> Scopes<'a> {
         ensures { AreScopesOf [] result }
     {
         Scopes {
-            namespaces: BTreeMap::new(alloc),
             declared: Vec::new(alloc),
+            places: BTreeMap::new(alloc),
             depth: 0,
         }
     }
@@ -155,23 +158,36 @@ impl<'a> Scopes<'a> {
         };
         let name = value(alloc, attribute.written)?;
         let namespace = namespace_of(name.as_slice());
-        let before = self.namespaces.insert(key(prefix), namespace)?;
+        let place = self.places.insert(key(prefix), self.declared.len())?;
+        let before = self.checked(place, prefix);
         self.declared.push(Declaration {
             outer: self.depth,
             prefix,
+            namespace,
             before,
         })?;
         Ok(())
     }
 
-    /// Undoes the declarations of the innermost element, which is closed.
+    /// The place, if a declaration of the prefix is there.
+    fn checked(&self, place: Option<usize>, prefix: &[u8]) -> Option<usize>
+        ensures { result ≡ checked_place self.now.declared.items prefix.now place }
+    {
+        let place = place?;
+        match self.declared.get(place) {
+            Some(declaration) if declaration.prefix == prefix => Some(place),
+            _ => None,
+        }
+    }
+
+    /// Takes out the declarations of the innermost element, which is closed.
     pub(crate) fn leave(&mut self)
         ensures { (element : Open) (opened : List Open) → AreScopesOf (element ∷ opened) self.old
             → AreScopesOf opened self.new }
     {
         self.depth = self.depth.saturating_sub(1);
         while let Some(declaration) = self.take_out() {
-            self.undo(declaration);
+            self.restore(declaration);
         }
     }
 
@@ -196,21 +212,16 @@ impl<'a> Scopes<'a> {
         }
     }
 
-    /// Gives the prefix of a declaration the namespace that it had before.
-    fn undo(&mut self, declaration: Declaration<'a>)
-        ensures kept { self.new ≡ record self.old { namespaces = self.new.namespaces } }
-        ensures undone { IsSome (found_in self.old declaration.entry.prefix.now)
+    /// Gives the prefix of a declaration that was taken out the place that it had before.
+    fn restore(&mut self, declaration: Declaration<'a>)
+        ensures kept { self.new ≡ record self.old { places = self.new.places } }
+        ensures restored { IsSome (place_of self.old declaration.entry.prefix.now)
             → (prefix : List ℕ)
-            → found_in self.new prefix ≡ before_declaration declaration.entry (found_in self.old) prefix }
+            → place_of self.new prefix ≡ place_before declaration.entry (place_of self.old) prefix }
     {
-        match declaration.before {
+        if let Some(place) = declaration.before {
             // The prefix has an entry, so the map needs no memory for it.
-            Some(namespace) => {
-                let _ = self.namespaces.insert(key(declaration.prefix), namespace);
-            }
-            None => {
-                let _ = self.namespaces.remove(&key(declaration.prefix));
-            }
+            let _ = self.places.insert(key(declaration.prefix), place);
         }
     }
 
@@ -219,7 +230,17 @@ impl<'a> Scopes<'a> {
         ensures { (opened : List Open) → AreScopesOf opened self.now
             → result ≡ option_map kind_of (namespace_of (scope_of opened) prefix.now) }
     {
-        let declared = self.namespaces.get(&key(prefix)).copied();
-        declared.or(outer_namespace(prefix))
+        self.declared_namespace(prefix)
+            .or(outer_namespace(prefix))
+    }
+
+    /// The namespace of a prefix that an open element declares.
+    fn declared_namespace(&self, prefix: &'a [u8]) -> Option<Namespace>
+        ensures { AreIndexed self.now
+            → result ≡ found_in (reverse self.now.declared.items) prefix.now }
+    {
+        let place = self.places.get(&key(prefix)).copied();
+        let place = self.checked(place, prefix)?;
+        Some(self.declared.get(place)?.namespace)
     }
 }
