@@ -1,5 +1,5 @@
 -- The items of a document, read one after another, and its end.
-use Rattle.std.proofs.Common.{◌≡◌, ◌≢◌, ℕ, ◌<◌, List, [], ◌∷◌, ◌++◌, Bool, true, false, Result, Ok, Err, IsErrAnd, map, length, nat_eq, refl, sym, ap, ◌∙◌, subst, arith, codes, All, append_assoc, length-append}
+use Rattle.std.proofs.Common.{◌≡◌, ◌≢◌, ℕ, List, [], ◌∷◌, ◌++◌, Bool, true, false, Result, Ok, Err, IsErrAnd, map, length, nat_eq, refl, sym, ap, ◌∙◌, subst, arith, codes, All, append_assoc, length-append}
 use Rattle.std.proofs.lemmas.Bool.{or_from, or_parts, eq-eqb, ne_eqb, false≢true}
 use Rattle.std.proofs.lemmas.List.{map-append}
 use Rattle.std.proofs.lemmas.List.Elements.{All-push, All-head, All-tail}

@@ -44,7 +44,7 @@ pub mod OpeningLemmas
 pub mod OwnAddressLemmas
 -- read_doc: a piece is consumed whole or not at all
 pub mod PieceLemmas
--- item_places, read_entry: the pieces of items in a text
+-- item_offsets, read_entry: the pieces of items in a text
 pub mod PlaceLemmas
 -- DocReader: texts of identifiers, timestamps, numbers and addresses
 pub mod PlainLemmas

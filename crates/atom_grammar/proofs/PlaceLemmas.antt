@@ -18,11 +18,10 @@ use Rattle.atom_writer.specs.Doc.{DocValue}
 use Rattle.atom_writer.specs.Entries.{inner_text, front_text, back_text, edit_link}
 use Rattle.atom_writer.specs.Pieces.{pieces, text, joined, item_piece, entry_piece, tombstone_piece, name_pieces, place_pieces, current_pieces, prev_pieces, next_pieces, link_piece, own_address, span_piece}
 use Rattle.atom_writer.proofs.PieceLemmas.{joined-append, joined-none}
-use Rattle.atom_grammar.specs.declared.places.PiecePlace.{PiecePlace}
 use Rattle.atom_grammar.specs.Cutting.{IsWhole, IsCut, IsUnfinished, IsLine}
 use Rattle.atom_grammar.specs.Items.{entry}
 use Rattle.atom_grammar.specs.Parts.{IsFound, IsAbsent}
-use Rattle.atom_grammar.specs.Places.{HasPiece, AreItemPlaces, first_pieces}
+use Rattle.atom_grammar.specs.Places.{HasPiece, AreItemOffsets, first_pieces, place_between}
 use Rattle.atom_grammar.proofs.CuttingLemmas.{counted-cut, cut_alike, cut_line, unfinished_line}
 use Rattle.atom_grammar.proofs.WholeLemmas.{joined-front}
 
@@ -125,26 +124,31 @@ none_left text at left rest has none = behind has.pieces (has.count ∙ none) ha
     behind [] count e = e ∙ ap (λ z. z ++ rest) joined-none
     behind (p ∷ ps) count e = absurd (omega (arith, count))
 
--- the places of the first `count` items, and the text from the next one's piece on
-pub record HasPlaced (text : List ℕ) (name : FeedName) (items : List Item) (count : ℕ) (found : List PiecePlace)
+-- the offsets of the first `count` items, and the text from the next one's piece on, whose offset is the last one
+pub record HasPlaced (text : List ℕ) (name : FeedName) (items : List Item) (count : ℕ) (found : List ℕ)
     (at : ℕ) (rest : List ℕ) : Type 0 where
-  pub places : AreItemPlaces text name (take count items) found
+  pub before : List ℕ
+  pub last : found ≡ before ++ at ∷ []
+  pub offsets : AreItemOffsets text name (take count items) found
   pub left : drop at text ≡ joined (map (item_piece name) (drop count items)) ++ rest
 
-places_push : (text : List ℕ) (name : FeedName) (items : List Item) (places : List PiecePlace) (i : Item)
-    (place : PiecePlace) → AreItemPlaces text name items places → HasPiece text name i place
-    → AreItemPlaces text name (items ++ i ∷ []) (places ++ place ∷ [])
-places_push text name [] [] i place are has = (has, tt)
-places_push text name [] (p ∷ places) i place are has = absurd are
-places_push text name (x ∷ items) [] i place are has = absurd are
-places_push text name (x ∷ items) (p ∷ places) i place are has =
-    (are.0, places_push text name items places i place are.1 has)
+offsets_push : (text : List ℕ) (name : FeedName) (items : List Item) (before : List ℕ) (at next : ℕ) (i : Item)
+    → AreItemOffsets text name items (before ++ at ∷ []) → at ≤ next → HasPiece text name i (place_between at next)
+    → AreItemOffsets text name (items ++ i ∷ []) ((before ++ at ∷ []) ++ next ∷ [])
+offsets_push text name [] [] at next i are rises has = (rises, has, tt)
+offsets_push text name [] (b ∷ []) at next i are rises has = absurd are
+offsets_push text name [] (b ∷ c ∷ before) at next i are rises has = absurd are
+offsets_push text name (x ∷ items) [] at next i are rises has = absurd are
+offsets_push text name (x ∷ items) (b ∷ []) at next i are rises has =
+    (are.0, are.1, offsets_push text name items [] at next i are.2 rises has)
+offsets_push text name (x ∷ items) (b ∷ c ∷ before) at next i are rises has =
+    (are.0, are.1, offsets_push text name items (c ∷ before) at next i are.2 rises has)
 
-pub one_placed : (text : List ℕ) (name : FeedName) (items : List Item) (count : ℕ) (found : List PiecePlace)
+pub one_placed : (text : List ℕ) (name : FeedName) (items : List Item) (count : ℕ) (found : List ℕ)
     (at n : ℕ) (rest : List ℕ) (i : Item) → IsBase name.base → HasPlaced text name items count found at rest
     → count < length items → i ≡ get_or items count i → 1 ≤ item_number i → item_number i < 2 ^ 32
     → IsLengthAt text at n → at + n ≤ length text
-    → HasPlaced text name items (count + 1) (found ++ record { at = at; length = n } ∷ []) (at + n) rest
+    → HasPlaced text name items (count + 1) (found ++ (at + n) ∷ []) (at + n) rest
 one_placed text name items count found at n rest i is_base has below is from_one small measured within =
     let piece = item_piece name i in
     let later = map (item_piece name) (drop (count + 1) items) in
@@ -154,15 +158,20 @@ one_placed text name items count found at n rest i is_base has below is from_one
     let split : drop at text ≡ piece ++ (joined later ++ rest) =
     has.left ∙ ap (λ xs. joined (map (item_piece name) xs) ++ rest) next ∙ joined-front piece later rest in
     let same = measured piece (joined later ++ rest) cut split in
+    let behind : n ≡ (at + n) - at = omega arith in
+    let here : HasPiece text name i (record { at = at; length = n }) = record {
+      within = within;
+      piece = ap (λ z. take n z) split ∙ take_at piece (joined later ++ rest) n (sym same);
+    } in
+    let are = subst (AreItemOffsets text name (take count items)) has.last has.offsets in
     record {
-      places =
-          subst (λ xs. AreItemPlaces text name xs (found ++ record { at = at; length = n } ∷ []))
-          (sym (take-one_more items count i below is))
-          (places_push text name (take count items) found i (record { at = at; length = n }) has.places
-          (record {
-            within = within;
-            piece = ap (λ z. take n z) split ∙ take_at piece (joined later ++ rest) n (sym same);
-          }));
+      before = found;
+      last = refl;
+      offsets =
+          subst (λ xs. AreItemOffsets text name xs (found ++ (at + n) ∷ [])) (sym (take-one_more items count i below is))
+          (subst (λ ps. AreItemOffsets text name (take count items ++ i ∷ []) (ps ++ (at + n) ∷ [])) (sym has.last)
+          (offsets_push text name (take count items) has.before at (at + n) i are (omega arith)
+          (subst (λ k. HasPiece text name i (record { at = at; length = k })) behind here)));
       left = behind_piece text at n piece (joined later ++ rest) cut measured split;
     }
 

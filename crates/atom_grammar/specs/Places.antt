@@ -1,5 +1,5 @@
 -- Where the pieces of a document's items are in its text.
-use Rattle.std.specs.Prelude.{◌≡◌, ℕ, ◌+◌, ◌≤◌, List, [], ◌∷◌, ◌++◌, ℤ, drop, length, take}
+use Rattle.std.specs.Prelude.{◌≡◌, ℕ, ◌+◌, ◌-◌, ◌≤◌, List, [], ◌∷◌, ◌++◌, ℤ, drop, length, take}
 use Rattle.chain_links.specs.declared.place.Span.{Span}
 use Rattle.deleted_entries.specs.declared.item.Item.{Item}
 use Rattle.atom_writer.specs.declared.doc.FeedName.{FeedName}
@@ -12,13 +12,19 @@ pub record HasPiece (text : List ℕ) (name : FeedName) (item : Item) (place : P
   pub within : place.at + place.length ≤ length text
   pub piece : take place.length (drop place.at text) ≡ item_piece name item
 
--- the places of these items' pieces in the text, in order
-abbrev pub AreItemPlaces : List ℕ → FeedName → List Item → List PiecePlace → Type 0
-AreItemPlaces text name [] [] = Unit {0}
-AreItemPlaces text name [] (place ∷ places) = ⊥
-AreItemPlaces text name (item ∷ items) [] = ⊥
-AreItemPlaces text name (item ∷ items) (place ∷ places) =
-    HasPiece text name item place × AreItemPlaces text name items places
+-- the place between two offsets
+abbrev pub place_between : ℕ → ℕ → PiecePlace
+place_between at next = record { at = at; length = next - at }
+
+-- the offsets of these items' pieces in the text, in order, and the offset after the last one
+abbrev pub AreItemOffsets : List ℕ → FeedName → List Item → List ℕ → Type 0
+AreItemOffsets text name [] [] = ⊥
+AreItemOffsets text name [] (end ∷ []) = Unit {0}
+AreItemOffsets text name [] (end ∷ next ∷ offsets) = ⊥
+AreItemOffsets text name (item ∷ items) [] = ⊥
+AreItemOffsets text name (item ∷ items) (at ∷ []) = ⊥
+AreItemOffsets text name (item ∷ items) (at ∷ next ∷ offsets) =
+    (at ≤ next) × HasPiece text name item (place_between at next) × AreItemOffsets text name items (next ∷ offsets)
 
 -- the pieces before the items
 abbrev pub first_pieces : FeedName → ℤ → Kind → Span → ℕ → List (List ℕ)

@@ -1,5 +1,5 @@
 -- A document that is read while its bytes come.
-use Rattle.std.specs.Prelude.{◌≡◌, ◌≢◌, ℕ, ◌+◌, ◌<◌, ◌≤◌, ◌^◌, List, [], ◌∷◌, ◌++◌, map, length, All, Bool, Option, None, Some, IfSome, IsSome, Result, Ok, Err, true, false, if◌then◌else◌, codes}
+use Rattle.std.specs.Prelude.{◌≡◌, ◌≢◌, ℕ, ◌<◌, ◌≤◌, ◌^◌, List, [], ◌∷◌, ◌++◌, map, length, All, Bool, Option, None, Some, IfSome, IsSome, Result, Ok, Err, true, false, if◌then◌else◌, codes}
 use Rattle.deleted_entries.specs.declared.item.Item.{Item}
 use Rattle.atom_writer.specs.Doc.{DocValue, IsDoc}
 use Rattle.atom_writer.specs.Pieces.{item_piece, joined, text}

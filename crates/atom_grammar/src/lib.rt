@@ -17,7 +17,7 @@
 //!
 //! [`DocReader`] reads a text that comes in parts, and keeps no more of it than one piece.
 //!
-//! [`item_places`] finds the pieces of a document's items in its text, and [`read_entry`] reads that of an entry alone.
+//! [`item_offsets`] finds the pieces of a document's items in its text, and [`read_entry`] reads that of an entry alone.
 //!
 //! Stands on `atom_writer`, whose definition of the text it cites, on `uuid` and on `memchr`.
 #![tactic(auto)]
@@ -46,5 +46,5 @@ mod reader;
 pub use doc_reader::DocReader;
 pub use laws::{pieces_are_prefix_free, texts_have_one_reading};
 pub use one_entry::read_entry;
-pub use places::{PiecePlace, item_places};
+pub use places::{PiecePlace, item_offsets};
 pub use read::{MAX_DOCUMENT, ReadFault, read_doc};

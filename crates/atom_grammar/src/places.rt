@@ -5,7 +5,7 @@ ghost use Rattle.atom_writer.specs.Doc.{is_placed};
 ghost use Rattle.atom_writer.specs.Pieces.{item_piece, joined, text};
 ghost use Rattle.atom_grammar.specs.Cutting.{IsCut};
 ghost use Rattle.atom_grammar.specs.FeedParts.{IsSpan};
-ghost use Rattle.atom_grammar.specs.Places.{AreItemPlaces, first_pieces};
+ghost use Rattle.atom_grammar.specs.Places.{AreItemOffsets, first_pieces};
 
 use crate::cutting::piece_len;
 use crate::read::MAX_DOCUMENT;
@@ -22,25 +22,26 @@ pub struct PiecePlace {
     pub length: u32,
 }
 
-/// Returns the places of the pieces of the document's items, in order. `written` is the document's text.
+/// Returns the offsets of the pieces of the document's items in its text, in order, and the offset after the last
+/// piece. The pieces follow one another. `written` is the document's text.
 ///
 /// The only error is out of memory. The text is cut once, from its start to the end of the last item, and no item is
 /// read. The list is allocated once.
-pub fn item_places(
+pub fn item_offsets(
     alloc: Global,
     document: &Doc,
     written: &[u8],
-) -> Result<Vec<PiecePlace>, NoMemory>
+) -> Result<Vec<u32>, NoMemory>
     requires text { written.now ≡ text document.now }
     requires limit { length written.now ≤ MAX_DOCUMENT }
-    ensures { IfOk result (λ places.
-        AreItemPlaces written.now document.now.name document.now.items places.items) }
+    ensures { IfOk result (λ offsets.
+        AreItemOffsets written.now document.now.name document.now.items offsets.items) }
 {
     let place = document.place();
     let from = after_pieces(written, first_count(document.kind, place.span, place.prev));
     // The call states the rules of a base: no address in an item has an end tag.
     let _ = document.name.base.text();
-    places_from(alloc, document.items.as_slice(), written, from)
+    offsets_from(alloc, document.items.as_slice(), written, from)
 }
 
 /// The number of pieces before the first item of a document.
@@ -74,30 +75,28 @@ fn after_pieces(written: &[u8], count: u32) -> usize
     at
 }
 
-/// The places of the pieces of these items, which follow one another in the text from the offset `from` on.
-fn places_from(
+/// The offsets of the pieces of these items, which follow one another in the text from the offset `from` on, and the
+/// offset after the last one.
+fn offsets_from(
     alloc: Global,
     items: &[Item],
     written: &[u8],
     from: usize,
-) -> Result<Vec<PiecePlace>, NoMemory>
+) -> Result<Vec<u32>, NoMemory>
     requires within { from ≤ length written.now }
     requires limit { length written.now ≤ MAX_DOCUMENT }
-    ensures { IfOk result (λ places. (name : FeedName) (rest : List ℕ) → IsBase name.base
+    ensures { IfOk result (λ offsets. (name : FeedName) (rest : List ℕ) → IsBase name.base
         → drop from written.now ≡ joined (map (item_piece name) items.now) ++ rest
-        → AreItemPlaces written.now name items.now places.items) }
+        → AreItemOffsets written.now name items.now offsets.items) }
 {
-    let mut places = Vec::with_capacity(alloc, items.len())?;
+    let mut offsets = Vec::with_capacity(alloc, items.len() + 1)?;
+    offsets.push(from as u32)?;
     let mut at = from;
     for item in items {
         // The call states the range of the number: no address in the item has an end tag.
         let _ = item.number();
-        let length = piece_len(&written[at..]);
-        places.push(PiecePlace {
-            at: at as u32,
-            length: length as u32,
-        })?;
-        at += length;
+        at += piece_len(&written[at..]);
+        offsets.push(at as u32)?;
     }
-    Ok(places)
+    Ok(offsets)
 }

@@ -1,6 +1,6 @@
 -- Counts of faults, by how a function ended.
 use Rattle.std.proofs.Common.{◌≡◌, ◌≤◌, ℕ, Result, Ok, Err, refl, sym, ◌∙◌, ap, subst, arith}
-use Rattle.atom_values.specs.Counts.{CountsFault, HasRisen}
+use Rattle.atom_values.specs.Counts.{CountsFault}
 use Rattle.command_ends.specs.Ends.{CountsOutput, IsDone}
 use Rattle.command_ends.specs.Fault.{fault_answer}
 use Rattle.command_ends.specs.Status.{code_of}

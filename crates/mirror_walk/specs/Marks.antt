@@ -1,7 +1,6 @@
 -- The parts of a document that a mirror keeps in memory.
 use Rattle.std.specs.Prelude.{◌≡◌, ℕ, ◌≤◌, List, map, All}
-use Rattle.atom_grammar.specs.Places.{AreItemPlaces}
-use Rattle.atom_grammar.specs.declared.places.PiecePlace.{PiecePlace}
+use Rattle.atom_grammar.specs.Places.{AreItemOffsets}
 use Rattle.atom_writer.specs.Doc.{DocValue, KeepsRules}
 use Rattle.atom_writer.specs.Pieces.{text}
 use Rattle.atom_writer.specs.declared.doc.Kind.{Kind}
@@ -30,11 +29,11 @@ AreFromOne marks = All (λ mark. 1 ≤ marked_number mark) marks
 
 -- these parts are the document's
 pub record IsOutlineOf (document : DocValue) (kind : Kind) (span : Span) (prev : ℕ) (marks : List ItemMark)
-    (places : List PiecePlace) : Type 0 where
+    (offsets : List ℕ) : Type 0 where
   pub kind_is : kind ≡ document.kind
   pub span_is : span ≡ document.span
   pub prev_is : prev ≡ document.prev
   pub marks_are : marks ≡ marks_of document
-  pub places_are : AreItemPlaces (text document) document.name document.items places
+  pub offsets_are : AreItemOffsets (text document) document.name document.items offsets
   pub from_one : AreFromOne marks
   pub rules : KeepsRules document

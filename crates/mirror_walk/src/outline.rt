@@ -8,7 +8,7 @@ ghost use Rattle.mirror_walk.specs.Marks.{AreFromOne, marks_of};
 
 use crate::mark::{ItemMark, marks};
 use crate::origin::Origin;
-use atom_grammar::{MAX_DOCUMENT, PiecePlace, ReadFault, item_places, read_doc};
+use atom_grammar::{MAX_DOCUMENT, PiecePlace, ReadFault, item_offsets, read_doc};
 use atom_values::NoMemory;
 use atom_writer::{Doc, FeedName, Kind};
 use chain_links::{Place, Span};
@@ -25,7 +25,8 @@ pub struct Outline {
     span: Span,
     prev: u32,
     marks: Vec<ItemMark>,
-    places: Vec<PiecePlace>,
+    /// The offset of each item's piece in the document's text, and the offset after the last one.
+    offsets: Vec<u32>,
     origin: Origin,
 }
 
@@ -37,7 +38,7 @@ impl Model for Outline {
 
     ghost view = { λ o. o.origin.document };
 
-    ghost invariant = { λ o. IsOutlineOf o.origin.document o.kind o.span o.prev o.marks.items o.places.items };
+    ghost invariant = { λ o. IsOutlineOf o.origin.document o.kind o.span o.prev o.marks.items o.offsets.items };
 }
 
 /// A document that was read: its outline, and the feed's name as it states it.
@@ -117,12 +118,16 @@ impl Outline {
         ensures { IfSome (slice_get self.now.items index) (λ item.
             HasPiece (text self.now) self.now.name item result) }
     {
-        self.places[index]
+        let at = self.offsets[index];
+        PiecePlace {
+            at,
+            length: self.offsets[index + 1] - at,
+        }
     }
 }
 
 /// Keeps the outline of a document, and the name. `written` is the document's text. `NoMemory` if there is no
-/// memory for the marks and places of the items.
+/// memory for the marks and offsets of the items.
 fn outline_of(alloc: Global, document: Doc, written: &[u8]) -> Result<Outlined, NoMemory>
     requires text { written.now ≡ text document }
     requires limit { length written.now ≤ MAX_DOCUMENT }
@@ -130,7 +135,7 @@ fn outline_of(alloc: Global, document: Doc, written: &[u8]) -> Result<Outlined, 
     ensures outline { IfOk result (λ read. read.outline ≡ document) }
 {
     let marks = marks(alloc, document.items.as_slice())?;
-    let places = item_places(alloc, &document, written)?;
+    let offsets = item_offsets(alloc, &document, written)?;
     let origin = Origin::of(&document);
     let Doc {
         name,
@@ -145,7 +150,7 @@ fn outline_of(alloc: Global, document: Doc, written: &[u8]) -> Result<Outlined, 
         span,
         prev,
         marks,
-        places,
+        offsets,
         origin,
     };
     Ok(Outlined { name, outline })

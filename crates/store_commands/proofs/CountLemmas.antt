@@ -1,5 +1,5 @@
 -- Counts of faults, by how a function ended.
-use Rattle.std.proofs.Common.{◌≡◌, ◌≤◌, ℕ, refl, ◌∙◌, subst, arith}
+use Rattle.std.proofs.Common.{◌≡◌, ◌≤◌, ℕ, ◌∙◌, subst, arith}
 use Rattle.atom_values.specs.Counts.{CountsFault, HasRisen}
 
 -- a call left the count as it was, and the next one failed, or left it too

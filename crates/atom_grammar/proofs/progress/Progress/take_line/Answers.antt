@@ -1,4 +1,4 @@
-use Rattle.std.proofs.Common.{length, sym, ◌∙◌, ap, subst, true, false, refl, IfErr}
+use Rattle.std.proofs.Common.{length, sym, ◌∙◌, ap, subst, refl, IfErr}
 use Rattle.std.proofs.lemmas.Bool.{false≢true}
 use Rattle.atom_grammar.specs.Progress.{IsRefusalOf, IsCutText, read_text}
 use Rattle.atom_grammar.proofs.ProgressLemmas.{line_waits, line_ends, fed_on}

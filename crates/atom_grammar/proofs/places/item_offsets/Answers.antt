@@ -6,9 +6,9 @@ use Rattle.deleted_entries.specs.declared.item.Item.{Item}
 use Rattle.atom_writer.specs.declared.doc.FeedName.{FeedName}
 use Rattle.atom_writer.specs.Doc.{DocValue}
 use Rattle.atom_writer.specs.Pieces.{item_piece, joined, text}
-use Rattle.atom_grammar.specs.Places.{AreItemPlaces, first_pieces}
+use Rattle.atom_grammar.specs.Places.{AreItemOffsets, first_pieces}
 use Rattle.atom_grammar.proofs.PlaceLemmas.{text_parts}
-use Rattle.atom_grammar.proofs.places.item_places.Goals as goal
+use Rattle.atom_grammar.proofs.places.item_offsets.Goals as goal
 
 pub returns : goal.returns
 returns c =
@@ -39,10 +39,10 @@ returns c =
     (c.first_count.ensures.count seen.name seen.updated)
     (c.requires.text ∙ ap (λ (z : DocValue). text z) same ∙ text_parts seen) in
     let found =
-    subst (λ (xs : List Item). IfOk c.places_from.result (λ places. (name : FeedName) (rest : List ℕ) → IsBase name.base
-    → drop from written ≡ joined (map (item_piece name) xs) ++ rest → AreItemPlaces written name xs places.items))
-    c.as_slice.ensures.items c.places_from.ensures in
-    subst (λ (z : DocValue). IfOk c.places_from.result (λ places. AreItemPlaces written z.name z.items places.items))
+    subst (λ (xs : List Item). IfOk c.offsets_from.result (λ offsets. (name : FeedName) (rest : List ℕ) → IsBase name.base
+    → drop from written ≡ joined (map (item_piece name) xs) ++ rest → AreItemOffsets written name xs offsets.items))
+    c.as_slice.ensures.items c.offsets_from.ensures in
+    subst (λ (z : DocValue). IfOk c.offsets_from.result (λ offsets. AreItemOffsets written z.name z.items offsets.items))
     (sym same)
-    (IfOk-weaker c.places_from.result _ _
-    (λ places each. each seen.name (joined (codes "</feed>\n" ∷ [])) c.text.ensures.base left) found)
+    (IfOk-weaker c.offsets_from.result _ _
+    (λ offsets each. each seen.name (joined (codes "</feed>\n" ∷ [])) c.text.ensures.base left) found)
