@@ -2,20 +2,20 @@
 use Rattle.std.proofs.Common.{◌≡◌, ◌≢◌, ℕ, ◌<◌, ◌≤◌, Bool, true, cond, not, ◌&&◌, ◌||◌, ◌==◌}
 use Rattle.std.proofs.Common.{List, [], ◌∷◌}
 use Rattle.std.proofs.Common.{◌++◌, All, IsTrue, refl, sym, ap, subst, ◌∙◌, ⊎_elim, inl, inr, arith}
-use Rattle.std.proofs.Common.{append_assoc, codes, eqb-true, eq-eqb}
+use Rattle.std.proofs.Common.{append_assoc, codes, eqb-true, eq-eqb, nat_lt}
 use Rattle.std.specs.Prelude.{flat_map, encode_utf8}
 use Rattle.std.specs.List.{list_all}
 use Rattle.std.specs.Char.{digit_value}
 use Rattle.std.specs.Str.Parse.{AllDigits}
 use Rattle.std.proofs.lemmas.Bool.{cases_Bool, or_left, or_right, or_from, cond-true, cond-false, and_parts, and_from}
-use Rattle.std.proofs.lemmas.Bool.{both_ways, false_from_ne_true}
+use Rattle.std.proofs.lemmas.Bool.{both_ways, false_from_ne_true, ltb-true, not-true}
 use Rattle.std.proofs.lemmas.List.{append-nil, append_cancel_left}
 use Rattle.std.proofs.lemmas.List.Elements.{All-head, All-tail}
 use Rattle.std.proofs.lemmas.List.Folds.{list_all-append}
 use Rattle.xml_tokens.specs.Characters.{IsReference, lines, lines_after}
 use Rattle.xml_tokens.specs.Tokens.{Piece, piece_text, piece_read, IsPiece, IsValue}
 use Rattle.xml_tokens.specs.Tokens.Piece.{byte, reference}
-use Rattle.xml_tokens.specs.Reading.{IsFound}
+use Rattle.xml_tokens.specs.Reading.{IsFound, is_verbatim}
 use Rattle.xml_tokens.proofs.LineLemmas.{not_cr, lines_clean}
 use Rattle.xml_tokens.proofs.NumberLemmas.{IsBase}
 use Rattle.xml_tokens.proofs.ReferencePartLemmas.{a_reference, from_reference, reference_part}
@@ -194,6 +194,29 @@ reference_goes written items text rest c f on =
     (sym (ap lines f.split ∙ lines_clean f.front rest (without_cr f.front (reference_clean c f.front f.spelled)))
     ∙ v.spelled))
 
+pub plain_read : (b : ℕ) → b ≢ 9 → b ≢ 10 → read_byte b ≡ b
+plain_read b no_tab no_lf =
+    cond-false ((b == 9) || (b == 10)) 32 b
+    (or_from (b == 9) (b == 10) (false_from_ne_true (b == 9) (λ e. no_tab (eqb-true b 9 e)))
+    (false_from_ne_true (b == 10) (λ e. no_lf (eqb-true b 10 e))))
+
+pub none_gone : (written : List ℕ) → GoesOn written [] written
+none_gone written q value v = (value, v, refl)
+
+pub verbatim_goes : (written items text run rest : List ℕ) → text ≡ run ++ rest → IsTrue (list_all is_verbatim run) →
+    GoesOn written items text → (more : List ℕ) → more ≡ items ++ run → GoesOn written more rest
+verbatim_goes written items text [] rest split all on more is =
+    subst (λ xs. GoesOn written xs rest) (sym (is ∙ append-nil items)) (subst (GoesOn written items) split on)
+verbatim_goes written items text (b ∷ run) rest split all on more is =
+    let p = and_parts (is_verbatim b) (list_all is_verbatim run) all in
+    let parts = and_parts (nat_lt 13 b) (not (b == 38)) p.0 in
+    let above = ltb-true 13 b parts.0 in
+    let no_and : b ≢ 38 = λ e. both_ways (b == 38) (not-true (b == 38) parts.1) (eq-eqb b 38 e) in
+    let read = plain_read b (λ e. omega (arith, above, e)) (λ e. omega (arith, above, e)) in
+    verbatim_goes written (items ++ b ∷ []) (run ++ rest) run rest refl p.1
+    (byte_goes written items text (run ++ rest) b (λ e. omega (arith, above, e)) no_and split on (items ++ b ∷ [])
+    (ap (λ x. items ++ x ∷ []) (sym read))) more (is ∙ sym (append_assoc items (b ∷ []) run))
+
 no_pieces : (q : ℕ) (pieces : List Piece) → All (IsPiece q) pieces → [] ≡ flat_map piece_text pieces →
     flat_map piece_read pieces ≡ []
 no_pieces q [] each e = refl
@@ -219,9 +242,3 @@ blank_read b low high =
     let lf : b ≡ 10 = omega arith in
     cond-true ((b == 9) || (b == 10)) 32 b (or_right (b == 9) (b == 10) (eq-eqb b 10 lf)))
     (cases_Bool (b == 9))
-
-pub plain_read : (b : ℕ) → b ≢ 9 → b ≢ 10 → read_byte b ≡ b
-plain_read b no_tab no_lf =
-    cond-false ((b == 9) || (b == 10)) 32 b
-    (or_from (b == 9) (b == 10) (false_from_ne_true (b == 9) (λ e. no_tab (eqb-true b 9 e)))
-    (false_from_ne_true (b == 10) (λ e. no_lf (eqb-true b 10 e))))

@@ -6,7 +6,7 @@ use Rattle.std.specs.Prelude.{Result, Ok, Err, codes, nat_eq}
 use Rattle.std.specs.Prelude.{Option, Some, is_some, nat_lt, bytes_eq, if◌then◌else◌, All, map, ◌≢◌, ◌<◌, ◌≤◌}
 use Rattle.std.specs.List.{list_all, AllZip, IsDistinct}
 use Rattle.std.specs.Str.Parse.{IsNumeral, digits_value}
-use Rattle.atom_values.specs.Ascii.{ampersand, colon, less_than}
+use Rattle.atom_values.specs.Ascii.{ampersand, colon, cr, less_than}
 use Rattle.atom_values.specs.XmlText.{is_xml_char, IsXmlText}
 use Rattle.atom_values.specs.Space.{is_space}
 use Rattle.xml_tokens.specs.declared.cursor.Lapse.{Lapse}
@@ -150,6 +150,10 @@ pub record IsPlainRun (before run after : List ℕ) : Type 0 where
   pub split : before ≡ run ++ after
   pub free : IsTrue (list_all is_plain run)
   pub longest : IsTrue (first_is_no is_plain after)
+
+-- a byte of an attribute's value that is read as it is written
+abbrev pub is_verbatim : ℕ → Bool
+is_verbatim b = nat_lt cr b && not (b == ampersand)
 
 -- white space outside the root
 abbrev pub ReadsBlank : List ℕ → Result RawToken Lapse → List ℕ → Type 0

@@ -1,6 +1,7 @@
-ghost use Rattle.std.specs.Prelude.{◌≡◌, ◌≤◌, ℕ, List, ◌++◌, length, true, encode_utf8, IfOk, OnOk};
+ghost use Rattle.std.specs.Prelude.{◌≡◌, ◌≤◌, ℕ, List, ◌++◌, length, true, encode_utf8, IfOk, OnOk, not, position};
 ghost use Rattle.xml_tokens.specs.Characters.{lines, lines_after};
 ghost use Rattle.xml_tokens.specs.Tokens.{IsValue};
+ghost use Rattle.xml_tokens.specs.Reading.{is_verbatim};
 
 use crate::cursor::{Cursor, first};
 use atom_values::NoMemory;
@@ -41,6 +42,20 @@ pub(crate) fn push_character(out: &mut Vec<u8>, character: char) -> Result<(), N
     Ok(())
 }
 
+/// Whether a byte of a value is read as it is written, and begins no reference.
+fn is_verbatim(byte: u8) -> bool
+    ensures { result ≡ is_verbatim byte }
+{
+    byte > b'\r' && byte != b'&'
+}
+
+/// The index of the first byte of a value that may not be read as it is written.
+fn end_of_verbatim(written: &[u8]) -> Option<usize>
+    ensures { result ≡ position (λ b. not (is_verbatim b)) written.now }
+{
+    written.iter().position(|byte| !is_verbatim(*byte))
+}
+
 /// The value of an attribute, from its text between the quotes (XML 1.0 section 3.3.3). References become their
 /// characters. Each line end, tab and LF becomes a space.
 pub(crate) fn value(alloc: Global, written: &[u8]) -> Result<Vec<u8>, NoMemory>
@@ -49,6 +64,9 @@ pub(crate) fn value(alloc: Global, written: &[u8]) -> Result<Vec<u8>, NoMemory>
 {
     let mut out = Vec::with_capacity(alloc, written.len())?;
     let mut cursor = Cursor { rest: written };
+    // Most values are read as they are written.
+    let end = end_of_verbatim(written).unwrap_or(written.len());
+    out.extend_from_slice(cursor.take(end))?;
     while let Some((byte, tail)) = cursor.rest.split_first() {
         match *byte {
             b'&' => match cursor.reference() {

@@ -1,22 +1,30 @@
-use Rattle.std.proofs.Common.{◌≡◌, ◌≢◌, [], ◌∷◌, ◌++◌, length, sym, ap, ◌∙◌, arith}
+use Rattle.std.proofs.Common.{◌≡◌, ◌≢◌, [], ◌∷◌, ◌++◌, length, not, refl, sym, ap, ◌∙◌, arith}
 use Rattle.std.proofs.lemmas.List.{length-append, nil_from_length}
 use Rattle.xml_tokens.proofs.ValueLemmas.{byte_goes, line_goes, reference_goes, reference_first, value_ends}
-use Rattle.xml_tokens.proofs.ValueLemmas.{blank_read, plain_read}
+use Rattle.xml_tokens.proofs.ValueLemmas.{blank_read, none_gone, plain_read, verbatim_goes}
+use Rattle.xml_tokens.proofs.RunLemmas.{run_cut}
+use Rattle.xml_tokens.specs.Reading.{is_verbatim}
 use Rattle.xml_tokens.proofs.value.value.Goals as goal
 
 pub loop-byte-init : goal.loop-byte-init
-loop-byte-init c = λ q value v. (value, v, ap (λ xs. xs ++ value) (sym c.in_ok-out.ensures.items))
+loop-byte-init c =
+    let written = c.args.written.now in
+    let run = run_cut is_verbatim (λ b. not (is_verbatim b)) (λ b. refl) written c.take.result.now c.take.new.self.rest.now
+    c.end_of_verbatim.result c.end_of_verbatim.ensures c.take.ensures.split cc in
+    verbatim_goes written [] written c.take.result.now c.take.new.self.rest.now c.take.ensures.split run.0
+    (none_gone written) c.extend_from_slice.new.self.items
+    (c.in_ok-extend_from_slice.ensures.items ∙ ap (λ xs. xs ++ c.take.result.now) c.in_ok-out.ensures.items)
 
-pub loop-byte-smaller-in-Continue-branch-2 : goal.loop-byte-smaller-in-Continue-branch-2
-loop-byte-smaller-in-Continue-branch-2 c =
+pub loop-byte-smaller-in-Continue-branch-3 : goal.loop-byte-smaller-in-Continue-branch-3
+loop-byte-smaller-in-Continue-branch-3 c =
     let f = c.in-Ok.ensures in
     let start = reference_first c.in-Ok.character f.front f.spelled in
     let total = ap length f.split in
     let some = ap length start.1 in
     omega (arith, length-append f.front c.reference.new.self.rest.now)
 
-pub loop-byte-preserved-in-Continue-branch-2 : goal.loop-byte-preserved-in-Continue-branch-2
-loop-byte-preserved-in-Continue-branch-2 c =
+pub loop-byte-preserved-in-Continue-branch-3 : goal.loop-byte-preserved-in-Continue-branch-3
+loop-byte-preserved-in-Continue-branch-3 c =
     reference_goes c.args.written.now c.loop-byte.out.items c.loop-byte.cursor.rest.now c.reference.new.self.rest.now
     c.in-Ok.character c.in-Ok.ensures c.loop-byte.invariant c.push_character.new.out.items
     c.in_ok-push_character-in-Ok.ensures
