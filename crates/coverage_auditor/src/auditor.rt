@@ -43,7 +43,7 @@ fn check(alloc: Global, certificate: &Certificate, pile: &[Offer]) -> Result<(),
 /// - `Accepted`.
 ///
 /// `NoMemory` if there is no memory. Digests each offer at most once, reads each line's document once, and the piece of
-/// each live entry once more; the texts stay in `pile`, and beside it the memory is 16 bytes for each item, about 100
+/// each live entry once more; the texts stay in `pile`, and beside it the memory is 12 bytes for each item, about 100
 /// for each document, and a map of the live members. Takes time in proportion to the pile, and to the lines times the
 /// logarithm of the number of offers.
 pub fn audit(alloc: Global, certificate: &Certificate, pile: &[Offer]) -> Result<Verdict, NoMemory>

@@ -16,7 +16,7 @@ use std::alloc::Global;
 use std::marker::Model;
 
 /// A document without its texts: its place in the chain, and of each item its member's number, whether it is an
-/// entry, and where its piece is in the document's text. It takes 16 bytes for each item.
+/// entry, and where its piece is in the document's text. It takes 12 bytes for each item.
 ///
 /// Contracts see the whole document.
 #[derive(Drop)]
