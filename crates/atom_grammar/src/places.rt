@@ -27,11 +27,7 @@ pub struct PiecePlace {
 ///
 /// The only error is out of memory. The text is cut once, from its start to the end of the last item, and no item is
 /// read. The list is allocated once.
-pub fn item_offsets(
-    alloc: Global,
-    document: &Doc,
-    written: &[u8],
-) -> Result<Vec<u32>, NoMemory>
+pub fn item_offsets(alloc: Global, document: &Doc, written: &[u8]) -> Result<Vec<u32>, NoMemory>
     requires text { written.now ≡ text document.now }
     requires limit { length written.now ≤ MAX_DOCUMENT }
     ensures { IfOk result (λ offsets.

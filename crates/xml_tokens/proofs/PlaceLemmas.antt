@@ -79,17 +79,17 @@ last_of_prefix (d ∷ ds) p =
     let below : bytes_eq d.prefix.now p ≡ false → G = λ other.
     elim (last_of_prefix ds p) [
       | inl none ↦ inl (
-          ap (λ b. cond b (Some (length ds)) (place_in ds p)) other ∙ none.0,
-          ap (λ b. cond b (Some d.namespace) (found_in ds p)) other ∙ none.1,
-        )
+        ap (λ b. cond b (Some (length ds)) (place_in ds p)) other ∙ none.0,
+        ap (λ b. cond b (Some d.namespace) (found_in ds p)) other ∙ none.1,
+      )
       | inr some ↦ inr (
-          some.0,
-          some.1,
-          ap (λ b. cond b (Some (length ds)) (place_in ds p)) other ∙ some.2,
-          ap (λ xs. slice_get xs some.0) (reverse_more d ds) ∙ got_more (reverse ds) d some.0 some.1 some.3,
-          some.4,
-          ap (λ b. cond b (Some d.namespace) (found_in ds p)) other ∙ some.5,
-        )
+        some.0,
+        some.1,
+        ap (λ b. cond b (Some (length ds)) (place_in ds p)) other ∙ some.2,
+        ap (λ xs. slice_get xs some.0) (reverse_more d ds) ∙ got_more (reverse ds) d some.0 some.1 some.3,
+        some.4,
+        ap (λ b. cond b (Some d.namespace) (found_in ds p)) other ∙ some.5,
+      )
     ] in
     let both : (b : Bool) → bytes_eq d.prefix.now p ≡ b → G = λ b.
     elim b as (λ b. bytes_eq d.prefix.now p ≡ b → G) [ true ↦ here | false ↦ below ] in
@@ -114,7 +114,7 @@ finds_declared scopes p place indexed is =
     let items = scopes.declared.items in
     ap (option_and_then (λ i. option_map (λ d. d.namespace) (slice_get items i))) (is ∙ indexed p)
     ∙ ap (λ xs. option_and_then (λ i. option_map (λ d. d.namespace) (slice_get xs i)) (place_in (reverse items) p))
-      (sym (reverse-reverse items))
+    (sym (reverse-reverse items))
     ∙ found_there (reverse items) p
 
 -- what is found at a place that isn't there, and at one that is
@@ -172,8 +172,8 @@ last_in_map d before middle items indexed p same =
     let xs = middle.declared.items in
     let turned : reverse before.declared.items ≡ d ∷ reverse xs = ap reverse items ∙ reverse-append xs (d ∷ []) in
     checked_same before.declared.items p (place_of before p) (length xs) (
-      indexed p ∙ ap (λ ds. place_in ds p) turned
-      ∙ ap (λ b. cond b (Some (length (reverse xs))) (place_in (reverse xs) p)) same ∙ ap Some (length-reverse xs)
+    indexed p ∙ ap (λ ds. place_in ds p) turned
+    ∙ ap (λ b. cond b (Some (length (reverse xs))) (place_in (reverse xs) p)) same ∙ ap Some (length-reverse xs)
     )
 
 -- the map without the last declaration

@@ -230,8 +230,7 @@ impl<'a> Scopes<'a> {
         ensures { (opened : List Open) → AreScopesOf opened self.now
             → result ≡ option_map kind_of (namespace_of (scope_of opened) prefix.now) }
     {
-        self.declared_namespace(prefix)
-            .or(outer_namespace(prefix))
+        self.declared_namespace(prefix).or(outer_namespace(prefix))
     }
 
     /// The namespace of a prefix that an open element declares.

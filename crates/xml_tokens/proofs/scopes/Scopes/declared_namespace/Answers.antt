@@ -13,7 +13,7 @@ returns-in_err-place c = λ indexed.
     let ds = s.declared.items in
     c.from_residual.ensures
     ∙ ap (option_and_then (λ i. option_map (λ (d : Declaration). d.namespace) (slice_get ds i)))
-      (sym c.in_err-place.was)
+    (sym c.in_err-place.was)
     ∙ finds_declared s c.args.prefix.now c.checked.result indexed (c.checked.ensures
     ∙ ap (checked_place ds c.args.prefix.now) (c.copied-place.ensures ∙ c.get.ensures.value
     ∙ ap (λ k. get_by (key_cmp k) s.places) c.key.ensures))
@@ -25,7 +25,7 @@ returns-in_err-get c = λ indexed.
     c.from_residual-in_err-get.ensures
     ∙ past_end c.deref.result.now ds c.in_ok-place.place c.deref.ensures.value c.in_err-get.ensures.lookup.0
     ∙ ap (option_and_then (λ i. option_map (λ (d : Declaration). d.namespace) (slice_get ds i)))
-      (sym c.in_ok-place.was)
+    (sym c.in_ok-place.was)
     ∙ finds_declared s c.args.prefix.now c.checked.result indexed (c.checked.ensures
     ∙ ap (checked_place ds c.args.prefix.now) (c.copied-place.ensures ∙ c.get.ensures.value
     ∙ ap (λ k. get_by (key_cmp k) s.places) c.key.ensures))
@@ -37,7 +37,7 @@ returns c = λ indexed.
     at_place c.deref.result.now ds c.in_ok-place.place c.in_ok-get.field-0.now c.deref.ensures.value
     c.in_ok-get.ensures.lookup.0 c.in_ok-get.ensures.lookup.1
     ∙ ap (option_and_then (λ i. option_map (λ (d : Declaration). d.namespace) (slice_get ds i)))
-      (sym c.in_ok-place.was)
+    (sym c.in_ok-place.was)
     ∙ finds_declared s c.args.prefix.now c.checked.result indexed (c.checked.ensures
     ∙ ap (checked_place ds c.args.prefix.now) (c.copied-place.ensures ∙ c.get.ensures.value
     ∙ ap (λ k. get_by (key_cmp k) s.places) c.key.ensures))

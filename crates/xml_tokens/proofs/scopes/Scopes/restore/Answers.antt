@@ -17,7 +17,7 @@ returns-in-Some-clause-restored c = λ some prefix.
     (subst (λ k. OnErr c.insert.result (get_by (key_cmp k) before.places ≡ None)) c.key.ensures
     c.insert.ensures.absent) some) prefix
     ∙ ap (λ o. cond (bytes_eq d.prefix.now prefix) (option_or o (place_of before prefix)) (place_of before prefix))
-      (sym c.in-Some.is)
+    (sym c.in-Some.is)
 
 pub returns-in_default-clause-restored : goal.returns-in_default-clause-restored
 returns-in_default-clause-restored c = λ some prefix.
