@@ -6,8 +6,9 @@
 # byte is read.
 # Beside the entries it prints the times of `xmllint --noout --stream`, of Python's expat in a reader that keeps
 # `id`, `title` and `updated`, and of feedparser on 300 bytes, each if it is there. The times of Python leave out its start.
-# Beside each slow document it prints how many times as long it takes as 1 MB of plain text, and, if valgrind is there, the
-# ratio of the processor instructions, which a busy machine doesn't change.
+# Beside each slow document it prints how many times as long it takes as 1 MB of plain text, and, if valgrind is there, its
+# processor instructions for each byte, which a busy machine doesn't change. Those of plain text are so few that two fetches
+# differ by more.
 # usage: bench/foreign.sh [RUNS [PROGRAM]]. RUNS is 3 if it isn't given. PROGRAM is run in place of the one of this
 # repository. The files are in /dev/shm.
 runs=${1:-3}
@@ -279,19 +280,18 @@ def measure_slow():
     write("slow", SLOW["plain text"][0])
     # The documents have the same length, so one fetch stands for all.
     fetch, fetched = walked("refused", 3, 3 * runs), instructions("refused")
-    plain = plain_instructions = worst = None
+    plain = worst = None
     for name, (text, status) in SLOW.items():
         length = write("slow", text)
         read = max(walked("slow", status, 3 * runs) - fetch, 0.0001)
         counted = fetched and instructions("slow") - fetched
         if plain is None:
-            plain, plain_instructions, worst = read, counted, (0, name)
-        times = counted / plain_instructions if counted else read / plain
+            plain, worst = read, (0, name)
+        times = read / plain
         worst = max(worst, (times, name))
-        more = f", {counted / length:.1f} instructions a byte, {times:.1f} times as many" if counted else ""
-        print(f"{name}: {length} bytes, {rate(length, read)}, {read / plain:.1f} times as long{more}", flush=True)
-    print(f"the slowest takes {worst[0]:.1f} times as {'many instructions' if plain_instructions else 'long'} as plain text: "
-          f"{worst[1]}")
+        more = f", {counted / length:.1f} instructions a byte" if counted else ""
+        print(f"{name}: {length} bytes, {rate(length, read)}, {times:.1f} times as long{more}", flush=True)
+    print(f"the slowest takes {worst[0]:.1f} times as long as plain text: {worst[1]}")
 
 
 threading.Thread(target=serve, daemon=True).start()
