@@ -6,9 +6,9 @@
 # byte is read.
 # Beside the entries it prints the times of `xmllint --noout --stream`, of Python's expat in a reader that keeps
 # `id`, `title` and `updated`, and of feedparser on 300 bytes, each if it is there. The times of Python leave out its start.
-# Beside each slow document it prints how many times as long it takes as 1 MB of plain text, and, if valgrind is there, its
-# processor instructions for each byte, which a busy machine doesn't change. Those of plain text are so few that two fetches
-# differ by more.
+# Beside each slow document it prints how many times as long the command takes as for 1 MB of plain text, both with the
+# fetch, since two fetches differ by more than the reading of plain text takes. If valgrind is there, it also prints the
+# processor instructions for each byte, which a busy machine doesn't change.
 # usage: bench/foreign.sh [RUNS [PROGRAM]]. RUNS is 3 if it isn't given. PROGRAM is run in place of the one of this
 # repository. The files are in /dev/shm.
 runs=${1:-3}
@@ -283,15 +283,16 @@ def measure_slow():
     plain = worst = None
     for name, (text, status) in SLOW.items():
         length = write("slow", text)
-        read = max(walked("slow", status, 3 * runs) - fetch, 0.0001)
+        took = walked("slow", status, 3 * runs)
+        read = max(took - fetch, 0.0001)
         counted = fetched and instructions("slow") - fetched
         if plain is None:
-            plain, worst = read, (0, name)
-        times = read / plain
+            plain, worst = took, (0, name)
+        times = took / plain
         worst = max(worst, (times, name))
         more = f", {counted / length:.1f} instructions a byte" if counted else ""
         print(f"{name}: {length} bytes, {rate(length, read)}, {times:.1f} times as long{more}", flush=True)
-    print(f"the slowest takes {worst[0]:.1f} times as long as plain text: {worst[1]}")
+    print(f"the slowest takes {worst[0]:.1f} times as long as plain text, with the fetch: {worst[1]}")
 
 
 threading.Thread(target=serve, daemon=True).start()
