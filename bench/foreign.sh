@@ -6,9 +6,9 @@
 # byte is read.
 # Beside the entries it prints the times of `xmllint --noout --stream`, of Python's expat in a reader that keeps
 # `id`, `title` and `updated`, and of feedparser on 300 bytes, each if it is there. The times of Python leave out its start.
-# Beside each slow document it prints how many times as long the command takes as for 1 MB of plain text, both with the
-# fetch, since two fetches differ by more than the reading of plain text takes. If valgrind is there, it also prints the
-# processor instructions for each byte, which a busy machine doesn't change.
+# Beside each slow document it prints how many times as long it takes as 1 MB of plain text, without the fetch and with it.
+# The ratio without the fetch is rough: plain text takes so little that two fetches can differ by more. If valgrind is
+# there, it also prints the processor instructions for each byte, which a busy machine doesn't change.
 # usage: bench/foreign.sh [RUNS [PROGRAM]]. RUNS is 3 if it isn't given. PROGRAM is run in place of the one of this
 # repository. The files are in /dev/shm.
 runs=${1:-3}
@@ -280,19 +280,20 @@ def measure_slow():
     write("slow", SLOW["plain text"][0])
     # The documents have the same length, so one fetch stands for all.
     fetch, fetched = walked("refused", 3, 3 * runs), instructions("refused")
-    plain = worst = None
+    plain = worst = whole = None
     for name, (text, status) in SLOW.items():
         length = write("slow", text)
         took = walked("slow", status, 3 * runs)
         read = max(took - fetch, 0.0001)
         counted = fetched and instructions("slow") - fetched
         if plain is None:
-            plain, worst = took, (0, name)
-        times = took / plain
-        worst = max(worst, (times, name))
+            plain, whole, worst = read, took, (0, 0, name)
+        times, with_fetch = read / plain, took / whole
+        worst = max(worst, (times, with_fetch, name))
         more = f", {counted / length:.1f} instructions a byte" if counted else ""
-        print(f"{name}: {length} bytes, {rate(length, read)}, {times:.1f} times as long{more}", flush=True)
-    print(f"the slowest takes {worst[0]:.1f} times as long as plain text, with the fetch: {worst[1]}")
+        print(f"{name}: {length} bytes, {rate(length, read)}, {times:.1f} times as long, "
+              f"{with_fetch:.1f} with the fetch{more}", flush=True)
+    print(f"the slowest takes {worst[0]:.1f} times as long as plain text, {worst[1]:.1f} with the fetch: {worst[2]}")
 
 
 threading.Thread(target=serve, daemon=True).start()
