@@ -177,7 +177,7 @@ impl Documents {
         ensures base { self.new.base ≡ self.old.base }
         ensures err { OnErr result (self.new ≡ self.old) }
     {
-        // No memory holds so many documents that this fails.
+        // A document's place takes 32 bits. No machine's memory holds 2^32 documents, so this never fails.
         let at = u32::try_from(self.kept.len()).map_err(|_| NoMemory)?;
         self.kept.reserve(1)?;
         let Given { name, kept } = given;

@@ -11,7 +11,7 @@ ghost use Rattle.xml_tokens.specs.Reading.{equals_sign, IsCutBefore, IsFirstPlac
 use atom_values::is_space;
 use memchr::{memchr, memchr2, memchr3};
 
-/// TokenWhy no token is read.
+/// Why no token is read.
 #[derive(Clone, Copy)]
 pub(crate) enum Lapse {
     /// No continuation of the text begins with a token that is allowed there.
