@@ -15,6 +15,7 @@ runs=${1:-3}
 top=$(CDPATH='' cd -- "$(dirname -- "$0")/.." && pwd) || exit 1
 tool=${2:-$top/out/feed_tool}
 case $tool in
+    /*) ;;
     */*) tool=$(CDPATH='' cd -- "$(dirname -- "$tool")" && pwd)/$(basename -- "$tool") || exit 1 ;;
 esac
 [ -n "$2" ] || "$top/prove" || exit 1

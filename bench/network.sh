@@ -14,6 +14,7 @@ changes=${3:-250}
 top=$(CDPATH='' cd -- "$(dirname -- "$0")/.." && pwd) || exit 1
 tool=${4:-$top/out/feed_tool}
 case $tool in
+    /*) ;;
     */*) tool=$(CDPATH='' cd -- "$(dirname -- "$tool")" && pwd)/$(basename -- "$tool") || exit 1 ;;
 esac
 [ -n "$4" ] || "$top/prove" || exit 1

@@ -15,6 +15,7 @@ members=${MEMBERS:-1000000}
 top=$(CDPATH='' cd -- "$(dirname -- "$0")/.." && pwd) || exit 1
 tool=${3:-$top/out/feed_tool}
 case $tool in
+    /*) ;;
     */*) tool=$(CDPATH='' cd -- "$(dirname -- "$tool")" && pwd)/$(basename -- "$tool") || exit 1 ;;
 esac
 [ -n "$3" ] || "$top/prove" || exit 1

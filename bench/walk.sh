@@ -10,6 +10,7 @@ archives=${1:-10000}
 top=$(CDPATH='' cd -- "$(dirname -- "$0")/.." && pwd) || exit 1
 tool=${3:-$top/out/feed_tool}
 case $tool in
+    /*) ;;
     */*) tool=$(CDPATH='' cd -- "$(dirname -- "$tool")" && pwd)/$(basename -- "$tool") || exit 1 ;;
 esac
 [ -n "$3" ] || "$top/prove" || exit 1

@@ -7,6 +7,7 @@
 top=$(CDPATH='' cd -- "$(dirname -- "$0")/.." && pwd) || exit 1
 tool=${1:-$top/feed_tool}
 case $tool in
+    /*) ;;
     */*) tool=$(CDPATH='' cd -- "$(dirname -- "$tool")" && pwd)/$(basename -- "$tool") || exit 1 ;;
 esac
 # `telnet` is curl's way to open a connection and send nothing
